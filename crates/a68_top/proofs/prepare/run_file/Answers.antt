@@ -1,0 +1,13 @@
+use Rattle.std.proofs.Common.{◌∙◌, [], ◌∷◌}
+use Rattle.a68_top.proofs.Told.{whole, whole_is, read_is}
+use Rattle.a68_top.proofs.prepare.run_file.Goals as goal
+
+pub returns-clause-answer : goal.returns-clause-answer
+returns-clause-answer g c =
+    let text = c.in_ok-text.text in
+    let told = g.F.Shelf.under c.args.shelf.now c.args.name.now in
+    record {
+      texts = whole told text ∷ [];
+      texts_are = (whole_is told text, tt);
+      answer = rw (c.as_slice.ensures ∙ read_is told text c.in_ok-text.ensures.text c.in_ok-text.ensures.length) at c.in_ok-run_text.ensures.answer;
+    }

@@ -1,0 +1,143 @@
+//! All that a call does before its first byte is written.
+ghost use Rattle.std.specs.Prelude.{◌≡◌, ◌≤◌, ◌<◌, ◌^◌, [], length, map, string_bytes, IfOk, OnOk, IfSome, IsErrOf, Some};
+ghost use Rattle.a68_outside.specs.Cause.{Rose};
+ghost use Rattle.a68_top.specs.Words.{MayAskFor, run, task_in, files_of};
+ghost use Rattle.a68_top.specs.Commands.{task_of};
+ghost use Rattle.a68_top.specs.Formula.{reading_of};
+ghost use Rattle.a68_top.specs.Answer.{IsRun, IsUsage, read_of};
+ghost use Rattle.a68_top.specs.Outcome.{IsAnswer, Owes};
+ghost use Rattle.a68_top.specs.declared.prepare.Early.TheVariants as early;
+
+use crate::finish::{Due, Finish, bare};
+use crate::formula::{Reading, read};
+use crate::lines::{USAGE, overflow_line_of, printed_text, refusal_line_of};
+use crate::words::{Command, command_of};
+use a68_base::{NoMemory, Status, Text};
+use a68_outside::{ReadStop, Shelf, read_at_most};
+use std::alloc::Global;
+
+// How much of a text is read: one byte more than a text may have.
+const MOST_READ: usize = 1_048_577;
+
+/// Why nothing could be prepared.
+#[derive(Clone, Copy, Debug, PartialEq, Eq)]
+pub enum Early {
+    ReadFault,
+    NoMemory,
+}
+
+impl From<NoMemory> for Early {
+    ghost from_gives = { λ _ e. e ≡ early.NoMemory };
+
+    fn from(_error: NoMemory) -> Early {
+        Early::NoMemory
+    }
+}
+
+// The text of a file, or as much of it as is read.
+fn fetch<F: Shelf>(alloc: Global, name: &str, shelf: &mut F) -> Result<Text, Early>
+    requires { F.may_ask name.now }
+    ensures text { IfOk result (λ text. IfSome (F.under shelf.old name.now) (λ all. text ≡ read_of all)) }
+    ensures length { IfOk result (λ text. length text ≤ 1048577) }
+    ensures calm { OnOk result (F.faults shelf.new ≡ F.faults shelf.old) }
+    ensures memory { IsErrOf result Early.NoMemory → F.faults shelf.new ≡ F.faults shelf.old }
+    ensures failed { IsErrOf result Early.ReadFault → Rose (F.faults shelf.old) (F.faults shelf.new) }
+{
+    if shelf.begin(name).is_err() {
+        return Err(Early::ReadFault);
+    }
+    match read_at_most(alloc, shelf, MOST_READ) {
+        Ok(text) => Ok(text),
+        Err(ReadStop::Failed) => Err(Early::ReadFault),
+        Err(ReadStop::NoMemory) => Err(Early::NoMemory),
+    }
+}
+
+// What is owed where the words are no command.
+fn usage(alloc: Global) -> Result<Due, NoMemory>
+    ensures status { IfOk result (λ due. IsAnswer due.finish.status) }
+    ensures answer { IfOk result (λ due. IsUsage due.finish due.out due.notes) }
+{
+    Ok(Due {
+        finish: bare(Status::Usage),
+        out: Text::from_slice(alloc, b"")?,
+        notes: Text::from_slice(alloc, USAGE.as_bytes())?,
+    })
+}
+
+// What a run of a text owes.
+fn run_text(alloc: Global, text: &[u8]) -> Result<Due, NoMemory>
+    requires { length text.now < 2 ^ 32 }
+    ensures status { IfOk result (λ due. IsAnswer due.finish.status) }
+    ensures answer { IfOk result (λ due. IsRun (reading_of text.now) due.finish due.out due.notes) }
+{
+    match read(alloc, text)? {
+        Reading::Broken(refusal) => Ok(Due {
+            finish: Finish {
+                status: Status::Refused,
+                refusal: Some(refusal),
+            },
+            out: Text::from_slice(alloc, b"")?,
+            notes: refusal_line_of(alloc, refusal)?,
+        }),
+        Reading::Overflow(place) => Ok(Due {
+            finish: bare(Status::Fault),
+            out: Text::from_slice(alloc, b"")?,
+            notes: overflow_line_of(alloc, place)?,
+        }),
+        Reading::Value(value) => Ok(Due {
+            finish: bare(Status::Done),
+            out: printed_text(alloc, value)?,
+            notes: Text::from_slice(alloc, b"")?,
+        }),
+    }
+}
+
+// What `run` owes.
+fn run_file<F: Shelf>(alloc: Global, name: &str, shelf: &mut F) -> Result<Due, Early>
+    requires { F.may_ask name.now }
+    ensures status { IfOk result (λ due. IsAnswer due.finish.status) }
+    ensures answer { IfOk result (λ due. Owes (Some (run name.now)) (F.under shelf.old)
+        due.finish due.out due.notes) }
+    ensures calm { OnOk result (F.faults shelf.new ≡ F.faults shelf.old) }
+    ensures memory { IsErrOf result Early.NoMemory → F.faults shelf.new ≡ F.faults shelf.old }
+    ensures failed { IsErrOf result Early.ReadFault → Rose (F.faults shelf.old) (F.faults shelf.new) }
+{
+    let text = fetch(alloc, name, shelf)?;
+    Ok(run_text(alloc, text.as_slice())?)
+}
+
+// What a command owes.
+fn due_of<F: Shelf>(alloc: Global, command: &Command, shelf: &mut F) -> Result<Due, Early>
+    requires { MayAskFor F.may_ask (Some (task_of command.now)) }
+    ensures status { IfOk result (λ due. IsAnswer due.finish.status) }
+    ensures answer { IfOk result (λ due. Owes (Some (task_of command.now))
+        (F.under shelf.old)
+        due.finish due.out due.notes) }
+    ensures calm { OnOk result (F.faults shelf.new ≡ F.faults shelf.old) }
+    ensures memory { IsErrOf result Early.NoMemory → F.faults shelf.new ≡ F.faults shelf.old }
+    ensures failed { IsErrOf result Early.ReadFault → Rose (F.faults shelf.old) (F.faults shelf.new) }
+{
+    match command {
+        Command::Run { file } => run_file(alloc, file.as_str(), shelf),
+    }
+}
+
+/// Reads the words and the file, and finds what is owed. It takes all the memory that the call needs.
+pub fn prepare<F: Shelf>(alloc: Global, words: &[String], shelf: &mut F) -> Result<Due, Early>
+    requires { MayAskFor F.may_ask (task_in (map string_bytes words.now)) }
+    ensures status { IfOk result (λ due. IsAnswer due.finish.status) }
+    ensures answer { IfOk result (λ due. Owes (task_in (map string_bytes words.now))
+        (F.under shelf.old)
+        due.finish due.out due.notes) }
+    ensures calm { OnOk result (F.faults shelf.new ≡ F.faults shelf.old) }
+    ensures memory { IsErrOf result Early.NoMemory → F.faults shelf.new ≡ F.faults shelf.old }
+    ensures failed { IsErrOf result Early.ReadFault → Rose (F.faults shelf.old) (F.faults shelf.new) }
+    ensures unasked { files_of (task_in (map string_bytes words.now)) ≡ [] → F.faults shelf.new ≡ F.faults shelf.old }
+    ensures no_fault { files_of (task_in (map string_bytes words.now)) ≡ [] → IsErrOf result Early.ReadFault → ⊥ }
+{
+    match command_of(alloc, words)? {
+        None => Ok(usage(alloc)?),
+        Some(command) => due_of(alloc, &command, shelf),
+    }
+}
