@@ -1,87 +1,134 @@
--- The symbols of a text, found from the front.
-use Rattle.std.proofs.Common.{◌≡◌, ℕ, zero, suc, ◌+◌, ◌-◌, ◌<◌, ◌≤◌, List, [], ◌∷◌, length, drop, get_or, ap, sym, ◌∙◌, refl, arith, length-drop, Bool, true, false, cond}
-use Rattle.std.specs.Prelude.{None, Some}
-use Rattle.std.specs.declared.option.Option.{Option}
-use Rattle.a68_base.proofs.Slices.{rest_at}
-use Rattle.std.proofs.lemmas.List.{drop-drop}
-use Rattle.a68_symbols.specs.Front.{is_layout, symbol_at}
-use Rattle.a68_symbols.specs.Cut.{symbols_in, then_behind}
-use Rattle.a68_symbols.specs.declared.symbol.Symbol.{Symbol}
+-- A text has one list of symbols at most, one stop at most, and not both; and what a loop keeps.
+use Rattle.std.proofs.Common.{◌≡◌, ℕ, ◌+◌, ◌<◌, ◌≤◌, List, [], ◌∷◌, ◌++◌, length, drop, map, refl, ap, subst, ◌∙◌, arith}
+use Rattle.std.proofs.lemmas.List.{append-nil, length-append, length-drop, drop-drop}
+use Rattle.a68_base.specs.declared.refusal.Rule.{Rule}
+use Rattle.a68_base.specs.declared.refusal.Rule.TheVariants.{L1}
+use Rattle.a68_symbols.specs.declared.form.Given.TheVariants as given
 use Rattle.a68_symbols.specs.declared.symbol.SymbolKind.{SymbolKind}
-use Rattle.a68_symbols.specs.declared.symbol.SymbolKind.TheVariants.{Unknown}
+use Rattle.a68_symbols.specs.declared.symbol.Symbol.{Symbol}
+use Rattle.a68_symbols.specs.Limits.{most_bytes, most_symbols}
+use Rattle.a68_symbols.specs.Symbols.{Piece, piece_of, Front, IsCut, cut_ended, cut_passed, cut_taken, StopsAt, stop_broken, stop_full, stop_passed, stop_taken, IsRefused, too_long, stopped, SymbolsAre, RefusalIs}
+use Rattle.a68_symbols.proofs.Fronts.{one_front, no_front}
 
-then_behind-same : (at : ℕ) (o : Option (SymbolKind × ℕ)) (f g : ℕ → List Symbol) → ((n : ℕ) → f n ≡ g n) → then_behind at o f ≡ then_behind at o g
-then_behind-same at None f g e = refl
-then_behind-same at (Some found) f g e = ap (λ l. record { kind = found.0; place = at } ∷ l) (e found.1)
+cut_at : (at before n m : ℕ) (text : List ℕ) {more : List Piece} → m ≡ n → IsCut (at + m) before (drop m text) more → IsCut (at + n) before (drop n text) more
+cut_at at before n m text {more} e c = subst (λ (k : ℕ). IsCut (at + k) before (drop k text) more) e c
 
-cond-same : (b : Bool) (x y u v : List Symbol) → x ≡ u → y ≡ v → cond b x y ≡ cond b u v
-cond-same true x y u v p q = p
-cond-same false x y u v p q = q
+stop_at : (at before n m : ℕ) (text : List ℕ) {place : ℕ} {rule : Rule} → m ≡ n → StopsAt (at + m) before (drop m text) rule place → StopsAt (at + n) before (drop n text) rule place
+stop_at at before n m text {place} {rule} e s = subst (λ (k : ℕ). StopsAt (at + k) before (drop k text) rule place) e s
 
--- more turns than bytes change nothing
-pub enough : (k m at : ℕ) (bs : List ℕ) → length bs ≤ k → length bs ≤ m → symbols_in k at bs ≡ symbols_in m at bs
-unfolding symbols_in
-enough zero zero at [] h i = refl
-enough zero (suc m) at [] h i = refl
-enough (suc k) zero at [] h i = refl
-enough (suc k) (suc m) at [] h i = refl
-enough zero m at (b ∷ bs) h i = absurd (omega arith)
-enough (suc k) zero at (b ∷ bs) h i = absurd (omega arith)
-enough (suc k) (suc m) at (b ∷ bs) h i =
-    cond-same (is_layout b) _ _ _ _ (enough k m (at + 1) bs (omega arith) (omega arith))
-    (then_behind-same at (symbol_at (b ∷ bs)) _ _ (λ n. enough k m (at + n) (drop (n - 1) bs) (omega (arith, length-drop (n - 1) bs)) (omega (arith, length-drop (n - 1) bs))))
+pub one_list : {at before : ℕ} {text : List ℕ} {xs ys : List Piece} → IsCut at before text xs → IsCut at before text ys → ys ≡ xs
+one_list cut_ended cut_ended = refl
+one_list cut_ended (cut_passed f c) = absurd (no_front f)
+one_list cut_ended (cut_taken f room c) = absurd (no_front f)
+one_list (cut_passed f c) cut_ended = absurd (no_front f)
+one_list {at} {before} {text} (cut_passed {n = n} f c) (cut_passed {n = m} f' c') = one_list c (cut_at at before n m text (one_front f f').1 c')
+one_list (cut_passed f c) (cut_taken f' room' c') = let e = (one_front f f').0 in cc
+one_list (cut_taken f room c) cut_ended = absurd (no_front f)
+one_list (cut_taken f room c) (cut_passed f' c') = let e = (one_front f f').0 in cc
+one_list {at} {before} {text} (cut_taken {n = n} {kind = k} {more = xs} f room c) (cut_taken {n = m} {kind = k'} {more = ys} f' room' c') =
+    let e = one_front f f' in
+    let kind : k' ≡ k = let s = e.0 in cc in
+    let rest : ys ≡ xs = one_list c (cut_at at (before + 1) n m text e.1 c') in
+    rw (kind, e.1, rest) refl
 
--- the symbols from place at on
-abbrev pub symbols_behind : List ℕ → ℕ → List Symbol
-symbols_behind text at = symbols_in (length text - at) at (drop at text)
+pub not_both : {at before place : ℕ} {text : List ℕ} {rule : Rule} {xs : List Piece} → StopsAt at before text rule place → IsCut at before text xs → ⊥
+not_both (stop_broken f) cut_ended = no_front f
+not_both (stop_full f full) cut_ended = no_front f
+not_both (stop_passed f s) cut_ended = no_front f
+not_both (stop_taken f room s) cut_ended = no_front f
+not_both (stop_broken f) (cut_passed f' c) = let e = (one_front f f').0 in cc
+not_both (stop_full f full) (cut_passed f' c) = let e = (one_front f f').0 in cc
+not_both {at} {before} {text = text} (stop_passed {n = n} f s) (cut_passed {n = m} f' c) = not_both s (cut_at at before n m text (one_front f f').1 c)
+not_both (stop_taken f room s) (cut_passed f' c) = let e = (one_front f f').0 in cc
+not_both (stop_broken f) (cut_taken f' room' c) = let e = (one_front f f').0 in cc
+not_both (stop_full f full) (cut_taken f' room' c) = omega (arith, full, room')
+not_both (stop_passed f s) (cut_taken f' room' c) = let e = (one_front f f').0 in cc
+not_both {at} {before} {text = text} (stop_taken {n = n} f room s) (cut_taken {n = m} f' room' c) = not_both s (cut_at at (before + 1) n m text (one_front f f').1 c)
 
--- one turn at a byte
-turn : (text : List ℕ) (at : ℕ) → at < length text
-    → symbols_behind text at ≡ cond (is_layout (get_or text at 0)) (symbols_in (length text - (at + 1)) (at + 1) (drop (at + 1) text))
-    (then_behind at (symbol_at (get_or text at 0 ∷ drop (at + 1) text)) (λ n. symbols_in (length text - (at + 1)) (at + n) (drop (n - 1) (drop (at + 1) text))))
-unfolding symbols_in
-turn text at h =
-    let one_more : length text - at ≡ suc (length text - (at + 1)) = omega arith in
-    ap (λ k. symbols_in k at (drop at text)) one_more ∙ ap (λ l. symbols_in (suc (length text - (at + 1))) at l) (rest_at text at h)
+pub one_stop : {at before p q : ℕ} {text : List ℕ} {r s : Rule} → StopsAt at before text r p → StopsAt at before text s q → (s ≡ r) × (q ≡ p)
+one_stop (stop_broken f) (stop_broken f') = let e = (one_front f f').0 in ((cc), refl)
+one_stop (stop_broken f) (stop_full f' full') = let e = (one_front f f').0 in cc
+one_stop (stop_broken f) (stop_passed f' s') = let e = (one_front f f').0 in cc
+one_stop (stop_broken f) (stop_taken f' room' s') = let e = (one_front f f').0 in cc
+one_stop (stop_full f full) (stop_broken f') = let e = (one_front f f').0 in cc
+one_stop (stop_full f full) (stop_full f' full') = (refl, refl)
+one_stop (stop_full f full) (stop_passed f' s') = let e = (one_front f f').0 in cc
+one_stop (stop_full f full) (stop_taken f' room' s') = absurd (omega (arith, full, room'))
+one_stop (stop_passed f s) (stop_broken f') = let e = (one_front f f').0 in cc
+one_stop (stop_passed f s) (stop_full f' full') = let e = (one_front f f').0 in cc
+one_stop {at} {before} {text = text} (stop_passed {n = n} f s) (stop_passed {n = m} f' s') = one_stop s (stop_at at before n m text (one_front f f').1 s')
+one_stop (stop_passed f s) (stop_taken f' room' s') = let e = (one_front f f').0 in cc
+one_stop (stop_taken f room s) (stop_broken f') = let e = (one_front f f').0 in cc
+one_stop (stop_taken f room s) (stop_full f' full') = absurd (omega (arith, full', room))
+one_stop (stop_taken f room s) (stop_passed f' s') = let e = (one_front f f').0 in cc
+one_stop {at} {before} {text = text} (stop_taken {n = n} f room s) (stop_taken {n = m} f' room' s') = one_stop s (stop_at at (before + 1) n m text (one_front f f').1 s')
 
-cond-true : (b : Bool) (x y : List Symbol) → b ≡ true → cond b x y ≡ x
-cond-true true x y e = refl
-cond-true false x y e = cc
+map_behind : (xs : List Symbol) (s : Symbol) (more : List Piece) → map piece_of (xs ++ s ∷ []) ++ more ≡ map piece_of xs ++ piece_of s ∷ more
+map_behind [] s more = refl
+map_behind (x ∷ xs) s more = ap (λ (l : List Piece). piece_of x ∷ l) (map_behind xs s more)
 
-cond-false : (b : Bool) (x y : List Symbol) → b ≡ false → cond b x y ≡ y
-cond-false true x y e = cc
-cond-false false x y e = refl
+-- what a loop has cut
+pub record SoFar (bytes : List ℕ) (at : ℕ) (rest : List ℕ) (found : List Symbol) : Type 0 where
+  pub short : length bytes ≤ most_bytes
+  pub room : at + length rest ≡ length bytes
+  pub place : rest ≡ drop at bytes
+  pub cut : (more : List Piece) → IsCut at (length found) rest more → IsCut 0 0 bytes (map piece_of found ++ more)
+  pub stops : (rule : Rule) (place : ℕ) → StopsAt at (length found) rest rule place → StopsAt 0 0 bytes rule place
 
-then_behind-none : (at : ℕ) (o : Option (SymbolKind × ℕ)) (f : ℕ → List Symbol) → o ≡ None → then_behind at o f ≡ record { kind = Unknown; place = at } ∷ []
-then_behind-none at None f e = refl
-then_behind-none at (Some found) f e = cc
+pub at_first : (bytes : List ℕ) (found : List Symbol) → length bytes ≤ most_bytes → found ≡ [] → SoFar bytes 0 bytes found
+at_first bytes found short none = record {
+  short = short;
+  room = omega arith;
+  place = refl;
+  cut = λ more c. rw none (rw none at c);
+  stops = λ rule place s. rw none at s;
+}
 
-then_behind-some : (at n : ℕ) (kind : SymbolKind) (o : Option (SymbolKind × ℕ)) (f : ℕ → List Symbol) → o ≡ Some (kind, n) → then_behind at o f ≡ record { kind = kind; place = at } ∷ f n
-then_behind-some at n kind None f e = cc
-then_behind-some at n kind (Some found) f e =
-    let same : found ≡ (kind, n) = cc in rw same refl
+pub goes_past : (bytes : List ℕ) (at : ℕ) (rest rest' : List ℕ) (found : List Symbol) (n : ℕ) → SoFar bytes at rest found → n ≤ length rest → Front rest given.Nothing n → rest' ≡ drop n rest → SoFar bytes (at + n) rest' found
+goes_past bytes at rest rest' found n so_far le f e = record {
+  short = so_far.short;
+  room = omega (arith, so_far.room, le, ap length e, length-drop n rest);
+  place = e ∙ ap (λ (l : List ℕ). drop n l) so_far.place ∙ drop-drop n at bytes;
+  cut = λ more c. so_far.cut more (cut_passed f (rw e at c));
+  stops = λ rule place s. so_far.stops rule place (stop_passed f (rw e at s));
+}
 
-pub symbols-layout : (text : List ℕ) (at : ℕ) → at < length text → is_layout (get_or text at 0) ≡ true → symbols_behind text at ≡ symbols_behind text (at + 1)
-symbols-layout text at h is = turn text at h ∙ cond-true (is_layout (get_or text at 0)) _ _ is
+pub takes : (bytes : List ℕ) (at : ℕ) (rest rest' : List ℕ) (found found' : List Symbol) (n name : ℕ) (kind : SymbolKind) → SoFar bytes at rest found → n ≤ length rest → Front rest (given.Symbol kind) n → rest' ≡ drop n rest
+    → length found < most_symbols → found' ≡ found ++ record { kind = kind; span = record { from = at; to = at + n }; name = name } ∷ [] → SoFar bytes (at + n) rest' found'
+takes bytes at rest rest' found found' n name kind so_far le f e room grown =
+    let symbol : Symbol = record { kind = kind; span = record { from = at; to = at + n }; name = name } in
+    let long : length found' ≡ length found + 1 = ap length grown ∙ length-append found (symbol ∷ []) in
+    record {
+      short = so_far.short;
+      room = omega (arith, so_far.room, le, ap length e, length-drop n rest);
+      place = e ∙ ap (λ (l : List ℕ). drop n l) so_far.place ∙ drop-drop n at bytes;
+      cut = λ more c. rw (grown, map_behind found symbol more) (so_far.cut _ (cut_taken f room (rw (long, e) at c)));
+      stops = λ rule place s. so_far.stops rule place (stop_taken f room (rw (long, e) at s));
+    }
 
-pub symbols-unknown : (text : List ℕ) (at : ℕ) → at < length text → is_layout (get_or text at 0) ≡ false → symbol_at (drop at text) ≡ None
-    → symbols_behind text at ≡ record { kind = Unknown; place = at } ∷ []
-symbols-unknown text at h is none =
-    turn text at h ∙ cond-false (is_layout (get_or text at 0)) _ _ is
-    ∙ then_behind-none at _ _ (ap (λ l. symbol_at l) (sym (rest_at text at h)) ∙ none)
+pub all_cut : (bytes : List ℕ) (at : ℕ) (rest : List ℕ) (found : List Symbol) → SoFar bytes at rest found → rest ≡ [] → SymbolsAre bytes (map piece_of found)
+all_cut bytes at rest found so_far e =
+    let c : IsCut 0 0 bytes (map piece_of found) = rw (append-nil (map piece_of found)) at (so_far.cut [] (rw e cut_ended)) in
+    record { has = (so_far.short, c); only = λ others o. one_list c o.1; fine = λ rule place r. not_refused rule place r c }
+  where
+    not_refused : (rule : Rule) (place : ℕ) → IsRefused bytes rule place → IsCut 0 0 bytes (map piece_of found) → ⊥
+    not_refused rule place (too_long long) c = omega (arith, long, so_far.short)
+    not_refused rule place (stopped short s) c = not_both s c
 
-pub symbols-found : (text : List ℕ) (at n : ℕ) (kind : SymbolKind) → at < length text → is_layout (get_or text at 0) ≡ false
-    → symbol_at (drop at text) ≡ Some (kind, n) → 0 < n → symbols_behind text at ≡ record { kind = kind; place = at } ∷ symbols_behind text (at + n)
-symbols-found text at n kind h is found some =
-    let place : (at + 1) + (n - 1) ≡ at + n = omega arith in
-    let rest : drop (n - 1) (drop (at + 1) text) ≡ drop (at + n) text = drop-drop (n - 1) (at + 1) text ∙ ap (λ i. drop i text) place in
-    turn text at h ∙ cond-false (is_layout (get_or text at 0)) _ _ is
-    ∙ then_behind-some at n kind _ _ (ap (λ l. symbol_at l) (sym (rest_at text at h)) ∙ found)
-    ∙ ap (λ l. record { kind = kind; place = at } ∷ l)
-    (ap (λ l. symbols_in (length text - (at + 1)) (at + n) l) rest
-    ∙ enough (length text - (at + 1)) (length text - (at + n)) (at + n) (drop (at + n) text) (omega (arith, length-drop (at + n) text)) (omega (arith, length-drop (at + n) text)))
+pub refused_long : (bytes : List ℕ) → most_bytes < length bytes → RefusalIs bytes L1 most_bytes
+refused_long bytes long = record { refused = too_long long; only = only; none = λ pieces h. omega (arith, long, h.0) }
+  where
+    only : (other : Rule) (at : ℕ) → IsRefused bytes other at → (other ≡ L1) × (at ≡ most_bytes)
+    only other at (too_long long') = (refl, refl)
+    only other at (stopped short s) = absurd (omega (arith, long, short))
 
--- nothing stands behind the end
-pub symbols-end : (text : List ℕ) (at : ℕ) → length text ≤ at → symbols_behind text at ≡ []
-unfolding symbols_in
-symbols-end text at h = ap (λ k. symbols_in k at (drop at text)) (let none : length text - at ≡ 0 = omega arith in none)
+pub refused_at : (bytes : List ℕ) (rule : Rule) (place : ℕ) → length bytes ≤ most_bytes → StopsAt 0 0 bytes rule place → RefusalIs bytes rule place
+refused_at bytes rule place short s = record { refused = stopped short s; only = only; none = λ pieces h. not_both s h.1 }
+  where
+    only : (other : Rule) (at : ℕ) → IsRefused bytes other at → (other ≡ rule) × (at ≡ place)
+    only other at (too_long long) = absurd (omega (arith, long, short))
+    only other at (stopped short' s') = one_stop s s'
+
+pub refusal_is : (text : List ℕ) (rule : Rule) (place : ℕ) → IsRefused text rule place → RefusalIs text rule place
+refusal_is text rule place (too_long long) = refused_long text long
+refusal_is text rule place (stopped short s) = refused_at text rule place short s

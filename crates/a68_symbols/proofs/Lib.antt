@@ -1,2 +1,11 @@
+pub mod Starts
+pub mod Items
+pub mod Again
+pub mod Measures
+pub mod Quotes
+pub mod Lengths
+pub mod Fronts
 pub mod Cutting
-pub mod Stretch
+pub mod Numbered
+pub mod Naming
+pub mod Turns

@@ -1,2 +1,10 @@
-pub mod Cut
-pub mod Front
+pub mod Bytes
+pub mod Forms
+pub mod Gives
+pub mod Limits
+pub mod Marks
+pub mod Names
+pub mod Runs
+pub mod Steps
+pub mod Symbols
+pub mod Words

@@ -1,36 +1,87 @@
 //! A text cut into its symbols.
-ghost use Rattle.std.specs.Prelude.{◌≡◌, ◌<◌, ◌^◌, length, IfOk};
-ghost use Rattle.a68_symbols.specs.Cut.{symbols_of};
+ghost use Rattle.std.specs.Prelude.{◌≡◌, ℕ, List, IfOk};
+ghost use Rattle.a68_base.specs.declared.refusal.Rule.{Rule};
+ghost use Rattle.a68_symbols.specs.Gives as specs;
+ghost use Rattle.a68_symbols.specs.Names.{AreNamed};
+ghost use Rattle.a68_symbols.specs.Steps.{Keeps};
+ghost use Rattle.a68_symbols.specs.Symbols.{Answers, HasSymbols, IsRefused, Piece};
 
-use crate::front::{is_layout_byte, symbol_at_front};
-use crate::{Symbol, SymbolKind, Symbols};
-use a68_base::NoMemory;
+use crate::Symbols;
+use crate::form::{Form, Given};
+use crate::judge::judge;
+use crate::stretch::longest;
+use a68_base::{Refusal, Rule, Span, Stop};
 use std::alloc::Global;
 
-/// The symbols of a text, each as long as it can be.
-pub fn symbols(alloc: Global, text: &[u8]) -> Result<Symbols, NoMemory>
-    requires { length text.now < 2 ^ 32 }
-    ensures { IfOk result (λ symbols. symbols ≡ symbols_of text.now) }
+// The most bytes that a text may have.
+const MOST_BYTES: usize = 1_048_576;
+
+// The most symbols that a text may have.
+const MOST_SYMBOLS: u32 = 262_144;
+
+fn refused(rule: Rule, place: u32) -> Stop
+    ensures { result ≡ Stop.Refused (record { rule = rule; place = place }) }
 {
-    let mut items = Vec::new(alloc);
-    let mut at = 0;
-    while at < text.len() {
-        let place = at as u32;
-        if is_layout_byte(text[at]) {
-            at += 1;
-        } else {
-            match symbol_at_front(&text[at..]) {
-                None => {
-                    let kind = SymbolKind::Unknown;
-                    items.push(Symbol { kind, place })?;
-                    return Ok(Symbols { items });
-                }
-                Some((kind, length)) => {
-                    items.push(Symbol { kind, place })?;
-                    at += length;
-                }
+    Stop::Refused(Refusal { rule, place })
+}
+
+// Takes in what a stretch of that form gives.
+fn keep(
+    alloc: Global,
+    found: &mut Symbols,
+    form: Form,
+    stretch: &[u8],
+    span: Span,
+) -> Result<(), Stop>
+    ensures { Keeps found.old found.new (specs.gives form stretch.now) stretch.now span result }
+{
+    match judge(alloc, form, stretch)? {
+        Given::Nothing => Ok(()),
+        Given::Broken(rule) => Err(refused(rule, span.from)),
+        Given::Symbol(kind) => {
+            if found.len() >= MOST_SYMBOLS {
+                return Err(refused(Rule::L2, span.from));
             }
+            found.push(alloc, kind, stretch, span)?;
+            Ok(())
         }
     }
-    Ok(Symbols { items })
 }
+
+/// The symbols of a text, each the longest that begins at its byte; or the refusal of the text by the first rule of
+/// symbols that it breaks: L1 at byte 1,048,576 of a longer text, else the first byte at which no list of symbols can
+/// go on, with S2 where no symbol begins, S1 where a string, comment or pragmat has no end, S3 at a word of a part of
+/// the language that is left out, S5 at a misformed or too large number, and L2 at a symbol behind 262,144 others
+/// (Report, 8 and 9; the limits and S3 are this project's own).
+pub fn symbols(alloc: Global, bytes: &[u8]) -> Result<Symbols, Stop>
+    ensures answer { Answers bytes.now result }
+    ensures names { IfOk result (λ found. AreNamed bytes.now found) }
+{
+    if bytes.len() > MOST_BYTES {
+        return Err(refused(Rule::L1, MOST_BYTES as u32));
+    }
+    let mut found = Symbols::new(alloc);
+    let mut rest = bytes;
+    let mut at = 0;
+    while !rest.is_empty() {
+        let Some((form, n)) = longest(rest) else {
+            return Err(refused(Rule::S2, at));
+        };
+        let (stretch, behind) = rest.split_at(n);
+        let to = at + n as u32;
+        keep(alloc, &mut found, form, stretch, Span { from: at, to })?;
+        rest = behind;
+        at = to;
+    }
+    Ok(found)
+}
+
+/// A law: a text has one list of symbols at most; it breaks one rule first, at one place, at most; and where it breaks
+/// one it has no symbols.
+pub fn symbols_are_one()
+    ensures list { (text : List ℕ) (pieces others : List Piece) → HasSymbols text pieces → HasSymbols text others → others ≡ pieces }
+    ensures refusal { (text : List ℕ) (rule other : Rule) (place at : ℕ)
+        → IsRefused text rule place → IsRefused text other at → (other ≡ rule) × (at ≡ place) }
+    ensures apart { (text : List ℕ) (rule : Rule) (place : ℕ) (pieces : List Piece)
+        → IsRefused text rule place → HasSymbols text pieces → ⊥ }
+{}

@@ -1,10 +1,19 @@
-//! The symbols of a text.
+//! The symbols of a text: each the longest that begins at its byte, with layout, comments and pragmats alone between.
 #![tactic(auto)]
 
+mod bytes;
+mod comments;
 mod cut;
-mod front;
+mod form;
+mod judge;
+mod marks;
+mod runs;
+mod stretch;
+mod strings;
 mod symbol;
 
-pub use cut::symbols;
-pub use front::is_layout_byte;
+pub use cut::{symbols, symbols_are_one};
 pub use symbol::{Symbol, SymbolKind, Symbols};
+
+#[cfg(test)]
+mod tests;

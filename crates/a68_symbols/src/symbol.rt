@@ -1,42 +1,133 @@
 //! Symbols and lists of them.
-ghost use Rattle.std.specs.Prelude.{List};
-ghost use Rattle.a68_symbols.specs.declared.symbol.Symbol.{Symbol};
+ghost use Rattle.std.specs.Prelude.{◌≡◌, ◌<◌, length, slice_get, IfOk, OnOk, []};
+ghost use Rattle.std.specs.Option.{option_map};
+ghost use Rattle.a68_symbols.specs.Limits.{most_symbols};
+ghost use Rattle.a68_symbols.specs.Names.{Adds, spelling_of};
 
+use crate::bytes::without_layout;
+use a68_base::{NoMemory, Span};
+use indexmap::IndexSet;
+use std::alloc::Global;
 use std::marker::Model;
 
-/// The symbols that the text of a formula is made of (Report, 9.4).
-#[derive(Clone, Copy, Debug, PartialEq, Eq)]
+/// The kinds of symbols (Report, 9.4).
+#[derive(Clone, Copy, Debug, PartialEq, Eq, Hash)]
 pub enum SymbolKind {
-    Begin,
-    End,
-    Print,
-    Open,
-    Close,
-    Plus,
-    Minus,
-    Times,
-    /// Digits without layout, of a value that an INT can have.
-    Number(i64),
-    /// No symbol of a formula begins here.
-    Unknown,
+    /// A bold word: a capital, then capitals and digits.
+    Word,
+    /// A tag: a small letter, then small letters and digits, with layout between them where it likes.
+    Tag,
+    /// A denotation of an INT.
+    Number,
+    /// A denotation of BITS.
+    BitsNumber,
+    /// A denotation of a character or a string.
+    Quoted,
+    /// A bracket, a separator or a sign.
+    Mark,
 }
 
-/// A symbol, and the byte of the text at which it begins.
-#[derive(Clone, Copy, Debug, PartialEq, Eq)]
+/// A symbol: its kind, its stretch of the text, and the number of its kind and spelling.
+#[derive(Clone, Copy, Debug)]
 pub struct Symbol {
     pub kind: SymbolKind,
-    pub place: u32,
+    pub span: Span,
+    pub name: u32,
 }
 
-/// The symbols of a text in order, up to the first place that is neither layout nor a symbol: there an unknown one
-/// stands as the last.
-#[derive(Debug, Drop)]
+/// A kind of symbol, and the bytes that spell it.
+#[derive(Debug, PartialEq, Eq, Hash, Drop)]
+pub struct Spelling {
+    pub kind: SymbolKind,
+    pub bytes: Vec<u8>,
+}
+
+/// The symbols of a text in order, and their spellings, numbered from 0 as they are first seen.
+#[derive(Drop)]
 pub struct Symbols {
-    pub items: Vec<Symbol>,
+    items: Vec<Symbol>,
+    names: IndexSet<Spelling>,
 }
 
 impl Model for Symbols {
-    ghost Value = { List Symbol };
+    ghost use Rattle.std.specs.Prelude.{map};
+    ghost use Rattle.a68_symbols.specs.Names.{Named, IsSound, spelled_of};
 
-    ghost view = { λ symbols. symbols.items.items };
+    ghost Value = { Named };
+
+    ghost view = { λ s. record { symbols = s.items.items; spellings = map spelled_of s.names.keys } };
+
+    ghost invariant = { λ s. IsSound s.items.items s.names.keys };
+}
+
+// What spells a stretch: all of a string, and of any other symbol what is no layout.
+fn spell(alloc: Global, kind: SymbolKind, stretch: &[u8]) -> Result<Vec<u8>, NoMemory>
+    ensures { IfOk result (λ bytes. bytes.items ≡ spelling_of kind stretch.now) }
+{
+    match kind {
+        SymbolKind::Quoted => Ok(Vec::from_slice(alloc, stretch)?),
+        _ => without_layout(alloc, stretch),
+    }
+}
+
+impl Symbols {
+    /// No symbols.
+    pub(crate) fn new(alloc: Global) -> Symbols
+        ensures symbols { result.symbols ≡ [] }
+        ensures spellings { result.spellings ≡ [] }
+    {
+        Symbols {
+            items: Vec::new(alloc),
+            names: IndexSet::new(alloc),
+        }
+    }
+
+    /// How many symbols there are.
+    pub fn len(&self) -> u32
+        ensures { result ≡ length self.now.symbols }
+    {
+        self.items.len() as u32
+    }
+
+    /// The symbol of that number, from 0.
+    pub fn at(&self, i: u32) -> Symbol
+        requires { i < length self.now.symbols }
+        ensures symbol { slice_get self.now.symbols i ≡ Some result }
+        ensures named { result.name < length self.now.spellings }
+    {
+        self.items[i as usize]
+    }
+
+    /// The bytes that spell the symbols of that name: those of the symbol without layout, and of a string all of them.
+    pub fn spelling(&self, name: u32) -> &[u8]
+        requires { name < length self.now.spellings }
+        ensures { option_map (λ s. s.bytes) (slice_get self.now.spellings name) ≡ Some result.now }
+    {
+        match self.names.get_index(name as usize) {
+            Some(spelling) => &spelling.bytes,
+            None => &[],
+        }
+    }
+
+    /// Adds a symbol behind the others.
+    pub(crate) fn push(
+        &mut self,
+        alloc: Global,
+        kind: SymbolKind,
+        stretch: &[u8],
+        span: Span,
+    ) -> Result<(), NoMemory>
+        requires { length self.old.symbols < most_symbols }
+        ensures { OnOk result (Adds self.old self.new kind span (record { kind = kind; bytes = spelling_of kind stretch.now })) }
+    {
+        self.items.reserve(1)?;
+        let bytes = spell(alloc, kind, stretch)?;
+        let (index, _) = self.names.insert_full(Spelling { kind, bytes })?;
+        self.items.push(Symbol {
+            kind,
+            span,
+            name: index as u32,
+        })?;
+        Ok(())
+    }
 }

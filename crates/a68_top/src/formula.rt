@@ -1,17 +1,13 @@
 //! What the text of a formula says: the rule that it breaks, or its value, or where it overflows.
 ghost use Rattle.std.specs.Prelude.{◌≡◌, List, [], ◌∷◌, ◌<◌, ◌^◌, length, IfOk};
-ghost use Rattle.std.specs.List.{list_all};
-ghost use Rattle.a68_symbols.specs.Front.{is_layout};
 ghost use Rattle.a68_top.specs.declared.formula.Step.{Step};
-ghost use Rattle.a68_top.specs.Formula.{misfit_in, steps_in, value_in, reading_of, seen, after, int_or, applied};
+ghost use Rattle.a68_top.specs.Formula.{misfit_in, steps_in, value_in, reading_in, Reads, seen, after, int_or, applied};
 ghost use Rattle.a68_top.specs.Sums.{sum_from, sum_behind};
 
-use a68_base::{NoMemory, Refusal, Rule};
-use a68_symbols::{Symbol, SymbolKind, is_layout_byte, symbols};
+use crate::tokens::{Token, TokenKind, tokens};
+use a68_base::{NoMemory, Refusal, Rule, Stop};
+use a68_symbols::symbols;
 use std::alloc::Global;
-
-// The most bytes that a text may have.
-const MOST_BYTES: usize = 1_048_576;
 
 /// What the form of a text wants next.
 #[derive(Clone, Copy, Debug)]
@@ -25,32 +21,32 @@ pub enum Wants {
     Nothing,
 }
 
-// What the form wants behind a symbol; none where the symbol has no place.
-fn follows(want: Wants, symbol: SymbolKind) -> Option<Wants>
-    ensures { result ≡ after want symbol }
+// What the form wants behind a token; none where the token has no place.
+fn follows(want: Wants, token: TokenKind) -> Option<Wants>
+    ensures { result ≡ after want token }
 {
-    match (want, symbol) {
-        (Wants::Begin, SymbolKind::Begin) => Some(Wants::Print),
-        (Wants::Print, SymbolKind::Print) => Some(Wants::Open),
-        (Wants::Open, SymbolKind::Open) => Some(Wants::Number),
-        (Wants::Number, SymbolKind::Number(_)) => Some(Wants::Sign),
-        (Wants::Sign, SymbolKind::Plus) => Some(Wants::Number),
-        (Wants::Sign, SymbolKind::Minus) => Some(Wants::Number),
-        (Wants::Sign, SymbolKind::Times) => Some(Wants::Number),
-        (Wants::Sign, SymbolKind::Close) => Some(Wants::End),
-        (Wants::End, SymbolKind::End) => Some(Wants::Nothing),
+    match (want, token) {
+        (Wants::Begin, TokenKind::Begin) => Some(Wants::Print),
+        (Wants::Print, TokenKind::Print) => Some(Wants::Open),
+        (Wants::Open, TokenKind::Open) => Some(Wants::Number),
+        (Wants::Number, TokenKind::Number(_)) => Some(Wants::Sign),
+        (Wants::Sign, TokenKind::Plus) => Some(Wants::Number),
+        (Wants::Sign, TokenKind::Minus) => Some(Wants::Number),
+        (Wants::Sign, TokenKind::Times) => Some(Wants::Number),
+        (Wants::Sign, TokenKind::Close) => Some(Wants::End),
+        (Wants::End, TokenKind::End) => Some(Wants::Nothing),
         _ => None,
     }
 }
 
 // The first place that does not fit the form.
-fn misfit(symbols: &[Symbol], end: u32) -> Option<u32>
-    ensures { result ≡ misfit_in Wants.Begin symbols.now end }
+fn misfit(tokens: &[Token], end: u32) -> Option<u32>
+    ensures { result ≡ misfit_in Wants.Begin tokens.now end }
 {
     let mut want = Wants::Begin;
-    for symbol in symbols {
-        match follows(want, symbol.kind) {
-            None => return Some(symbol.place),
+    for token in tokens {
+        match follows(want, token.kind) {
+            None => return Some(token.place),
             Some(next) => want = next,
         }
     }
@@ -60,24 +56,24 @@ fn misfit(symbols: &[Symbol], end: u32) -> Option<u32>
     }
 }
 
-/// A number of the formula, the symbol before it, and the byte at which it begins.
+/// A number of the formula, the token before it, and the byte at which it begins.
 #[derive(Clone, Copy, Debug)]
 pub struct Step {
-    pub sign: SymbolKind,
+    pub sign: TokenKind,
     pub number: i64,
     pub place: u32,
 }
 
-// The numbers in order, each with the symbol before it.
-fn steps(alloc: Global, symbols: &[Symbol]) -> Result<Vec<Step>, NoMemory>
-    ensures { IfOk result (λ steps. steps.items ≡ steps_in SymbolKind.Plus symbols.now) }
+// The numbers in order, each with the token before it.
+fn steps(alloc: Global, tokens: &[Token]) -> Result<Vec<Step>, NoMemory>
+    ensures { IfOk result (λ steps. steps.items ≡ steps_in TokenKind.Plus tokens.now) }
 {
     let mut steps = Vec::new(alloc);
-    let mut sign = SymbolKind::Plus;
-    for symbol in symbols {
-        match symbol.kind {
-            SymbolKind::Number(number) => {
-                let place = symbol.place;
+    let mut sign = TokenKind::Plus;
+    for token in tokens {
+        match token.kind {
+            TokenKind::Number(number) => {
+                let place = token.place;
                 steps.push(Step {
                     sign,
                     number,
@@ -91,12 +87,12 @@ fn steps(alloc: Global, symbols: &[Symbol]) -> Result<Vec<Step>, NoMemory>
 }
 
 // The result of an operator, or the place where it overflows. INT leaves out the least of the machine's numbers.
-fn apply(place: u32, sign: SymbolKind, left: i64, right: i64) -> Result<i64, u32>
+fn apply(place: u32, sign: TokenKind, left: i64, right: i64) -> Result<i64, u32>
     ensures { result ≡ int_or place (applied sign left right) }
 {
     let value = match sign {
-        SymbolKind::Times => left.checked_mul(right),
-        SymbolKind::Minus => left.checked_sub(right),
+        TokenKind::Times => left.checked_mul(right),
+        TokenKind::Minus => left.checked_sub(right),
         _ => left.checked_add(right),
     };
     match value {
@@ -111,7 +107,7 @@ fn apply(place: u32, sign: SymbolKind, left: i64, right: i64) -> Result<i64, u32
 pub struct Sum {
     pub first: u32,
     pub sum: i64,
-    pub sign: SymbolKind,
+    pub sign: TokenKind,
     pub product: i64,
     pub place: u32,
 }
@@ -120,8 +116,8 @@ pub struct Sum {
 fn go_on(at: Sum, step: Step) -> Result<Sum, u32>
     ensures { (rest : List Step) → sum_from at (step ∷ rest) ≡ sum_behind result rest }
 {
-    if step.sign == SymbolKind::Times {
-        let product = apply(at.place, SymbolKind::Times, at.product, step.number)?;
+    if step.sign == TokenKind::Times {
+        let product = apply(at.place, TokenKind::Times, at.product, step.number)?;
         Ok(Sum { product, ..at })
     } else {
         let sum = apply(at.first, at.sign, at.sum, at.product)?;
@@ -152,7 +148,7 @@ fn value(steps: &[Step]) -> Result<i64, u32>
     let mut at = Sum {
         first: first.place,
         sum: 0,
-        sign: SymbolKind::Plus,
+        sign: TokenKind::Plus,
         product: first.number,
         place: first.place,
     };
@@ -176,31 +172,34 @@ fn broken(rule: Rule, place: u32) -> Reading
     Reading::Broken(Refusal { rule, place })
 }
 
-fn is_blank(text: &[u8]) -> bool
-    ensures { result ≡ list_all is_layout text.now }
+// What tokens of a text of that length say.
+fn understand(alloc: Global, tokens: &[Token], end: u32) -> Result<Reading, NoMemory>
+    ensures { IfOk result (λ reading. seen reading ≡ reading_in end tokens.now) }
 {
-    text.iter().all(|byte| is_layout_byte(*byte))
+    if tokens.is_empty() {
+        return Ok(broken(Rule::S6, end));
+    }
+    if let Some(place) = misfit(tokens, end) {
+        return Ok(broken(Rule::X0, place));
+    }
+    let steps = steps(alloc, tokens)?;
+    match value(&steps) {
+        Ok(value) => Ok(Reading::Value(value)),
+        Err(place) => Ok(Reading::Overflow(place)),
+    }
 }
 
 /// Reads the text of a formula.
 pub fn read(alloc: Global, text: &[u8]) -> Result<Reading, NoMemory>
     requires { length text.now < 2 ^ 32 }
-    ensures { IfOk result (λ reading. seen reading ≡ reading_of text.now) }
+    ensures { IfOk result (λ reading. Reads text.now (seen reading)) }
 {
-    if text.len() > MOST_BYTES {
-        return Ok(broken(Rule::L1, MOST_BYTES as u32));
-    }
-    let end = text.len() as u32;
-    if is_blank(text) {
-        return Ok(broken(Rule::S6, end));
-    }
-    let symbols = symbols(alloc, text)?;
-    if let Some(place) = misfit(&symbols.items, end) {
-        return Ok(broken(Rule::X0, place));
-    }
-    let steps = steps(alloc, &symbols.items)?;
-    match value(&steps) {
-        Ok(value) => Ok(Reading::Value(value)),
-        Err(place) => Ok(Reading::Overflow(place)),
+    match symbols(alloc, text) {
+        Err(Stop::NoMemory) => Err(NoMemory),
+        Err(Stop::Refused(refusal)) => Ok(Reading::Broken(refusal)),
+        Ok(found) => {
+            let tokens = tokens(alloc, &found)?;
+            understand(alloc, &tokens, text.len() as u32)
+        }
     }
 }

@@ -3,8 +3,7 @@ ghost use Rattle.std.specs.Prelude.{◌≡◌, ◌≤◌, ◌<◌, ◌^◌, [], 
 ghost use Rattle.a68_outside.specs.Cause.{Rose};
 ghost use Rattle.a68_top.specs.Words.{MayAskFor, run, task_in, files_of};
 ghost use Rattle.a68_top.specs.Commands.{task_of};
-ghost use Rattle.a68_top.specs.Formula.{reading_of};
-ghost use Rattle.a68_top.specs.Answer.{IsRun, IsUsage, read_of};
+ghost use Rattle.a68_top.specs.Answer.{IsRunOf, IsUsage, read_of};
 ghost use Rattle.a68_top.specs.Outcome.{IsAnswer, Owes};
 ghost use Rattle.a68_top.specs.declared.prepare.Early.TheVariants as early;
 
@@ -69,7 +68,7 @@ fn usage(alloc: Global) -> Result<Due, NoMemory>
 fn run_text(alloc: Global, text: &[u8]) -> Result<Due, NoMemory>
     requires { length text.now < 2 ^ 32 }
     ensures status { IfOk result (λ due. IsAnswer due.finish.status) }
-    ensures answer { IfOk result (λ due. IsRun (reading_of text.now) due.finish due.out due.notes) }
+    ensures answer { IfOk result (λ due. IsRunOf text.now due.finish due.out due.notes) }
 {
     match read(alloc, text)? {
         Reading::Broken(refusal) => Ok(Due {

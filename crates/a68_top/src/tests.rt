@@ -71,12 +71,19 @@ fn call<R: Threads + Wait + Sync>(
 
 #[test]
 fn texts_are_answered(rt: HostRuntime) -> Result<(), Fail> {
-    let values: [(&[u8], &[u8]); 6] = [
+    let values: [(&[u8], &[u8]); 10] = [
         (FORMULA, SEVEN),
         (b"BEGIN print(2 - 3 * 4) END", b"                 -10"),
         (b"BEGIN print(8 - 2 - 1) END", b"                  +5"),
         (b"BEGIN p r\nint(007) END", SEVEN),
         (b"BEGINprint(7)END", SEVEN),
+        (b"BEGIN print(1 2 - 0 0 5) END", SEVEN),
+        (b"BEGIN # f # print CO 1) CO (7)END", SEVEN),
+        (
+            b"PR \"quiet PR BEGIN print(COMMENT CO COMMENT 7) END",
+            SEVEN,
+        ),
+        (b"BEGIN print(7) END PRAGMAT PR1 END PRAGMAT", SEVEN),
         (
             b"BEGIN print(0-9223372036854775807)END",
             b"-9223372036854775807",
@@ -94,20 +101,44 @@ fn texts_are_answered(rt: HostRuntime) -> Result<(), Fail> {
 #[test]
 fn texts_are_refused_and_faults_met(rt: HostRuntime) -> Result<(), Fail> {
     let blanks = vec![in rt.alloc(); b' '; 1_048_577]?;
-    let rows: [(&[u8], u8, &[u8]); 19] = [
+    let rows: [(&[u8], u8, &[u8]); 31] = [
         (b"", 1, b"a68: refused S6 at byte 0\n"),
         (b" \n\t\r", 1, b"a68: refused S6 at byte 4\n"),
         (&blanks[1..], 1, b"a68: refused S6 at byte 1048576\n"),
         (&blanks, 1, b"a68: refused L1 at byte 1048576\n"),
-        (b"\0", 1, b"a68: refused X0 at byte 0\n"),
+        (b"# a # CO b CO", 1, b"a68: refused S6 at byte 13\n"),
+        (b"\0", 1, b"a68: refused S2 at byte 0\n"),
+        (b"( print(\"ab )", 1, b"a68: refused S1 at byte 8\n"),
+        (b"( REAL x; SKIP )", 1, b"a68: refused S3 at byte 2\n"),
+        (
+            b"( print(9223372036854775808) )",
+            1,
+            b"a68: refused S5 at byte 8\n",
+        ),
+        (b"BEGIN SKIP END ~", 1, b"a68: refused S2 at byte 15\n"),
+        (b"BEGIN print(1) END CO", 1, b"a68: refused S1 at byte 19\n"),
+        (b"BEGIN print(#)#1)", 1, b"a68: refused X0 at byte 17\n"),
+        (
+            b"BEGIN print(\"a\") END",
+            1,
+            b"a68: refused X0 at byte 12\n",
+        ),
+        (b"BEGIN print(2r1) END", 1, b"a68: refused X0 at byte 12\n"),
+        (b"BEGIN write(1) END", 1, b"a68: refused X0 at byte 6\n"),
+        (b"( print(1) )", 1, b"a68: refused X0 at byte 0\n"),
+        (
+            b"BEGIN print(1 OVER 2) END",
+            1,
+            b"a68: refused X0 at byte 14\n",
+        ),
+        (b"BEGIN print(1);", 1, b"a68: refused X0 at byte 14\n"),
         (b"BEGIN print(1 +) END", 1, b"a68: refused X0 at byte 15\n"),
         (b"BEGIN SKIP END", 1, b"a68: refused X0 at byte 6\n"),
-        (b"BEGIN print(1 2) END", 1, b"a68: refused X0 at byte 12\n"),
-        (b"BEGIN print(1x) END", 1, b"a68: refused X0 at byte 12\n"),
+        (b"BEGIN print(1x) END", 1, b"a68: refused S5 at byte 12\n"),
         (
             b"BEGIN print(9223372036854775808) END",
             1,
-            b"a68: refused X0 at byte 12\n",
+            b"a68: refused S5 at byte 12\n",
         ),
         (b"BEGIN print(1+*2) END", 1, b"a68: refused X0 at byte 13\n"),
         (b"BEGIN print(1-+2) END", 1, b"a68: refused X0 at byte 14\n"),

@@ -1,43 +1,41 @@
-use Rattle.std.proofs.Common.{◌≡◌, ◌∙◌, ◌++◌, ap, sym, arith, false, append_assoc, get_or, drop, List, [], ◌∷◌, ◌+◌}
-use Rattle.std.specs.Prelude.{None}
-use Rattle.std.proofs.lemmas.List.{append-nil}
-use Rattle.a68_base.proofs.Slices.{slice_from}
-use Rattle.a68_symbols.specs.Front.{is_layout, symbol_at}
-use Rattle.a68_symbols.specs.declared.symbol.Symbol.{Symbol}
-use Rattle.a68_symbols.proofs.Cutting.{symbols_behind, symbols-layout, symbols-unknown, symbols-found, symbols-end}
+use Rattle.std.proofs.Common.{arith, sym, ap}
+use Rattle.std.proofs.lemmas.Bool.{eqb-true, eqb-false}
+use Rattle.std.proofs.lemmas.List.{nil_from_length}
+use Rattle.std.proofs.lemmas.Result.{err_from_is_err_and}
+use Rattle.a68_base.specs.declared.refusal.Rule.TheVariants.{S2}
+use Rattle.a68_symbols.specs.Gives.{gives}
+use Rattle.a68_symbols.specs.Symbols.{front_none, front_is, stop_broken}
+use Rattle.a68_symbols.proofs.Cutting.{refused_long, refused_at, all_cut}
+use Rattle.a68_symbols.proofs.Numbered.{all_named}
+use Rattle.a68_symbols.proofs.Turns.{goes_on, ends_with}
 use Rattle.a68_symbols.proofs.cut.symbols.Goals as goal
 
-pub returns : goal.returns
-returns c =
-    sym (append-nil c.loop-at.items.items)
-    ∙ ap (λ l. c.loop-at.items.items ++ l) (sym (symbols-end _ _ c.loop-at-test.false))
-    ∙ c.loop-at.invariant.whole
+pub returns-then-bytes-gt-MOST_BYTES-clause-answer :
+    goal.returns-then-bytes-gt-MOST_BYTES-clause-answer
+returns-then-bytes-gt-MOST_BYTES-clause-answer c = rw c.refused.ensures (refused_long _ c.if-bytes-gt-MOST_BYTES.true)
 
-pub returns-in-None : goal.returns-in-None
-returns-in-None c =
-    let none : symbol_at (drop c.loop-at.at c.args.text.now) ≡ None = ap (λ l. symbol_at l) (sym (slice_from c.loop-at.at c.args.text.now)) ∙ sym c.in-None.ensures.symbol in
-    let layout : is_layout (get_or c.args.text.now c.loop-at.at 0) ≡ false = sym c.is_layout_byte.ensures ∙ c.if-is_layout_byte.false in
-    c.in_ok-push-in-None.ensures.items
-    ∙ ap (λ l. c.loop-at.items.items ++ l) (sym (symbols-unknown _ _ c.loop-at-test.true layout none))
-    ∙ c.loop-at.invariant.whole
+pub returns-in_default-clause-answer : goal.returns-in_default-clause-answer
+returns-in_default-clause-answer c =
+    let cut = c.loop-rest.invariant.cut in
+    let some = eqb-false _ 0 (sym c.loop-rest-test.ensures) in
+    rw c.refused-in_default.ensures (refused_at _ S2 _ cut.short (cut.stops S2 _ (stop_broken (front_none (omega (arith, some)) c.in_default.ensures))))
 
-pub loop-at-preserved-then-is_layout_byte : goal.loop-at-preserved-then-is_layout_byte
-loop-at-preserved-then-is_layout_byte c = record {
-  within = omega arith;
-  whole =
-      ap (λ l. c.loop-at.items.items ++ l) (sym (symbols-layout _ _ c.loop-at-test.true (sym c.is_layout_byte.ensures ∙ c.if-is_layout_byte.true)))
-      ∙ c.loop-at.invariant.whole;
-}
+pub returns-in_err-keep-clause-answer : goal.returns-in_err-keep-clause-answer
+returns-in_err-keep-clause-answer c =
+    let l = c.in-Some.ensures in
+    let p = err_from_is_err_and c.from_residual.result c.from_residual.ensures.1 in
+    rw (p.1, p.2) (ends_with _ _ _ _ _ _ _ c.keep.new.found c.loop-rest.invariant l.within c.split_at.ensures.front c.split_at.ensures.back _ _
+    (front_is l (ap (gives c.in-Some.form) (sym c.split_at.ensures.front))) c.in_err-keep.ensures)
 
-pub loop-at-preserved : goal.loop-at-preserved
-loop-at-preserved c =
-    let found = ap (λ l. symbol_at l) (sym (slice_from c.loop-at.at c.args.text.now)) ∙ sym c.in-Some.ensures.symbol in
-    let layout : is_layout (get_or c.args.text.now c.loop-at.at 0) ≡ false = sym c.is_layout_byte.ensures ∙ c.if-is_layout_byte.false in
-    record {
-      within = omega (arith, c.in-Some.ensures.length.1);
-      whole =
-          ap (λ (l : List Symbol). l ++ symbols_behind c.args.text.now (c.loop-at.at + c.in-Some.length)) c.in_ok-push-in-Some.ensures.items
-          ∙ append_assoc c.loop-at.items.items (record { kind = c.in-Some.kind; place = c.loop-at.at } ∷ []) (symbols_behind c.args.text.now (c.loop-at.at + c.in-Some.length))
-          ∙ ap (λ l. c.loop-at.items.items ++ l) (sym (symbols-found _ _ _ _ c.loop-at-test.true layout found c.in-Some.ensures.length.0))
-          ∙ c.loop-at.invariant.whole;
-    }
+pub loop-rest-preserved : goal.loop-rest-preserved
+loop-rest-preserved c =
+    let l = c.in-Some.ensures in
+    goes_on _ _ _ _ _ _ _ _ c.loop-rest.invariant l.within c.split_at.ensures.front c.split_at.ensures.back _
+    (front_is l (ap (gives c.in-Some.form) (sym c.split_at.ensures.front))) c.in_ok-keep.ensures
+
+pub returns-clause-answer : goal.returns-clause-answer
+returns-clause-answer c =
+    all_cut _ _ _ _ c.loop-rest.invariant.cut (nil_from_length _ (eqb-true _ 0 (sym c.loop-rest-test.ensures)))
+
+pub returns-clause-names : goal.returns-clause-names
+returns-clause-names c = all_named _ _ c.loop-rest.invariant.named

@@ -1,13 +1,9 @@
-use Rattle.std.proofs.Common.{◌≡◌, ◌≤◌, ◌-◌, ◌++◌, length}
-use Rattle.a68_symbols.specs.Cut.{symbols_of}
-use Rattle.a68_symbols.proofs.Cutting.{symbols_behind}
+use Rattle.std.proofs.Common.{length}
+use Rattle.a68_symbols.proofs.Turns.{Done}
 use Rattle.a68_symbols.proofs.cut.symbols.Given as goal
 
-abbrev pub invariant-loop-at : goal.invariant-loop-at
-invariant-loop-at l = record {
-  within : l.at ≤ length l.text;
-  whole : l.items.items ++ symbols_behind l.text l.at ≡ symbols_of l.text;
-}
+abbrev pub invariant-loop-rest : goal.invariant-loop-rest
+invariant-loop-rest l = Done l.bytes l.at l.rest l.found
 
-abbrev pub decreases-loop-at : goal.decreases-loop-at
-decreases-loop-at l = length l.text - l.at
+abbrev pub decreases-loop-rest : goal.decreases-loop-rest
+decreases-loop-rest l = length l.rest

@@ -1,0 +1,4 @@
+pub mod Does
+pub mod Operations
+pub mod Printed
+pub mod Store

@@ -1,0 +1,14 @@
+//! What a strand asks of the store, what the store does, and what an operation does with the values of its parts: all
+//! that the elaboration and the machine have in common.
+#![tactic(auto)]
+
+mod operation;
+mod printed;
+mod want;
+
+pub use operation::{Counter, Doing, Next};
+pub use printed::printed_int;
+pub use want::{Reply, Want};
+
+#[cfg(test)]
+mod tests;

@@ -1,0 +1,5 @@
+pub mod Landing
+pub mod Noting
+pub mod Reading
+pub mod ShortWalks
+pub mod Ways

@@ -1,0 +1,6 @@
+pub mod Codes
+pub mod Flow
+pub mod Operands
+pub mod Order
+pub mod Valid
+pub mod Walk

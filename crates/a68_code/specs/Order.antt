@@ -1,0 +1,23 @@
+-- Jumps go forward, but for the end of a loop.
+use Rattle.std.specs.Prelude.{◌≡◌, ◌<◌, ◌+◌, ⊤, ℕ, List, Some}
+use Rattle.a68_code.specs.Flow.{does_at}
+use Rattle.a68_code.specs.declared.code.Instr.{Instr}
+use Rattle.a68_code.specs.declared.does.Does.{Does}
+use Rattle.a68_code.specs.declared.does.Does.TheVariants.{Jump, Unless, Step, Turn, Advance}
+
+-- An Advance at this place goes back to the Step of its loop: a Turn stands behind that Step, and the Step itself goes
+-- to a place behind the Advance.
+pub record EndsLoop (list : List Instr) (at to : ℕ) : Type 0 where
+  pub back : to < at
+  pub behind : ℕ
+  pub step : does_at list to ≡ Some (Step behind)
+  pub turn : does_at list (to + 1) ≡ Some Turn
+  pub leaves_loop : at < behind
+
+-- the instruction at this place jumps forward, or ends a loop
+abbrev pub IsInOrder : List Instr → ℕ → Does → Type 0
+IsInOrder list at (Jump to) = at < to
+IsInOrder list at (Unless to) = at < to
+IsInOrder list at (Step to) = at < to
+IsInOrder list at (Advance to) = EndsLoop list at to
+IsInOrder list at _ = ⊤

@@ -1,0 +1,65 @@
+-- For the two passes that decide which codes are valid. The second is a walk, which keeps a table of the heights found
+-- so far, by places, and the places at which it has yet to go on, with their heights.
+use Rattle.std.specs.Prelude.{◌≡◌, ◌≢◌, ◌<◌, ◌≤◌, ◌+◌, ◌⊎◌, IsTrue, ℕ, suc, List, [], ◌∷◌, ◌++◌, length, Some, None, Contains, slice_index_or, slice_set}
+use Rattle.std.specs.declared.option.Option.{Option}
+use Rattle.a68_modes.specs.declared.shape.Shape.{Shape}
+use Rattle.a68_code.specs.Flow.{does_at, takes, leaves, landings}
+use Rattle.a68_code.specs.Operands.{is_well_made}
+use Rattle.a68_code.specs.Order.{IsInOrder}
+use Rattle.a68_code.specs.declared.code.Code.{Code}
+use Rattle.a68_code.specs.declared.does.Does.{Does}
+
+-- the instruction at this place, if there is one, has operands and a jump as it may have them
+abbrev pub FitsAt : Code → ℕ → Type 0
+FitsAt code at = (does : Does) → does_at code.list at ≡ Some does → IsTrue (is_well_made code.modes (length code.list) does) × IsInOrder code.list at does
+
+abbrev pub Heights : Type 0
+Heights = List (Option ℕ)
+
+abbrev pub Places : Type 0
+Places = List (ℕ × ℕ)
+
+-- the table has this height at this place
+abbrev pub Knows : Heights → ℕ → ℕ → Type 0
+Knows heights at height = slice_index_or heights at None ≡ Some height
+
+-- how many places have no height yet
+abbrev pub unknown : Heights → ℕ
+unknown [] = 0
+unknown (None ∷ heights) = suc (unknown heights)
+unknown (Some height ∷ heights) = unknown heights
+
+-- a place had this height, or it has it now, and the walk has yet to go on there
+abbrev pub Notes : ℕ → ℕ → Heights → Places → Heights → Places → Type 0
+Notes to height heights todo heights' todo' =
+    (Knows heights to height × (heights' ≡ heights) × (todo' ≡ todo))
+    ⊎ ((to < length heights) × (slice_index_or heights to None ≡ None) × (heights' ≡ slice_set heights to (Some height)) × (todo' ≡ todo ++ (to, height) ∷ []))
+
+-- a place is behind the list, or has another height
+abbrev pub Clashes : ℕ → ℕ → Heights → Type 0
+Clashes to height heights = (length heights ≤ to) ⊎ ((other : ℕ) × Knows heights to other × (other ≢ height))
+
+-- all these places have this height, and what is new is noted
+pub record NotesAll (places : List ℕ) (height : ℕ) (heights : Heights) (todo : Places) (heights' : Heights) (todo' : Places) : Type 0 where
+  pub long : length heights' ≡ length heights
+  pub kept : (at known : ℕ) → Knows heights at known → Knows heights' at known
+  pub all : (at : ℕ) → Contains places at → Knows heights' at height
+  pub only : (at known : ℕ) → Knows heights' at known → Knows heights at known ⊎ (Contains places at × (known ≡ height) × Contains todo' (at, known) × (unknown heights' < unknown heights))
+  pub onward : (at known : ℕ) → Contains todo (at, known) → Contains todo' (at, known)
+  pub noted : (at known : ℕ) → Contains todo' (at, known) → Contains todo (at, known) ⊎ Knows heights' at known
+  pub fewer : unknown heights' ≤ unknown heights
+  pub turns : unknown heights' + length todo' ≡ unknown heights + length todo
+
+-- one of these places is behind the list, or has another height
+abbrev pub AnyClashes : List ℕ → ℕ → Heights → Type 0
+AnyClashes places height heights = (to : ℕ) × Contains places to × Clashes to height heights
+
+-- the instruction finds what it takes, and all places where the machine may go on are noted
+abbrev pub GoesOn : List Shape → ℕ → Does → ℕ → Heights → Places → Heights → Places → Type 0
+GoesOn modes at does height heights todo heights' todo' =
+    (below : ℕ) × (below + takes does ≡ height) × NotesAll (landings at does) (below + leaves modes does) heights todo heights' todo'
+
+-- the instruction finds too few values, or comes to a place that has another height or is behind the list
+abbrev pub Fails : List Shape → ℕ → Does → ℕ → Heights → Type 0
+Fails modes at does height heights =
+    (height < takes does) ⊎ ((below : ℕ) × (below + takes does ≡ height) × AnyClashes (landings at does) (below + leaves modes does) heights)

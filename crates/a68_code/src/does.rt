@@ -1,0 +1,95 @@
+//! The instruction set.
+ghost use Rattle.std.specs.Prelude.{◌≡◌, IfOk};
+
+use a68_base::NoMemory;
+use a68_values::Value;
+use std::alloc::Global;
+
+/// What an instruction does. It works on the stack of the strand, whose top stands on the right below, and on the frame
+/// in which the strand stands. An instruction without an act is silent. It goes on with the next instruction where no
+/// other landing place is named.
+///
+/// | name | operands | stack before | stack after | act | |
+/// |---|---|---|---|---|---|
+/// | Push | a value | | value | | |
+/// | Skip | a mode | | value | | the value of SKIP; nothing for VOID |
+/// | Tag | hops, slot | | value | Look | the slot of the frame so many frames outwards |
+/// | Enter | slots | | | Enter | a frame within this one, of scope one more |
+/// | Leave | 0 or 1 | value, for 1 | value, for 1 | | back to the outer frame; for 1 the value may not be newer than it |
+/// | Bind | slot | value | | Bind | a slot of this frame |
+/// | Make | mode, bounds | the bounds | name | Make | new cells, of the scope of this frame |
+/// | Deref | mode | name | value | Fetch | |
+/// | Store | mode | name, value | name | Assign | |
+/// | Apply | row | operands | value | | a row of the table of operators |
+/// | Drop | | value | | | |
+/// | Print | count | the items | | Print | one for each item in order |
+/// | Jump | place | | | | goes there |
+/// | Unless | place | truth value | | | goes there for false |
+/// | Counter | | FROM, BY, TO | counter | | TO may be unset: no limit |
+/// | Step | place | counter | counter | | goes there where the loop has no further turn |
+/// | Turn | | | | Turn | |
+/// | Advance | place | counter | counter | | adds BY and goes there; goes on where the sum is no INT |
+/// | Forget | | counter | | | |
+/// | End | | | | | the program has come to its end |
+///
+/// A place is the number of an instruction in the list, from 0.
+#[derive(Drop)]
+pub enum Does {
+    Push(Value),
+    Skip(u32),
+    Tag { hops: u32, slot: u32 },
+    Enter(u32),
+    Leave(u32),
+    Bind(u32),
+    Make { mode: u32, bounds: u32 },
+    Deref(u32),
+    Store(u32),
+    Apply(u32),
+    Drop,
+    Print(u32),
+    Jump(u32),
+    Unless(u32),
+    Counter,
+    Step(u32),
+    Turn,
+    Advance(u32),
+    Forget,
+    End,
+}
+
+impl Does {
+    /// An equal instruction. One without a value that is made of others takes no memory.
+    pub fn copy(&self, alloc: Global) -> Result<Does, NoMemory>
+        ensures { IfOk result (λ does. does ≡ self.now) }
+    {
+        let does = match self {
+            Does::Push(value) => Does::Push(value.copy(alloc)?),
+            Does::Skip(mode) => Does::Skip(*mode),
+            Does::Tag { hops, slot } => Does::Tag {
+                hops: *hops,
+                slot: *slot,
+            },
+            Does::Enter(slots) => Does::Enter(*slots),
+            Does::Leave(kept) => Does::Leave(*kept),
+            Does::Bind(slot) => Does::Bind(*slot),
+            Does::Make { mode, bounds } => Does::Make {
+                mode: *mode,
+                bounds: *bounds,
+            },
+            Does::Deref(mode) => Does::Deref(*mode),
+            Does::Store(mode) => Does::Store(*mode),
+            Does::Apply(row) => Does::Apply(*row),
+            Does::Drop => Does::Drop,
+            Does::Print(count) => Does::Print(*count),
+            Does::Jump(to) => Does::Jump(*to),
+            Does::Unless(to) => Does::Unless(*to),
+            Does::Counter => Does::Counter,
+            Does::Step(to) => Does::Step(*to),
+            Does::Turn => Does::Turn,
+            Does::Advance(to) => Does::Advance(*to),
+            Does::Forget => Does::Forget,
+            Does::End => Does::End,
+        };
+        Ok(does)
+    }
+}

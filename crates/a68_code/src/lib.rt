@@ -1,0 +1,15 @@
+//! The code of the machine: instructions, and which lists of them the machine runs.
+#![tactic(auto)]
+
+mod code;
+mod does;
+mod operands;
+mod order;
+mod valid;
+mod walk;
+
+pub use code::{Code, Instr, Instrs, RoutineEntrance, Routines};
+pub use does::Does;
+
+#[cfg(test)]
+mod tests;

@@ -1,0 +1,52 @@
+//! The operands of an instruction, and the values that it takes and leaves.
+ghost use Rattle.std.specs.Prelude.{◌≡◌};
+ghost use Rattle.a68_code.specs.Flow.{takes, leaves};
+ghost use Rattle.a68_code.specs.Operands.{is_well_made};
+
+use crate::Does;
+use a68_modes::Modes;
+
+impl Does {
+    /// Whether the operands are such as the instruction may have, in a list of so many instructions.
+    pub(crate) fn is_well_made(&self, modes: &Modes, count: usize) -> bool
+        ensures { result ≡ is_well_made modes.now count self.now }
+    {
+        match self {
+            Does::Skip(mode) => modes.is_void(*mode) || modes.is_plain(*mode),
+            Does::Leave(kept) => *kept <= 1,
+            Does::Make { mode, bounds } => modes.is_plain(*mode) && *bounds == 0,
+            Does::Deref(mode) | Does::Store(mode) => modes.is_plain(*mode),
+            Does::Apply(row) => 9 <= *row && *row <= 17,
+            Does::Jump(to) | Does::Unless(to) | Does::Step(to) | Does::Advance(to) => (*to as usize)
+                < count,
+            _ => true,
+        }
+    }
+
+    /// How many values the instruction takes from the stack.
+    pub(crate) fn takes(&self) -> u32
+        ensures { result ≡ takes self.now }
+    {
+        match self {
+            Does::Counter => 3,
+            Does::Store(_) | Does::Apply(_) => 2,
+            Does::Bind(_) | Does::Deref(_) | Does::Drop => 1,
+            Does::Unless(_) | Does::Step(_) | Does::Advance(_) | Does::Forget => 1,
+            Does::Leave(count) | Does::Print(count) | Does::Make { bounds: count, .. } => *count,
+            _ => 0,
+        }
+    }
+
+    /// How many values it leaves there.
+    pub(crate) fn leaves(&self, modes: &Modes) -> u32
+        ensures { result ≡ leaves modes.now self.now }
+    {
+        match self {
+            Does::Leave(kept) => *kept,
+            Does::Skip(mode) => u32::from(!modes.is_void(*mode)),
+            Does::Enter(_) | Does::Bind(_) | Does::Drop | Does::Print(_) | Does::Jump(_) => 0,
+            Does::Unless(_) | Does::Turn | Does::Forget | Does::End => 0,
+            _ => 1,
+        }
+    }
+}

@@ -1,0 +1,16 @@
+pub mod Reach
+pub mod Stepping
+pub mod Grasp
+pub mod Rowing
+pub mod Sets
+pub mod Numbering
+pub mod Measure
+pub mod Keys
+pub mod Stable
+pub mod Numbers
+pub mod Codes
+pub mod Graphing
+pub mod Carrying
+pub mod Chains
+pub mod Meekly
+pub mod Splitting

@@ -1,0 +1,19 @@
+//! Modes that are equivalent, well formed, or related (Report, 7.3, 7.4 and 7.1).
+#![tactic(auto)]
+
+mod classes;
+mod firm;
+mod formed;
+mod graph;
+mod mode;
+mod rounds;
+mod split;
+mod steps;
+#[cfg(test)]
+mod tests;
+mod walk;
+
+pub use classes::{Classes, settle};
+pub use firm::related;
+pub use formed::{all_well_formed, ill_formed};
+pub use mode::Mode;

@@ -1,0 +1,50 @@
+//! The steps from a mode to the modes within it.
+ghost use Rattle.std.specs.Prelude.{◌≡◌, IfOk, map};
+ghost use Rattle.a68_equiv.specs.Ways.{steps_of, IsClosed};
+
+use a68_base::NoMemory;
+use a68_modes::{Members, Modes, Shape};
+use std::alloc::Global;
+
+/// Which steps from a mode to the modes within it are taken.
+#[derive(Clone, Copy, Debug, PartialEq, Eq)]
+pub enum Steps {
+    /// All but those from a REF or a PROC.
+    BesidesNames,
+    /// All but those from a STRUCT or from a PROC with parameters.
+    BesidesStructures,
+    /// Those of mode words and of unions alone.
+    WithinUnions,
+}
+
+/// The modes to which such a step leads from a shape.
+fn row(alloc: Global, steps: Steps, shape: &Shape) -> Result<Members, NoMemory>
+    ensures { IfOk result (λ row. row ≡ steps_of steps shape.now) }
+{
+    let taken = match shape {
+        Shape::Ref(_) => steps == Steps::BesidesStructures,
+        Shape::Rows { .. } => steps != Steps::WithinUnions,
+        Shape::Struct(_) => steps == Steps::BesidesNames,
+        Shape::Proc { params, .. } => {
+            steps == Steps::BesidesStructures && params.items.is_empty()
+        }
+        _ => true,
+    };
+    if taken {
+        shape.parts(alloc)
+    } else {
+        Members::from_slice(alloc, &[])
+    }
+}
+
+/// The graph of such steps: for each node those to which a step leads.
+pub fn graph(alloc: Global, modes: &Modes, which: Steps) -> Result<Vec<Members>, NoMemory>
+    ensures rows { IfOk result (λ graph. graph.items ≡ map (steps_of which) modes.now) }
+    ensures closed { IfOk result (λ graph. IsClosed graph.items) }
+{
+    let mut graph = Vec::new(alloc);
+    for id in 0..modes.len() {
+        graph.push(row(alloc, which, modes.shape(id))?)?;
+    }
+    Ok(graph)
+}

@@ -1,0 +1,5 @@
+use Rattle.a68_modes.proofs.Holding.{changed}
+use Rattle.a68_modes.proofs.modes.Modes.set.Goals as goal
+
+pub invariant_of-self : goal.invariant_of-self
+invariant_of-self c = changed c.self.inside.items.items c.args.id c.args.shape c.self.invariant (rw c.self.view_is c.requires.blank) (rw c.self.view_is c.requires.there) (rw c.self.view_is c.requires.within)

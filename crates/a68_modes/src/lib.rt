@@ -1,0 +1,15 @@
+//! Modes as the nodes of a graph (Report, 4.6 and 4.7): their shapes, the list of them, and the names of coercions.
+#![tactic(auto)]
+
+mod coercion;
+mod lists;
+mod modes;
+mod shape;
+mod standard;
+#[cfg(test)]
+mod tests;
+
+pub use coercion::{Coercion, Path, Sort};
+pub use lists::{Fields, Members};
+pub use modes::{ModeStop, Modes};
+pub use shape::{ModeId, Shape};

@@ -1,0 +1,4 @@
+pub mod Binding
+pub mod Counts
+pub mod FramesLemmas
+pub mod Rows

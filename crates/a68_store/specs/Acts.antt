@@ -1,0 +1,16 @@
+-- What a call of the store says of the act that it does.
+use Rattle.std.specs.Prelude.{◌≡◌, Ok, Err}
+use Rattle.std.specs.declared.result.Result.{Result}
+use Rattle.a68_acts.specs.Does.{Outcome, did, refuses}
+use Rattle.a68_acts.specs.Store.{Store}
+use Rattle.a68_acts.specs.declared.want.Reply.{Reply}
+use Rattle.a68_store.specs.declared.stop.StoreStop.{StoreStop}
+use Rattle.a68_store.specs.declared.stop.StoreStop.TheVariants.{Fault, NoMemory}
+use Rattle.a68_values.specs.declared.act.Act.{Act}
+
+-- The call did the act: an Ok is the act done, with what the strand is told, a fault is the one that the act meets,
+-- and an error leaves the store as it was.
+abbrev pub Does : {T : Type 0} → Result T StoreStop → (T → Act) → (T → Reply) → Outcome → Store → Store → Type 0
+Does (Ok x) act told outcome old new = outcome ≡ did (act x) (told x) new
+Does (Err (Fault kind)) act told outcome old new = (outcome ≡ refuses kind) × (new ≡ old)
+Does (Err NoMemory) act told outcome old new = new ≡ old

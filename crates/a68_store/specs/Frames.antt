@@ -1,0 +1,19 @@
+-- The frames of the store as contracts see them.
+use Rattle.std.specs.Prelude.{◌≡◌, ◌<◌, ℕ, List, Some, map, slice_get, length}
+use Rattle.a68_acts.specs.Store as store
+use Rattle.a68_acts.specs.Store.{Store}
+use Rattle.a68_store.specs.declared.frame.Frame.{Frame}
+
+abbrev pub frame_of : Frame → store.Frame
+frame_of frame = record { outer = frame.outer; scope = frame.scope; slots = frame.slots.items }
+
+abbrev pub frames_of : List Frame → List store.Frame
+frames_of frames = map frame_of frames
+
+-- each frame but that of the standard environ stands behind the one about it
+abbrev pub AreLinked : List store.Frame → Type 0
+AreLinked frames = (f : ℕ) (frame : store.Frame) → slice_get frames f ≡ Some frame → 0 < f → frame.outer < f
+
+-- the frame has such a slot, where it is there
+abbrev pub HasSlot : Store → (frame slot : ℕ) → Type 0
+HasSlot in_store f slot = (frame : store.Frame) → slice_get in_store.frames f ≡ Some frame → slot < length frame.slots

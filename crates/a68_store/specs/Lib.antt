@@ -1,0 +1,4 @@
+pub mod Acts
+pub mod Codes
+pub mod Frames
+pub mod Inside

@@ -1,0 +1,14 @@
+//! The store of a run: cells, frames and the printed text. Each call is one act.
+#![tactic(auto)]
+
+mod chains;
+mod frame;
+mod stop;
+mod store;
+mod weight;
+
+pub use stop::StoreStop;
+pub use store::Store;
+
+#[cfg(test)]
+mod tests;

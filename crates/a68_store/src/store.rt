@@ -1,0 +1,230 @@
+//! The store.
+ghost use Rattle.std.specs.Prelude.{◌≡◌, ◌<◌, ◌-◌, ◌^◌, false, None, Some, length, replicate, slice_get, slice_set, vec_len, IfOk, IfSome};
+ghost use Rattle.a68_acts.specs.Does.{does, did};
+ghost use Rattle.a68_acts.specs.Store.{opening_store};
+ghost use Rattle.a68_store.specs.Acts.{Does};
+ghost use Rattle.a68_store.specs.Frames.{HasSlot, frame_of};
+
+use crate::chains::chain_behind;
+use crate::frame::Frame;
+use crate::stop::StoreStop;
+use crate::weight::{slot_weight, weight};
+use a68_acts::{Reply, Want};
+use a68_base::{NoMemory, Span};
+use a68_layout::Plan;
+use a68_values::{Act, Chain, Environ, FaultKind, Held, Value};
+use std::alloc::Global;
+use std::marker::Model;
+
+// The most that a store counts: cells, slots, and the values within those that slots are bound to.
+const MOST_COUNTED: u32 = 4_194_304;
+
+// The most bytes that a run prints.
+const MOST_PRINTED: usize = 16_777_216;
+
+/// The store of a run. Cells, frames and printed bytes are numbered from 0 in the order made, the slots of a frame
+/// from 0. Frame 0 is that of the standard environ and has no slots.
+#[derive(Drop)]
+pub struct Store {
+    cells: Vec<Held>,
+    frames: Vec<Frame>,
+    text: Vec<u8>,
+    // What the store counts.
+    counted: u32,
+}
+
+impl Model for Store {
+    ghost use Rattle.a68_acts.specs.Store as store;
+    ghost use Rattle.a68_store.specs.Codes.{store_code};
+
+    ghost Value = { store.Store };
+
+    ghost coded = { store_code };
+
+    ghost use Rattle.a68_store.specs.Inside.{store_of, IsSound};
+
+    ghost view = { store_of };
+
+    ghost invariant = { IsSound };
+}
+
+// Binds a slot of a frame.
+fn set_slot(frame: &mut Frame, slot: u32, value: Value)
+    requires { slot < vec_len frame.old.slots }
+    ensures { frame_of frame.new ≡ record (frame_of frame.old) { slots = slice_set frame.old.slots.items slot (Some value) } }
+{
+    frame.slots[slot as usize] = Some(value);
+}
+
+// So many slots that are not bound.
+fn unbound(alloc: Global, slots: u32) -> Result<Vec<Option<Value>>, NoMemory>
+    ensures { IfOk result (λ unbound. unbound.items ≡ replicate slots None) }
+{
+    let mut unbound = Vec::with_capacity(alloc, slots as usize)?;
+    for _ in 0..slots {
+        unbound.push(None)?;
+    }
+    Ok(unbound)
+}
+
+// Equal held values.
+fn copies(alloc: Global, cells: &[Held]) -> Result<Vec<Held>, NoMemory>
+    ensures { IfOk result (λ copies. copies.items ≡ cells.now) }
+{
+    let mut copies = Vec::with_capacity(alloc, cells.len())?;
+    for held in cells {
+        copies.push(held.copy(alloc)?)?;
+    }
+    Ok(copies)
+}
+
+#[tactic(auto, unfolding(a68_acts::specs::Does::does))]
+impl Store {
+    /// The store of a run that is yet to begin: frame 0 alone.
+    pub fn new(alloc: Global) -> Result<Store, NoMemory>
+        ensures { IfOk result (λ store. store ≡ opening_store) }
+    {
+        let mut frames = Vec::new(alloc);
+        frames.push(Frame {
+            outer: 0,
+            scope: 0,
+            slots: Vec::new(alloc),
+        })?;
+        Ok(Store {
+            cells: Vec::new(alloc),
+            frames,
+            text: Vec::new(alloc),
+            counted: 0,
+        })
+    }
+
+    /// How many frames there are. It takes no memory.
+    pub fn frames(&self) -> u32
+        requires { length self.now.frames < 2 ^ 32 }
+        ensures { result ≡ length self.now.frames }
+    {
+        self.frames.len() as u32
+    }
+
+    /// How many slots a frame has. It takes no memory.
+    pub fn slots(&self, frame: u32) -> u32
+        requires { frame < length self.now.frames }
+        ensures { IfSome (slice_get self.now.frames frame) (λ f. result ≡ length f.slots) }
+    {
+        self.frames[frame as usize].slots.len() as u32
+    }
+
+    /// A new frame of this scope within another one, with so many slots that are not bound. Its chain comes back.
+    pub fn enter(
+        &mut self,
+        alloc: Global,
+        outer: u32,
+        scope: u32,
+        slots: u32,
+    ) -> Result<Chain, StoreStop>
+        requires there { outer < length self.old.frames }
+        requires few { length self.old.frames < 2 ^ 32 - 1 }
+        ensures { Does result (λ chain. Act.Enter (length self.old.frames)) (λ chain. Reply.Frame chain)
+            (does (Want.Enter outer scope slots) self.old) self.old self.new }
+    {
+        if slots > MOST_COUNTED - self.counted {
+            return Err(StoreStop::Fault(FaultKind::Cells));
+        }
+        let frame = self.frames.len() as u32;
+        let chain = chain_behind(alloc, Environ { frame, scope }, &self.frames, outer)?;
+        let slots_of_frame = unbound(alloc, slots)?;
+        self.frames.push(Frame {
+            outer,
+            scope,
+            slots: slots_of_frame,
+        })?;
+        self.counted += slots;
+        Ok(chain)
+    }
+
+    /// Binds a slot to a value. The value is dropped where it is not bound. A plain value takes no memory.
+    pub fn bind(&mut self, frame: u32, slot: u32, value: Value) -> Result<(), StoreStop>
+        requires frame { frame < length self.old.frames }
+        requires slot { HasSlot self.old frame slot }
+        ensures { Does result (λ u. Act.Bind frame slot) (λ u. Reply.Go)
+            (does (Want.Bind frame slot value) self.old) self.old self.new }
+    {
+        let added = weight(&value).saturating_add(1);
+        let replaced = slot_weight(&self.frames[frame as usize].slots[slot as usize]);
+        if added > u64::from(MOST_COUNTED - self.counted) + replaced {
+            return Err(StoreStop::Fault(FaultKind::Cells));
+        }
+        set_slot(&mut self.frames[frame as usize], slot, value);
+        self.counted = (u64::from(self.counted) - replaced + added) as u32;
+        Ok(())
+    }
+
+    /// The value that a slot is bound to. A plain value takes no memory.
+    pub fn look(&self, alloc: Global, frame: u32, slot: u32) -> Result<Value, StoreStop>
+        requires frame { frame < length self.now.frames }
+        requires slot { HasSlot self.now frame slot }
+        ensures { Does result (λ value. Act.Look frame slot) (λ value. Reply.Value value)
+            (does (Want.Look frame slot) self.now) self.now self.now }
+    {
+        match &self.frames[frame as usize].slots[slot as usize] {
+            None => Err(StoreStop::Fault(FaultKind::Unset)),
+            Some(value) => Ok(value.copy(alloc)?),
+        }
+    }
+
+    /// How many cells there are. It takes no memory.
+    pub fn cells(&self) -> u32
+        ensures { result ≡ length self.now.cells }
+    {
+        self.cells.len() as u32
+    }
+
+    /// New cells, as planned. The number of the first comes back.
+    pub fn make(&mut self, alloc: Global, plan: &Plan) -> Result<u32, StoreStop>
+        requires { plan.now.shifted ≡ false }
+        ensures { Does result (λ base. Act.Make base (length plan.now.cells)) (λ base. Reply.Base base)
+            (does (Want.Make plan.now) self.old) self.old self.new }
+    {
+        let base = self.cells.len() as u32;
+        let count = plan.cells.items.len();
+        if count > (MOST_COUNTED - self.counted) as usize {
+            return Err(StoreStop::Fault(FaultKind::Cells));
+        }
+        let mut fresh = copies(alloc, &plan.cells.items)?;
+        self.cells.append(&mut fresh)?;
+        self.counted += count as u32;
+        Ok(base)
+    }
+
+    /// What a cell holds. A plain value takes no memory.
+    pub fn fetch(&self, alloc: Global, cell: u32) -> Result<Held, NoMemory>
+        requires { cell < length self.now.cells }
+        ensures { IfOk result (λ held. does (Want.Fetch cell) self.now ≡ did (Act.Fetch cell) (Reply.Held held) self.now) }
+    {
+        self.cells[cell as usize].copy(alloc)
+    }
+
+    /// Gives a cell something to hold, and takes no memory.
+    pub fn assign(&mut self, cell: u32, held: Held)
+        requires { cell < length self.old.cells }
+        ensures { does (Want.Assign cell held) self.old ≡ did (Act.Assign cell) Reply.Go self.new }
+    {
+        self.cells[cell as usize] = held;
+    }
+
+    /// Prints bytes behind those printed before. Which they are comes back.
+    pub fn print(&mut self, piece: &[u8]) -> Result<Span, StoreStop>
+        ensures { Does result (λ span. Act.Print span.from span.to) (λ span. Reply.Go)
+            (does (Want.Print piece.now) self.old) self.old self.new }
+    {
+        let from = self.text.len();
+        if piece.len() > MOST_PRINTED - from {
+            return Err(StoreStop::Fault(FaultKind::Text));
+        }
+        self.text.extend_from_slice(piece)?;
+        Ok(Span {
+            from: from as u32,
+            to: (from + piece.len()) as u32,
+        })
+    }
+}

@@ -1,0 +1,43 @@
+//! How many values are within a value.
+ghost use Rattle.std.specs.Prelude.{◌≡◌, ◌-◌, ◌^◌, min};
+ghost use Rattle.a68_acts.specs.Store.{further_parts, all_parts, slot_weight};
+ghost use Rattle.a68_values.specs.Content.{contents_of};
+
+use a68_values::{Node, Parts, Value};
+
+/// How many values are within a value, its parts and theirs; at the last value of u64 it stands still.
+#[cycle(weight)]
+pub fn weight(value: &Value) -> u64
+    ensures { result ≡ min (further_parts value.now) (2 ^ 64 - 1) }
+{
+    match &value.node {
+        Node::Void => 0,
+        Node::Plain(_) => 0,
+        Node::Layout(_) => 0,
+        Node::Structure(parts) => weight_of_all(parts),
+        Node::Row { parts, .. } => weight_of_all(parts),
+        Node::United { value, .. } => weight(value).saturating_add(1),
+    }
+}
+
+#[cycle(weight)]
+fn weight_of_all(parts: &Parts) -> u64
+    ensures { result ≡ min (all_parts (contents_of parts.now)) (2 ^ 64 - 1) }
+{
+    let mut all: u64 = 0;
+    for part in &parts.items {
+        all = all.saturating_add(1).saturating_add(weight(part));
+    }
+    all
+}
+
+/// What a slot counts: itself, and the values within the one that it is bound to; at the last value of u64 it stands
+/// still.
+pub fn slot_weight(slot: &Option<Value>) -> u64
+    ensures { result ≡ min (slot_weight slot.now) (2 ^ 64 - 1) }
+{
+    match slot {
+        None => 1,
+        Some(value) => weight(value).saturating_add(1),
+    }
+}

@@ -1,0 +1,4 @@
+pub mod Making
+pub mod Popping
+pub mod Replying
+pub mod Settling

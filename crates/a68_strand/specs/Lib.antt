@@ -1,0 +1,5 @@
+pub mod Bodies
+pub mod Machine
+pub mod Room
+pub mod Strands
+pub mod Values

@@ -1,0 +1,40 @@
+//! What a strand asks, and what it waits for.
+use a68_acts::{Next, Want};
+use a68_values::FaultKind;
+
+/// What a strand that has asked for an act does with the reply.
+#[derive(Drop)]
+pub enum Waiting {
+    /// Its operation goes on.
+    Operation(Next),
+    /// It stands in the new frame.
+    Frame,
+    /// It goes on with the next instruction.
+    Turn,
+}
+
+/// What a strand is about.
+#[derive(Drop)]
+pub enum Mode {
+    /// It stands before an instruction.
+    Idle,
+    /// It has asked for an act.
+    Asking(Want, Waiting),
+    /// It has met a fault.
+    Failed(FaultKind),
+}
+
+/// What a strand shows of itself.
+#[derive(Drop)]
+pub enum Ask {
+    /// It asks for this act.
+    Want(Want),
+    /// It waits for the units of a parallel clause.
+    Waits,
+    /// It has come to its end.
+    Ended,
+    /// It stands before a fault. `place` is the byte of the text at which the construct begins that meets it.
+    Fault { kind: FaultKind, place: u32 },
+    /// It found no memory, and is spent.
+    NoMemory,
+}

@@ -1,0 +1,19 @@
+//! A strand of a run: it runs its silent instructions up to its next act, asks for that, and goes on with the reply.
+#![tactic(auto)]
+
+mod ask;
+mod body;
+mod calls;
+mod control;
+mod exec;
+mod instructions;
+mod operations;
+mod reply;
+mod stack;
+mod strand;
+
+pub use ask::{Ask, Mode, Waiting};
+pub use strand::Strand;
+
+#[cfg(test)]
+mod tests;

@@ -1,0 +1,4 @@
+pub mod Codes
+pub mod Content
+pub mod Nodes
+pub mod PartsFall

@@ -1,0 +1,19 @@
+//! Values, the acts of a run, and what a run keeps.
+#![tactic(auto)]
+
+mod act;
+mod chain;
+mod held;
+mod kept;
+mod plain;
+mod value;
+
+pub use act::{Act, Entries, Entry, FaultKind};
+pub use chain::{Chain, Entrances, Environ};
+pub use held::{Cells, Descriptor, Dim, Dims, Held, Slots};
+pub use kept::{End, Journal, Kept};
+pub use plain::{Layout, Name, Plain, Routine};
+pub use value::{Bounds, Node, Parts, Value};
+
+#[cfg(test)]
+mod tests;

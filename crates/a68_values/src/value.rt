@@ -1,0 +1,175 @@
+//! Values of any mode.
+ghost use Rattle.std.specs.Prelude.{◌≡◌, IfOk};
+ghost use Rattle.a68_values.specs.Content.{plain, scope_of, newest_scope};
+
+use crate::{Layout, Plain};
+use a68_base::NoMemory;
+use std::alloc::Global;
+use std::marker::Model;
+
+/// A lower and an upper bound for each dimension of a row.
+#[derive(Debug, Drop)]
+pub struct Bounds {
+    pub items: Vec<(i64, i64)>,
+}
+
+impl Model for Bounds {
+    ghost use Rattle.std.specs.Prelude.{List, ℤ};
+
+    ghost Value = { List (ℤ × ℤ) };
+
+    ghost view = { λ bounds. bounds.items.items };
+}
+
+/// A value. Contracts see it as a tree of contents.
+#[cycle(value)]
+#[derive(Drop)]
+pub struct Value {
+    pub node: Node,
+}
+
+/// What a value is made of.
+#[cycle(value)]
+#[derive(Drop)]
+pub enum Node {
+    /// The value of a construct that yields none (Report, 2.1.3.1).
+    Void,
+    Plain(Plain),
+    Layout(Layout),
+    /// The fields in order (2.1.3.3).
+    Structure(Parts),
+    /// The elements in order, the last subscript running fastest (2.1.3.4).
+    Row { bounds: Bounds, parts: Parts },
+    /// A value united to a union, with the mode of the member that it has (2.1.3.6).
+    United { mode: u32, value: Box<Value> },
+}
+
+/// The fields of a structure or the elements of a row, in order.
+#[cycle(value)]
+#[derive(Drop)]
+pub struct Parts {
+    pub items: Vec<Value>,
+}
+
+impl Model for Value {
+    ghost use Rattle.a68_values.specs.Codes.{content_code};
+    ghost use Rattle.a68_values.specs.Content.{Content, size_of};
+
+    ghost Value = { Content };
+
+    ghost coded = { content_code };
+
+    ghost use Rattle.a68_values.specs.Nodes.{content_of};
+
+    ghost view = { λ value. content_of value.node };
+
+    ghost size = { size_of };
+
+    ghost use Rattle.a68_values.specs.PartsFall.{depth_le-size_of};
+
+    ghost size_decreases = { λ a h. depth_le-size_of a.node };
+}
+
+impl Model for Parts {
+    ghost use Rattle.std.specs.Coded.{coded_list};
+    ghost use Rattle.std.specs.Prelude.{List};
+    ghost use Rattle.a68_values.specs.Codes.{content_code};
+    ghost use Rattle.a68_values.specs.Content.{Content, size_of_all};
+
+    ghost Value = { List Content };
+
+    ghost coded = { coded_list content_code };
+
+    ghost view = { λ parts. parts.items.items };
+
+    ghost size = { size_of_all };
+
+    ghost use Rattle.std.proofs.Common.{arith};
+    ghost use Rattle.a68_values.specs.Content.{most_le-size_of_all};
+
+    ghost size_decreases = { λ a h. omega (arith, most_le-size_of_all a.items.items) };
+}
+
+impl Bounds {
+    /// Equal bounds.
+    pub fn copy(&self, alloc: Global) -> Result<Bounds, NoMemory>
+        ensures { IfOk result (λ bounds. bounds ≡ self.now) }
+    {
+        let items = Vec::from_slice(alloc, &self.items)?;
+        Ok(Bounds { items })
+    }
+}
+
+impl Value {
+    /// A value that is not made of others.
+    pub fn of(held: Plain) -> Value
+        ensures { result ≡ plain held }
+    {
+        Value {
+            node: Node::Plain(held),
+        }
+    }
+
+    /// An equal value. A plain one takes no memory.
+    #[cycle(copy)]
+    pub fn copy(&self, alloc: Global) -> Result<Value, NoMemory>
+        ensures { IfOk result (λ value. value ≡ self.now) }
+    {
+        let node = match &self.node {
+            Node::Void => Node::Void,
+            Node::Plain(plain) => Node::Plain(*plain),
+            Node::Layout(layout) => Node::Layout(*layout),
+            Node::Structure(parts) => Node::Structure(parts.copy(alloc)?),
+            Node::Row { bounds, parts } => Node::Row {
+                bounds: bounds.copy(alloc)?,
+                parts: parts.copy(alloc)?,
+            },
+            Node::United { mode, value } => Node::United {
+                mode: *mode,
+                value: Box::new(alloc, value.copy(alloc)?)?,
+            },
+        };
+        Ok(Value { node })
+    }
+
+    /// The scope of the value: the newest of its parts' scopes (Report, 2.1.1.3).
+    #[cycle(scope)]
+    pub fn scope(&self) -> u32
+        ensures { result ≡ scope_of self.now }
+    {
+        match &self.node {
+            Node::Void => 0,
+            Node::Layout(_) => 0,
+            Node::Plain(plain) => plain.scope(),
+            Node::Structure(parts) => parts.scope(),
+            Node::Row { parts, .. } => parts.scope(),
+            Node::United { value, .. } => value.scope(),
+        }
+    }
+}
+
+impl Parts {
+    /// Equal parts.
+    #[cycle(copy)]
+    pub fn copy(&self, alloc: Global) -> Result<Parts, NoMemory>
+        ensures { IfOk result (λ parts. parts ≡ self.now) }
+    {
+        let mut items = Vec::with_capacity(alloc, self.items.len())?;
+        for part in &self.items {
+            items.push(part.copy(alloc)?)?;
+        }
+        Ok(Parts { items })
+    }
+
+    /// The newest of the parts' scopes; 0 where there is none.
+    #[cycle(scope)]
+    pub fn scope(&self) -> u32
+        ensures { result ≡ newest_scope self.now }
+    {
+        let mut newest = 0;
+        for part in &self.items {
+            newest = part.scope().max(newest);
+        }
+        newest
+    }
+}
