@@ -2,7 +2,9 @@
 use Rattle.std.proofs.Common.{◌≡◌, ℕ, ◌+◌, ◌<◌, ◌≤◌, [], ◌∷◌, ◌++◌, length, refl}
 use Rattle.std.specs.Prelude.{None, Some, slice_get, replicate}
 use Rattle.std.specs.declared.option.Option.{Option}
+use Rattle.std.specs.Option.{option_and_then}
 use Rattle.std.proofs.lemmas.Bool.{le-ltb, lt-ltb}
+use Rattle.a68_store.specs.Frames.{slot_in}
 use Rattle.a68_acts.specs.Does.{did, refuses, does, with_slot, looked}
 use Rattle.a68_acts.specs.Store.{Frame, Store, chain_of, counted, slot_weight, most_counted}
 use Rattle.a68_acts.specs.declared.want.Reply.TheVariants as reply
@@ -39,3 +41,13 @@ pub enter-refused : (store : Store) (outer scope n : ℕ) (frame : Frame) → sl
     → does (want.Enter outer scope n) store ≡ refuses fault.Cells
 unfolding does
 enter-refused store outer scope n frame there full = rw (there, lt-ltb _ _ full) refl
+
+-- a slot that is there, and its frame
+slot-found_in : (o : Option Frame) (s : ℕ) (slot : Option Content) → option_and_then (λ (frame : Frame). slice_get frame.slots s) o ≡ Some slot
+    → (frame : Frame) × (o ≡ Some frame) × (slice_get frame.slots s ≡ Some slot)
+slot-found_in None s slot e = cc
+slot-found_in (Some frame) s slot e = (frame, refl, e)
+
+pub slot-found : (store : Store) (f s : ℕ) (slot : Option Content) → slot_in store f s ≡ Some slot
+    → (frame : Frame) × (slice_get store.frames f ≡ Some frame) × (slice_get frame.slots s ≡ Some slot)
+slot-found store f s slot e = slot-found_in (slice_get store.frames f) s slot e

@@ -1,5 +1,8 @@
 -- The frames of the store as contracts see them.
 use Rattle.std.specs.Prelude.{◌≡◌, ◌<◌, ℕ, List, Some, map, slice_get, length}
+use Rattle.std.specs.Option.{option_and_then}
+use Rattle.std.specs.declared.option.Option.{Option}
+use Rattle.a68_values.specs.Content.{Content}
 use Rattle.a68_acts.specs.Store as store
 use Rattle.a68_acts.specs.Store.{Store}
 use Rattle.a68_store.specs.declared.frame.Frame.{Frame}
@@ -17,3 +20,7 @@ AreLinked frames = (f : ℕ) (frame : store.Frame) → slice_get frames f ≡ So
 -- the frame has such a slot, where it is there
 abbrev pub HasSlot : Store → (frame slot : ℕ) → Type 0
 HasSlot in_store f slot = (frame : store.Frame) → slice_get in_store.frames f ≡ Some frame → slot < length frame.slots
+
+-- the slot of a frame, where they are there
+abbrev pub slot_in : Store → (frame slot : ℕ) → Option (Option Content)
+slot_in in_store f slot = option_and_then (λ (frame : store.Frame). slice_get frame.slots slot) (slice_get in_store.frames f)

@@ -1,18 +1,19 @@
 //! The store.
-ghost use Rattle.std.specs.Prelude.{◌≡◌, ◌<◌, ◌-◌, ◌^◌, false, None, Some, length, replicate, slice_get, slice_set, vec_len, IfOk, IfSome};
-ghost use Rattle.a68_acts.specs.Does.{does, did};
+ghost use Rattle.std.specs.Prelude.{◌≡◌, ◌<◌, ◌-◌, ◌^◌, [], false, None, Some, length, replicate, slice_get, slice_set, vec_len, IfOk, IfSome};
+ghost use Rattle.std.specs.Option.{option_copied, option_map_or};
+ghost use Rattle.a68_acts.specs.Does.{does, did, refused};
 ghost use Rattle.a68_acts.specs.Store.{opening_store};
 ghost use Rattle.a68_store.specs.Acts.{Does};
-ghost use Rattle.a68_store.specs.Frames.{HasSlot, frame_of};
+ghost use Rattle.a68_store.specs.Frames.{HasSlot, frame_of, slot_in};
 
 use crate::chains::chain_behind;
 use crate::frame::Frame;
 use crate::stop::StoreStop;
 use crate::weight::{slot_weight, weight};
 use a68_acts::{Reply, Want};
-use a68_base::{NoMemory, Span};
+use a68_base::{NoMemory, Span, Text};
 use a68_layout::Plan;
-use a68_values::{Act, Chain, Environ, FaultKind, Held, Value};
+use a68_values::{Act, Cells, Chain, Environ, FaultKind, Held, Slots, Value};
 use std::alloc::Global;
 use std::marker::Model;
 
@@ -226,5 +227,122 @@ impl Store {
             from: from as u32,
             to: (from + piece.len()) as u32,
         })
+    }
+
+    // The slot of a frame, where they are there.
+    fn slot(&self, frame: u32, slot: u32) -> Option<&Option<Value>>
+        ensures { option_copied result ≡ slot_in self.now frame slot }
+    {
+        let frame = self.frames.get(frame as usize)?;
+        frame.slots.get(slot as usize)
+    }
+
+    fn fault_of_enter(&self, outer: u32, scope: u32, slots: u32) -> Option<FaultKind>
+        ensures { result ≡ refused (does (Want.Enter outer scope slots) self.now) }
+    {
+        if outer as usize >= self.frames.len() {
+            return Some(FaultKind::Kind);
+        }
+        if slots > MOST_COUNTED - self.counted {
+            return Some(FaultKind::Cells);
+        }
+        None
+    }
+
+    fn fault_of_bind(&self, frame: u32, slot: u32, value: &Value) -> Option<FaultKind>
+        ensures { result ≡ refused (does (Want.Bind frame slot value.now) self.now) }
+    {
+        let Some(old) = self.slot(frame, slot) else {
+            return Some(FaultKind::Kind);
+        };
+        let added = weight(value).saturating_add(1);
+        if added.saturating_sub(slot_weight(old)) > u64::from(MOST_COUNTED - self.counted) {
+            return Some(FaultKind::Cells);
+        }
+        None
+    }
+
+    fn fault_of_look(&self, frame: u32, slot: u32) -> Option<FaultKind>
+        ensures { result ≡ refused (does (Want.Look frame slot) self.now) }
+    {
+        match self.slot(frame, slot) {
+            None => Some(FaultKind::Kind),
+            Some(None) => Some(FaultKind::Unset),
+            Some(Some(_)) => None,
+        }
+    }
+
+    fn fault_of_make(&self, plan: &Plan) -> Option<FaultKind>
+        ensures { result ≡ refused (does (Want.Make plan.now) self.now) }
+    {
+        if plan.shifted {
+            return Some(FaultKind::Kind);
+        }
+        if plan.cells.items.len() > (MOST_COUNTED - self.counted) as usize {
+            return Some(FaultKind::Cells);
+        }
+        None
+    }
+
+    fn fault_of_print(&self, piece: &[u8]) -> Option<FaultKind>
+        ensures { result ≡ refused (does (Want.Print piece.now) self.now) }
+    {
+        if piece.len() > MOST_PRINTED - self.text.len() {
+            return Some(FaultKind::Text);
+        }
+        None
+    }
+
+    /// The fault that an act would meet, where it would meet one. It takes no memory.
+    pub fn fault_of(&self, want: &Want) -> Option<FaultKind>
+        ensures { result ≡ refused (does want.now self.now) }
+    {
+        match want {
+            Want::Enter {
+                outer,
+                scope,
+                slots,
+            } => self.fault_of_enter(*outer, *scope, *slots),
+            Want::Bind { frame, slot, value } => self.fault_of_bind(*frame, *slot, value),
+            Want::Look { frame, slot } => self.fault_of_look(*frame, *slot),
+            Want::Make(plan) => self.fault_of_make(plan),
+            Want::Fetch { cell } | Want::Assign { cell, .. } => {
+                if *cell as usize >= self.cells.len() {
+                    Some(FaultKind::Kind)
+                } else {
+                    None
+                }
+            }
+            Want::Print(text) => self.fault_of_print(&text.items),
+            Want::Turn => None,
+            Want::Up { .. } | Want::Down { .. } | Want::Fork(_) | Want::Close => {
+                Some(FaultKind::Kind)
+            }
+        }
+    }
+
+    /// What a run keeps of the store: what the cells hold, what the slots of frame 1 are bound to, and the printed
+    /// text. Where there is no frame 1 there are no slots. It takes no memory.
+    pub fn into_kept(self) -> (Cells, Slots, Text)
+        ensures cells { result.0 ≡ self.cells }
+        ensures slots { result.1 ≡ option_map_or (λ frame. frame.slots) (slice_get self.frames 1) [] }
+        ensures text { result.2 ≡ self.text }
+    {
+        let Store {
+            cells,
+            mut frames,
+            text,
+            ..
+        } = self;
+        let slots = if frames.len() > 1 {
+            frames.swap_remove(1).slots
+        } else {
+            Vec::new(*cells.allocator())
+        };
+        (
+            Cells { items: cells },
+            Slots { items: slots },
+            Text { items: text },
+        )
     }
 }

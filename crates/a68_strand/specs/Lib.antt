@@ -1,5 +1,9 @@
 pub mod Bodies
+pub mod Cyclic
+pub mod Ends
 pub mod Machine
 pub mod Room
+pub mod RunOf
+pub mod Runs
 pub mod Strands
 pub mod Values

@@ -5,39 +5,37 @@ use Rattle.std.proofs.Common.{sym, ◌∙◌, ap, arith}
 use Rattle.a68_code.specs.declared.code.Code.{Code}
 use Rattle.a68_strand.specs.declared.ask.Mode.{Mode}
 use Rattle.a68_strand.specs.declared.ask.Mode.TheVariants.{Idle, Asking, Failed}
-use Rattle.a68_strand.proofs.Settling.{settle-first, settle-on, settle-asking, settle-failed}
+use Rattle.a68_strand.proofs.Settling.{settle-first, settle-on, settle-asking, settle-failed, stepped}
 use Rattle.a68_strand.proofs.exec.run.Goals as goal
 
--- src/exec.rt:83:5
 pub loop-init : goal.loop-init
-loop-init c = settle-first c.args.code.now c.args.body.now
+loop-init c = (settle-first c.args.code.now c.args.body.now, c.requires.idle)
 
--- src/exec.rt:89:44
 pub returns-in-Asking-clause-state : goal.returns-in-Asking-clause-state
 returns-in-Asking-clause-state c =
-    let step : machine.silently c.args.code.now Idle (state_of c.loop.body Idle) ≡ Some (state_of c.go_on.new.body c.in-Some.mode) = rw c.in-Some.is at c.in_ok-mode.ensures.step in
-    let there : machine.silently c.args.code.now Idle (state_of c.loop.body Idle) ≡ Some (state_of c.go_on.new.body (Asking c.in-Asking.want c.in-Asking.waiting)) = step ∙ ap (λ (m : Mode). Some (state_of c.go_on.new.body m)) c.in-Asking.is in
+    let step = stepped c.in_ok-go_on.field-0 _ _ c.in_ok-go_on.ensures.step c.if-not-branch.false in
+    let there : machine.silently c.args.code.now Idle (state_of c.loop.body Idle) ≡ Some (state_of c.go_on.new.body (Asking c.in-Asking.field-0 c.in-Asking.field-1)) = step ∙ ap (λ (m : Mode). Some (state_of c.go_on.new.body m)) c.in-Asking.is in
     let same = ap (λ (k : Code). length k.list) c.code.view_is in
     let less : c.loop.counter < length c.args.code.now.list = omega (arith, same) in
     let on = settle-on (length c.args.code.now.list) c.loop.counter c.args.code.now c.loop.body _ less there in
-    sym (settle-asking (length c.args.code.now.list - (c.loop.counter + 1)) c.args.code.now c.go_on.new.body c.in-Asking.want c.in-Asking.waiting) ∙ sym on ∙ c.loop.invariant
+    ap (λ (m : Mode). state_of c.go_on.new.body m) c.in-Asking.is
+    ∙ sym (settle-asking (length c.args.code.now.list - (c.loop.counter + 1)) c.args.code.now c.go_on.new.body c.in-Asking.field-0 c.in-Asking.field-1) ∙ sym on ∙ c.loop.invariant.0
 
--- src/exec.rt:90:35
 pub returns-in-Failed-clause-state : goal.returns-in-Failed-clause-state
 returns-in-Failed-clause-state c =
-    let step : machine.silently c.args.code.now Idle (state_of c.loop.body Idle) ≡ Some (state_of c.go_on.new.body c.in-Some.mode) = rw c.in-Some.is at c.in_ok-mode.ensures.step in
-    let there : machine.silently c.args.code.now Idle (state_of c.loop.body Idle) ≡ Some (state_of c.go_on.new.body (Failed c.in-Failed.kind)) = step ∙ ap (λ (m : Mode). Some (state_of c.go_on.new.body m)) c.in-Failed.is in
+    let step = stepped c.in_ok-go_on.field-0 _ _ c.in_ok-go_on.ensures.step c.if-not-branch.false in
+    let there : machine.silently c.args.code.now Idle (state_of c.loop.body Idle) ≡ Some (state_of c.go_on.new.body (Failed c.in-Failed.field-0)) = step ∙ ap (λ (m : Mode). Some (state_of c.go_on.new.body m)) c.in-Failed.is in
     let same = ap (λ (k : Code). length k.list) c.code.view_is in
     let less : c.loop.counter < length c.args.code.now.list = omega (arith, same) in
     let on = settle-on (length c.args.code.now.list) c.loop.counter c.args.code.now c.loop.body _ less there in
-    sym (settle-failed (length c.args.code.now.list - (c.loop.counter + 1)) c.args.code.now c.go_on.new.body c.in-Failed.kind) ∙ sym on ∙ c.loop.invariant
+    ap (λ (m : Mode). state_of c.go_on.new.body m) c.in-Failed.is
+    ∙ sym (settle-failed (length c.args.code.now.list - (c.loop.counter + 1)) c.args.code.now c.go_on.new.body c.in-Failed.field-0) ∙ sym on ∙ c.loop.invariant.0
 
--- src/exec.rt:83:5
 pub loop-preserved : goal.loop-preserved
 loop-preserved c =
-    let step : machine.silently c.args.code.now Idle (state_of c.loop.body Idle) ≡ Some (state_of c.go_on.new.body c.in-Some.mode) = rw c.in-Some.is at c.in_ok-mode.ensures.step in
+    let step = stepped c.in_ok-go_on.field-0 _ _ c.in_ok-go_on.ensures.step c.if-not-branch.false in
     let there : machine.silently c.args.code.now Idle (state_of c.loop.body Idle) ≡ Some (state_of c.go_on.new.body Idle) = step ∙ ap (λ (m : Mode). Some (state_of c.go_on.new.body m)) c.in-Idle.is in
     let same = ap (λ (k : Code). length k.list) c.code.view_is in
     let less : c.loop.counter < length c.args.code.now.list = omega (arith, same) in
     let on = settle-on (length c.args.code.now.list) c.loop.counter c.args.code.now c.loop.body _ less there in
-    sym on ∙ c.loop.invariant
+    (sym on ∙ c.loop.invariant.0, c.in-Idle.is)

@@ -5,4 +5,4 @@ use Rattle.a68_strand.specs.declared.ask.Mode.TheVariants.{Idle}
 use Rattle.a68_strand.proofs.exec.run.Given as goal
 
 abbrev pub invariant-loop : goal.invariant-loop
-invariant-loop l = settle_in (length l.code.list - l.counter) l.code (state_of l.body Idle) ≡ settle l.code (state_of l.fn.body Idle)
+invariant-loop l = (settle_in (length l.code.list - l.counter) l.code (state_of l.body Idle) ≡ settle l.code (state_of l.fn.body Idle)) × (l.about ≡ Idle)

@@ -1,0 +1,48 @@
+-- The annotated tree of a program that runs, and why another one is refused.
+use Rattle.std.specs.Prelude.{◌≡◌, ℕ, ◌<◌, length, slice_get}
+use Rattle.std.specs.Option.{option_map_or}
+use Rattle.a68_annot.specs.declared.annotated.Annotated.{Annotated}
+use Rattle.a68_base.specs.declared.refusal.Refusal.{Refusal}
+use Rattle.a68_base.specs.declared.refusal.Rule.TheVariants.{X0, N1, N3}
+use Rattle.a68_base.specs.declared.refusal.Stop.{Stop}
+use Rattle.a68_base.specs.declared.refusal.Stop.TheVariants.{Refused, NoMemory}
+use Rattle.a68_check.specs.Definitions.{Repeats, FirstRepeat, Undefined, FirstUndefined}
+use Rattle.a68_check.specs.Notes.{notes_of}
+use Rattle.a68_check.specs.Small.{Runs}
+use Rattle.a68_modes.specs.Nodes.{standard_shapes}
+use Rattle.a68_op_ident.specs.Shapes.{Shaped, HasUnread}
+use Rattle.a68_tree.specs.Trees.{Built}
+use Rattle.a68_tree.specs.declared.node.Node.{Node}
+
+-- no tag is defined twice, and each that is used is defined
+pub record IsNamed (tree : Built) : Type 0 where
+  pub new : (id : ℕ) → id < length tree.nodes → Repeats tree id → ⊥
+  pub defined : (id : ℕ) → id < length tree.nodes → Undefined tree id → ⊥
+
+-- a program that runs, and what is known of its nodes
+pub record IsAnnotated (program : Annotated) : Type 0 where
+  pub runs : Runs program.tree
+  pub named : IsNamed program.tree
+  pub modes : program.modes ≡ standard_shapes
+  pub notes : program.notes ≡ notes_of program.tree
+
+-- where a node begins
+abbrev pub place_at : Built → (id : ℕ) → ℕ
+place_at tree id = option_map_or (λ (n : Node). n.span.from) (slice_get tree.nodes id) 0
+
+-- the rule that a tree of shaped formulas breaks: it has a form that does not run yet, it defines a tag twice, or it
+-- uses one that it does not define
+pub data Breaks (tree : Built) (refusal : Refusal) : Type 0 where
+  other : (refusal.rule ≡ X0) → (Runs tree → ⊥) → Breaks tree refusal
+  repeats : (id : ℕ) → (refusal.rule ≡ N3) → (refusal.place ≡ place_at tree id) → Runs tree → FirstRepeat tree id → Breaks tree refusal
+  undefined : (id : ℕ) → (refusal.rule ≡ N1) → (refusal.place ≡ place_at tree id) → Runs tree → FirstUndefined tree id → Breaks tree refusal
+
+-- the rule that a flat tree breaks
+pub data Refuses (flat : Built) (refusal : Refusal) : Type 0 where
+  unread : (refusal.rule ≡ X0) → HasUnread flat → Refuses flat refusal
+  breaks : (shaped : Built) → Shaped flat shaped → Breaks shaped refusal → Refuses flat refusal
+
+-- what a stop says
+abbrev pub StopsBy : (Refusal → Type 0) → Stop → Type 0
+StopsBy P NoMemory = Unit {0}
+StopsBy P (Refused refusal) = P refusal

@@ -1,0 +1,62 @@
+//! Trees that run, with what is known of each node.
+ghost use Rattle.std.specs.Prelude.{◌≡◌, ◌<◌, IfOk, IfErr, length};
+ghost use Rattle.a68_base.specs.declared.refusal.Stop.TheVariants as stop;
+ghost use Rattle.a68_check.specs.Annotates.{IsAnnotated, Breaks, Refuses, StopsBy, place_at};
+ghost use Rattle.a68_op_ident.specs.Shapes.{Shaped};
+
+use crate::definitions::{definitions, first_undefined};
+use crate::goals::goals;
+use crate::notes::notes;
+use crate::small::program;
+use a68_annot::Annotated;
+use a68_base::{Refusal, Rule, Stop};
+use a68_modes::Modes;
+use a68_op_ident::shape;
+use a68_tree::{NodeId, Tree};
+use std::alloc::Global;
+
+// A rule that is broken where a node begins.
+fn broken(tree: &Tree, id: NodeId, rule: Rule) -> Stop
+    requires { id < length tree.now.nodes }
+    ensures { result ≡ stop.Refused (record { rule = rule; place = place_at tree.now id }) }
+{
+    Stop::Refused(Refusal {
+        rule,
+        place: tree.node(id).span.from,
+    })
+}
+
+// Annotates a tree whose formulas are shaped.
+fn annotate_shaped(alloc: Global, tree: Tree) -> Result<Annotated, Stop>
+    ensures tree { IfOk result (λ program. program.tree ≡ tree) }
+    ensures ok { IfOk result (λ program. IsAnnotated program) }
+    ensures refused { IfErr result (λ why. StopsBy (λ refusal. Breaks tree refusal) why) }
+{
+    let asked = goals(alloc, &tree)?;
+    match program(&tree, &asked) {
+        Ok(()) => {}
+        Err(id) => return Err(broken(&tree, id, Rule::X0)),
+    }
+    let table = match definitions(alloc, &tree)? {
+        Ok(table) => table,
+        Err(id) => return Err(broken(&tree, id, Rule::N3)),
+    };
+    match first_undefined(&tree, &table) {
+        None => {}
+        Some(id) => return Err(broken(&tree, id, Rule::N1)),
+    }
+    let notes = notes(alloc, &tree, &asked, &table)?;
+    let modes = Modes::new(alloc)?;
+    Ok(Annotated { tree, modes, notes })
+}
+
+/// What each node of a tree means, whose formulas are flat. The tree is refused by X0 where it has a form that does not
+/// run yet, by N3 where it defines a tag twice (Report, 7.1), and by N1 where it uses one that it does not define (7.2);
+/// each time at the first node that breaks the rule.
+pub fn annotate(alloc: Global, tree: Tree) -> Result<Annotated, Stop>
+    ensures shaped { IfOk result (λ program. Shaped tree program.tree) }
+    ensures ok { IfOk result (λ program. IsAnnotated program) }
+    ensures refused { IfErr result (λ why. StopsBy (λ refusal. Refuses tree refusal) why) }
+{
+    annotate_shaped(alloc, shape(alloc, tree)?)
+}

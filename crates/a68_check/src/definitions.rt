@@ -1,0 +1,107 @@
+//! The definitions of tags.
+ghost use Rattle.std.specs.Prelude.{◌≡◌, ◌<◌, ◌≤◌, ◌+◌, ◌-◌, ◌^◌, ◌↔◌, ℕ, IfOk, IfSome, IfNone, IsTrue, MatchOption, MatchResult, length, vec_len, slice_get};
+ghost use Rattle.a68_check.specs.Definitions as definitions_spec;
+ghost use Rattle.a68_check.specs.Definitions.{defined_before, Repeats, FirstRepeat, Undefined, FirstUndefined, Tells};
+
+use crate::form::{Form, form_of};
+use a68_base::NoMemory;
+use a68_tree::{NodeId, Tree};
+use std::alloc::Global;
+
+/// Where a tag is defined: the slot that it gets, and the node that defines it.
+#[derive(Clone, Copy, Debug, PartialEq, Eq)]
+pub struct Definition {
+    pub slot: u32,
+    pub id: NodeId,
+}
+
+/// Does a node of this form define a tag?
+pub fn defines(form: Form) -> bool
+    ensures { result ≡ definitions_spec.defines form }
+{
+    matches!(form, Form::Plain(_) | Form::Set(_, _))
+}
+
+fn is_variable(form: Form) -> bool
+    ensures { result ≡ definitions_spec.is_variable form }
+{
+    matches!(form, Form::Variable)
+}
+
+// Puts the definition of a node into the table, if it has one, and gives the number of all definitions; none where an
+// earlier node defines the tag.
+fn define(tree: &Tree, id: NodeId, table: &mut Vec<Option<Definition>>, count: u32) -> Option<u32>
+    requires there { id < length tree.now.nodes }
+    requires tells { Tells table.old.items (length tree.now.spellings) (defined_before tree.now id) }
+    requires count { count ≡ length (defined_before tree.now id) }
+    requires few { (length (defined_before tree.now id) ≤ id) × (id < 2 ^ 32 - 1) }
+    ensures none { IfNone result (Repeats tree.now id) }
+    ensures tells { IfSome result (λ c. Tells table.new.items (length tree.now.spellings) (defined_before tree.now (id + 1))) }
+    ensures count { IfSome result (λ c. (c ≡ length (defined_before tree.now (id + 1))) × (c ≤ id + 1)) }
+    ensures new { IfSome result (λ c. Repeats tree.now id → ⊥) }
+{
+    if !defines(form_of(tree, id)) {
+        return Some(count);
+    }
+    let name = tree.node(id).name as usize;
+    if table[name].is_some() {
+        return None;
+    }
+    table[name] = Some(Definition { slot: count, id });
+    Some(count + 1)
+}
+
+/// The definitions by the names of their tags; or the first node that defines a tag which an earlier one defines.
+pub fn definitions(
+    alloc: Global,
+    tree: &Tree,
+) -> Result<Result<Vec<Option<Definition>>, NodeId>, NoMemory>
+    ensures { IfOk result (λ found. MatchResult found
+        (λ table. Tells table.items (length tree.now.spellings) (defined_before tree.now (length tree.now.nodes)) × ((k : ℕ) → k < length tree.now.nodes → Repeats tree.now k → ⊥))
+        (λ id. FirstRepeat tree.now id)) }
+{
+    let mut table = vec![in alloc; None; tree.names()]?;
+    let mut count = 0;
+    for id in 0..tree.len() {
+        match define(tree, id, &mut table, count) {
+            None => return Ok(Err(id)),
+            Some(more) => count = more,
+        }
+    }
+    Ok(Ok(table))
+}
+
+/// How many definitions there are.
+pub fn count_of(tree: &Tree) -> u32
+    ensures { result ≡ length (defined_before tree.now (length tree.now.nodes)) }
+{
+    let mut count = 0;
+    for id in 0..tree.len() {
+        if defines(form_of(tree, id)) {
+            count += 1;
+        }
+    }
+    count
+}
+
+// Is the node a tag that nothing defines?
+fn is_undefined(tree: &Tree, table: &[Option<Definition>], id: NodeId) -> bool
+    requires there { id < length tree.now.nodes }
+    requires tells { Tells table.now (length tree.now.spellings) (defined_before tree.now (length tree.now.nodes)) }
+    ensures { IsTrue result ↔ Undefined tree.now id }
+{
+    is_variable(form_of(tree, id)) && table[tree.node(id).name as usize].is_none()
+}
+
+/// The first node that is a tag which nothing defines.
+pub fn first_undefined(tree: &Tree, table: &[Option<Definition>]) -> Option<NodeId>
+    requires { Tells table.now (length tree.now.spellings) (defined_before tree.now (length tree.now.nodes)) }
+    ensures { MatchOption result ((k : ℕ) → k < length tree.now.nodes → Undefined tree.now k → ⊥) (λ id. FirstUndefined tree.now id) }
+{
+    for id in 0..tree.len() {
+        if is_undefined(tree, table, id) {
+            return Some(id);
+        }
+    }
+    None
+}

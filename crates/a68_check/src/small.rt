@@ -1,0 +1,298 @@
+//! Which programs run: each function answers the first node that it finds to be of another form.
+ghost use Rattle.std.specs.Prelude.{◌≡◌, ◌<◌, ◌≤◌, ◌↔◌, ℕ, IfOk, IfErr, OnErr, IsTrue, length, Some, slice_get};
+ghost use Rattle.a68_check.specs.Forms.{parts_at};
+ghost use Rattle.a68_check.specs.Forms as forms;
+ghost use Rattle.a68_check.specs.Small as small;
+ghost use Rattle.a68_check.specs.Small.{IsFormula, IsComparison, IsEnquiry, IsStatement, IsBody, IsDefinition, IsOutermost, IsWhile, IsProgram, AllDefinitions, AllStatements, Leads};
+ghost use Rattle.a68_check.specs.declared.form.Form.TheVariants as form;
+ghost use Rattle.a68_check.specs.declared.goals.Goal.TheVariants as goal;
+ghost use Rattle.a68_tree.specs.Trees.{AllBetween};
+
+use crate::definitions::defines;
+use crate::form::{Form, form_of};
+use crate::goals::Goal;
+use a68_tree::{NodeId, Tree};
+
+/// What is asked of a node.
+pub fn goal_at(goals: &[Goal], id: NodeId) -> Goal
+    ensures { result ≡ small.goal_at goals.now id }
+{
+    match goals.get(id as usize) {
+        Some(goal) => *goal,
+        None => Goal::Plain,
+    }
+}
+
+fn is_serial(tree: &Tree, id: NodeId) -> bool
+    requires { id < length tree.now.nodes }
+    ensures { IsTrue result ↔ (forms.form_of tree.now id ≡ form.Serial) }
+{
+    matches!(form_of(tree, id), Form::Serial)
+}
+
+fn is_plain(goals: &[Goal], id: NodeId) -> bool
+    ensures { IsTrue result ↔ (small.goal_at goals.now id ≡ goal.Plain) }
+{
+    matches!(goal_at(goals, id), Goal::Plain)
+}
+
+fn is_enquiry(goals: &[Goal], id: NodeId) -> bool
+    ensures { IsTrue result ↔ (small.goal_at goals.now id ≡ goal.Enquiry) }
+{
+    matches!(goal_at(goals, id), Goal::Enquiry)
+}
+
+/// The parts of a node.
+pub fn parts_of(tree: &Tree, id: NodeId) -> &[NodeId]
+    requires { id < length tree.now.nodes }
+    ensures is { parts_at tree.now id ≡ result.now }
+    ensures behind { AllBetween id (length tree.now.nodes) result.now }
+{
+    tree.parts(id)
+}
+
+fn formula(tree: &Tree, goals: &[Goal], id: NodeId) -> Result<(), NodeId>
+    requires { id < length tree.now.nodes }
+    ensures is { IfOk result (λ u. IsFormula tree.now goals.now id) }
+    ensures other { OnErr result (IsFormula tree.now goals.now id → ⊥) }
+    ensures there { IfErr result (λ id. id < length tree.now.nodes) }
+{
+    match form_of(tree, id) {
+        Form::Number => Ok(()),
+        Form::Variable => match goal_at(goals, id) {
+            Goal::Plain => Ok(()),
+            _ => Err(id),
+        },
+        Form::Sum(left, right) => {
+            formula(tree, goals, left)?;
+            formula(tree, goals, right)
+        }
+        _ => Err(id),
+    }
+}
+
+fn comparison(tree: &Tree, goals: &[Goal], id: NodeId) -> Result<(), NodeId>
+    requires { id < length tree.now.nodes }
+    ensures is { IfOk result (λ u. IsComparison tree.now goals.now id) }
+    ensures other { OnErr result (IsComparison tree.now goals.now id → ⊥) }
+    ensures there { IfErr result (λ id. id < length tree.now.nodes) }
+{
+    match form_of(tree, id) {
+        Form::Test(left, right) => {
+            formula(tree, goals, left)?;
+            formula(tree, goals, right)
+        }
+        _ => Err(id),
+    }
+}
+
+fn enquiry(tree: &Tree, goals: &[Goal], id: NodeId) -> Result<(), NodeId>
+    requires { id < length tree.now.nodes }
+    ensures is { IfOk result (λ u. IsEnquiry tree.now goals.now id) }
+    ensures other { OnErr result (IsEnquiry tree.now goals.now id → ⊥) }
+    ensures there { IfErr result (λ id. id < length tree.now.nodes) }
+{
+    let parts = parts_of(tree, id);
+    if is_serial(tree, id) && is_enquiry(goals, id) && parts.len() == 1 {
+        comparison(tree, goals, parts[0])
+    } else {
+        Err(id)
+    }
+}
+
+// What is assigned to: a tag.
+fn destination(tree: &Tree, goals: &[Goal], id: NodeId) -> Result<(), NodeId>
+    requires { id < length tree.now.nodes }
+    ensures is { IfOk result (λ u. (forms.form_of tree.now id ≡ form.Variable) × (small.goal_at goals.now id ≡ goal.Destination)) }
+    ensures other { OnErr result (forms.form_of tree.now id ≡ form.Variable → small.goal_at goals.now id ≡ goal.Destination → ⊥) }
+    ensures there { IfErr result (λ id. id < length tree.now.nodes) }
+{
+    match form_of(tree, id) {
+        Form::Variable => match goal_at(goals, id) {
+            Goal::Destination => Ok(()),
+            _ => Err(id),
+        },
+        _ => Err(id),
+    }
+}
+
+// What is called: print.
+fn called(tree: &Tree, id: NodeId) -> Result<(), NodeId>
+    requires { id < length tree.now.nodes }
+    ensures is { IfOk result (λ u. forms.form_of tree.now id ≡ form.Print) }
+    ensures other { OnErr result (forms.form_of tree.now id ≡ form.Print → ⊥) }
+    ensures there { IfErr result (λ id. id < length tree.now.nodes) }
+{
+    match form_of(tree, id) {
+        Form::Print => Ok(()),
+        _ => Err(id),
+    }
+}
+
+// What a WHILE asks.
+fn test(tree: &Tree, goals: &[Goal], id: NodeId) -> Result<(), NodeId>
+    requires { id < length tree.now.nodes }
+    ensures is { IfOk result (λ u. IsWhile tree.now goals.now id) }
+    ensures other { OnErr result (IsWhile tree.now goals.now id → ⊥) }
+    ensures there { IfErr result (λ id. id < length tree.now.nodes) }
+{
+    match form_of(tree, id) {
+        Form::While(asked) => enquiry(tree, goals, asked),
+        _ => Err(id),
+    }
+}
+
+#[cycle(statement)]
+fn statement(tree: &Tree, goals: &[Goal], id: NodeId) -> Result<(), NodeId>
+    requires { id < length tree.now.nodes }
+    ensures is { IfOk result (λ u. IsStatement tree.now goals.now id) }
+    ensures other { OnErr result (IsStatement tree.now goals.now id → ⊥) }
+    ensures there { IfErr result (λ id. id < length tree.now.nodes) }
+{
+    match form_of(tree, id) {
+        Form::Assignation(to, source) => {
+            destination(tree, goals, to)?;
+            formula(tree, goals, source)
+        }
+        Form::Call(function, item) => {
+            called(tree, function)?;
+            formula(tree, goals, item)
+        }
+        Form::Choice(asked, part) => {
+            enquiry(tree, goals, asked)?;
+            body(tree, goals, part)
+        }
+        Form::FullChoice(asked, part, other) => {
+            enquiry(tree, goals, asked)?;
+            body(tree, goals, part)?;
+            body(tree, goals, other)
+        }
+        Form::Loop(asked, part) => {
+            test(tree, goals, asked)?;
+            body(tree, goals, part)
+        }
+        _ => Err(id),
+    }
+}
+
+// All parts of a node from one on are statements.
+#[cycle(statement)]
+fn statements(tree: &Tree, goals: &[Goal], id: NodeId, first: usize) -> Result<(), NodeId>
+    requires there { id < length tree.now.nodes }
+    requires first { first ≤ length (parts_at tree.now id) }
+    ensures is { IfOk result (λ u. AllStatements tree.now goals.now (parts_at tree.now id) first) }
+    ensures other { OnErr result (AllStatements tree.now goals.now (parts_at tree.now id) first → ⊥) }
+    ensures there { IfErr result (λ id. id < length tree.now.nodes) }
+{
+    let parts = parts_of(tree, id);
+    for k in first..parts.len() {
+        statement(tree, goals, parts[k])?;
+    }
+    Ok(())
+}
+
+#[cycle(statement)]
+fn body(tree: &Tree, goals: &[Goal], id: NodeId) -> Result<(), NodeId>
+    requires { id < length tree.now.nodes }
+    ensures is { IfOk result (λ u. IsBody tree.now goals.now id) }
+    ensures other { OnErr result (IsBody tree.now goals.now id → ⊥) }
+    ensures there { IfErr result (λ id. id < length tree.now.nodes) }
+{
+    if is_serial(tree, id) && is_plain(goals, id) && parts_of(tree, id).len() > 0 {
+        statements(tree, goals, id, 0)
+    } else {
+        Err(id)
+    }
+}
+
+// INT as a declarer.
+fn declarer(tree: &Tree, id: NodeId) -> Result<(), NodeId>
+    requires { id < length tree.now.nodes }
+    ensures is { IfOk result (λ u. forms.form_of tree.now id ≡ form.Int) }
+    ensures other { OnErr result (forms.form_of tree.now id ≡ form.Int → ⊥) }
+    ensures there { IfErr result (λ id. id < length tree.now.nodes) }
+{
+    match form_of(tree, id) {
+        Form::Int => Ok(()),
+        _ => Err(id),
+    }
+}
+
+fn definition(tree: &Tree, goals: &[Goal], id: NodeId) -> Result<(), NodeId>
+    requires { id < length tree.now.nodes }
+    ensures is { IfOk result (λ u. IsDefinition tree.now goals.now id) }
+    ensures other { OnErr result (IsDefinition tree.now goals.now id → ⊥) }
+    ensures there { IfErr result (λ id. id < length tree.now.nodes) }
+{
+    match form_of(tree, id) {
+        Form::Plain(declared) => declarer(tree, declared),
+        Form::Set(declared, source) => {
+            declarer(tree, declared)?;
+            formula(tree, goals, source)
+        }
+        _ => Err(id),
+    }
+}
+
+// All parts of a node before one are definitions.
+fn definitions(tree: &Tree, goals: &[Goal], id: NodeId, end: usize) -> Result<(), NodeId>
+    requires there { id < length tree.now.nodes }
+    requires end { end ≤ length (parts_at tree.now id) }
+    ensures is { IfOk result (λ u. AllDefinitions tree.now goals.now (parts_at tree.now id) end) }
+    ensures other { OnErr result (AllDefinitions tree.now goals.now (parts_at tree.now id) end → ⊥) }
+    ensures there { IfErr result (λ id. id < length tree.now.nodes) }
+{
+    let parts = parts_of(tree, id);
+    for k in 0..end {
+        definition(tree, goals, parts[k])?;
+    }
+    Ok(())
+}
+
+// How many parts of a node at the front define something.
+fn leading(tree: &Tree, id: NodeId) -> usize
+    requires { id < length tree.now.nodes }
+    ensures { Leads tree.now (parts_at tree.now id) result }
+{
+    let parts = parts_of(tree, id);
+    for k in 0..parts.len() {
+        if !defines(form_of(tree, parts[k])) {
+            return k;
+        }
+    }
+    parts.len()
+}
+
+// The range of the whole program.
+fn outermost(tree: &Tree, goals: &[Goal], id: NodeId) -> Result<(), NodeId>
+    requires { id < length tree.now.nodes }
+    ensures is { IfOk result (λ u. IsOutermost tree.now goals.now id) }
+    ensures other { OnErr result (IsOutermost tree.now goals.now id → ⊥) }
+    ensures there { IfErr result (λ id. id < length tree.now.nodes) }
+{
+    if !is_serial(tree, id) {
+        return Err(id);
+    }
+    if !is_plain(goals, id) {
+        return Err(id);
+    }
+    let count = leading(tree, id);
+    if count >= parts_of(tree, id).len() {
+        return Err(id);
+    }
+    definitions(tree, goals, id, count)?;
+    statements(tree, goals, id, count)
+}
+
+/// Does the tree run? If not, the first node of another form.
+pub fn program(tree: &Tree, goals: &[Goal]) -> Result<(), NodeId>
+    ensures is { IfOk result (λ u. IsProgram tree.now goals.now) }
+    ensures other { OnErr result (IsProgram tree.now goals.now → ⊥) }
+    ensures there { IfErr result (λ id. id < length tree.now.nodes) }
+{
+    let root = tree.root();
+    match form_of(tree, root) {
+        Form::Closed(clause) => outermost(tree, goals, clause),
+        _ => Err(root),
+    }
+}

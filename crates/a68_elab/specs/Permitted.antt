@@ -1,0 +1,63 @@
+-- What the rules of the language permit a run to have done.
+use Rattle.std.specs.Prelude.{◌≡◌, ◌≢◌, ◌≤◌, ℕ, List, [], ◌∷◌, length, slice_get}
+use Rattle.std.specs.Option.{option_map_or}
+use Rattle.std.specs.declared.option.Option.{Option}
+use Rattle.a68_acts.specs.Does.{did, refuses, does}
+use Rattle.a68_acts.specs.Store.{Store, opening_store}
+use Rattle.a68_acts.specs.declared.want.Reply.{Reply}
+use Rattle.a68_elab.specs.Elaborations.{Elaborates}
+use Rattle.a68_elab.specs.Positions.{HasOpen}
+use Rattle.a68_elab.specs.Rows.{Then, goes, acts, meets}
+use Rattle.a68_elab.specs.Terms.{Term, todo, yielded}
+use Rattle.a68_elab.specs.Trees.{Program}
+use Rattle.a68_values.specs.Content.{Content}
+use Rattle.a68_values.specs.declared.act.Act.{Act}
+use Rattle.a68_values.specs.declared.act.FaultKind.{FaultKind}
+use Rattle.a68_values.specs.declared.kept.End.{End}
+use Rattle.a68_values.specs.declared.kept.End.TheVariants as ends
+use Rattle.a68_values.specs.declared.kept.Kept.{Kept}
+
+-- what comes next meets this fault of the construct that begins at this place: its own, or that of its act
+abbrev pub Faults : Store → Then Term → FaultKind → (place : ℕ) → Type 0
+Faults store (goes t) why place = ⊥
+Faults store (acts p want next) why place = (does want store ≡ refuses why) × (p ≡ place)
+Faults store (meets found p) why place = (found ≡ why) × (p ≡ place)
+
+-- what comes next is an act that can be done
+abbrev pub CanAct : Store → Then Term → Type 0
+CanAct store (acts place want next) = (act : Act) × (reply : Reply) × (after : Store) × (does want store ≡ did act reply after)
+CanAct store _ = ⊥
+
+-- what comes next is an act that has to wait: the store neither does it nor refuses it
+abbrev pub IsHalted : Store → Then Term → Type 0
+IsHalted store (acts place want next) =
+    ((act : Act) (reply : Reply) (after : Store) → does want store ≢ did act reply after) × ((why : FaultKind) → does want store ≢ refuses why)
+IsHalted store _ = ⊥
+
+-- An elaboration that has come to this term and store by so many entries has this end. Done: the program has yielded.
+-- A fault: an open position of the strand meets it. All halted: strand 0, which is the only one, has to wait. Spent:
+-- there are as many entries as there was fuel, and possibly after silent steps an act can be done (own).
+pub data EndsWith (program : Program) (fuel entries : ℕ) (t : Term) (store : Store) : End → Type 0 where
+  done : (v : Content) → t ≡ yielded v → EndsWith program fuel entries t store ends.Done
+  fault : {kind : FaultKind} {place strand : ℕ} (what : Then Term) → HasOpen program 0 t strand what → Faults store what kind place
+      → EndsWith program fuel entries t store (ends.Fault kind place strand)
+  all_halted : (what : Then Term) → HasOpen program 0 t 0 what → IsHalted store what → EndsWith program fuel entries t store ends.AllHalted
+  spent : (t2 : Term) (x : ℕ) (what : Then Term) → entries ≡ fuel → Elaborates program t store [] t2 store → HasOpen program 0 t2 x what
+      → CanAct store what → EndsWith program fuel entries t store ends.Spent
+
+-- what the slots of the outermost frame of the program are bound to; none where the program makes no frame
+abbrev pub outer_slots : Store → List (Option Content)
+outer_slots store = option_map_or (λ frame. frame.slots) (slice_get store.frames 1) []
+
+-- The rules of the language permit that a run of the program, with this fuel, leaves this: there is an elaboration of
+-- the program in the standard environ whose acts are the entries of the journal; the text, the cells and the outermost
+-- slots are those to which it comes, and so is the end.
+pub record Permitted (program : Program) (fuel : ℕ) (kept : Kept) : Type 0 where
+  pub term : Term
+  pub store : Store
+  pub elaborated : Elaborates program (todo program.tree (record { frame = 0; scope = 0 } ∷ [])) opening_store kept.journal.entries term store
+  pub text : kept.journal.text ≡ store.text
+  pub cells : kept.cells ≡ store.cells
+  pub outer : kept.outer ≡ outer_slots store
+  pub within : length kept.journal.entries ≤ fuel
+  pub ends : EndsWith program fuel (length kept.journal.entries) term store kept.end

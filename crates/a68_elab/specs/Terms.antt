@@ -1,0 +1,81 @@
+-- Terms: how far the elaboration of a program has come.
+use Rattle.std.specs.Prelude.{ℕ, Bool, List, [], ◌∷◌, None, Some}
+use Rattle.std.specs.Option.{option_map}
+use Rattle.std.specs.declared.option.Option.{Option}
+use Rattle.a68_acts.specs.Operations.{Operation}
+use Rattle.a68_acts.specs.declared.operation.Counter.{Counter}
+use Rattle.a68_acts.specs.declared.operation.Doing.{Doing}
+use Rattle.a68_elab.specs.Trees.{Order, collateral, serial, Tree, Trees, no_trees, ◌and_tree◌}
+use Rattle.a68_values.specs.Content.{Content, void}
+use Rattle.a68_values.specs.declared.chain.Environ.{Environ}
+
+-- the range of a serial clause: it has no frame, or it leaves its frame behind the last phrase (Report, 3.2.2)
+pub data Range : Type 0 where
+  no_frame : Range
+  in_frame : (place : ℕ) (yields : Bool) → Range
+
+-- what is done once the parts at hand have yielded
+pub data Job : Type 0 where
+  -- an operation on their values
+  operating : (place : ℕ) (op : Operation) (order : Order) → Job
+  -- an operation that has begun, and has no parts left, goes on like this
+  resuming : (place : ℕ) (doing : Doing) → Job
+  -- the last phrase, behind those before it
+  preceding : (range : Range) (final : Tree) → Job
+  -- the yield of the last phrase
+  ending : (range : Range) → Job
+  -- one of two parts, by the value of an enquiry
+  choosing : (place : ℕ) (if_true if_false : Tree) → Job
+  -- the yield of the chosen part
+  chosen : Job
+  -- the counter of a loop, of the values of FROM, BY and TO
+  counting : (place : ℕ) (test body : Tree) → Job
+  -- the question whether the counter has one more turn
+  stepping : (place : ℕ) (counter : Counter) (test body : Tree) → Job
+  -- a turn
+  turning : (place : ℕ) (counter : Counter) (test body : Tree) → Job
+  -- the body, by the value of WHILE
+  testing : (place : ℕ) (counter : Counter) (test body : Tree) → Job
+  -- the counter of the next turn
+  running : (place : ℕ) (counter : Counter) (test body : Tree) → Job
+  -- the end of the loop, with the counter that it had
+  leaving : (counter : Counter) → Job
+
+-- A construct that is to be elaborated, one that is being elaborated, with its parts at hand, or the yield of one. A
+-- construct stands in a chain of frames, the innermost first: an environ of the Report (2.1.1.1.c).
+mutual
+  pub data Term : Type 0 where
+    todo : (tree : Tree) (chain : List Environ) → Term
+    part : (job : Job) (chain : List Environ) (parts : Terms) → Term
+    yielded : (v : Content) → Term
+
+  pub data Terms : Type 0 where
+    no_terms : Terms
+    ◌and_term◌ : Term → Terms → Terms
+
+infixr 50 ◌and_term◌
+abbrev pub only : Term → Terms
+only t = t and_term no_terms
+
+abbrev pub todos : Trees → List Environ → Terms
+todos no_trees chain = no_terms
+todos (tree and_tree trees) chain = todo tree chain and_term todos trees chain
+
+-- how the parts at hand are elaborated: those of an operation as the tree says, FROM, BY and TO at any time, and all
+-- others one after another (Report, 2.1.4.2 and 3.5.2)
+abbrev pub order_of : Job → Order
+order_of (operating place op order) = order
+order_of (counting place test body) = collateral
+order_of _ = serial
+
+-- the values of parts that have all yielded
+abbrev pub values : Terms → Option (List Content)
+values no_terms = Some []
+values (yielded v and_term ts) = option_map (λ vs. v ∷ vs) (values ts)
+values (_ and_term ts) = None
+
+-- the last one; nothing where there is none
+abbrev pub last_of : List Content → Content
+last_of [] = void
+last_of (v ∷ []) = v
+last_of (v ∷ (w ∷ vs)) = last_of (w ∷ vs)

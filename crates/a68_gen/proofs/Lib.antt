@@ -1,0 +1,10 @@
+pub mod Constructs
+pub mod Flowing
+pub mod Forward
+pub mod Generating
+pub mod Heights
+pub mod Jumping
+pub mod Patching
+pub mod Standing
+pub mod Validity
+pub mod Writing

@@ -1,0 +1,140 @@
+use Rattle.std.proofs.Common.{◌+◌, ◌++◌, [], ◌∷◌, length, refl, ap, drop, get_or, arith}
+use Rattle.std.specs.Option.{option_map_or}
+use Rattle.a68_code.specs.declared.does.Does.TheVariants as does
+use Rattle.a68_elab.proofs.Nodes.{tree_of_nodes}
+use Rattle.a68_elab.specs.Made as made
+use Rattle.a68_elab.specs.Trees.{◌and_tree◌}
+use Rattle.a68_elab.specs.Made.{tree_at, trees_at, behind_ref}
+use Rattle.a68_gen.specs.Coercing.{coercions}
+use Rattle.a68_gen.specs.Listing.{instr, stretch, stretches}
+use Rattle.a68_gen.specs.Writing.{Writes}
+use Rattle.a68_gen.proofs.Constructs.{coerced_list, part-cons, between-each, two_parts, some_parts, call_whole, plain_serial, framed_serial, variable_none, variable_set, only_none, call_none, loop_none, choice_none}
+use Rattle.a68_gen.proofs.Jumping.{choice_all, loop_all}
+use Rattle.a68_gen.proofs.Writing.{and_behind, writes-as}
+use Rattle.a68_gen.proofs.rows.+units.Goals as goal
+use Rattle.std.specs.Prelude.{not, if◌then◌else◌}
+use Rattle.a68_modes.specs.Nodes.{shape_at, is_void}
+
+pub unit-returns : goal.unit-returns
+unit-returns t c =
+    let note = c.note-note.result.now in
+    let node = c.node-node.result.now in
+    let tree = tree_of_nodes c.args.program.now c.args.id (length c.args.program.now.tree.nodes) node note c.node-node.ensures.is c.note-note.ensures c.node-node.ensures.behind in
+    let path = coercions c.args.program.now.modes node.span.from note.mode note.path in
+    rw (tree, coerced_list c.args.program.now.modes node.span.from note.mode (length c.args.out.now.list.items) note.path _)
+    (and_behind c.args.out.now.stop c.construct.new.out.stop c.coerce.new.out.stop c.args.out.now.list.items c.construct.new.out.list.items c.coerce.new.out.list.items _ (λ n. path) c.construct.ensures c.coerce.ensures)
+
+pub all-unit-requires : goal.all-unit-requires
+all-unit-requires t c =
+    let b = between-each c.args.id (length c.args.program.now.tree.nodes) c.loop-part.part-index c.args.parts.now c.requires c.loop-part-test.true in
+    let below = b.0 in
+    let within = b.1 in
+    (omega arith, b.1)
+
+pub all-loop-part-preserved : goal.all-loop-part-preserved
+all-loop-part-preserved t c =
+    let f = tree_at c.args.program.now in
+    let at = length c.loop-part.out.list.items in
+    let i = c.loop-part.part-index in
+    let one = get_or c.args.parts.now i 0 in
+    let step = part-cons f at i c.args.parts.now c.loop-part-test.true in
+    λ s end w. c.loop-part.invariant s end (rw step
+    (and_behind c.loop-part.out.stop c.unit.new.out.stop s c.loop-part.out.list.items c.unit.new.out.list.items end (stretch (f one) at) (λ n. stretches (trees_at f (drop (i + 1) c.args.parts.now)) n) c.unit.ensures w))
+
+pub operation-returns : goal.operation-returns
+operation-returns t c =
+    and_behind c.args.out.now.stop c.all.new.out.stop c.emit.new.self.stop c.args.out.now.list.items c.all.new.out.list.items c.emit.new.self.list.items
+    (stretches (trees_at (tree_at c.args.program.now) c.args.parts.now) (length c.args.out.now.list.items)) (λ n. instr c.args.place c.args.does ∷ []) c.all.ensures c.emit.ensures
+
+pub call-returns-then-parts-ne2 : goal.call-returns-then-parts-ne2
+call-returns-then-parts-ne2 t c = rw (← call_none (tree_at c.args.program.now) c.args.place c.args.parts.now (λ e. absurd (omega arith))) c.blank.ensures
+
+pub call-returns : goal.call-returns
+call-returns t c =
+    let two = two_parts c.args.parts.now (omega arith) in
+    let item = tree_at c.args.program.now (get_or c.args.parts.now 1 0) in
+    let at = length c.args.out.now.list.items in
+    rw two (writes-as c.args.out.now.stop c.emit.new.self.stop c.args.out.now.list.items c.emit.new.self.list.items _ _ (call_whole c.args.place at (tree_at c.args.program.now (get_or c.args.parts.now 0 0)) item)
+    (and_behind c.args.out.now.stop c.unit.new.out.stop c.emit.new.self.stop c.args.out.now.list.items c.unit.new.out.list.items c.emit.new.self.list.items (stretch item at) (λ n. instr c.args.place (does.Print 1) ∷ []) c.unit.ensures c.emit.ensures))
+
+pub variable-returns-then-parts-ne2 : goal.variable-returns-then-parts-ne2
+variable-returns-then-parts-ne2 t c =
+    let mode = c.behind_ref-mode.result in
+    rw (← c.behind_ref-mode.ensures, ← variable_none (tree_at c.args.program.now) c.args.place mode c.args.note.now.step.slot (length c.args.out.now.list.items) c.args.parts.now (λ e. absurd (omega arith)))
+    (and_behind c.args.out.now.stop c.emit.new.self.stop c.emit-then-parts-ne2.new.self.stop c.args.out.now.list.items c.emit.new.self.list.items c.emit-then-parts-ne2.new.self.list.items
+    (instr c.args.place (does.Make mode 0) ∷ []) (λ n. instr c.args.place (does.Bind c.args.note.now.step.slot) ∷ []) c.emit.ensures c.emit-then-parts-ne2.ensures)
+
+pub variable-returns : goal.variable-returns
+variable-returns t c =
+    let two = two_parts c.args.parts.now (omega arith) in
+    let mode = c.behind_ref-mode.result in
+    let place = c.args.place in
+    let slot = c.args.note.now.step.slot in
+    let source = tree_at c.args.program.now (get_or c.args.parts.now 1 0) in
+    let w0 = c.args.out.now in
+    let w1 = c.emit-2.new.self in
+    let w2 = c.unit.new.out in
+    let w3 = c.emit-3.new.self in
+    let w4 = c.emit-4.new.self in
+    let store = instr place (does.Store mode) in
+    let bind = instr place (does.Bind slot) in
+    let w24 = and_behind w2.stop w3.stop w4.stop w2.list.items w3.list.items w4.list.items (store ∷ []) (λ n. bind ∷ []) c.emit-3.ensures c.emit-4.ensures in
+    let w14 = and_behind w1.stop w2.stop w4.stop w1.list.items w2.list.items w4.list.items (stretch source (length w1.list.items)) (λ n. store ∷ bind ∷ []) c.unit.ensures w24 in
+    let w04 = and_behind w0.stop w1.stop w4.stop w0.list.items w1.list.items w4.list.items (instr place (does.Make mode 0) ∷ []) (λ n. stretch source n ++ store ∷ bind ∷ []) c.emit-2.ensures w14 in
+    rw (two, ← c.behind_ref-mode.ensures) (writes-as w0.stop w4.stop w0.list.items w4.list.items _ _ (variable_set place mode slot (length w0.list.items) (tree_at c.args.program.now (get_or c.args.parts.now 0 0)) source) w04)
+
+pub serial-returns-then-note-eq0 : goal.serial-returns-then-note-eq0
+serial-returns-then-note-eq0 t c =
+    let some = some_parts c.args.parts.now (omega arith) in
+    let f = tree_at c.args.program.now in
+    rw some (rw some at (writes-as c.args.out.now.stop c.all.new.out.stop c.args.out.now.list.items c.all.new.out.list.items _ _
+    (plain_serial c.args.place c.args.note.now.slots (length c.args.out.now.list.items) (not (is_void (shape_at c.args.program.now.modes c.args.note.now.mode))) (f (get_or c.args.parts.now 0 0)) (trees_at f (drop 1 c.args.parts.now)) c.if-note-eq0.true)
+    (rw some at c.all.ensures)))
+
+pub serial-returns : goal.serial-returns
+serial-returns t c =
+    let some = some_parts c.args.parts.now (omega arith) in
+    let f = tree_at c.args.program.now in
+    let w0 = c.args.out.now in
+    let w1 = c.emit.new.self in
+    let w2 = c.all-2.new.out in
+    let w3 = c.emit-2.new.self in
+    let place = c.args.place in
+    let note = c.args.note.now in
+    let yields = not (is_void (shape_at c.args.program.now.modes note.mode)) in
+    let first = f (get_or c.args.parts.now 0 0) in
+    let rest = trees_at f (drop 1 c.args.parts.now) in
+    let enter = instr place (does.Enter note.slots) in
+    let leave = instr place (does.Leave (if yields then 1 else 0)) in
+    let all : Writes w1.stop w2.stop w1.list.items w2.list.items (stretches (first and_tree rest) (length w1.list.items)) = rw some at c.all-2.ensures in
+    let left : Writes w2.stop w3.stop w2.list.items w3.list.items (leave ∷ []) = rw c.leave.ensures at c.emit-2.ensures in
+    let w13 = and_behind w1.stop w2.stop w3.stop w1.list.items w2.list.items w3.list.items (stretches (first and_tree rest) (length w1.list.items)) (λ n. leave ∷ []) all left in
+    let w03 = and_behind w0.stop w1.stop w3.stop w0.list.items w1.list.items w3.list.items (enter ∷ []) (λ n. stretches (first and_tree rest) n ++ leave ∷ []) c.emit.ensures w13 in
+    rw some (writes-as w0.stop w3.stop w0.list.items w3.list.items _ _ (framed_serial place note.slots (length w0.list.items) (if yields then 1 else 0) yields first rest (λ e. absurd (omega arith)) refl) w03)
+
+pub only-returns-then-parts-ne1 : goal.only-returns-then-parts-ne1
+only-returns-then-parts-ne1 t c = rw (← only_none (tree_at c.args.program.now) c.args.parts.now (λ e. absurd (omega arith))) c.blank.ensures
+
+pub choice-returns : goal.choice-returns
+choice-returns t c =
+    choice_all c.args.out.now.stop c.unit.new.out.stop c.emit.new.self.stop c.unit-2.new.out.stop c.emit-2.new.self.stop c.patch.new.self.stop c.otherwise.new.out.stop c.patch-2.new.self.stop
+    c.args.out.now.list.items c.unit.new.out.list.items c.emit.new.self.list.items c.unit-2.new.out.list.items c.emit-2.new.self.list.items c.patch.new.self.list.items c.otherwise.new.out.list.items c.patch-2.new.self.list.items
+    c.args.place c.len-unless.result c.len-jump.result c.len-x.result c.len-end.result
+    (tree_at c.args.program.now c.args.enquiry) (tree_at c.args.program.now c.args.part) (option_map_or (tree_at c.args.program.now) c.args.other (made.nothing c.args.place))
+    c.unit.ensures c.len-unless.ensures c.emit.ensures c.unit-2.ensures c.len-jump.ensures c.emit-2.ensures c.len-x.ensures c.patch.ensures.list c.patch.ensures.stop c.otherwise.ensures c.len-end.ensures c.patch-2.ensures.list c.patch-2.ensures.stop
+
+pub conditional-returns : goal.conditional-returns
+conditional-returns t c = rw (← choice_none (tree_at c.args.program.now) c.args.place c.args.parts.now (λ e. absurd (omega arith)) (λ e. absurd (omega arith))) c.blank.ensures
+
+pub repeat-returns-then-parts-ne2 : goal.repeat-returns-then-parts-ne2
+repeat-returns-then-parts-ne2 t c = rw (← loop_none (tree_at c.args.program.now) c.args.place c.args.parts.now (λ e. absurd (omega arith))) c.blank.ensures
+
+pub repeat-returns : goal.repeat-returns
+repeat-returns t c =
+    let two = two_parts c.args.parts.now (omega arith) in
+    let all = loop_all c.args.out.now.stop c.loop_head.new.out.stop c.unit.new.out.stop c.emit.new.self.stop c.unit-2.new.out.stop c.patch.new.self.stop c.patch-2.new.self.stop c.emit-2.new.self.stop c.emit-3.new.self.stop c.emit-4.new.self.stop
+    c.args.out.now.list.items c.loop_head.new.out.list.items c.unit.new.out.list.items c.emit.new.self.list.items c.unit-2.new.out.list.items c.patch.new.self.list.items c.patch-2.new.self.list.items c.emit-2.new.self.list.items c.emit-3.new.self.list.items c.emit-4.new.self.list.items
+    c.args.place (c.len-step.result + 4) c.len-unless.result (c.len-end.result + 2)
+    (tree_at c.args.program.now (get_or c.args.parts.now 0 0)) (tree_at c.args.program.now (get_or c.args.parts.now 1 0))
+    (ap (λ n. n + 4) c.len-step.ensures) c.loop_head.ensures c.unit.ensures c.len-unless.ensures c.emit.ensures c.unit-2.ensures (ap (λ n. n + 2) c.len-end.ensures) c.patch.ensures.list c.patch.ensures.stop c.patch-2.ensures.list c.patch-2.ensures.stop c.emit-2.ensures c.emit-3.ensures c.emit-4.ensures in
+    rw two all

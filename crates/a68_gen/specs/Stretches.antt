@@ -1,0 +1,67 @@
+-- Translation: which instructions a construct becomes, and where they stand.
+use Rattle.std.specs.Prelude.{◌≡◌, ℕ, zero, suc, ◌+◌, Bool, true, false, length, Some, slice_get, if◌then◌else◌}
+use Rattle.a68_acts.specs.Operations.{Operation, constant, skip, tag, make, bind, deref, store, apply, drop, print, leaves}
+use Rattle.a68_code.specs.Flow.{takes}
+use Rattle.a68_code.specs.declared.code.Code.{Code}
+use Rattle.a68_code.specs.declared.does.Does.{Does}
+use Rattle.a68_code.specs.declared.does.Does.TheVariants as does
+use Rattle.a68_elab.specs.Trees.{Tree, Trees, operation, phrases, choice, loop, no_trees, ◌and_tree◌, count, Program}
+
+-- the instruction of an operation on so many values
+abbrev pub does_of : Operation → ℕ → Does
+does_of (constant v) n = does.Push v
+does_of (skip mode) n = does.Skip mode
+does_of (tag hops slot) n = does.Tag hops slot
+does_of (make mode bounds) n = does.Make mode bounds
+does_of (bind slot) n = does.Bind slot
+does_of (deref mode) n = does.Deref mode
+does_of (store mode) n = does.Store mode
+does_of (apply row) n = does.Apply row
+does_of drop n = does.Drop
+does_of print n = does.Print n
+
+-- one instruction, which stands at a, where b is the next place
+abbrev pub Has : Code → (place : ℕ) → Does → (a b : ℕ) → Type 0
+Has code place d a b = (slice_get code.list a ≡ Some (record { place = place; does = d })) × (a + 1 ≡ b)
+
+-- a Leave checks the value that is yielded, where there is one
+abbrev pub leave : Bool → Does
+leave gives = does.Leave (if gives then 1 else 0)
+
+-- The stretch of a tree stands from a up to b. It leaves a value or none, as `gives` says.
+abbrev mutual
+  pub Stands : Code → (gives : Bool) → Tree → (a b : ℕ) → Type 0
+  -- the parts, and the instruction of the operation, which takes their values
+  Stands code gives (operation place op order parts) a b =
+      (m : ℕ) × (gives ≡ leaves code.modes op) × (takes (does_of op (count parts)) ≡ count parts)
+      × StandAll code true parts a m × Has code place (does_of op (count parts)) m b
+  -- the phrases; with slots within a frame
+  Stands code gives (phrases place zero yields before final) a b =
+      (m : ℕ) × StandAll code false before a m × Stands code gives final m b
+  Stands code gives (phrases place (suc n) yields before final) a b =
+      (a' m b' : ℕ) × (gives ≡ yields) × Has code place (does.Enter (suc n)) a a' × StandAll code false before a' m × Stands code gives final m b'
+      × Has code place (leave gives) b' b
+  -- the enquiry, Unless x, one part, Jump b, x: the other part, b:
+  Stands code gives (choice place enquiry if_true if_false) a b =
+      (m m' n x : ℕ) × Stands code true enquiry a m × Has code place (does.Unless x) m m' × Stands code gives if_true m' n
+      × Has code place (does.Jump b) n x × Stands code gives if_false x b
+  -- FROM, BY and TO, Counter, t: Step e, Turn, the test, Unless e, the body, Advance t, Jump e, e: Forget
+  Stands code gives (loop place controls test body) a b =
+      (c t t' u m m' n v e : ℕ) × (gives ≡ false) × (count controls ≡ 3) × StandAll code true controls a c
+      × Has code place does.Counter c t × Has code place (does.Step e) t t' × Has code place does.Turn t' u
+      × Stands code true test u m × Has code place (does.Unless e) m m' × Stands code false body m' n
+      × Has code place (does.Advance t) n v × Has code place (does.Jump e) v e × Has code place does.Forget e b
+
+  -- the stretches of trees, one behind the other
+  pub StandAll : Code → (gives : Bool) → Trees → (a b : ℕ) → Type 0
+  StandAll code gives no_trees a b = a ≡ b
+  StandAll code gives (tree and_tree trees) a b = (m : ℕ) × Stands code gives tree a m × StandAll code gives trees m b
+
+-- the code is the stretch of the program, which yields nothing, and End behind it, and no more; its modes are those of
+-- the program
+pub record Translates (program : Program) (code : Code) : Type 0 where
+  pub end : ℕ
+  pub stands : Stands code false program.tree 0 end
+  pub ends : Has code program.place does.End end (end + 1)
+  pub no_more : length code.list ≡ end + 1
+  pub modes : code.modes ≡ program.modes

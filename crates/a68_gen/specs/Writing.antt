@@ -1,0 +1,31 @@
+-- What a call says that writes instructions behind those that are there.
+use Rattle.std.specs.Prelude.{◌≡◌, ℕ, List, ◌++◌, map, None, Some, slice_get}
+use Rattle.std.specs.declared.option.Option.{Option}
+use Rattle.a68_base.specs.declared.refusal.Refusal.{Refusal}
+use Rattle.a68_base.specs.declared.refusal.Rule.TheVariants.{L7}
+use Rattle.a68_base.specs.declared.refusal.Stop.{Stop}
+use Rattle.a68_base.specs.declared.refusal.Stop.TheVariants.{Refused, NoMemory}
+use Rattle.a68_code.specs.declared.code.Instr.{Instr}
+
+-- the most instructions that a program may have
+abbrev pub most : ℕ
+most = 1048576
+
+abbrev pub places : List Instr → List ℕ
+places list = map (λ (i : Instr). i.place) list
+
+-- the list has more instructions than a program may have, and the first above the limit has this place
+pub record IsTooLong (list : List Instr) (refusal : Refusal) : Type 0 where
+  pub rule : refusal.rule ≡ L7
+  pub place : slice_get (places list) most ≡ Some refusal.place
+
+-- writing stops only where memory runs out or the list is too long
+abbrev pub Stops : Stop → List Instr → Type 0
+Stops NoMemory list = Unit {0}
+Stops (Refused refusal) list = IsTooLong list refusal
+
+-- These instructions were written behind the old ones, or writing stopped among them; a writer that had stopped stays so.
+abbrev pub Writes : (old_stop new_stop : Option Stop) → (old new written : List Instr) → Type 0
+Writes (Some stop) new_stop old new written = new_stop ≡ Some stop
+Writes None None old new written = new ≡ old ++ written
+Writes None (Some stop) old new written = Stops stop (old ++ written)

@@ -1,0 +1,60 @@
+//! The instructions of coercions.
+ghost use Rattle.std.specs.Prelude.{◌≡◌};
+ghost use Rattle.a68_elab.specs.Made as made;
+ghost use Rattle.a68_gen.specs.Coercing.{behind, coercion_of, coercions};
+ghost use Rattle.a68_gen.specs.Writers.{Wrote};
+ghost use Rattle.a68_modes.specs.Nodes.{shape_at};
+
+use crate::writer::Writer;
+use a68_annot::Note;
+use a68_code::Does;
+use a68_modes::{Coercion, ModeId, Modes, Shape};
+
+/// The mode of what a name of this mode refers to; VOID for another mode.
+pub fn behind_ref(modes: &Modes, mode: ModeId) -> ModeId
+    ensures { result ≡ made.behind_ref (shape_at modes.now mode) }
+{
+    if mode >= modes.len() {
+        return 0;
+    }
+    match modes.shape(mode) {
+        Shape::Ref(to) => *to,
+        _ => 0,
+    }
+}
+
+// Writes a coercion from a mode, and gives the mode behind it.
+fn coerce_once(
+    modes: &Modes,
+    place: u32,
+    mode: ModeId,
+    coercion: Coercion,
+    out: &mut Writer,
+) -> ModeId
+    ensures writes { Wrote out.old out.new (coercion_of modes.now place mode coercion) }
+    ensures behind { result ≡ behind modes.now mode coercion }
+{
+    match coercion {
+        Coercion::Deref => {
+            let behind = behind_ref(modes, mode);
+            out.emit(place, Does::Deref(behind));
+            behind
+        }
+        Coercion::Drop => {
+            out.emit(place, Does::Drop);
+            0
+        }
+        _ => mode,
+    }
+}
+
+/// Writes the coercions of a unit that begins at a place.
+pub fn coerce(modes: &Modes, place: u32, note: &Note, out: &mut Writer)
+    ensures { Wrote out.old out.new (coercions modes.now place note.now.mode note.now.path) }
+{
+    let path = &note.path.items;
+    let mut mode = note.mode;
+    for coercion in path {
+        mode = coerce_once(modes, place, mode, *coercion, out);
+    }
+}

@@ -1,0 +1,13 @@
+//! Translation to code: the instructions of a program, in order.
+#![tactic(auto)]
+
+mod coerce;
+mod emit;
+mod rows;
+mod translate;
+mod writer;
+
+pub use translate::generate;
+
+#[cfg(test)]
+mod tests;

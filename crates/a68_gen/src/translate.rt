@@ -1,0 +1,47 @@
+//! Translation.
+ghost use Rattle.std.specs.Prelude.{false, ◌≤◌, length, IfOk};
+ghost use Rattle.a68_code.specs.Valid.{IsValid};
+ghost use Rattle.a68_elab.specs.Made.{program_of};
+ghost use Rattle.a68_gen.specs.Fits.{Fits};
+ghost use Rattle.a68_gen.specs.Generated.{OnTooLong};
+ghost use Rattle.a68_gen.specs.Listing.{listing};
+ghost use Rattle.a68_gen.specs.Operands.{FitsModes};
+ghost use Rattle.a68_gen.specs.Stretches.{Translates};
+ghost use Rattle.a68_gen.specs.Writing.{most};
+
+use crate::rows::unit;
+use crate::writer::Writer;
+use a68_annot::Annotated;
+use a68_base::Stop;
+use a68_code::{Code, Does, Instrs, Routines};
+use std::alloc::Global;
+
+/// The code of a program: that of each construct, in order, and End behind it. It is refused where it has more than
+/// 1,048,576 instructions, at the construct that needs the next.
+///
+/// The program has to be one whose constructs leave as many values as are taken of them, and whose modes run, as an
+/// annotation gives it.
+pub fn generate(alloc: Global, program: &Annotated) -> Result<Code, Stop>
+    requires fits { Fits program.now.modes false (program_of program.now).tree }
+    requires modes { FitsModes program.now.modes (program_of program.now).tree }
+    ensures translates { IfOk result (λ code. Translates (program_of program.now) code) }
+    ensures valid { IfOk result (λ code. IsValid code) }
+    ensures short { IfOk result (λ code. length code.list ≤ most) }
+    ensures too_long { OnTooLong result (listing (program_of program.now)) }
+{
+    let mut out = Writer::new(alloc);
+    let root = program.tree.root();
+    unit(program, root, &mut out);
+    out.emit(program.tree.node(root).span.from, Does::End);
+    let Writer { list, stop } = out;
+    if let Some(stop) = stop {
+        return Err(stop);
+    }
+    Ok(Code {
+        list: Instrs { items: list },
+        texts: Routines {
+            items: Vec::new(alloc),
+        },
+        modes: program.modes.copy(alloc)?,
+    })
+}

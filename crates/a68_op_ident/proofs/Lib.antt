@@ -1,0 +1,4 @@
+pub mod Going
+pub mod Placing
+pub mod Shaping
+pub mod Signs

@@ -1,0 +1,8 @@
+use Rattle.a68_parse.proofs.Parsing.{symbols_few, symbols_within}
+use Rattle.a68_parse.proofs.program.symbols_are_bounded.Goals as goal
+
+pub returns-clause-few : goal.returns-clause-few
+returns-clause-few c = symbols_few
+
+pub returns-clause-within : goal.returns-clause-within
+returns-clause-within c = symbols_within

@@ -1,0 +1,195 @@
+-- What the machine does next, the term follows: the trees, then the terms.
+use Rattle.std.proofs.Common.{◌≡◌, ℕ, zero, suc, Bool, true, false, List, [], ◌∷◌, None, Some, refl, sym, ap, ◌∙◌, subst}
+use Rattle.std.specs.declared.option.Option.{Option}
+use Rattle.a68_acts.specs.declared.operation.Doing.{Doing}
+use Rattle.a68_acts.specs.declared.want.Reply.{Reply}
+use Rattle.a68_acts.specs.declared.want.Reply.TheVariants as reply
+use Rattle.a68_acts.specs.declared.want.Want.TheVariants as want
+use Rattle.a68_code.specs.declared.code.Code.{Code}
+use Rattle.a68_code.specs.declared.does.Does.TheVariants as does
+use Rattle.a68_elab.specs.Positions.{within, OpensIn, in_this, past}
+use Rattle.a68_elab.specs.Rows.{meets, acts, within_frame}
+use Rattle.a68_elab.specs.Terms.{Range, no_frame, in_frame, Job, operating, resuming, preceding, ending, choosing, chosen, counting, stepping, turning, testing, running, leaving, Term, todo, part, yielded, Terms, no_terms, ◌and_term◌, todos, order_of}
+use Rattle.a68_elab.specs.Trees.{Tree, Trees, operation, phrases, choice, loop, no_trees, ◌and_tree◌, count, Order, Program}
+use Rattle.a68_gen.specs.Stretches.{Has, Stands, StandAll, leave}
+use Rattle.a68_sim.proofs.Asking.{idle, at_instr, place_is, is_inside}
+use Rattle.a68_gen.proofs.Forward.{next_is}
+use Rattle.a68_sim.proofs.Jobs.{Done, row_done, misled_sim, operating_done, resuming_done, ending_done, choosing_done, chosen_done, counting_done, stepping_done, turning_done, testing_done, running_done, leaving_done}
+use Rattle.a68_sim.proofs.Quiet.{still, quiet_in, Hole, Tells, moves_in, Progress, moves, finishes, progress_after, progress_row, moves_act, moves_fault}
+use Rattle.a68_sim.proofs.Relation.{count_terms, AllTodo, doing_of, posed, parts_give, inner, OperationAt, LoopAt, Tail, Begins, DoesParts, Sim, yields, left, does_yields, does_todos, does_first, same_count, left_none, todos_all, count_todos}
+use Rattle.a68_strand.specs.Machine.{State, asks_for, told_by}
+use Rattle.a68_strand.specs.declared.ask.Mode.TheVariants.{Asking}
+use Rattle.a68_strand.specs.declared.ask.Waiting.TheVariants as waiting
+use Rattle.a68_strand.specs.declared.stack.Item.{Item}
+use Rattle.a68_values.specs.Content.{Content}
+use Rattle.a68_values.specs.declared.act.FaultKind.TheVariants as fault
+use Rattle.a68_values.specs.declared.chain.Environ.{Environ}
+
+opens_yields : (u u' : Term) (o : Order) (acc : List Content) (ts ts' : Terms) → OpensIn u u' 0 0 o ts ts' → OpensIn u u' 0 0 o (yields acc ts) (yields acc ts')
+opens_yields u u' o [] ts ts' x = x
+opens_yields u u' o (v ∷ acc) ts ts' x = opens_yields u u' o acc (yielded v and_term ts) (yielded v and_term ts') (past x)
+
+abbrev in_part : Job → List Environ → List Content → Terms → Term → Term
+in_part job ch acc ts t = part job ch (yields acc (t and_term ts))
+
+part_hole : (job : Job) (ch : List Environ) (acc : List Content) (ts : Terms) → Hole (in_part job ch acc ts)
+part_hole job ch acc ts = record { opens = λ u u' t t' o. within (opens_yields u u' (order_of job) acc (t and_term ts) (t' and_term ts) (in_this o)) }
+
+module _ (program : Program) (code : Code) (same : code.modes ≡ program.modes) where
+  -- a part that is done or that is at work: the whole follows it, and goes on behind it where it yields
+  from_part : (job : Job) (ch : List Environ) (acc : List Content) (ts : Terms) (t : Term) (m k b : ℕ) (base : List Item) (home : List Environ) (g : Bool) (st : State)
+      → doing_of job ≡ None → AllTodo code (parts_give job g) ts m k ch → Tail code job (count_terms (yields acc (t and_term ts))) ch k b home g
+      → ((v : Content) → st ≡ idle m (left (parts_give job g) (v ∷ acc) (inner job base)) ch → Tail code job (count_terms (yields (v ∷ acc) ts)) ch k b home g
+      → Progress program code (Sim code b base home g) (part job ch (yields (v ∷ acc) ts)) st)
+      → Progress program code (Sim code m (left (parts_give job g) acc (inner job base)) ch (parts_give job g)) t st
+      → Progress program code (Sim code b base home g) (in_part job ch acc ts t) st
+  from_part job ch acc ts t m k b base home g st none all tail rest (moves x) =
+      moves (moves_in program code (in_part job ch acc ts) (part_hole job ch acc ts) (Sim code m (left (parts_give job g) acc (inner job base)) ch (parts_give job g)) (Sim code b base home g) to t st x)
+    where
+      to : (u : Term) (s : State) → Sim code m (left (parts_give job g) acc (inner job base)) ch (parts_give job g) u s → Sim code b base home g (in_part job ch acc ts u) s
+      to u s sim = (
+        k,
+        does_yields code acc (u and_term ts) k (inner job base) ch (parts_give job g) (doing_of job) s
+            (does_first code u ts m k (left (parts_give job g) acc (inner job base)) ch (parts_give job g) (doing_of job) s none all sim),
+        subst (λ n. Tail code job n ch k b home g) (same_count acc (t and_term ts) (u and_term ts) refl) tail,
+      )
+  from_part job ch acc ts t m k b base home g st none all tail rest (finishes v q s) =
+      progress_after program code _ _ _ st (quiet_in (in_part job ch acc ts) (part_hole job ch acc ts) q)
+      (rest v s (subst (λ n. Tail code job n ch k b home g) (same_count acc (t and_term ts) (yielded v and_term ts) refl) tail))
+
+  -- the last phrase, behind those before it
+  preceding_done : (range : Range) (final : Tree) (ch : List Environ) (k b : ℕ) (base : List Item) (home : List Environ) (g : Bool)
+      → ((m : ℕ) (st : State) → Begins code final ch m base ch g st → Progress program code (Sim code m base ch g) (todo final ch) st)
+      → Done program code (preceding range final) ch k b base home g
+  preceding_done range final ch k b base home g go acc tail =
+      let st = idle k (left false acc base) ch in
+      let bare : st ≡ idle k base ch = ap (λ s. idle k s ch) (left_none acc base) in
+      progress_row program code _ _ _ st (row_done program (preceding range final) ch acc)
+      (from_part (ending range) ch [] no_terms (todo final ch) tail.0 tail.0 b base home g st refl refl (refl, tail.2)
+      (λ v e last. subst (λ (s : State). Progress program code (Sim code b base home g) (part (ending range) ch (yields (v ∷ []) no_terms)) s) (sym e)
+      (ending_done program code b base home g range ch tail.0 (v ∷ []) last))
+      (go tail.0 st (record { a = k; stands = tail.1; chain = refl; state = bare })))
+
+  -- a serial clause makes its frame
+  module _ (p n a b a' m b' : ℕ) (g gives : Bool) (before : Trees) (final : Tree) (same_gives : g ≡ gives) (enter : Has code p (does.Enter (suc n)) a a') (before_at : StandAll code false before a' m) (final_at : Stands code g final m b') (base : List Item) where
+    enters_frame : (ch : List Environ) → Has code p (leave g) b' b → Progress program code (Sim code b base ch g) (todo (phrases p (suc n) gives before final) ch) (idle a base ch)
+    enters_frame [] has =
+        moves_fault program code _ _ _ fault.Kind p refl
+        (at_instr code a p base [] (does.Enter (suc n)) enter.0 refl ∙ ap (λ x. Some (meets fault.Kind x)) (place_is code a p (does.Enter (suc n)) enter.0))
+        (is_inside code a p (does.Enter (suc n)) enter.0)
+    enters_frame (e ∷ outer) has =
+        let w = want.Enter e.frame (suc e.scope) (suc n) in
+        let st = asks_for (idle a base (e ∷ outer)) base (Asking w waiting.Frame) in
+        moves_act program code _ _ _ p w _ (told_by code st waiting.Frame) refl
+        (at_instr code a p base (e ∷ outer) (does.Enter (suc n)) enter.0 refl ∙ ap (λ x. Some (acts x w (told_by code st waiting.Frame))) (place_is code a p (does.Enter (suc n)) enter.0))
+        (is_inside code a p (does.Enter (suc n)) enter.0) keeps
+      where
+        st : State
+        st = asks_for (idle a base (e ∷ outer)) base (Asking (want.Enter e.frame (suc e.scope) (suc n)) waiting.Frame)
+
+        keeps : (r : Reply) → Tells (e ∷ outer) (want.Enter e.frame (suc e.scope) (suc n)) r
+            → Sim code b base (e ∷ outer) g (within_frame p (e ∷ outer) (λ inside. part (preceding (in_frame p gives) final) inside (todos before inside)) r) (told_by code st waiting.Frame r)
+        keeps (reply.Frame inside) fits = (
+          m,
+          does_todos code (todos before inside) a' m base inside false _ (todos_all code false before a' m inside before_at) (ap (λ x. idle x base inside) (next_is a a' enter.1)),
+          (b', final_at, (same_gives, has, fits refl)),
+        )
+        keeps reply.Go fits = misled_sim code b base (e ∷ outer) g p a (does.Enter (suc n)) (e ∷ outer) enter.0
+        keeps (reply.Value v) fits = misled_sim code b base (e ∷ outer) g p a (does.Enter (suc n)) (e ∷ outer) enter.0
+        keeps (reply.Base cell) fits = misled_sim code b base (e ∷ outer) g p a (does.Enter (suc n)) (e ∷ outer) enter.0
+        keeps (reply.Held h) fits = misled_sim code b base (e ∷ outer) g p a (does.Enter (suc n)) (e ∷ outer) enter.0
+
+  -- a strand that stands elsewhere
+  moved : (K : Term → State → Type 0) (t : Term) (st st' : State) → st ≡ st' → Progress program code K t st' → Progress program code K t st
+  moved K t st st' e = subst (Progress program code K t) (sym e)
+
+  mutual
+    -- a tree that is reached
+    tree_progress : (tree : Tree) (c : List Environ) (b : ℕ) (base : List Item) (home : List Environ) (g : Bool) (st : State) → Begins code tree c b base home g st
+        → Progress program code (Sim code b base home g) (todo tree c) st
+    tree_progress (operation p op o parts) c b base home g st s =
+        let z = s.stands in
+        let n : count parts ≡ count_terms (todos parts c) = sym (count_todos parts c) in
+        let at : OperationAt code p op (count_terms (todos parts c)) z.0 b g =
+        subst (λ x. OperationAt code p op x z.0 b g) n (record { gives = z.1; enough = z.2; has = z.4 }) in
+        progress_row program code _ _ _ st refl
+        (trees_progress parts (operating p op o) c [] s.a z.0 b base home g st refl z.3 (s.state ∙ ap (λ x. idle s.a base x) (sym s.chain)) (at, s.chain)
+        (operating_done program code b base home g same p op o c z.0))
+    tree_progress (phrases p zero gives before final) c b base home g st s =
+        let z = s.stands in
+        progress_row program code _ _ _ st refl
+        (trees_progress before (preceding no_frame final) c [] s.a z.0 b base home g st refl z.1 (s.state ∙ ap (λ x. idle s.a base x) (sym s.chain)) (b, z.2, (refl, s.chain))
+        (preceding_done no_frame final c z.0 b base home g (λ m x. tree_progress final c m base c g x)))
+    tree_progress (phrases p (suc n) gives before final) c b base home g st s =
+        let z = s.stands in
+        subst (λ (x : List Environ). Progress program code (Sim code b base home g) (todo (phrases p (suc n) gives before final) x) st) (sym s.chain)
+        (moved _ _ st (idle s.a base home) s.state (enters_frame p n s.a b z.0 z.1 z.2 g gives before final z.3 z.4 z.5 z.6 base home z.7))
+    tree_progress (choice p enquiry if_true if_false) c b base home g st s =
+        let z = s.stands in
+        let tail : Tail code (choosing p if_true if_false) 1 c z.0 b home g = (s.chain, refl, z.1, z.2, z.3, z.5, z.6, z.7, z.8) in
+        progress_row program code _ _ _ st refl
+        (from_part (choosing p if_true if_false) c [] no_terms (todo enquiry c) z.0 z.0 b base home g st refl refl tail
+        (λ v e last. moved _ _ st _ e (choosing_done program code b base home g p if_true if_false c z.0 (v ∷ []) last))
+        (tree_progress enquiry c z.0 base c true st (record { a = s.a; stands = z.4; chain = refl; state = s.state ∙ ap (λ x. idle s.a base x) (sym s.chain) })))
+    tree_progress (loop p controls test body) c b base home g st s =
+        let z = s.stands in
+        let l : LoopAt code p test body z.1 b =
+        record { t' = z.2; u = z.3; m = z.4; m' = z.5; n = z.6; v = z.7; e = z.8; step = z.13; turn = z.14; test_at = z.15; unless = z.16; body_at = z.17; advance = z.18; jump = z.19; forget = z.20 } in
+        progress_row program code _ _ _ st refl
+        (trees_progress controls (counting p test body) c [] s.a z.0 b base home g st refl z.11 (s.state ∙ ap (λ x. idle s.a base x) (sym s.chain))
+        (z.9, s.chain, count_todos controls c ∙ z.10, z.1, z.12, l) (counting_done program code b base home g p test body c z.0))
+
+    -- parts that are reached, behind those that have yielded
+    trees_progress : (trees : Trees) (job : Job) (ch : List Environ) (acc : List Content) (a k b : ℕ) (base : List Item) (home : List Environ) (g : Bool) (st : State)
+        → doing_of job ≡ None → StandAll code (parts_give job g) trees a k → st ≡ idle a (left (parts_give job g) acc (inner job base)) ch
+        → Tail code job (count_terms (yields acc (todos trees ch))) ch k b home g → Done program code job ch k b base home g
+        → Progress program code (Sim code b base home g) (part job ch (yields acc (todos trees ch))) st
+    trees_progress no_trees job ch acc a k b base home g st none stands e tail done =
+        let items = left (parts_give job g) acc (inner job base) in
+        moved _ _ st (posed (doing_of job) k items ch (parts_give job g))
+        (e ∙ ap (λ n. idle n items ch) stands ∙ ap (λ (d : Option Doing). posed d k items ch (parts_give job g)) (sym none)) (done acc tail)
+    trees_progress (tree and_tree trees) job ch acc a k b base home g st none stands e tail done =
+        from_part job ch acc (todos trees ch) (todo tree ch) stands.0 k b base home g st none (todos_all code (parts_give job g) trees stands.0 k ch stands.2) tail
+        (λ v e2 tail2. trees_progress trees job ch (v ∷ acc) stands.0 k b base home g st none stands.2 e2 tail2 done)
+        (tree_progress tree ch stands.0 (left (parts_give job g) acc (inner job base)) ch (parts_give job g) st (record { a = a; stands = stands.1; chain = refl; state = e }))
+
+  -- what comes next once the parts at hand have yielded
+  all_done : (job : Job) (ch : List Environ) (k b : ℕ) (base : List Item) (home : List Environ) (g : Bool) → Done program code job ch k b base home g
+  all_done (operating p op o) ch k b base home g = operating_done program code b base home g same p op o ch k
+  all_done (resuming p d) ch k b base home g = resuming_done program code b base home g p d ch k
+  all_done (preceding range final) ch k b base home g = preceding_done range final ch k b base home g (λ m x. tree_progress final ch m base ch g x)
+  all_done (ending range) ch k b base home g = ending_done program code b base home g range ch k
+  all_done (choosing p if_true if_false) ch k b base home g = choosing_done program code b base home g p if_true if_false ch k
+  all_done chosen ch k b base home g = chosen_done program code b base home g ch k
+  all_done (counting p test body) ch k b base home g = counting_done program code b base home g p test body ch k
+  all_done (stepping p c test body) ch k b base home g = stepping_done program code b base home g p c test body ch k
+  all_done (turning p c test body) ch k b base home g = turning_done program code b base home g p c test body ch k
+  all_done (testing p c test body) ch k b base home g = testing_done program code b base home g p c test body ch k
+  all_done (running p c test body) ch k b base home g = running_done program code b base home g p c test body ch k
+  all_done (leaving c) ch k b base home g = leaving_done program code b base home g c ch k
+
+  -- what comes next for parts at hand
+  parts_progress : (ts : Terms) (job : Job) (ch : List Environ) (acc : List Content) (k b : ℕ) (base : List Item) (home : List Environ) (g : Bool) (st : State)
+      → DoesParts code ts k (left (parts_give job g) acc (inner job base)) ch (parts_give job g) (doing_of job) st → Tail code job (count_terms (yields acc ts)) ch k b home g
+      → Progress program code (Sim code b base home g) (part job ch (yields acc ts)) st
+  parts_progress no_terms job ch acc k b base home g st does tail = moved _ _ st _ does (all_done job ch k b base home g acc tail)
+  parts_progress (yielded v and_term ts) job ch acc k b base home g st does tail = parts_progress ts job ch (v ∷ acc) k b base home g st does tail
+  parts_progress (todo tree c and_term ts) job ch acc k b base home g st does tail =
+      from_part job ch acc ts (todo tree c) does.0 k b base home g st does.1 does.2 tail
+      (λ v e tail2. parts_progress ts job ch (v ∷ acc) k b base home g st
+      (subst (λ (d : Option Doing). DoesParts code ts k (left (parts_give job g) (v ∷ acc) (inner job base)) ch (parts_give job g) d st) (sym does.1)
+      (does_todos code ts does.0 k (left (parts_give job g) (v ∷ acc) (inner job base)) ch (parts_give job g) st does.2 e)) tail2)
+      (tree_progress tree c does.0 (left (parts_give job g) acc (inner job base)) ch (parts_give job g) st does.3)
+  parts_progress (part job2 c ps and_term ts) job ch acc k b base home g st does tail =
+      from_part job ch acc ts (part job2 c ps) does.0 k b base home g st does.1 does.2 tail
+      (λ v e tail2. parts_progress ts job ch (v ∷ acc) k b base home g st
+      (subst (λ (d : Option Doing). DoesParts code ts k (left (parts_give job g) (v ∷ acc) (inner job base)) ch (parts_give job g) d st) (sym does.1)
+      (does_todos code ts does.0 k (left (parts_give job g) (v ∷ acc) (inner job base)) ch (parts_give job g) st does.2 e)) tail2)
+      (parts_progress ps job2 c [] does.3 does.0 (left (parts_give job g) acc (inner job base)) ch (parts_give job g) st does.4 does.5)
+
+  -- what comes next for any term
+  pub term_progress : (t : Term) (b : ℕ) (base : List Item) (home : List Environ) (g : Bool) (st : State) → Sim code b base home g t st
+      → Progress program code (Sim code b base home g) t st
+  term_progress (todo tree c) b base home g st s = tree_progress tree c b base home g st s
+  term_progress (part job c ps) b base home g st s = parts_progress ps job c [] s.0 b base home g st s.1 s.2
+  term_progress (yielded v) b base home g st s = finishes v still s

@@ -1,0 +1,12 @@
+pub mod Asking
+pub mod Chains
+pub mod Counting
+pub mod Examples
+pub mod Follow
+pub mod Jobs
+pub mod Operating
+pub mod Quiet
+pub mod Relation
+pub mod Settling
+pub mod Soundness
+pub mod Whole

@@ -1,0 +1,129 @@
+-- An operation, in the machine and in the elaboration.
+use Rattle.std.proofs.Common.{◌≡◌, ℕ, suc, arith, Bool, true, false, List, [], Some, refl, sym, ap, ◌∙◌, inl}
+use Rattle.std.specs.Option.{option_map_or}
+use Rattle.std.specs.declared.option.Option.{Option}
+use Rattle.a68_acts.specs.Operations.{Operation, constant, skip, tag, make, bind, deref, store, apply, drop, print, leaves, resumed}
+use Rattle.a68_acts.specs.declared.operation.Doing.{Doing}
+use Rattle.a68_acts.specs.declared.operation.Doing.TheVariants as doing
+use Rattle.a68_acts.specs.declared.operation.Next.{Next}
+use Rattle.a68_acts.specs.declared.want.Reply.{Reply}
+use Rattle.a68_acts.specs.declared.want.Want.{Want}
+use Rattle.a68_code.specs.Flow.{takes}
+use Rattle.a68_code.specs.declared.code.Code.{Code}
+use Rattle.a68_code.specs.declared.does.Does.{Does}
+use Rattle.a68_elab.specs.Positions.{here}
+use Rattle.a68_elab.specs.Rows.{Then, acts, meets, row}
+use Rattle.a68_elab.specs.Rows as rows
+use Rattle.a68_elab.specs.Terms.{Term, resuming, part, no_terms}
+use Rattle.a68_elab.specs.Trees.{Program}
+use Rattle.a68_gen.specs.Stretches.{does_of}
+use Rattle.a68_modes.specs.declared.shape.Shape.{Shape}
+use Rattle.a68_sim.proofs.Asking.{idle, seen, ask, place_is, does_is, is_inside}
+use Rattle.a68_gen.proofs.Forward.{next_is}
+use Rattle.a68_sim.proofs.Quiet.{still, quietly, Progress, finishes, moves_on, moves_act, moves_fault}
+use Rattle.a68_sim.proofs.Relation.{push, OperationAt, Continues, Sim}
+use Rattle.a68_strand.specs.Machine.{State, exec, operates, follows, at_end, does_leave, leaves_at, asks_for, told_by}
+use Rattle.a68_strand.specs.declared.ask.Mode.TheVariants.{Asking}
+use Rattle.a68_strand.specs.declared.ask.Waiting.TheVariants as waiting
+use Rattle.a68_strand.specs.declared.stack.Item.{Item}
+use Rattle.a68_values.specs.Content.{Content}
+use Rattle.a68_values.specs.declared.chain.Environ.{Environ}
+
+-- the instruction of an operation does it
+pub exec_of : (modes : List Shape) (op : Operation) (n : ℕ) (st : State) → takes (does_of op n) ≡ n → exec modes (does_of op n) st ≡ operates modes st op n
+exec_of modes (constant v) n st e = ap (operates modes st (constant v)) e
+exec_of modes (skip m) n st e = ap (operates modes st (skip m)) e
+exec_of modes (tag hops slot) n st e = ap (operates modes st (tag hops slot)) e
+exec_of modes (make m bounds) n st e = ap (operates modes st (make m bounds)) e
+exec_of modes (bind slot) n st e = ap (operates modes st (bind slot)) e
+exec_of modes (deref m) n st e = ap (operates modes st (deref m)) e
+exec_of modes (store m) n st e = ap (operates modes st (store m)) e
+exec_of modes (apply r) n st e = ap (operates modes st (apply r)) e
+exec_of modes drop n st e = ap (operates modes st drop) e
+exec_of modes print n st e = ap (operates modes st print) e
+
+pub not_end : (op : Operation) (n : ℕ) → at_end (Some (does_of op n)) ≡ false
+not_end (constant v) n = refl
+not_end (skip m) n = refl
+not_end (tag hops slot) n = refl
+not_end (make m bounds) n = refl
+not_end (bind slot) n = refl
+not_end (deref m) n = refl
+not_end (store m) n = refl
+not_end (apply r) n = refl
+not_end drop n = refl
+not_end print n = refl
+
+leaves_of : (modes : List Shape) (op : Operation) (n : ℕ) → does_leave modes (does_of op n) ≡ leaves modes op
+leaves_of modes (constant v) n = refl
+leaves_of modes (skip m) n = refl
+leaves_of modes (tag hops slot) n = refl
+leaves_of modes (make m bounds) n = refl
+leaves_of modes (bind slot) n = refl
+leaves_of modes (deref m) n = refl
+leaves_of modes (store m) n = refl
+leaves_of modes (apply r) n = refl
+leaves_of modes drop n = refl
+leaves_of modes print n = refl
+
+-- what an operation does leaves the stack and the mode behind
+follows_any : (st : State) (g : Bool) (items : List Item) (d : Doing) → follows st g items d ≡ follows (idle st.at [] st.chain) g items d
+follows_any st true items (doing.Yields v) = refl
+follows_any st false items (doing.Yields v) = refl
+follows_any st g items (doing.Asks w next) = refl
+follows_any st g items (doing.Meets why) = refl
+
+yields_is : (st : State) (g : Bool) (items : List Item) (v : Content) → follows st g items (doing.Yields v) ≡ idle (suc st.at) (push g v items) st.chain
+yields_is st true items v = refl
+yields_is st false items v = refl
+
+module _ (program : Program) (code : Code) (b : ℕ) (base : List Item) (home : List Environ) (g : Bool) where
+  continues : (p : ℕ) (op : Operation) (n k : ℕ) (ch : List Environ) → OperationAt code p op n k b g → ch ≡ home → (d : Doing) → Continues code p d ch k b home g
+  continues p op n k ch at ec (doing.Yields v) = (next_is k b at.has.1, ec)
+  continues p op n k ch at ec (doing.Asks w next) = (op, n, at, ec)
+  continues p op n k ch at ec (doing.Meets why) = (does_of op n, at.has.0)
+
+  leaves_is : (p : ℕ) (op : Operation) (n k : ℕ) → OperationAt code p op n k b g → leaves_at code k ≡ g
+  leaves_is p op n k at =
+      ap (λ (o : Option Does). option_map_or (does_leave code.modes) o false) (does_is code k p (does_of op n) at.has.0)
+      ∙ leaves_of code.modes op n ∙ sym at.gives
+
+  -- an operation goes on with the reply to its act
+  told_continues : (p : ℕ) (op : Operation) (n k : ℕ) (ch : List Environ) (items : List Item) (w : Want) (next : Next) → OperationAt code p op n k b g → ch ≡ home
+      → (r : Reply) → Sim code b base home g (part (resuming p (resumed next r)) ch no_terms)
+      (told_by code (asks_for (idle k items ch) base (Asking w (waiting.Operation next))) (waiting.Operation next) r)
+  told_continues p op n k ch items w next at ec r =
+      let st = asks_for (idle k items ch) base (Asking w (waiting.Operation next)) in
+      (k, ap (λ (x : Bool). follows st x base (resumed next r)) (leaves_is p op n k at) ∙ follows_any st g base (resumed next r), (refl, continues p op n k ch at ec (resumed next r)))
+
+  -- an operation of which all parts have yielded
+  pub operation_begins : (p : ℕ) (op : Operation) (n k : ℕ) (ch : List Environ) (items : List Item) (t : Term) (d : Doing) → OperationAt code p op n k b g → ch ≡ home
+      → row program t ≡ Some (rows.operates p ch d) → ask code (idle k items ch) ≡ Some (seen code (follows (idle k items ch) g base d))
+      → Progress program code (Sim code b base home g) t (idle k items ch)
+  operation_begins p op n k ch items t (doing.Yields v) at ec e a =
+      moves_on program code _ t _ _ (idle (suc k) (push g v base) ch) e (a ∙ ap (λ s. Some (seen code s)) (yields_is (idle k items ch) g base v))
+      (is_inside code k p (does_of op n) at.has.0) (inl (omega arith))
+      (ap (λ x. idle x (push g v base) ch) (next_is k b at.has.1) ∙ ap (λ c. idle b (push g v base) c) ec)
+  operation_begins p op n k ch items t (doing.Asks w next) at ec e a =
+      let st = asks_for (idle k items ch) base (Asking w (waiting.Operation next)) in
+      moves_act program code _ t _ p w _ (told_by code st (waiting.Operation next)) e
+      (a ∙ ap (λ x. Some (acts x w (told_by code st (waiting.Operation next)))) (place_is code k p (does_of op n) at.has.0))
+      (is_inside code k p (does_of op n) at.has.0) (λ r fits. told_continues p op n k ch items w next at ec r)
+  operation_begins p op n k ch items t (doing.Meets why) at ec e a =
+      moves_fault program code _ t _ why p e (a ∙ ap (λ x. Some (meets why x)) (place_is code k p (does_of op n) at.has.0))
+      (is_inside code k p (does_of op n) at.has.0)
+
+  -- an operation that is between two acts
+  pub operation_goes_on : (p k : ℕ) (ch : List Environ) (d : Doing) → Continues code p d ch k b home g
+      → Progress program code (Sim code b base home g) (part (resuming p d) ch no_terms) (follows (idle k [] ch) g base d)
+  operation_goes_on p k ch (doing.Yields v) c =
+      finishes v (quietly here refl still)
+      (yields_is (idle k [] ch) g base v ∙ ap (λ x. idle x (push g v base) ch) c.0 ∙ ap (λ x. idle b (push g v base) x) c.1)
+  operation_goes_on p k ch (doing.Asks w next) c =
+      let st = asks_for (idle k [] ch) base (Asking w (waiting.Operation next)) in
+      let has = c.2.has.0 in
+      moves_act program code _ _ st p w _ (told_by code st (waiting.Operation next)) refl
+      (ap (λ x. Some (acts x w (told_by code st (waiting.Operation next)))) (place_is code k p (does_of c.0 c.1) has))
+      (is_inside code k p (does_of c.0 c.1) has) (λ r fits. told_continues p c.0 c.1 k ch [] w next c.2 c.3 r)
+  operation_goes_on p k ch (doing.Meets why) c =
+      moves_fault program code _ _ _ why p refl (ap (λ x. Some (meets why x)) (place_is code k p c.0 c.1)) (is_inside code k p c.0 c.1)

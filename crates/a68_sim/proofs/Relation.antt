@@ -1,0 +1,212 @@
+-- The relation between a strand's state and the term that it does.
+use Rattle.std.proofs.Common.{◌≡◌, ◌⊎◌, ◌+◌, ℕ, suc, arith, Bool, true, false, List, [], ◌∷◌, None, Some, refl, sym, ap, ◌∙◌, subst}
+use Rattle.std.specs.Option.{option_map}
+use Rattle.std.specs.Prelude.{slice_get}
+use Rattle.std.specs.declared.option.Option.{Option}
+use Rattle.a68_acts.specs.Operations.{Operation, leaves}
+use Rattle.a68_acts.specs.declared.operation.Doing.{Doing}
+use Rattle.a68_acts.specs.declared.operation.Doing.TheVariants as doing
+use Rattle.a68_code.specs.Flow.{takes}
+use Rattle.a68_code.specs.declared.code.Code.{Code}
+use Rattle.a68_code.specs.declared.does.Does.{Does}
+use Rattle.a68_code.specs.declared.does.Does.TheVariants as does
+use Rattle.a68_elab.specs.Terms.{Range, no_frame, in_frame, Job, operating, resuming, preceding, ending, choosing, chosen, counting, stepping, turning, testing, running, leaving, Term, todo, part, yielded, Terms, no_terms, ◌and_term◌, todos, values}
+use Rattle.a68_elab.specs.Trees.{Tree, Trees, no_trees, ◌and_tree◌, count}
+use Rattle.a68_gen.specs.Stretches.{Has, Stands, StandAll, does_of, leave}
+use Rattle.a68_sim.proofs.Asking.{idle}
+use Rattle.a68_sim.proofs.Quiet.{outwards}
+use Rattle.a68_strand.specs.Machine.{State, follows}
+use Rattle.a68_strand.specs.Values.{pop_values}
+use Rattle.a68_strand.specs.declared.stack.Item.{Item}
+use Rattle.a68_strand.specs.declared.stack.Item.TheVariants as item
+use Rattle.a68_values.specs.Content.{Content}
+use Rattle.a68_values.specs.declared.chain.Environ.{Environ}
+
+-- pushed where a value is left
+abbrev pub push : Bool → Content → List Item → List Item
+push true v items = item.Value v ∷ items
+push false v items = items
+
+abbrev pub count_terms : Terms → ℕ
+count_terms no_terms = 0
+count_terms (t and_term ts) = suc (count_terms ts)
+
+-- parts that have not begun, whose stretches stand one behind the other
+abbrev pub AllTodo : Code → Bool → Terms → ℕ → ℕ → List Environ → Type 0
+AllTodo code g no_terms a b ch = a ≡ b
+AllTodo code g (todo tree c and_term ts) a b ch = (m : ℕ) × Stands code g tree a m × (c ≡ ch) × AllTodo code g ts m b ch
+AllTodo code g (part job c ps and_term ts) a b ch = ⊥
+AllTodo code g (yielded v and_term ts) a b ch = ⊥
+
+abbrev pub doing_of : Job → Option Doing
+doing_of (resuming p d) = Some d
+doing_of _ = None
+
+-- a strand before an instruction, or in the midst of an operation
+abbrev pub posed : Option Doing → ℕ → List Item → List Environ → Bool → State
+posed None k base ch g = idle k base ch
+posed (Some d) k base ch g = follows (idle k [] ch) g base d
+
+-- whether the parts at hand leave values, where the whole does so or not
+abbrev pub parts_give : Job → Bool → Bool
+parts_give (operating p op o) g = true
+parts_give (resuming p d) g = g
+parts_give (ending range) g = g
+parts_give (choosing p if_true if_false) g = true
+parts_give chosen g = g
+parts_give (counting p test body) g = true
+parts_give (testing p c test body) g = true
+parts_give _ g = false
+
+-- the stack on which the parts at hand are done
+abbrev pub inner : Job → List Item → List Item
+inner (stepping p c test body) base = item.Counter c ∷ base
+inner (turning p c test body) base = item.Counter c ∷ base
+inner (testing p c test body) base = item.Counter c ∷ base
+inner (running p c test body) base = item.Counter c ∷ base
+inner (leaving c) base = item.Counter c ∷ base
+inner _ base = base
+
+-- the instruction of an operation, from k up to b
+pub record OperationAt (code : Code) (p : ℕ) (op : Operation) (n : ℕ) (k b : ℕ) (g : Bool) : Type 0 where
+  pub gives : g ≡ leaves code.modes op
+  pub enough : takes (does_of op n) ≡ n
+  pub has : Has code p (does_of op n) k b
+
+-- an operation that goes on like this stands from k up to b
+abbrev pub Continues : Code → ℕ → Doing → List Environ → ℕ → ℕ → List Environ → Bool → Type 0
+Continues code p (doing.Yields v) ch k b home g = (suc k ≡ b) × (ch ≡ home)
+Continues code p (doing.Asks w next) ch k b home g = (op : Operation) × (n : ℕ) × OperationAt code p op n k b g × (ch ≡ home)
+Continues code p (doing.Meets why) ch k b home g = (d : Does) × (slice_get code.list k ≡ Some (record { place = p; does = d }))
+
+-- from k to b a range's end, in the chain ch, about which is home
+abbrev pub Closes : Code → Range → List Environ → ℕ → ℕ → List Environ → Bool → Type 0
+Closes code no_frame ch k b home g = (k ≡ b) × (ch ≡ home)
+Closes code (in_frame p yields) ch k b home g = (g ≡ yields) × Has code p (leave g) k b × (outwards ch ≡ home)
+
+-- a loop's stretch, from its Step at t up to b
+pub record LoopAt (code : Code) (p : ℕ) (test body : Tree) (t b : ℕ) : Type 0 where
+  pub t' : ℕ
+  pub u : ℕ
+  pub m : ℕ
+  pub m' : ℕ
+  pub n : ℕ
+  pub v : ℕ
+  pub e : ℕ
+  pub step : Has code p (does.Step e) t t'
+  pub turn : Has code p does.Turn t' u
+  pub test_at : Stands code true test u m
+  pub unless : Has code p (does.Unless e) m m'
+  pub body_at : Stands code false body m' n
+  pub advance : Has code p (does.Advance t) n v
+  pub jump : Has code p (does.Jump e) v e
+  pub forget : Has code p does.Forget e b
+
+-- what stands behind the parts at hand, of which there are n, from k up to the end b of the whole
+abbrev pub Tail : Code → Job → ℕ → List Environ → ℕ → ℕ → List Environ → Bool → Type 0
+Tail code (operating p op o) n ch k b home g = OperationAt code p op n k b g × (ch ≡ home)
+Tail code (resuming p d) n ch k b home g = (n ≡ 0) × Continues code p d ch k b home g
+Tail code (preceding range final) n ch k b home g = (m : ℕ) × Stands code g final k m × Closes code range ch m b home g
+Tail code (ending range) n ch k b home g = (n ≡ 1) × Closes code range ch k b home g
+Tail code (choosing p if_true if_false) n ch k b home g =
+    (ch ≡ home) × (n ≡ 1) × (m' j x : ℕ) × Has code p (does.Unless x) k m' × Stands code g if_true m' j × Has code p (does.Jump b) j x
+    × Stands code g if_false x b
+Tail code chosen n ch k b home g = (ch ≡ home) × (n ≡ 1) × ((k ≡ b) ⊎ ((p x : ℕ) × Has code p (does.Jump b) k x × (if_false : Tree) × Stands code g if_false x b))
+Tail code (counting p test body) n ch k b home g = (g ≡ false) × (ch ≡ home) × (n ≡ 3) × (t : ℕ) × Has code p does.Counter k t × LoopAt code p test body t b
+Tail code (stepping p c test body) n ch k b home g = (g ≡ false) × (ch ≡ home) × LoopAt code p test body k b
+Tail code (turning p c test body) n ch k b home g = (g ≡ false) × (ch ≡ home) × (t : ℕ) × (l : LoopAt code p test body t b) × (k ≡ l.t')
+Tail code (testing p c test body) n ch k b home g = (g ≡ false) × (ch ≡ home) × (n ≡ 1) × (t : ℕ) × (l : LoopAt code p test body t b) × (k ≡ l.m)
+Tail code (running p c test body) n ch k b home g = (g ≡ false) × (ch ≡ home) × (t : ℕ) × (l : LoopAt code p test body t b) × (k ≡ l.n)
+Tail code (leaving c) n ch k b home g =
+    (g ≡ false) × (ch ≡ home) × (p : ℕ) × (Has code p does.Forget k b ⊎ ((e : ℕ) × Has code p (does.Jump e) k e × Has code p does.Forget e b))
+
+-- the strand is about to begin a tree
+pub record Begins (code : Code) (tree : Tree) (c : List Environ) (b : ℕ) (base : List Item) (home : List Environ) (g : Bool) (st : State) : Type 0 where
+  pub a : ℕ
+  pub stands : Stands code g tree a b
+  pub chain : c ≡ home
+  pub state : st ≡ idle a base home
+
+-- the strand does the parts, from the first unfinished one on; behind them is k
+abbrev pub DoesParts : Code → Terms → ℕ → List Item → List Environ → Bool → Option Doing → State → Type 0
+DoesParts code no_terms k base ch g d st = st ≡ posed d k base ch g
+DoesParts code (yielded v and_term ts) k base ch g d st = DoesParts code ts k (push g v base) ch g d st
+DoesParts code (todo tree c and_term ts) k base ch g d st = (m : ℕ) × (d ≡ None) × AllTodo code g ts m k ch × Begins code tree c m base ch g st
+DoesParts code (part job c ps and_term ts) k base ch g d st =
+    (m : ℕ) × (d ≡ None) × AllTodo code g ts m k ch × (k2 : ℕ) × DoesParts code ps k2 (inner job base) c (parts_give job g) (doing_of job) st
+    × Tail code job (count_terms ps) c k2 m ch g
+
+-- The strand does the term: once that has yielded, the strand is at b, in the chain home, and what it leaves is on base.
+abbrev pub Sim : Code → ℕ → List Item → List Environ → Bool → Term → State → Type 0
+Sim code b base home g (todo tree c) st = Begins code tree c b base home g st
+Sim code b base home g (yielded v) st = st ≡ idle b (push g v base) home
+Sim code b base home g (part job c ps) st =
+    (k : ℕ) × DoesParts code ps k (inner job base) c (parts_give job g) (doing_of job) st × Tail code job (count_terms ps) c k b home g
+
+-- yielded parts in front, the last one first
+abbrev pub yields : List Content → Terms → Terms
+yields [] ts = ts
+yields (v ∷ acc) ts = yields acc (yielded v and_term ts)
+
+-- what they leave
+abbrev pub left : Bool → List Content → List Item → List Item
+left g [] base = base
+left g (v ∷ acc) base = push g v (left g acc base)
+
+abbrev pub onto : List Content → List Content → List Content
+onto [] vs = vs
+onto (v ∷ acc) vs = onto acc (v ∷ vs)
+
+pub does_yields : (code : Code) (acc : List Content) (ts : Terms) (k : ℕ) (base : List Item) (ch : List Environ) (g : Bool) (d : Option Doing) (st : State)
+    → DoesParts code ts k (left g acc base) ch g d st → DoesParts code (yields acc ts) k base ch g d st
+does_yields code [] ts k base ch g d st x = x
+does_yields code (v ∷ acc) ts k base ch g d st x = does_yields code acc (yielded v and_term ts) k base ch g d st x
+
+-- the parts of which the first has just been reached
+pub does_todos : (code : Code) (ts : Terms) (a k : ℕ) (base : List Item) (ch : List Environ) (g : Bool) (st : State) → AllTodo code g ts a k ch
+    → st ≡ idle a base ch → DoesParts code ts k base ch g None st
+does_todos code no_terms a k base ch g st all e = e ∙ ap (λ n. idle n base ch) all
+does_todos code (todo tree c and_term ts) a k base ch g st all e =
+    (all.0, refl, all.3, record { a = a; stands = all.1; chain = all.2; state = e })
+does_todos code (part job c ps and_term ts) a k base ch g st all e = absurd all
+does_todos code (yielded v and_term ts) a k base ch g st all e = absurd all
+
+pub does_first : (code : Code) (t : Term) (ts : Terms) (m k : ℕ) (base : List Item) (ch : List Environ) (g : Bool) (d : Option Doing) (st : State) → d ≡ None
+    → AllTodo code g ts m k ch → Sim code m base ch g t st → DoesParts code (t and_term ts) k base ch g d st
+does_first code (yielded v) ts m k base ch g d st none all s =
+    subst (λ (x : Option Doing). DoesParts code ts k (push g v base) ch g x st) (sym none) (does_todos code ts m k (push g v base) ch g st all s)
+does_first code (todo tree c) ts m k base ch g d st none all s = (m, none, all, s)
+does_first code (part job c ps) ts m k base ch g d st none all s = (m, none, all, s.0, s.1, s.2)
+
+pub same_count : (acc : List Content) (xs ys : Terms) → count_terms xs ≡ count_terms ys → count_terms (yields acc xs) ≡ count_terms (yields acc ys)
+same_count [] xs ys e = e
+same_count (v ∷ acc) xs ys e = same_count acc (yielded v and_term xs) (yielded v and_term ys) (ap (λ n. suc n) e)
+
+pub values_yields : (acc : List Content) (ts : Terms) (vs : List Content) → values ts ≡ Some vs → values (yields acc ts) ≡ Some (onto acc vs)
+values_yields [] ts vs e = e
+values_yields (v ∷ acc) ts vs e = values_yields acc (yielded v and_term ts) (v ∷ vs) (ap (option_map (λ us. v ∷ us)) e)
+
+abbrev pub size : List Content → ℕ
+size [] = 0
+size (v ∷ acc) = suc (size acc)
+
+-- what the machine pops are the values of the parts
+pub pops_left : (acc : List Content) (base : List Item) (vs : List Content) → pop_values (size acc) (left true acc base) vs ≡ Some (onto acc vs, base)
+pops_left [] base vs = refl
+pops_left (v ∷ acc) base vs = pops_left acc base (v ∷ vs)
+
+pub count_yields : (acc : List Content) (ts : Terms) → count_terms (yields acc ts) ≡ size acc + count_terms ts
+count_yields [] ts = omega arith
+count_yields (v ∷ acc) ts = let e = count_yields acc (yielded v and_term ts) in omega (arith, e)
+
+pub left_none : (acc : List Content) (base : List Item) → left false acc base ≡ base
+left_none [] base = refl
+left_none (v ∷ acc) base = left_none acc base
+
+pub todos_all : (code : Code) (g : Bool) (trees : Trees) (a b : ℕ) (ch : List Environ) → StandAll code g trees a b → AllTodo code g (todos trees ch) a b ch
+todos_all code g no_trees a b ch s = s
+todos_all code g (tree and_tree trees) a b ch s = (s.0, s.1, refl, todos_all code g trees s.0 b ch s.2)
+
+pub count_todos : (trees : Trees) (ch : List Environ) → count_terms (todos trees ch) ≡ count trees
+count_todos no_trees ch = refl
+count_todos (tree and_tree trees) ch = ap (λ n. suc n) (count_todos trees ch)

@@ -1,0 +1,174 @@
+-- A strand runs its silent instructions, and the term follows.
+use Rattle.std.proofs.Common.{◌≡◌, ◌<◌, ◌≤◌, ◌⊎◌, ◌+◌, ℕ, zero, suc, arith, Bool, true, false, List, [], length, None, Some, refl, sym, ap, ◌∙◌, subst, inl, inr}
+use Rattle.std.proofs.lemmas.Option.{same_Some}
+use Rattle.std.specs.Option.{option_map, option_map_or}
+use Rattle.std.specs.Prelude.{slice_get, if◌then◌else◌}
+use Rattle.std.specs.declared.option.Option.{Option}
+use Rattle.a68_acts.specs.Operations.{has_turn}
+use Rattle.a68_acts.specs.Store.{Frame}
+use Rattle.a68_acts.specs.declared.operation.Counter.{Counter}
+use Rattle.a68_acts.specs.declared.want.Want.{Want}
+use Rattle.a68_code.specs.Flow.{does_at}
+use Rattle.a68_code.specs.declared.code.Code.{Code}
+use Rattle.a68_code.specs.declared.does.Does.{Does}
+use Rattle.a68_code.specs.declared.does.Does.TheVariants as does
+use Rattle.a68_elab.specs.Positions.{HasOpen}
+use Rattle.a68_elab.specs.Rows.{goes, acts, meets}
+use Rattle.a68_elab.specs.Terms.{Term, yielded}
+use Rattle.a68_elab.specs.Trees.{Program}
+use Rattle.a68_sim.proofs.Asking.{idle, seen_in, seen, at_end_asks, Forth}
+use Rattle.a68_sim.proofs.Chains.{Hangs}
+use Rattle.a68_sim.proofs.Follow.{term_progress}
+use Rattle.a68_sim.proofs.Quiet.{Quiet, still, quiet_on, Follows, Progress, moves, finishes, Moves}
+use Rattle.a68_sim.proofs.Relation.{Sim}
+use Rattle.a68_sim.proofs.Soundness.{Sound, step_sound}
+use Rattle.a68_strand.specs.Machine.{State, Stack, at_end, does_one, silently, settle_in, steps, goes_on, goes_to, fails, told_by, place_at}
+use Rattle.a68_strand.specs.Values.{top_counter}
+use Rattle.a68_strand.specs.declared.ask.Mode.{Mode}
+use Rattle.a68_strand.specs.declared.ask.Mode.TheVariants.{Idle, Asking, Failed}
+use Rattle.a68_strand.specs.declared.ask.Waiting.{Waiting}
+use Rattle.a68_values.specs.Content.{Content}
+use Rattle.a68_values.specs.declared.act.FaultKind.{FaultKind}
+use Rattle.a68_values.specs.declared.act.FaultKind.TheVariants as fault
+use Rattle.a68_values.specs.declared.chain.Environ.{Environ}
+
+abbrev pub state : ℕ → Stack → List Environ → Mode → State
+state at stack ch mode = record { at = at; stack = stack; chain = ch; mode = mode }
+
+module _ (code : Code) where
+  -- n steps are enough from a place: it lies so far from the end of the list; or it is the Step to which the end of a
+  -- loop has gone back, and the loop is left so far from the end; or it is a Turn
+  pub record AtStep (n at : ℕ) : Type 0 where
+    pub behind : ℕ
+    pub step : does_at code.list at ≡ Some (does.Step behind)
+    pub turn : does_at code.list (suc at) ≡ Some does.Turn
+    pub inside : behind < length code.list
+    pub enough : length code.list < n + behind
+
+  abbrev pub Enough : ℕ → ℕ → Type 0
+  Enough n at = (length code.list ≤ n + at) ⊎ (AtStep n at ⊎ ((does_at code.list at ≡ Some does.Turn) × (0 < n)))
+
+  some_left : (at : ℕ) → Enough 0 at → at < length code.list → ⊥
+  some_left at (inl far) inside = absurd (omega arith)
+  some_left at (inr (inl s)) inside = let a = s.inside in let b = s.enough in absurd (omega arith)
+  some_left at (inr (inr t)) inside = let b = t.1 in absurd (omega arith)
+
+  -- the next step at an instruction
+  abbrev stepped : State → Option Does → Option State
+  stepped st o = if at_end o then None else Some (does_one code.modes o st)
+
+  -- a silent step leaves enough
+  enough_left : (n at : ℕ) (stack : Stack) (ch : List Environ) (next : State) → Enough (suc n) at → silently code Idle (state at stack ch Idle) ≡ Some next
+      → next.mode ≡ Idle → Forth code at (goes next) → Enough n next.at
+  enough_left n at stack ch next (inl far) e idles (inl on) = inl (omega arith)
+  enough_left n at stack ch next (inl far) e idles (inr back) =
+      let a = back.leaves in inr (inl (record { behind = back.behind; step = back.step; turn = back.turn; inside = back.inside; enough = omega arith }))
+  enough_left n at stack ch next (inr (inr t)) e idles forth =
+      let x = sym (ap (stepped (state at stack ch Idle)) t.0) ∙ e in
+      let y = same_Some _ next x in
+      let z = ap (λ (s : State). s.mode) y ∙ idles in
+      absurd (cc)
+  enough_left n at stack ch next (inr (inl s)) e idles forth = by_counter (top_counter stack.items) (sym (ap (stepped st) s.step) ∙ e)
+    where
+      st : State
+      st = state at stack ch Idle
+
+      by_test : (c : Counter) (x : Bool) → Some (if x then goes_on st stack.items else goes_to st s.behind stack.items) ≡ Some next → Enough n next.at
+      by_test c true q =
+          let y = ap (λ (s : State). s.at) (same_Some _ next q) in
+          let a = s.inside in let b = s.enough in
+          subst (Enough n) y (inr (inr (s.turn, omega arith)))
+      by_test c false q =
+          let y = ap (λ (s : State). s.at) (same_Some _ next q) in
+          let b = s.enough in
+          subst (Enough n) y (inl (omega arith))
+
+      by_counter : (o : Option Counter) → Some (steps st s.behind o) ≡ Some next → Enough n next.at
+      by_counter None q = let z = ap (λ (s : State). s.mode) (same_Some _ next q) ∙ idles in absurd (cc)
+      by_counter (Some c) q = by_test c (has_turn c) q
+
+-- where a strand has settled, the term has followed it: it yields silently where the strand has come to its end
+abbrev pub SettledIn : Program → Code → (Term → State → Type 0) → Mode → List Frame → Term → State → Type 0
+SettledIn program code K Idle frames t st = (v : Content) × Quiet program t (yielded v)
+SettledIn program code K (Asking w wait) frames t st =
+    Sound frames st × (home : List Environ) × Hangs frames home × Follows program K home t (acts (place_at code.list st.at) w (told_by code st wait))
+SettledIn program code K (Failed why) frames t st = (t' : Term) × Quiet program t t' × HasOpen program 0 t' 0 (meets why (place_at code.list st.at))
+
+abbrev pub Settled : Program → Code → (Term → State → Type 0) → List Frame → Term → State → Type 0
+Settled program code K frames t st = SettledIn program code K st.mode frames t st
+
+module _ (program : Program) (code : Code) (same : code.modes ≡ program.modes) (b p : ℕ) (home : List Environ) (end : slice_get code.list b ≡ Some (record { place = p; does = does.End })) where
+  abbrev K : Term → State → Type 0
+  K = Sim code b [] home false
+
+  abbrev Comes : List Frame → Term → State → Type 0
+  Comes frames t st = (t' : Term) × Quiet program t t' × Settled program code K frames t' st
+
+  settle_end : (n : ℕ) → settle_in n code (idle b [] home) ≡ idle b [] home
+  settle_end zero = ap (λ o. option_map_or (λ (next : State). fails (idle b [] home) fault.Kind) o (idle b [] home)) (at_end_asks code b p [] home end)
+  settle_end (suc n) = ap (λ o. option_map_or (settle_in n code) o (idle b [] home)) (at_end_asks code b p [] home end)
+
+  -- a strand that asks or has failed is settled
+  stays_asking : (n at : ℕ) (stack : Stack) (ch : List Environ) (w : Want) (wait : Waiting) → settle_in n code (state at stack ch (Asking w wait)) ≡ state at stack ch (Asking w wait)
+  stays_asking zero at stack ch w wait = refl
+  stays_asking (suc n) at stack ch w wait = refl
+
+  stays_failed : (n at : ℕ) (stack : Stack) (ch : List Environ) (why : FaultKind) → settle_in n code (state at stack ch (Failed why)) ≡ state at stack ch (Failed why)
+  stays_failed zero at stack ch why = refl
+  stays_failed (suc n) at stack ch why = refl
+
+  -- a step on which the strand asks, fails or goes on
+  by_next : (frames : List Frame) (n : ℕ) (t : Term) (from : List Environ) (at : ℕ) (stack : Stack) (ch : List Environ) (mode : Mode)
+      → Hangs frames from → Sound frames (state at stack ch mode) → Follows program K from t (seen code (state at stack ch mode))
+      → ((t' : Term) → mode ≡ Idle → K t' (state at stack ch mode) → Comes frames t' (settle_in n code (state at stack ch mode)))
+      → Comes frames t (settle_in n code (state at stack ch mode))
+  by_next frames n t from at stack ch Idle h s f more = let x = more f.0 refl f.2 in (x.0, quiet_on f.1 x.1, x.2)
+  by_next frames n t from at stack ch (Asking w wait) h s f more = subst (Comes frames t) (sym (stays_asking n at stack ch w wait)) (t, still, (s, from, h, f))
+  by_next frames n t from at stack ch (Failed why) h s f more = subst (Comes frames t) (sym (stays_failed n at stack ch why)) (t, still, f)
+
+  by_mode : (frames : List Frame) (n : ℕ) (t : Term) (at : ℕ) (stack : Stack) (ch : List Environ) (mode : Mode)
+      → Sound frames (state at stack ch mode) → Enough code n at → Moves program code K t (state at stack ch mode)
+      → ((k : ℕ) (t' : Term) (next : State) → n ≡ suc k → K t' next → Sound frames next → Enough code k next.at → Comes frames t' (settle_in k code next))
+      → Comes frames t (settle_in n code (state at stack ch mode))
+  by_mode frames n t at stack ch (Asking w wait) s enough m more =
+      subst (Comes frames t) (sym (stays_asking n at stack ch w wait))
+      (t, still, (s, ch, s.0, subst (Follows program K ch t) (sym (same_Some _ m.what m.asks)) m.follows))
+  by_mode frames n t at stack ch (Failed why) s enough m more =
+      subst (Comes frames t) (sym (stays_failed n at stack ch why)) (t, still, subst (Follows program K ch t) (sym (same_Some _ m.what m.asks)) m.follows)
+  by_mode frames n t at stack ch Idle s enough m more = by_step n enough (silently code Idle st) refl m.asks more
+    where
+      st : State
+      st = state at stack ch Idle
+
+      next_sound : (x : Bool) (next : State) → (if x then None else Some (does_one code.modes (does_at code.list at) st)) ≡ Some next → Sound frames next
+      next_sound true next e = absurd (cc)
+      next_sound false next e = subst (Sound frames) (same_Some _ next e) (step_sound frames code.modes (does_at code.list at) st s)
+
+      by_step : (n : ℕ) → Enough code n at → (o : Option State) → silently code Idle st ≡ o → option_map (seen code) o ≡ Some m.what
+          → ((k : ℕ) (t' : Term) (next : State) → n ≡ suc k → K t' next → Sound frames next → Enough code k next.at → Comes frames t' (settle_in k code next))
+          → Comes frames t (settle_in n code st)
+      by_step n enough None e a more = absurd (cc)
+      by_step zero enough (Some next) e a more = absurd (some_left code at enough m.inside)
+      by_step (suc k) enough (Some next) e a more =
+          let w : seen code next ≡ m.what = same_Some _ m.what a in
+          let sound = next_sound (at_end (does_at code.list at)) next e in
+          subst (λ (o : Option State). Comes frames t (option_map_or (settle_in k code) o st)) (sym e)
+          (by_next frames k t ch next.at next.stack next.chain next.mode s.0 sound (subst (Follows program K ch t) (sym w) m.follows)
+          (λ t' idles kt. more k t' next refl kt sound
+          (enough_left code k at stack ch next enough e idles (subst (Forth code at) (sym w ∙ ap (λ (md : Mode). seen_in code md next) idles) m.forth))))
+
+  by_progress : (frames : List Frame) (n : ℕ) (t : Term) (st : State) → Sound frames st → Enough code n st.at → Progress program code K t st
+      → ((k : ℕ) (t' : Term) (next : State) → n ≡ suc k → K t' next → Sound frames next → Enough code k next.at → Comes frames t' (settle_in k code next))
+      → Comes frames t (settle_in n code st)
+  by_progress frames n t st s enough (moves m) more = by_mode frames n t st.at st.stack st.chain st.mode s enough m more
+  by_progress frames n t st s enough (finishes v q k) more =
+      subst (Comes frames t) (sym (ap (settle_in n code) k ∙ settle_end n)) (yielded v, q, (v, still))
+
+  -- a strand settles, and the term follows it
+  pub settle_follows : (frames : List Frame) (n : ℕ) (t : Term) (st : State) → K t st → Sound frames st → Enough code n st.at → Comes frames t (settle_in n code st)
+  settle_follows frames zero t st k s enough =
+      by_progress frames zero t st s enough (term_progress program code same t b [] home false st k) (λ j t' next e kt sound left. absurd (omega (arith, e)))
+  settle_follows frames (suc n) t st k s enough =
+      by_progress frames (suc n) t st s enough (term_progress program code same t b [] home false st k)
+      (λ j t' next e kt sound left. let same_n : n ≡ j = omega (arith, e) in
+      subst (λ (x : ℕ). Enough code x next.at → Comes frames t' (settle_in x code next)) same_n (settle_follows frames n t' next kt sound) left)

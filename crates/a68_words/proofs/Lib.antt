@@ -1,0 +1,11 @@
+pub mod Answering
+pub mod Classing
+pub mod Defining
+pub mod Faults
+pub mod Judging
+pub mod Latest
+pub mod Listed
+pub mod Marking
+pub mod One
+pub mod Telling
+pub mod Walking

@@ -1,0 +1,5 @@
+use Rattle.a68_words.proofs.Listed.{one_name}
+use Rattle.a68_words.proofs.spelling.names.Goals as goal
+
+pub loop-i-preserved : goal.loop-i-preserved
+loop-i-preserved c = one_name _ _ _ _ _ c.at.ensures.symbol c.loop-i.invariant c.in_ok-push.ensures.items

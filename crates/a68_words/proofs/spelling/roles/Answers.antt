@@ -1,0 +1,6 @@
+use Rattle.a68_words.proofs.Listed.{one_role}
+use Rattle.a68_words.proofs.spelling.roles.Goals as goal
+
+pub loop-i-preserved : goal.loop-i-preserved
+loop-i-preserved c =
+    one_role _ _ _ _ _ _ c.at-symbol.ensures.symbol c.spelling.ensures c.loop-i.invariant (rw (← c.role_of.ensures) c.in_ok-push.ensures.items)

@@ -1,0 +1,10 @@
+use Rattle.std.proofs.Common.{◌∙◌, subst, sym, arith}
+use Rattle.a68_world.specs.Run.{Run}
+use Rattle.a68_world.specs.Turns.{GoesOn}
+use Rattle.a68_world.proofs.Turning.{due-here}
+use Rattle.a68_world.proofs.world.World.ends_now.Goals as goal
+
+pub returns-then-len-self : goal.returns-then-len-self
+returns-then-len-self c =
+    let goes = subst (λ (r : Run). GoesOn r) (sym c.self.view_is) c.requires in
+    rw (← c.self.view_is) (due-here c.self.inside c.in-Want.want c.self.invariant goes (sym c.ask.ensures ∙ c.in-Want.is) (omega (arith, c.len.ensures, c.if-len-self.true, c.self.inside.journal.ok.0)))

@@ -1,0 +1,6 @@
+pub mod Circle
+pub mod Codes
+pub mod Inside
+pub mod Run
+pub mod Scopes
+pub mod Turns

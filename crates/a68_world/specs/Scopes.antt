@@ -1,0 +1,44 @@
+-- Scopes that are small enough for one more frame.
+use Rattle.std.specs.Prelude.{◌≡◌, ◌<◌, ◌≤◌, ⊤, ℕ, List, [], ◌∷◌, Some, slice_get}
+use Rattle.a68_acts.specs.Store.{Frame}
+use Rattle.a68_acts.specs.declared.operation.Doing.{Doing}
+use Rattle.a68_acts.specs.declared.operation.Doing.TheVariants.{Asks}
+use Rattle.a68_acts.specs.declared.want.Reply.{Reply}
+use Rattle.a68_acts.specs.declared.want.Reply.TheVariants as reply
+use Rattle.a68_acts.specs.declared.want.Want.{Want}
+use Rattle.a68_acts.specs.declared.want.Want.TheVariants as want
+use Rattle.a68_strand.specs.Machine.{State}
+use Rattle.a68_strand.specs.declared.ask.Mode.{Mode}
+use Rattle.a68_strand.specs.declared.ask.Mode.TheVariants.{Asking}
+use Rattle.a68_values.specs.declared.chain.Environ.{Environ}
+
+-- the scopes of a chain are below a number
+abbrev pub ChainBelow : ℕ → List Environ → Type 0
+ChainBelow n [] = ⊤
+ChainBelow n (e ∷ es) = (e.scope < n) × ChainBelow n es
+
+-- the scopes of all frames are below a number
+abbrev pub FramesBelow : ℕ → List Frame → Type 0
+FramesBelow n frames = (f : ℕ) (frame : Frame) → slice_get frames f ≡ Some frame → frame.scope < n
+
+-- a frame that is asked for has no greater scope
+abbrev pub WantBelow : ℕ → Want → Type 0
+WantBelow n (want.Enter outer scope slots) = scope ≤ n
+WantBelow n _ = ⊤
+
+abbrev pub DoingBelow : ℕ → Doing → Type 0
+DoingBelow n (Asks w next) = WantBelow n w
+DoingBelow n _ = ⊤
+
+abbrev pub ModeBelow : ℕ → Mode → Type 0
+ModeBelow n (Asking w wait) = WantBelow n w
+ModeBelow n _ = ⊤
+
+abbrev pub ReplyBelow : ℕ → Reply → Type 0
+ReplyBelow n (reply.Frame chain) = ChainBelow n chain
+ReplyBelow n _ = ⊤
+
+-- the strand stands in frames of such scopes, and asks for none of a greater one
+pub record StateBelow (n : ℕ) (st : State) : Type 0 where
+  pub chain : ChainBelow n st.chain
+  pub mode : ModeBelow n st.mode

@@ -1,0 +1,61 @@
+//! Runs in which the strands take turns.
+ghost use Rattle.std.specs.Prelude.{◌≡◌, ◌<◌, ◌≤◌, ◌^◌, length, IfOk};
+ghost use Rattle.a68_code.specs.Valid.{IsValid};
+ghost use Rattle.a68_strand.specs.Cyclic.{Cyclic};
+ghost use Rattle.a68_strand.specs.RunOf.{RunOf};
+ghost use Rattle.a68_world.specs.Circle.{InTurn, EndedInTurn, IsNext, HasGrown};
+ghost use Rattle.a68_world.specs.Run.{most_fuel};
+
+use crate::{Turned, World};
+use a68_base::NoMemory;
+use a68_code::Code;
+use a68_values::Kept;
+use std::alloc::Global;
+
+// A turn of the strand whose turn it is, and the strand whose turn comes next; none where the run has ended.
+fn step(alloc: Global, world: &mut World, strand: u32) -> Result<Option<u32>, NoMemory>
+    requires { InTurn world.old strand }
+    ensures code { world.new.code ≡ world.old.code }
+    ensures fuel { world.new.fuel ≡ world.old.fuel }
+    ensures next { IfOk result (λ next. IsNext world.new next) }
+    ensures grows { IfOk result (λ next. HasGrown world.old world.new next) }
+{
+    match world.turn(alloc, strand) {
+        Turned::Acted => Ok(Some(world.next(world.last()).unwrap_or(strand))),
+        Turned::Over(_) => Ok(None),
+        Turned::NotReady | Turned::NoMemory => Err(NoMemory),
+    }
+}
+
+// What is kept of a run that has ended.
+fn done(world: World) -> Result<(Code, Kept), NoMemory>
+    requires { EndedInTurn world }
+    ensures code { IfOk result (λ done. done.0 ≡ world.code) }
+    ensures runs { IfOk result (λ done. RunOf world.code world.fuel done.1) }
+    ensures cyclic { IfOk result (λ done. Cyclic world.code done.1) }
+{
+    match world.finish() {
+        Ok(done) => Ok(done),
+        Err(_) => Err(NoMemory),
+    }
+}
+
+/// Runs a code to its end. Each strand that can go on has its turn, in a circle (own).
+pub fn run(alloc: Global, code: Code, fuel: u32) -> Result<(Code, Kept), NoMemory>
+    requires valid { IsValid code }
+    requires short { length code.list < 2 ^ 32 }
+    requires some_fuel { 1 ≤ fuel }
+    requires little_fuel { fuel ≤ most_fuel }
+    ensures code { IfOk result (λ done. done.0 ≡ code) }
+    ensures runs { IfOk result (λ done. RunOf code fuel done.1) }
+    ensures cyclic { IfOk result (λ done. Cyclic code done.1) }
+{
+    let mut world = World::start(alloc, code, fuel)?;
+    let mut strand = 0;
+    loop {
+        match step(alloc, &mut world, strand)? {
+            Some(next) => strand = next,
+            None => return done(world),
+        }
+    }
+}

@@ -1,0 +1,36 @@
+//! The world of a run.
+use a68_code::Code;
+use a68_store::Store;
+use a68_strand::Strand;
+use a68_values::{End, Entry};
+use std::marker::Model;
+
+/// A run: its code and its fuel, the journal of what was done, the store and strand 0, and the end where the run has
+/// come to it. What is known of every run stands in the clauses of [`code`](World::code).
+#[derive(Drop)]
+pub struct World {
+    pub(crate) code: Code,
+    // The most entries that the journal may have.
+    pub(crate) fuel: u32,
+    pub(crate) journal: Vec<Entry>,
+    pub(crate) store: Store,
+    pub(crate) strand: Strand,
+    // A turn has found no memory.
+    pub(crate) lost: bool,
+    pub(crate) end: Option<End>,
+}
+
+impl Model for World {
+    ghost use Rattle.a68_world.specs.Codes.{run_code};
+    ghost use Rattle.a68_world.specs.Run.{Run};
+
+    ghost Value = { Run };
+
+    ghost coded = { run_code };
+
+    ghost use Rattle.a68_world.specs.Inside.{run_of, IsSound};
+
+    ghost view = { run_of };
+
+    ghost invariant = { IsSound };
+}
