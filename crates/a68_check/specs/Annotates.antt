@@ -6,7 +6,7 @@ use Rattle.a68_base.specs.declared.refusal.Refusal.{Refusal}
 use Rattle.a68_base.specs.declared.refusal.Rule.TheVariants.{X0, N1, N3}
 use Rattle.a68_base.specs.declared.refusal.Stop.{Stop}
 use Rattle.a68_base.specs.declared.refusal.Stop.TheVariants.{Refused, NoMemory}
-use Rattle.a68_check.specs.Definitions.{Repeats, FirstRepeat, Undefined, FirstUndefined}
+use Rattle.a68_check.specs.Definitions.{in_text, Repeats, FirstRepeat, Undefined, FirstUndefined}
 use Rattle.a68_check.specs.Notes.{notes_of}
 use Rattle.a68_check.specs.Small.{Runs}
 use Rattle.a68_modes.specs.Nodes.{standard_shapes}
@@ -16,8 +16,8 @@ use Rattle.a68_tree.specs.declared.node.Node.{Node}
 
 -- no tag is defined twice, and each that is used is defined
 pub record IsNamed (tree : Built) : Type 0 where
-  pub new : (id : ℕ) → id < length tree.nodes → Repeats tree id → ⊥
-  pub defined : (id : ℕ) → id < length tree.nodes → Undefined tree id → ⊥
+  pub new : (n : ℕ) → n < length tree.nodes → Repeats tree n → ⊥
+  pub defined : (n : ℕ) → n < length tree.nodes → Undefined tree n → ⊥
 
 -- a program that runs, and what is known of its nodes
 pub record IsAnnotated (program : Annotated) : Type 0 where
@@ -34,8 +34,8 @@ place_at tree id = option_map_or (λ (n : Node). n.span.from) (slice_get tree.no
 -- uses one that it does not define
 pub data Breaks (tree : Built) (refusal : Refusal) : Type 0 where
   other : (refusal.rule ≡ X0) → (Runs tree → ⊥) → Breaks tree refusal
-  repeats : (id : ℕ) → (refusal.rule ≡ N3) → (refusal.place ≡ place_at tree id) → Runs tree → FirstRepeat tree id → Breaks tree refusal
-  undefined : (id : ℕ) → (refusal.rule ≡ N1) → (refusal.place ≡ place_at tree id) → Runs tree → FirstUndefined tree id → Breaks tree refusal
+  repeats : (n : ℕ) → (refusal.rule ≡ N3) → (refusal.place ≡ place_at tree (in_text tree n)) → Runs tree → FirstRepeat tree n → Breaks tree refusal
+  undefined : (n : ℕ) → (refusal.rule ≡ N1) → (refusal.place ≡ place_at tree (in_text tree n)) → Runs tree → FirstUndefined tree n → Breaks tree refusal
 
 -- the rule that a flat tree breaks
 pub data Refuses (flat : Built) (refusal : Refusal) : Type 0 where

@@ -1,5 +1,5 @@
 -- The definitions of tags (Report, 4.4, 7.1 and 7.2). All of them stand in one range.
-use Rattle.std.specs.Prelude.{◌≡◌, ℕ, zero, suc, ◌+◌, ◌<◌, Bool, true, false, nat_eq, List, [], ◌∷◌, ◌++◌, length, None, Some, IsSome, slice_get, if◌then◌else◌}
+use Rattle.std.specs.Prelude.{◌≡◌, ℕ, zero, suc, ◌+◌, ◌-◌, ◌<◌, Bool, true, false, nat_eq, List, [], ◌∷◌, ◌++◌, length, None, Some, IsSome, slice_get, if◌then◌else◌}
 use Rattle.std.specs.Option.{option_map, option_map_or}
 use Rattle.std.specs.declared.option.Option.{Option}
 use Rattle.a68_check.specs.Forms.{form_of}
@@ -18,10 +18,16 @@ defines _ = false
 abbrev pub name_at : Built → (id : ℕ) → ℕ
 name_at tree id = option_map_or (λ (n : Node). n.name) (slice_get tree.nodes id) 0
 
--- the names of the tags that the first nodes define, in order, each with the node that does
+-- The node that is so many-th in order of text. Of two nodes neither of which is above the other, the one that stands
+-- earlier in the text has the greater number.
+abbrev pub in_text : Built → (n : ℕ) → ℕ
+in_text tree n = length tree.nodes - 1 - n
+
+-- the names of the tags that the first nodes in order of text define, each with the node that does
 abbrev pub defined_before : Built → (count : ℕ) → List (ℕ × ℕ)
 defined_before tree zero = []
-defined_before tree (suc n) = if defines (form_of tree n) then defined_before tree n ++ (name_at tree n, n) ∷ [] else defined_before tree n
+defined_before tree (suc n) =
+    if defines (form_of tree (in_text tree n)) then defined_before tree n ++ (name_at tree (in_text tree n), in_text tree n) ∷ [] else defined_before tree n
 
 abbrev pub one_more : Definition → Definition
 one_more d = record { slot = d.slot + 1; id = d.id }
@@ -34,29 +40,29 @@ find name (d ∷ rest) = if nat_eq d.0 name then Some (record { slot = 0; id = d
 abbrev pub definition_of : Built → (name : ℕ) → Option Definition
 definition_of tree name = find name (defined_before tree (length tree.nodes))
 
--- the node defines a tag that an earlier one defines
-abbrev pub Repeats : Built → (id : ℕ) → Type 0
-Repeats tree id = (defines (form_of tree id) ≡ true) × IsSome (find (name_at tree id) (defined_before tree id))
+-- the n-th node in order of text defines a tag that an earlier one defines
+abbrev pub Repeats : Built → (n : ℕ) → Type 0
+Repeats tree n = (defines (form_of tree (in_text tree n)) ≡ true) × IsSome (find (name_at tree (in_text tree n)) (defined_before tree n))
 
--- the first node that does
-pub record FirstRepeat (tree : Built) (id : ℕ) : Type 0 where
-  pub there : id < length tree.nodes
-  pub repeats : Repeats tree id
-  pub first : (k : ℕ) → k < id → Repeats tree k → ⊥
+-- the first node in order of text that does
+pub record FirstRepeat (tree : Built) (n : ℕ) : Type 0 where
+  pub there : n < length tree.nodes
+  pub repeats : Repeats tree n
+  pub first : (k : ℕ) → k < n → Repeats tree k → ⊥
 
 abbrev pub is_variable : Form → Bool
 is_variable form.Variable = true
 is_variable _ = false
 
--- the node is a tag that nothing defines
-abbrev pub Undefined : Built → (id : ℕ) → Type 0
-Undefined tree id = (is_variable (form_of tree id) ≡ true) × (definition_of tree (name_at tree id) ≡ None)
+-- the n-th node in order of text is a tag that nothing defines
+abbrev pub Undefined : Built → (n : ℕ) → Type 0
+Undefined tree n = (is_variable (form_of tree (in_text tree n)) ≡ true) × (definition_of tree (name_at tree (in_text tree n)) ≡ None)
 
--- the first node that is
-pub record FirstUndefined (tree : Built) (id : ℕ) : Type 0 where
-  pub there : id < length tree.nodes
-  pub undefined : Undefined tree id
-  pub first : (k : ℕ) → k < id → Undefined tree k → ⊥
+-- the first node in order of text that is
+pub record FirstUndefined (tree : Built) (n : ℕ) : Type 0 where
+  pub there : n < length tree.nodes
+  pub undefined : Undefined tree n
+  pub first : (k : ℕ) → k < n → Undefined tree k → ⊥
 
 -- a table by names that tells the first definition of each
 pub record Tells (table : List (Option Definition)) (names : ℕ) (defined : List (ℕ × ℕ)) : Type 0 where

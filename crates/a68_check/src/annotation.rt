@@ -4,7 +4,7 @@ ghost use Rattle.a68_base.specs.declared.refusal.Stop.TheVariants as stop;
 ghost use Rattle.a68_check.specs.Annotates.{IsAnnotated, Breaks, Refuses, StopsBy, place_at};
 ghost use Rattle.a68_op_ident.specs.Shapes.{Shaped};
 
-use crate::definitions::{definitions, first_undefined};
+use crate::definitions::{definitions, first_undefined, in_text};
 use crate::goals::goals;
 use crate::notes::notes;
 use crate::small::program;
@@ -39,11 +39,11 @@ fn annotate_shaped(alloc: Global, tree: Tree) -> Result<Annotated, Stop>
     }
     let table = match definitions(alloc, &tree)? {
         Ok(table) => table,
-        Err(id) => return Err(broken(&tree, id, Rule::N3)),
+        Err(n) => return Err(broken(&tree, in_text(&tree, n), Rule::N3)),
     };
     match first_undefined(&tree, &table) {
         None => {}
-        Some(id) => return Err(broken(&tree, id, Rule::N1)),
+        Some(n) => return Err(broken(&tree, in_text(&tree, n), Rule::N1)),
     }
     let notes = notes(alloc, &tree, &asked, &table)?;
     let modes = Modes::new(alloc)?;
@@ -52,7 +52,7 @@ fn annotate_shaped(alloc: Global, tree: Tree) -> Result<Annotated, Stop>
 
 /// What each node of a tree means, whose formulas are flat. The tree is refused by X0 where it has a form that does not
 /// run yet, by N3 where it defines a tag twice (Report, 7.1), and by N1 where it uses one that it does not define (7.2);
-/// each time at the first node that breaks the rule.
+/// each time at the first place in the text that breaks the rule.
 pub fn annotate(alloc: Global, tree: Tree) -> Result<Annotated, Stop>
     ensures shaped { IfOk result (λ program. Shaped tree program.tree) }
     ensures ok { IfOk result (λ program. IsAnnotated program) }

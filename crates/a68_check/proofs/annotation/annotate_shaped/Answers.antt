@@ -1,5 +1,5 @@
 use Rattle.std.proofs.Common.{refl, sym, ◌∙◌, ap, subst, length}
-use Rattle.a68_check.specs.Annotates.{Breaks, other, repeats, undefined, StopsBy}
+use Rattle.a68_check.specs.Annotates.{place_at, Breaks, other, repeats, undefined, StopsBy}
 use Rattle.a68_check.specs.Notes.{notes_before}
 use Rattle.a68_check.specs.Small.{IsProgram}
 use Rattle.a68_check.proofs.Answering.{when-ok, when-err}
@@ -16,13 +16,13 @@ returns-in-Err-clause-refused c =
 pub returns-in-Err-2-clause-refused : goal.returns-in-Err-2-clause-refused
 returns-in-Err-2-clause-refused c =
     subst (λ s. StopsBy (λ refusal. Breaks c.args.tree refusal) s) (sym c.broken-in-Err-2.ensures)
-    (repeats c.in-Err-2.id refl refl (subst (λ g. IsProgram c.args.tree g) (c.deref.ensures.value ∙ c.in_ok-asked.ensures) c.in-Ok.ensures.is) (when-err _ _ c.in_ok-table.field-0 c.in-Err-2.id c.in-Err-2.is c.in_ok-table.ensures))
+    (repeats c.in-Err-2.n refl (ap (λ id. place_at c.args.tree id) c.in_text.ensures.is) (subst (λ g. IsProgram c.args.tree g) (c.deref.ensures.value ∙ c.in_ok-asked.ensures) c.in-Ok.ensures.is) (when-err _ _ c.in_ok-table.field-0 c.in-Err-2.n c.in-Err-2.is c.in_ok-table.ensures))
 
 -- src/annotation.rt:41:9
 pub returns-in-Some-clause-refused : goal.returns-in-Some-clause-refused
 returns-in-Some-clause-refused c =
     subst (λ s. StopsBy (λ refusal. Breaks c.args.tree refusal) s) (sym c.broken-in-Some.ensures)
-    (undefined c.in-Some.id refl refl (subst (λ g. IsProgram c.args.tree g) (c.deref.ensures.value ∙ c.in_ok-asked.ensures) c.in-Ok.ensures.is) c.in-Some.ensures)
+    (undefined c.in-Some.n refl (ap (λ id. place_at c.args.tree id) c.in_text-in-Some.ensures.is) (subst (λ g. IsProgram c.args.tree g) (c.deref.ensures.value ∙ c.in_ok-asked.ensures) c.in-Ok.ensures.is) c.in-Some.ensures)
 
 -- src/annotation.rt:45:5
 pub invariant_of-result : goal.invariant_of-result

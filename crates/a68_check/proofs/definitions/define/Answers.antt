@@ -16,7 +16,7 @@ returns-clause-tells c =
     let long = c.requires.tells.long in
     let read = slice_get_read table.items (vec_len table) n.name c.index.result.now (omega (arith, table.ok)) (omega (arith, table.ok)) c.index.ensures in
     let free = read ∙ ap (λ (o : Option Definition). Some o) (is_none_of c.index.result.now c.if-is_some.ensures) in
-    tells_node c.args.tree.now c.args.id c.args.count n table.items c.node.ensures.is (ap (λ (f : Form). defines f) (sym c.form_of.ensures.form) ∙ sym c.if-not-defines.ensures) named c.requires.tells free c.requires.count
+    tells_node c.args.tree.now c.args.n c.in_text-id.result c.args.count n table.items c.in_text-id.ensures.is c.node.ensures.is (ap (λ (f : Form). defines f) (sym c.form_of.ensures.form) ∙ sym c.if-not-defines.ensures) named c.requires.tells free c.requires.count
 
 pub returns-clause-new : goal.returns-clause-new
 returns-clause-new c =
@@ -26,4 +26,4 @@ returns-clause-new c =
     let long = c.requires.tells.long in
     let read = slice_get_read table.items (vec_len table) n.name c.index.result.now (omega (arith, table.ok)) (omega (arith, table.ok)) c.index.ensures in
     let free = read ∙ ap (λ (o : Option Definition). Some o) (is_none_of c.index.result.now c.if-is_some.ensures) in
-    no_repeat c.args.tree.now c.args.id n table.items c.node.ensures.is named c.requires.tells free
+    no_repeat c.args.tree.now c.args.n c.in_text-id.result n table.items c.in_text-id.ensures.is c.node.ensures.is named c.requires.tells free
