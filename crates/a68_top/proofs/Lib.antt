@@ -1,3 +1,4 @@
-pub mod Spelled
+pub mod Lined
+pub mod Refusing
 pub mod Told
 pub mod Written

@@ -1,13 +1,21 @@
 -- What a call owes: the relation between the task, the text of the file, the finish, and the bytes on out and notes.
 use Rattle.std.specs.Prelude.{◌≡◌, ℕ, List, [], ◌∷◌, take, None, Some}
 use Rattle.std.specs.declared.option.Option.{Option}
-use Rattle.a68_base.specs.declared.refusal.Rule.{Rule}
+use Rattle.a68_base.specs.declared.refusal.Refusal.{Refusal}
 use Rattle.a68_base.specs.declared.status.Status.{Status}
-use Rattle.a68_base.specs.declared.status.Status.TheVariants.{Done, Refused, Usage, Fault}
+use Rattle.a68_base.specs.declared.status.Status.TheVariants.{Done, Refused, Usage, Fault, AllHalted, Spent}
+use Rattle.a68_elab.specs.Made.{program_of}
+use Rattle.a68_elab.specs.Permitted.{Permitted}
+use Rattle.a68_strand.specs.Cyclic.{Cyclic}
+use Rattle.a68_strand.specs.RunOf.{RunOf}
+use Rattle.a68_top.specs.Compiles.{Compiles, RefusedAs}
 use Rattle.a68_top.specs.declared.finish.Finish.{Finish}
+use Rattle.a68_top.specs.declared.finish.Made.{Made}
 use Rattle.a68_top.specs.Words.{Task, run}
-use Rattle.a68_top.specs.Formula.{Reading, value, overflow, broken, Reads}
-use Rattle.a68_top.specs.Lines.{usage_line, refusal_line, overflow_line, printed}
+use Rattle.a68_top.specs.Lines.{usage_line, refusal_line, end_line}
+use Rattle.a68_values.specs.declared.kept.End.{End}
+use Rattle.a68_values.specs.declared.kept.End.TheVariants as ends
+use Rattle.a68_values.specs.declared.kept.Kept.{Kept}
 
 -- a row of the table: this finish, these bytes on out and these on notes
 pub record Says (finish : Finish) (out notes : List ℕ) (due : Finish) (due_out due_notes : List ℕ) : Type 0 where
@@ -17,28 +25,35 @@ pub record Says (finish : Finish) (out notes : List ℕ) (due : Finish) (due_out
 
 -- a finish that keeps nothing
 abbrev pub bare : Status → Finish
-bare status = record { status = status; refusal = None }
+bare status = record { status = status; refusal = None; made = None; ran = None }
 
 -- the words are no command
 abbrev pub IsUsage : Finish → List ℕ → List ℕ → Type 0
 IsUsage finish out notes = Says finish out notes (bare Usage) [] usage_line
 
--- the text breaks a rule
-abbrev pub IsRefusal : Rule → ℕ → Finish → List ℕ → List ℕ → Type 0
-IsRefusal rule place finish out notes =
-    Says finish out notes (record { status = Refused; refusal = Some (record { rule = rule; place = place }) }) [] (refusal_line rule place)
+-- the text breaks this rule
+abbrev pub IsRefusal : Refusal → Finish → List ℕ → List ℕ → Type 0
+IsRefusal refusal finish out notes = Says finish out notes (record { status = Refused; refusal = Some refusal; made = None; ran = None }) [] (refusal_line refusal.rule refusal.place)
 
--- a run of a text that says this
-abbrev pub IsRun : Reading → Finish → List ℕ → List ℕ → Type 0
-IsRun (broken rule place) finish out notes = IsRefusal rule place finish out notes
-IsRun (overflow place) finish out notes = Says finish out notes (bare Fault) [] (overflow_line place)
-IsRun (value v) finish out notes = Says finish out notes (bare Done) (printed v) []
+-- the status of a run that ended so
+abbrev pub status_of : End → Status
+status_of ends.Done = Done
+status_of (ends.Fault why place strand) = Fault
+status_of ends.AllHalted = AllHalted
+status_of ends.Spent = Spent
 
--- a run of a text
-pub record IsRunOf (text : List ℕ) (finish : Finish) (out notes : List ℕ) : Type 0 where
-  pub reading : Reading
-  pub reads : Reads text reading
-  pub says : IsRun reading finish out notes
+-- The program has run so, and the text that the run printed is on out.
+pub record HasRun (made : Made) (fuel : ℕ) (finish : Finish) (out notes : List ℕ) : Type 0 where
+  pub kept : Kept
+  pub machine : RunOf made.code fuel kept
+  pub cyclic : Cyclic made.code kept
+  pub says : Says finish out notes (record { status = status_of kept.end; refusal = None; made = Some made; ran = Some kept }) kept.journal.text (end_line kept.end)
+
+-- A run of a text: the text is refused, or its program has run, as the rules of the language permit.
+pub data IsRunOf (text : List ℕ) (fuel : ℕ) (finish : Finish) (out notes : List ℕ) : Type 0 where
+  refused : (refusal : Refusal) → RefusedAs text refusal → IsRefusal refusal finish out notes → IsRunOf text fuel finish out notes
+  ran : (made : Made) → Compiles text made → (has : HasRun made fuel finish out notes) → Permitted (program_of made.program) fuel has.kept
+      → IsRunOf text fuel finish out notes
 
 -- as much of a program's text as is read: one byte above the limit
 abbrev pub read_of : List ℕ → List ℕ
@@ -47,5 +62,5 @@ read_of text = take 1048577 text
 -- The answer, where every read and write succeeds and memory suffices. The texts are those of the files, in order.
 abbrev pub Answer : Option Task → List (List ℕ) → Finish → List ℕ → List ℕ → Type 0
 Answer None texts finish out notes = IsUsage finish out notes
-Answer (Some (run file)) (text ∷ []) finish out notes = IsRunOf (read_of text) finish out notes
-Answer (Some (run file)) _ finish out notes = ⊥
+Answer (Some (run file fuel)) (text ∷ []) finish out notes = IsRunOf (read_of text) fuel finish out notes
+Answer (Some (run file fuel)) _ finish out notes = ⊥

@@ -1,8 +1,12 @@
--- The lines on notes, and printed numbers.
-use Rattle.std.specs.Prelude.{ℕ, ℤ, ◌-◌, ◌+◌, pos, negsuc, List, [], ◌∷◌, ◌++◌, length, replicate, codes}
+-- The lines on notes.
+use Rattle.std.specs.Prelude.{ℕ, List, [], ◌∷◌, ◌++◌, codes}
 use Rattle.std.specs.Fmt.{decimal}
 use Rattle.a68_base.specs.declared.refusal.Rule.{Rule}
 use Rattle.a68_base.specs.Rule.{rule_name}
+use Rattle.a68_values.specs.declared.act.FaultKind.{FaultKind}
+use Rattle.a68_values.specs.declared.act.FaultKind.TheVariants.{Unset, Kind, Nil, Scope, Bounds, Overflow, Divisor, Domain, Cells, Text, Strands}
+use Rattle.a68_values.specs.declared.kept.End.{End}
+use Rattle.a68_values.specs.declared.kept.End.TheVariants as ends
 
 -- a line ends with a line feed
 abbrev pub line : List ℕ → List ℕ
@@ -17,18 +21,25 @@ read_fault_line = line (codes "a68: read fault")
 abbrev pub refusal_line : Rule → ℕ → List ℕ
 refusal_line rule place = line (codes "a68: refused " ++ rule_name rule ++ codes " at byte " ++ decimal place)
 
-abbrev pub overflow_line : ℕ → List ℕ
-overflow_line place = line (codes "a68: fault Overflow at byte " ++ decimal place)
+abbrev pub fault_name : FaultKind → List ℕ
+fault_name Unset = codes "Unset"
+fault_name Kind = codes "Kind"
+fault_name Nil = codes "Nil"
+fault_name Scope = codes "Scope"
+fault_name Bounds = codes "Bounds"
+fault_name Overflow = codes "Overflow"
+fault_name Divisor = codes "Divisor"
+fault_name Domain = codes "Domain"
+fault_name Cells = codes "Cells"
+fault_name Text = codes "Text"
+fault_name Strands = codes "Strands"
 
--- a number with its sign
-abbrev pub signed : ℤ → List ℕ
-signed (pos n) = codes "+" ++ decimal n
-signed (negsuc n) = codes "-" ++ decimal (n + 1)
+abbrev pub fault_line : FaultKind → ℕ → List ℕ
+fault_line kind place = line (codes "a68: fault " ++ fault_name kind ++ codes " at byte " ++ decimal place)
 
--- a text at the right of 20 places
-abbrev pub right_in_20 : List ℕ → List ℕ
-right_in_20 text = replicate (20 - length text) 32 ++ text
-
--- an INT as it is printed
-abbrev pub printed : ℤ → List ℕ
-printed v = right_in_20 (signed v)
+-- how a run ended; nothing where it came to its end
+abbrev pub end_line : End → List ℕ
+end_line ends.Done = []
+end_line (ends.Fault kind place strand) = fault_line kind place
+end_line ends.AllHalted = line (codes "a68: all halted")
+end_line ends.Spent = line (codes "a68: fuel spent")

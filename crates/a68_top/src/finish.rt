@@ -1,20 +1,34 @@
 //! What a call of the program gives back.
 ghost use Rattle.std.specs.Prelude.{◌≡◌};
-ghost use Rattle.a68_top.specs.Answer.{bare};
+ghost use Rattle.a68_top.specs.Answer.{bare, status_of};
 
+use a68_annot::Annotated;
 use a68_base::{Refusal, Status, Text};
+use a68_code::Code;
+use a68_values::{End, Kept};
+
+/// A program that can run: its tree with what is known of each node, and its code.
+#[derive(Drop)]
+pub struct Made {
+    pub program: Annotated,
+    pub code: Code,
+}
 
 /// How a call ended, and what it kept.
-#[derive(Debug, Drop)]
+#[derive(Drop)]
 pub struct Finish {
     pub status: Status,
     /// The rule that the text breaks, and where; kept where the status is Refused, or where it would have been had
     /// no write failed.
     pub refusal: Option<Refusal>,
+    /// What the text was made into; kept of a run.
+    pub made: Option<Made>,
+    /// What the run left: its journal, its cells and outermost slots, and its end.
+    pub ran: Option<Kept>,
 }
 
 /// What a call owes where every write succeeds: its finish, and the bytes for `out` and for `notes`.
-#[derive(Debug, Drop)]
+#[derive(Drop)]
 pub struct Due {
     pub finish: Finish,
     pub out: Text,
@@ -28,5 +42,19 @@ pub fn bare(status: Status) -> Finish
     Finish {
         status,
         refusal: None,
+        made: None,
+        ran: None,
+    }
+}
+
+/// The status of a run that ended so.
+pub fn status_of(end: End) -> Status
+    ensures { result ≡ status_of end }
+{
+    match end {
+        End::Done => Status::Done,
+        End::Fault { .. } => Status::Fault,
+        End::AllHalted => Status::AllHalted,
+        End::Spent => Status::Spent,
     }
 }

@@ -1,8 +1,9 @@
-//! The lines on notes, and printed numbers.
+//! The lines on notes.
 ghost use Rattle.std.specs.Prelude.{◌≡◌, IfOk};
-ghost use Rattle.a68_top.specs.Lines.{refusal_line, overflow_line, printed};
+ghost use Rattle.a68_top.specs.Lines.{refusal_line, fault_line, fault_name, end_line};
 
 use a68_base::{NoMemory, Refusal, Text};
+use a68_values::{End, FaultKind};
 use std::alloc::Global;
 
 /// The line of words that are no command.
@@ -11,6 +12,12 @@ pub const USAGE: &str =
 
 /// The line of a read that failed.
 pub const READ_FAULT: &str = "a68: read fault\n";
+
+/// The line of a run in which no strand could go on.
+const ALL_HALTED: &str = "a68: all halted\n";
+
+/// The line of a run that used up its fuel.
+const FUEL_SPENT: &str = "a68: fuel spent\n";
 
 /// The line of a refusal.
 pub fn refusal_line_of(alloc: Global, refusal: Refusal) -> Result<Text, NoMemory>
@@ -24,24 +31,42 @@ pub fn refusal_line_of(alloc: Global, refusal: Refusal) -> Result<Text, NoMemory
     })
 }
 
-/// The line of an overflow.
-pub fn overflow_line_of(alloc: Global, place: u32) -> Result<Text, NoMemory>
-    ensures { IfOk result (λ text. text ≡ overflow_line place) }
+fn fault_name_of(kind: FaultKind) -> &'static str
+    ensures { result.now ≡ fault_name kind }
 {
-    let line = format!(in alloc; "a68: fault Overflow at byte {place}\n")?;
+    match kind {
+        FaultKind::Unset => "Unset",
+        FaultKind::Kind => "Kind",
+        FaultKind::Nil => "Nil",
+        FaultKind::Scope => "Scope",
+        FaultKind::Bounds => "Bounds",
+        FaultKind::Overflow => "Overflow",
+        FaultKind::Divisor => "Divisor",
+        FaultKind::Domain => "Domain",
+        FaultKind::Cells => "Cells",
+        FaultKind::Text => "Text",
+        FaultKind::Strands => "Strands",
+    }
+}
+
+fn fault_line_of(alloc: Global, kind: FaultKind, place: u32) -> Result<Text, NoMemory>
+    ensures { IfOk result (λ text. text ≡ fault_line kind place) }
+{
+    let name = fault_name_of(kind);
+    let line = format!(in alloc; "a68: fault {name} at byte {place}\n")?;
     Ok(Text {
         items: line.into_bytes(),
     })
 }
 
-/// An INT as it is printed: with its sign, at the right of 20 places.
-pub fn printed_text(alloc: Global, value: i64) -> Result<Text, NoMemory>
-    ensures { IfOk result (λ text. text ≡ printed value) }
+/// The line of a run's end; none where the run came to its end.
+pub fn end_line_of(alloc: Global, end: End) -> Result<Text, NoMemory>
+    ensures { IfOk result (λ text. text ≡ end_line end) }
 {
-    let sign = if value < 0 { "-" } else { "+" };
-    let size = value.unsigned_abs();
-    let number = format!(in alloc; "{sign}{size}")?;
-    let mut items = vec![in alloc; b' '; 20usize.saturating_sub(number.len())]?;
-    items.extend_from_slice(number.as_bytes())?;
-    Ok(Text { items })
+    match end {
+        End::Done => Text::from_slice(alloc, b""),
+        End::Fault { kind, place, .. } => fault_line_of(alloc, kind, place),
+        End::AllHalted => Text::from_slice(alloc, ALL_HALTED.as_bytes()),
+        End::Spent => Text::from_slice(alloc, FUEL_SPENT.as_bytes()),
+    }
 }

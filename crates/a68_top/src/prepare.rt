@@ -2,17 +2,21 @@
 ghost use Rattle.std.specs.Prelude.{◌≡◌, ◌≤◌, ◌<◌, ◌^◌, [], length, map, string_bytes, IfOk, OnOk, IfSome, IsErrOf, Some};
 ghost use Rattle.a68_outside.specs.Cause.{Rose};
 ghost use Rattle.a68_top.specs.Words.{MayAskFor, run, task_in, files_of};
-ghost use Rattle.a68_top.specs.Commands.{task_of};
-ghost use Rattle.a68_top.specs.Answer.{IsRunOf, IsUsage, read_of};
+ghost use Rattle.a68_code.specs.Valid.{IsValid};
+ghost use Rattle.a68_top.specs.Commands.{task_of, HasFuel};
+ghost use Rattle.a68_top.specs.Answer.{IsRefusal, HasRun, IsRunOf, IsUsage, read_of};
 ghost use Rattle.a68_top.specs.Outcome.{IsAnswer, Owes};
+ghost use Rattle.a68_world.specs.Run.{most_fuel};
 ghost use Rattle.a68_top.specs.declared.prepare.Early.TheVariants as early;
 
-use crate::finish::{Due, Finish, bare};
-use crate::formula::{Reading, read};
-use crate::lines::{USAGE, overflow_line_of, printed_text, refusal_line_of};
+use crate::compile::compile;
+use crate::finish::{Due, Finish, Made, bare, status_of};
+use crate::lines::{USAGE, end_line_of, refusal_line_of};
 use crate::words::{Command, command_of};
-use a68_base::{NoMemory, Status, Text};
+use a68_base::{NoMemory, Refusal, Status, Stop, Text};
 use a68_outside::{ReadStop, Shelf, read_at_most};
+use a68_sim::permitted_law;
+use a68_world::run;
 use std::alloc::Global;
 
 // How much of a text is read: one byte more than a text may have.
@@ -64,51 +68,89 @@ fn usage(alloc: Global) -> Result<Due, NoMemory>
     })
 }
 
-// What a run of a text owes.
-fn run_text(alloc: Global, text: &[u8]) -> Result<Due, NoMemory>
-    requires { length text.now < 2 ^ 32 }
+// What the refusal of a text owes.
+fn refused(alloc: Global, refusal: Refusal) -> Result<Due, NoMemory>
     ensures status { IfOk result (λ due. IsAnswer due.finish.status) }
-    ensures answer { IfOk result (λ due. IsRunOf text.now due.finish due.out due.notes) }
+    ensures answer { IfOk result (λ due. IsRefusal refusal due.finish due.out due.notes) }
 {
-    match read(alloc, text)? {
-        Reading::Broken(refusal) => Ok(Due {
-            finish: Finish {
-                status: Status::Refused,
-                refusal: Some(refusal),
-            },
-            out: Text::from_slice(alloc, b"")?,
-            notes: refusal_line_of(alloc, refusal)?,
-        }),
-        Reading::Overflow(place) => Ok(Due {
-            finish: bare(Status::Fault),
-            out: Text::from_slice(alloc, b"")?,
-            notes: overflow_line_of(alloc, place)?,
-        }),
-        Reading::Value(value) => Ok(Due {
-            finish: bare(Status::Done),
-            out: printed_text(alloc, value)?,
-            notes: Text::from_slice(alloc, b"")?,
-        }),
+    Ok(Due {
+        finish: Finish {
+            status: Status::Refused,
+            refusal: Some(refusal),
+            made: None,
+            ran: None,
+        },
+        out: Text::from_slice(alloc, b"")?,
+        notes: refusal_line_of(alloc, refusal)?,
+    })
+}
+
+// What the run of a program owes.
+fn ran(alloc: Global, made: Made, fuel: u32) -> Result<Due, NoMemory>
+    requires valid { IsValid made.code }
+    requires short { length made.code.list < 2 ^ 32 }
+    requires some_fuel { 1 ≤ fuel }
+    requires little_fuel { fuel ≤ most_fuel }
+    ensures status { IfOk result (λ due. IsAnswer due.finish.status) }
+    ensures answer { IfOk result (λ due. HasRun made fuel due.finish due.out due.notes) }
+{
+    let Made { program, code } = made;
+    let (code, kept) = run(alloc, code, fuel)?;
+    let out = Text::from_slice(alloc, kept.journal.text.as_slice())?;
+    let notes = end_line_of(alloc, kept.end)?;
+    Ok(Due {
+        finish: Finish {
+            status: status_of(kept.end),
+            refusal: None,
+            made: Some(Made { program, code }),
+            ran: Some(kept),
+        },
+        out,
+        notes,
+    })
+}
+
+// What a run of a text owes.
+fn run_text(alloc: Global, text: &[u8], fuel: u32) -> Result<Due, NoMemory>
+    requires length { length text.now < 2 ^ 32 }
+    requires some_fuel { 1 ≤ fuel }
+    requires little_fuel { fuel ≤ most_fuel }
+    ensures status { IfOk result (λ due. IsAnswer due.finish.status) }
+    ensures answer { IfOk result (λ due. IsRunOf text.now fuel due.finish due.out due.notes) }
+{
+    permitted_law();
+    match compile(alloc, text) {
+        Err(Stop::NoMemory) => Err(NoMemory),
+        Err(Stop::Refused(refusal)) => refused(alloc, refusal),
+        Ok(made) => ran(alloc, made, fuel),
     }
 }
 
 // What `run` owes.
-fn run_file<F: Shelf>(alloc: Global, name: &str, shelf: &mut F) -> Result<Due, Early>
-    requires { F.may_ask name.now }
+fn run_file<F: Shelf>(
+    alloc: Global,
+    name: &str,
+    fuel: u32,
+    shelf: &mut F,
+) -> Result<Due, Early>
+    requires may_ask { F.may_ask name.now }
+    requires some_fuel { 1 ≤ fuel }
+    requires little_fuel { fuel ≤ most_fuel }
     ensures status { IfOk result (λ due. IsAnswer due.finish.status) }
-    ensures answer { IfOk result (λ due. Owes (Some (run name.now)) (F.under shelf.old)
+    ensures answer { IfOk result (λ due. Owes (Some (run name.now fuel)) (F.under shelf.old)
         due.finish due.out due.notes) }
     ensures calm { OnOk result (F.faults shelf.new ≡ F.faults shelf.old) }
     ensures memory { IsErrOf result Early.NoMemory → F.faults shelf.new ≡ F.faults shelf.old }
     ensures failed { IsErrOf result Early.ReadFault → Rose (F.faults shelf.old) (F.faults shelf.new) }
 {
     let text = fetch(alloc, name, shelf)?;
-    Ok(run_text(alloc, text.as_slice())?)
+    Ok(run_text(alloc, text.as_slice(), fuel)?)
 }
 
 // What a command owes.
 fn due_of<F: Shelf>(alloc: Global, command: &Command, shelf: &mut F) -> Result<Due, Early>
-    requires { MayAskFor F.may_ask (Some (task_of command.now)) }
+    requires may_ask { MayAskFor F.may_ask (Some (task_of command.now)) }
+    requires fuel { HasFuel command.now }
     ensures status { IfOk result (λ due. IsAnswer due.finish.status) }
     ensures answer { IfOk result (λ due. Owes (Some (task_of command.now))
         (F.under shelf.old)
@@ -118,7 +160,7 @@ fn due_of<F: Shelf>(alloc: Global, command: &Command, shelf: &mut F) -> Result<D
     ensures failed { IsErrOf result Early.ReadFault → Rose (F.faults shelf.old) (F.faults shelf.new) }
 {
     match command {
-        Command::Run { file } => run_file(alloc, file.as_str(), shelf),
+        Command::Run { file, fuel } => run_file(alloc, file.as_str(), *fuel, shelf),
     }
 }
 

@@ -42,6 +42,8 @@ fn run_f(text: &[u8]) -> Given<'_> {
 #[derive(Drop)]
 struct Left {
     status: u8,
+    // How many entries the kept journal has.
+    events: usize,
     out: MemorySink,
     notes: MemorySink,
 }
@@ -62,8 +64,13 @@ fn call<R: Threads + Wait + Sync>(
     let finish = a68(
         rt, alloc, &words, &mut shelf, &mut out, &mut notes, &FreeGate,
     );
+    let events = match &finish.ran {
+        Some(kept) => kept.journal.entries.items.len(),
+        None => 0,
+    };
     Ok(Left {
         status: finish.status.number(),
+        events,
         out,
         notes,
     })
@@ -101,7 +108,7 @@ fn texts_are_answered(rt: HostRuntime) -> Result<(), Fail> {
 #[test]
 fn texts_are_refused_and_faults_met(rt: HostRuntime) -> Result<(), Fail> {
     let blanks = vec![in rt.alloc(); b' '; 1_048_577]?;
-    let rows: [(&[u8], u8, &[u8]); 31] = [
+    let rows: [(&[u8], u8, &[u8]); 35] = [
         (b"", 1, b"a68: refused S6 at byte 0\n"),
         (b" \n\t\r", 1, b"a68: refused S6 at byte 4\n"),
         (&blanks[1..], 1, b"a68: refused S6 at byte 1048576\n"),
@@ -131,7 +138,7 @@ fn texts_are_refused_and_faults_met(rt: HostRuntime) -> Result<(), Fail> {
             1,
             b"a68: refused X0 at byte 14\n",
         ),
-        (b"BEGIN print(1);", 1, b"a68: refused X0 at byte 14\n"),
+        (b"BEGIN print(1);", 1, b"a68: refused X0 at byte 15\n"),
         (b"BEGIN print(1 +) END", 1, b"a68: refused X0 at byte 15\n"),
         (b"BEGIN SKIP END", 1, b"a68: refused X0 at byte 6\n"),
         (b"BEGIN print(1x) END", 1, b"a68: refused S5 at byte 12\n"),
@@ -148,7 +155,23 @@ fn texts_are_refused_and_faults_met(rt: HostRuntime) -> Result<(), Fail> {
             1,
             b"a68: refused X0 at byte 19\n",
         ),
-        (b"BEGIN1 print(1) END", 1, b"a68: refused X0 at byte 0\n"),
+        (b"BEGIN1 print(1) END", 1, b"a68: refused N2 at byte 0\n"),
+        (b"BEGIN print(x) END", 1, b"a68: refused N1 at byte 12\n"),
+        (
+            b"BEGIN INT x; INT x; x := 1 END",
+            1,
+            b"a68: refused N3 at byte 17\n",
+        ),
+        (
+            b"BEGIN print(1); INT x END",
+            1,
+            b"a68: refused X0 at byte 16\n",
+        ),
+        (
+            b"BEGIN INT x; print(x) END",
+            3,
+            b"a68: fault Unset at byte 13\n",
+        ),
         (
             b"BEGIN print(9223372036854775807 + 1) END",
             3,
@@ -180,8 +203,42 @@ fn texts_are_refused_and_faults_met(rt: HostRuntime) -> Result<(), Fail> {
 }
 
 #[test]
+fn programs_run_within_their_fuel(rt: HostRuntime) -> Result<(), Fail> {
+    let five: &[u8] = b"BEGIN INT x := 5; print(x) END";
+    let count: &[u8] = b"BEGIN INT i := 0; WHILE i < 3 DO i := i + 1 OD; print(i) END";
+    let turns: &[u8] = b"BEGIN INT x := 0; WHILE x = 0 DO x := 0 OD END";
+    let choice: &[u8] =
+        b"BEGIN INT x := 2; INT y; IF x > 2 THEN y := 1 ELSE y := x * x - 1 FI; print(y) END";
+    let spent: &[u8] = b"a68: fuel spent\n";
+    let rows: [(&[u8], &str, u8, &[u8], &[u8], usize); 6] = [
+        (five, "7", 0, b"                  +5", b"", 7),
+        (five, "6", 5, b"", spent, 6),
+        (count, "4000000", 0, b"                  +3", b"", 31),
+        (count, "31", 0, b"                  +3", b"", 31),
+        (turns, "10", 5, b"", spent, 10),
+        (choice, "16000000", 0, b"                  +3", b"", 17),
+    ];
+    for (text, fuel, status, out, notes, events) in rows {
+        let words = ["run", "f", "--fuel", fuel];
+        let left = call(
+            &rt,
+            rt.alloc(),
+            Given {
+                words: &words,
+                ..run_f(text)
+            },
+        )?;
+        assert_eq!(rt; left.status, status);
+        assert_eq!(rt; left.out.taken(), out);
+        assert_eq!(rt; left.notes.taken(), notes);
+        assert_eq!(rt; left.events, events);
+    }
+    Ok(())
+}
+
+#[test]
 fn words_name_the_file_or_are_refused(rt: HostRuntime) -> Result<(), Fail> {
-    let usage: [&[&str]; 7] = [
+    let usage: [&[&str]; 11] = [
         &[],
         &["run"],
         &["walk", "f"],
@@ -189,6 +246,10 @@ fn words_name_the_file_or_are_refused(rt: HostRuntime) -> Result<(), Fail> {
         &["run", "--help"],
         &["run", "f", "g"],
         &["Run", "f"],
+        &["run", "f", "--fuel"],
+        &["run", "f", "--fuel", "0"],
+        &["run", "f", "--fuel", "16000001"],
+        &["run", "f", "--fuel", "5x"],
     ];
     for words in usage {
         let left = call(

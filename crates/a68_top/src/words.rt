@@ -1,10 +1,11 @@
 //! The words of the command line.
-ghost use Rattle.std.specs.Prelude.{◌≡◌, List, ℕ, map, string_bytes, IfOk};
+ghost use Rattle.std.specs.Prelude.{◌≡◌, ◌≤◌, List, ℕ, map, string_bytes, IfOk, IfSome};
 ghost use Rattle.std.specs.Option.{option_map};
-ghost use Rattle.a68_top.specs.Words.{task_in, is_operand};
-ghost use Rattle.a68_top.specs.Commands.{task_of};
+ghost use Rattle.a68_top.specs.Words.{task_in, is_operand, fuel_in, run_of};
+ghost use Rattle.a68_top.specs.Commands.{task_of, HasFuel};
 
 use a68_base::NoMemory;
+use a68_denote::int_of;
 use std::alloc::Global;
 use std::marker::Model;
 
@@ -35,7 +36,7 @@ impl FileName {
 #[derive(Debug, Drop)]
 pub enum Command {
     /// To compile the text of a file and to run it.
-    Run { file: FileName },
+    Run { file: FileName, fuel: u32 },
 }
 
 // Does the word name a file?
@@ -48,19 +49,54 @@ fn names_file(word: &str) -> bool
     }
 }
 
+/// The fuel of a run where the words name none.
+const USUAL_FUEL: u32 = 4_000_000;
+
+// A number of fuel: one to eight digits, of 1 to 16,000,000.
+fn fuel_of(word: &str) -> Option<u32>
+    ensures fuel { result ≡ fuel_in word.now }
+    ensures range { IfSome result (λ fuel. (1 ≤ fuel) × (fuel ≤ 16000000)) }
+{
+    if word.len() > 8 {
+        return None;
+    }
+    match int_of(word.as_bytes()) {
+        Some(value) if value >= 1 && value <= 16_000_000 => Some(value as u32),
+        _ => None,
+    }
+}
+
+// The command to run a file.
+fn run_of(
+    alloc: Global,
+    verb: &str,
+    file: &str,
+    fuel: Option<u32>,
+) -> Result<Option<Command>, NoMemory>
+    requires { IfSome fuel (λ fuel. (1 ≤ fuel) × (fuel ≤ 16000000)) }
+    ensures task { IfOk result (λ command. option_map task_of command ≡ run_of verb.now file.now fuel) }
+    ensures fuel { IfOk result (λ command. IfSome command HasFuel) }
+{
+    match fuel {
+        Some(fuel) if verb == "run" && names_file(file) => {
+            let items = String::from_str(alloc, file)?;
+            let file = FileName { items };
+            Ok(Some(Command::Run { file, fuel }))
+        }
+        _ => Ok(None),
+    }
+}
+
 /// The command that the words are, without the program's name; none where they are no command.
 pub fn command_of(alloc: Global, words: &[String]) -> Result<Option<Command>, NoMemory>
-    ensures { IfOk result (λ command. option_map task_of command ≡ task_in (map string_bytes words.now)) }
+    ensures task { IfOk result (λ command. option_map task_of command ≡ task_in (map string_bytes words.now)) }
+    ensures fuel { IfOk result (λ command. IfSome command HasFuel) }
 {
-    let [verb, file] = words else {
-        return Ok(None);
-    };
-    if verb.as_str() == "run" && names_file(file.as_str()) {
-        let items = String::from_str(alloc, file.as_str())?;
-        Ok(Some(Command::Run {
-            file: FileName { items },
-        }))
-    } else {
-        Ok(None)
+    match words {
+        [verb, file] => run_of(alloc, verb.as_str(), file.as_str(), Some(USUAL_FUEL)),
+        [verb, file, option, number] if option.as_str() == "--fuel" => {
+            run_of(alloc, verb.as_str(), file.as_str(), fuel_of(number.as_str()))
+        }
+        _ => Ok(None),
     }
 }

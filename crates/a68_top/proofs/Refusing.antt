@@ -1,0 +1,45 @@
+-- Why a text is refused, by the phase that refuses it.
+use Rattle.std.specs.Prelude.{◌≡◌, ℕ, List, length, map, Ok, Err, IfOk, IfErr}
+use Rattle.std.proofs.Common.{subst}
+use Rattle.std.specs.declared.result.Result.{Result}
+use Rattle.a68_annot.specs.declared.annotated.Annotated.{Annotated}
+use Rattle.a68_base.specs.declared.refusal.Refusal.{Refusal}
+use Rattle.a68_base.specs.declared.refusal.Stop.{Stop}
+use Rattle.a68_base.specs.declared.refusal.Stop.TheVariants.{Refused, NoMemory}
+use Rattle.a68_check.specs.Annotates.{Refuses, StopsBy}
+use Rattle.a68_elab.specs.Made.{program_of}
+use Rattle.a68_gen.specs.Listing.{listing}
+use Rattle.a68_gen.specs.Writing.{Stops}
+use Rattle.a68_parse.specs.Parses.{Parses}
+use Rattle.a68_symbols.specs.Names.{Named}
+use Rattle.a68_symbols.specs.Symbols.{SymbolsAre, piece_of}
+use Rattle.a68_top.specs.Compiles.{IsTreeOf, IsProgramOf, RefusedAs, unclassed, no_tree, no_meaning, too_long}
+use Rattle.a68_words.specs.Classes.{Answers}
+use Rattle.a68_tree.specs.Trees.{Built}
+
+pub unparsed : (text : List ℕ) (found : Named) (end : ℕ) → end ≡ length text → SymbolsAre text (map piece_of found.symbols)
+    → (r : Result Built Stop) → Parses found end r → IfErr r (λ why. StopsBy (RefusedAs text) why)
+unparsed text found end e symbols (Ok t) p = tt
+unparsed text found end e symbols (Err NoMemory) p = tt
+unparsed text found end e symbols (Err (Refused f)) p = no_tree found symbols (subst (λ x. Parses found x (Err (Refused f))) e p)
+
+pub unsorted : (text : List ℕ) (found : Named) → SymbolsAre text (map piece_of found.symbols) → (s : Stop) → Answers found (Err s) → StopsBy (RefusedAs text) s
+unsorted text found symbols NoMemory p = tt
+unsorted text found symbols (Refused f) p = unclassed found symbols p
+
+stopped : (text : List ℕ) (tree : Built) → IsTreeOf text tree → (s : Stop) → StopsBy (λ f. Refuses tree f) s → StopsBy (RefusedAs text) s
+stopped text tree is NoMemory p = tt
+stopped text tree is (Refused f) p = no_meaning tree is p
+
+pub meaningless : (text : List ℕ) (tree : Built) → IsTreeOf text tree → (r : Result Annotated Stop)
+    → IfErr r (λ why. StopsBy (λ f. Refuses tree f) why) → IfErr r (λ why. StopsBy (RefusedAs text) why)
+meaningless text tree is (Ok p) e = tt
+meaningless text tree is (Err s) e = stopped text tree is s e
+
+pub overlong : (text : List ℕ) (program : Annotated) → IsProgramOf text program → (s : Stop) → Stops s (listing (program_of program)) → StopsBy (RefusedAs text) s
+overlong text program is NoMemory p = tt
+overlong text program is (Refused f) p = too_long program is p
+
+pub if_ok : {A B : Type 0} {P Q : A → Type 0} (r : Result A B) → ((a : A) → P a → Q a) → IfOk r P → IfOk r Q
+if_ok (Ok a) f p = f a p
+if_ok (Err b) f p = tt

@@ -1,0 +1,6 @@
+use Rattle.std.proofs.Common.{◌≡◌, refl, IfErr}
+use Rattle.a68_top.proofs.Refusing.{unparsed}
+use Rattle.a68_top.proofs.compile.parsed.Goals as goal
+
+pub returns-clause-refused : goal.returns-clause-refused
+returns-clause-refused c = unparsed c.args.text.now c.args.found.now _ refl c.requires.symbols c.parse.result c.parse.ensures.parses

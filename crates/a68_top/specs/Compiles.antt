@@ -1,0 +1,50 @@
+-- What a text is made into, and why another one is refused.
+use Rattle.std.specs.Prelude.{◌≡◌, ℕ, List, [], length, map, Err}
+use Rattle.a68_annot.specs.declared.annotated.Annotated.{Annotated}
+use Rattle.a68_base.specs.declared.refusal.Refusal.{Refusal}
+use Rattle.a68_base.specs.declared.refusal.Rule.TheVariants.{S6}
+use Rattle.a68_base.specs.declared.refusal.Stop.TheVariants.{Refused}
+use Rattle.a68_check.specs.Annotates.{IsAnnotated, Refuses}
+use Rattle.a68_elab.specs.Made.{program_of}
+use Rattle.a68_gen.specs.Listing.{listing}
+use Rattle.a68_gen.specs.Stretches.{Translates}
+use Rattle.a68_gen.specs.Writing.{IsTooLong}
+use Rattle.a68_op_ident.specs.Shapes.{Shaped}
+use Rattle.a68_parse.specs.Parses.{Parses, SpellsAlike}
+use Rattle.a68_symbols.specs.Names.{Named}
+use Rattle.a68_symbols.specs.Symbols.{SymbolsAre, RefusalIs, piece_of}
+use Rattle.a68_top.specs.declared.finish.Made.{Made}
+use Rattle.a68_words.specs.Classes.{IsClassed, IsRefused}
+use Rattle.a68_words.specs.declared.class.Class.{Class}
+use Rattle.std.specs.declared.option.Option.{Option}
+use Rattle.a68_tree.specs.Trees.{Built, IsSmallTree}
+
+-- the tree of the text's symbols, by the grammar, with their spellings; each bold word has its class
+pub record IsTreeOf (text : List ℕ) (tree : Built) : Type 0 where
+  pub found : Named
+  pub symbols : SymbolsAre text (map piece_of found.symbols)
+  pub classes : List (Option Class)
+  pub classed : IsClassed found classes
+  pub derived : IsSmallTree found tree.nodes
+  pub spelled : SpellsAlike found tree.spellings
+
+-- The tree of the text with its formulas shaped by the priorities of their signs, and what is known of each node.
+pub record IsProgramOf (text : List ℕ) (program : Annotated) : Type 0 where
+  pub tree : Built
+  pub is : IsTreeOf text tree
+  pub shaped : Shaped tree program.tree
+  pub annotated : IsAnnotated program
+
+-- the program of the text, and its code
+pub record Compiles (text : List ℕ) (made : Made) : Type 0 where
+  pub program : IsProgramOf text made.program
+  pub translated : Translates (program_of made.program) made.code
+
+-- The rule that the text breaks: of symbols; that there is one; of words and nesting; of the grammar; of the meaning; or the limit of code.
+pub data RefusedAs (text : List ℕ) (refusal : Refusal) : Type 0 where
+  unlike_symbols : RefusalIs text refusal.rule refusal.place → RefusedAs text refusal
+  empty : SymbolsAre text [] → refusal.rule ≡ S6 → refusal.place ≡ length text → RefusedAs text refusal
+  unclassed : (found : Named) → SymbolsAre text (map piece_of found.symbols) → IsRefused found refusal.rule refusal.place → RefusedAs text refusal
+  no_tree : (found : Named) → SymbolsAre text (map piece_of found.symbols) → Parses found (length text) (Err (Refused refusal)) → RefusedAs text refusal
+  no_meaning : (tree : Built) → IsTreeOf text tree → Refuses tree refusal → RefusedAs text refusal
+  too_long : (program : Annotated) → IsProgramOf text program → IsTooLong (listing (program_of program)) refusal → RefusedAs text refusal
