@@ -68,7 +68,7 @@ pub tells_node : (tree : Built) (k id c : ℕ) (n : Node) (table : List (Option 
 tells_node tree k id c n table is e d within tells free count =
     let none : find n.name (defined_before tree k) ≡ None = some_same (sym (tells.each n.name within) ∙ free) in
     let more : defined_before tree (k + 1) ≡ defined_before tree k ++ (name_at tree id, id) ∷ [] =
-        subst (λ x. defined_before tree (k + 1) ≡ defined_before tree k ++ (name_at tree x, x) ∷ []) (sym is) (defined_more tree k (subst (λ x. defines (form_of tree x) ≡ true) is d)) in
+    subst (λ x. defined_before tree (k + 1) ≡ defined_before tree k ++ (name_at tree x, x) ∷ []) (sym is) (defined_more tree k (subst (λ x. defines (form_of tree x) ≡ true) is d)) in
     rw (more, name_of_node tree id n e) (tells_more table (length tree.spellings) n.name id c (defined_before tree k) tells within none count)
 
 no_some : (o : Option Definition) → o ≡ None → IsSome o → ⊥
@@ -80,7 +80,7 @@ pub no_repeat : (tree : Built) (k id : ℕ) (n : Node) (table : List (Option Def
 no_repeat tree k id n table is e within tells free r =
     let none : find n.name (defined_before tree k) ≡ None = some_same (sym (tells.each n.name within) ∙ free) in
     let some : IsSome (find n.name (defined_before tree k)) =
-        subst (λ x. IsSome (find x (defined_before tree k))) (name_of_node tree id n e) (subst (λ x. IsSome (find (name_at tree x) (defined_before tree k))) (sym is) r.1) in
+    subst (λ x. IsSome (find x (defined_before tree k))) (name_of_node tree id n e) (subst (λ x. IsSome (find (name_at tree x) (defined_before tree k))) (sym is) r.1) in
     no_some (find n.name (defined_before tree k)) none some
 
 pub is_none_of : (o : Option Definition) → false ≡ is_some o → o ≡ None

@@ -127,12 +127,7 @@ fn run_text(alloc: Global, text: &[u8], fuel: u32) -> Result<Due, NoMemory>
 }
 
 // What `run` owes.
-fn run_file<F: Shelf>(
-    alloc: Global,
-    name: &str,
-    fuel: u32,
-    shelf: &mut F,
-) -> Result<Due, Early>
+fn run_file<F: Shelf>(alloc: Global, name: &str, fuel: u32, shelf: &mut F) -> Result<Due, Early>
     requires may_ask { F.may_ask name.now }
     requires some_fuel { 1 ≤ fuel }
     requires little_fuel { fuel ≤ most_fuel }

@@ -95,7 +95,12 @@ pub fn command_of(alloc: Global, words: &[String]) -> Result<Option<Command>, No
     match words {
         [verb, file] => run_of(alloc, verb.as_str(), file.as_str(), Some(USUAL_FUEL)),
         [verb, file, option, number] if option.as_str() == "--fuel" => {
-            run_of(alloc, verb.as_str(), file.as_str(), fuel_of(number.as_str()))
+            run_of(
+                alloc,
+                verb.as_str(),
+                file.as_str(),
+                fuel_of(number.as_str()),
+            )
         }
         _ => Ok(None),
     }

@@ -47,9 +47,11 @@ one_turn code v u before e turn next = (turn, subst (λ o. IfNext o e.act (λ be
 pub turns_more : (code : Code) (w v u : World) (before : Option ℕ) (es : List Entry) (e : Entry) → TakeTurns code w before es → Machine code w es v
     → IsTurnOf code v (last_of before es) e.strand → acted code v e.strand ≡ Some (e.act, u) → TakeTurns code w before (es ++ e ∷ [])
 turns_more code w v u before [] e turns runs turn next = subst (λ x. TakeTurns code x before (e ∷ [])) (sym runs) (one_turn code v u before e turn next)
-turns_more code w v u before (d ∷ es) e turns runs turn next =
-    (turns.0, next_both (acted code w d.strand) d.act (λ b. TakeTurns code b (Some d.strand) es) (λ b. Machine code b es v) (λ b. TakeTurns code b (Some d.strand) (es ++ e ∷ []))
-        (λ b t r. turns_more code b v u (Some d.strand) es e t r turn next) turns.1 runs)
+turns_more code w v u before (d ∷ es) e turns runs turn next = (
+  turns.0,
+  next_both (acted code w d.strand) d.act (λ b. TakeTurns code b (Some d.strand) es) (λ b. Machine code b es v) (λ b. TakeTurns code b (Some d.strand) (es ++ e ∷ []))
+      (λ b t r. turns_more code b v u (Some d.strand) es e t r turn next) turns.1 runs,
+)
 
 pub last_more : (before : Option ℕ) (es : List Entry) (e : Entry) → last_of before (es ++ e ∷ []) ≡ Some e.strand
 last_more before [] e = refl
@@ -96,9 +98,11 @@ one_first Such behind n m p q = by (before_or_not n m) where
   no : Sooner behind n m ⊎ Sooner behind m n → n ≡ m
   no (inl s) = absurd (q.first n p.such s)
   no (inr s) = absurd (p.first m q.such s)
+
   swapped : Sooner behind m n ⊎ Sooner behind n m → n ≡ m
   swapped (inl s) = absurd (p.first m q.such s)
   swapped (inr s) = absurd (q.first n p.such s)
+
   by : (n < m) ⊎ (n ≡ m) ⊎ (m < n) → n ≡ m
   by (inl r) = no (sooner_by behind n m r)
   by (inr (inl e)) = e
@@ -133,7 +137,7 @@ last_strand_more : (es : List Entry) (e : Entry) → last_strand (es ++ e ∷ []
 last_strand_more es e =
     let long : length (es ++ e ∷ []) ≡ length es + 1 = length-append es (e ∷ []) in
     let found : slice_get (es ++ e ∷ []) (length (es ++ e ∷ []) - 1) ≡ Some (get_or (es ++ e ∷ []) (length (es ++ e ∷ []) - 1) e) =
-        slice_get-get_or (es ++ e ∷ []) (length (es ++ e ∷ []) - 1) e (omega (arith, long)) in
+    slice_get-get_or (es ++ e ∷ []) (length (es ++ e ∷ []) - 1) e (omega (arith, long)) in
     let is : get_or (es ++ e ∷ []) (length (es ++ e ∷ []) - 1) e ≡ e = get_or_push es e e (length (es ++ e ∷ []) - 1) (omega (arith, long)) in
     ap (λ o. option_map_or (λ (x : Entry). x.strand) o 0) (found ∙ ap (λ x. Some x) is)
 
@@ -162,15 +166,15 @@ pub in_turn : (old new : Run) (n m : ℕ) → InTurn old n → Acts old n new
     → InTurn new m
 in_turn old new n m i a =
     subst (λ r. ((before : ℕ) → last_of None r.entries ≡ Some before → last_strand r.entries ≡ before → r.spent ≡ false → EndsWithoutTurn r.code r.world r.end → r.end ≡ None → IsTurnOf r.code r.world (last_of None r.entries) m) → InTurn r m)
-        (sym a.after)
-        (λ next. record {
-          kept = i.kept;
-          stands = i.stands;
-          runs = machine_more old.code (opening old.code) old.world new.world old.entries (record { strand = n; act = a.act }) i.runs a.next;
-          turns = turns_more old.code (opening old.code) old.world new.world None old.entries (record { strand = n; act = a.act }) i.turns i.runs (i.next a.goes_on.unended) a.next;
-          ends = a.end;
-          next = next n (last_more None old.entries (record { strand = n; act = a.act })) (last_strand_more old.entries (record { strand = n; act = a.act })) i.stands a.end;
-        })
+    (sym a.after)
+    (λ next. record {
+      kept = i.kept;
+      stands = i.stands;
+      runs = machine_more old.code (opening old.code) old.world new.world old.entries (record { strand = n; act = a.act }) i.runs a.next;
+      turns = turns_more old.code (opening old.code) old.world new.world None old.entries (record { strand = n; act = a.act }) i.turns i.runs (i.next a.goes_on.unended) a.next;
+      ends = a.end;
+      next = next n (last_more None old.entries (record { strand = n; act = a.act })) (last_strand_more old.entries (record { strand = n; act = a.act })) i.stands a.end;
+    })
 
 -- an end that needs no turn comes in turn
 silent_end : (code : Code) (w : World) (before : Option ℕ) (e : End) → EndsWithoutTurn code w (Some e) → EndsInTurn code w before e
@@ -220,6 +224,6 @@ cyclic run handed kept i f = record {
       let same : w ≡ run.world = one_world run.code (opening run.code) w run.world run.entries (subst (λ es. Machine run.code (opening run.code) es w) f.entries runs) i.runs in
       let is : kept.end ≡ i.end = some_is kept.end i.end (sym f.end ∙ i.ended) in
       subst (λ x. EndsInTurn run.code x (last_of None kept.journal.entries) kept.end) (sym same)
-          (subst (λ es. EndsInTurn run.code run.world (last_of None es) kept.end) (sym f.entries)
-              (subst (λ e. EndsInTurn run.code run.world (last_of None run.entries) e) (sym is) i.ends));
+      (subst (λ es. EndsInTurn run.code run.world (last_of None es) kept.end) (sym f.entries)
+      (subst (λ e. EndsInTurn run.code run.world (last_of None run.entries) e) (sym is) i.ends));
 }

@@ -13,4 +13,4 @@ returns-in-Err-Refused-clause-answer c =
 pub returns-in-Ok-clause-answer : goal.returns-in-Ok-clause-answer
 returns-in-Ok-clause-answer c =
     if_ok c.ran.result (λ due has. ran c.in-Ok.made c.in-Ok.ensures.ok has
-        (c.permitted_law.ensures (program_of c.in-Ok.made.program) c.in-Ok.made.code c.args.fuel has.kept c.in-Ok.ensures.ok.translated has.machine)) c.ran.ensures.answer
+    (c.permitted_law.ensures (program_of c.in-Ok.made.program) c.in-Ok.made.code c.args.fuel has.kept c.in-Ok.ensures.ok.translated has.machine)) c.ran.ensures.answer

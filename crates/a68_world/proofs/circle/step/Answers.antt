@@ -9,6 +9,6 @@ use Rattle.a68_world.proofs.circle.step.Goals as goal
 pub returns-in-Acted-clause-next : goal.returns-in-Acted-clause-next
 returns-in-Acted-clause-next c =
     in_turn c.args.world.now c.turn.new.self c.args.strand c.unwrap_or.result c.requires c.in-Acted.ensures
-        (λ before last same stands ends unended. subst (λ m. IsTurnOf c.turn.new.self.code c.turn.new.self.world (last_of None c.turn.new.self.entries) m) (sym c.unwrap_or.ensures)
-            (next_turn c.turn.new.self before c.args.strand c.next.result last same stands ends
-                (subst (λ x. IfSome c.next.result (IsFirstBehind (IsAble c.turn.new.self) x)) c.last.ensures c.next.ensures.first) c.next.ensures.none.0 unended))
+    (λ before last same stands ends unended. subst (λ m. IsTurnOf c.turn.new.self.code c.turn.new.self.world (last_of None c.turn.new.self.entries) m) (sym c.unwrap_or.ensures)
+    (next_turn c.turn.new.self before c.args.strand c.next.result last same stands ends
+    (subst (λ x. IfSome c.next.result (IsFirstBehind (IsAble c.turn.new.self) x)) c.last.ensures c.next.ensures.first) c.next.ensures.none.0 unended))
