@@ -3,7 +3,6 @@ use Rattle.std.specs.Prelude.{◌≡◌, ℕ, List, length, map, Ok, Err, IfOk, 
 use Rattle.std.proofs.Common.{subst}
 use Rattle.std.specs.declared.result.Result.{Result}
 use Rattle.a68_annot.specs.declared.annotated.Annotated.{Annotated}
-use Rattle.a68_base.specs.declared.refusal.Refusal.{Refusal}
 use Rattle.a68_base.specs.declared.refusal.Stop.{Stop}
 use Rattle.a68_base.specs.declared.refusal.Stop.TheVariants.{Refused, NoMemory}
 use Rattle.a68_check.specs.Annotates.{Refuses, StopsBy}

@@ -1,5 +1,5 @@
 -- Strands that take turns.
-use Rattle.std.proofs.Common.{◌≡◌, ◌≢◌, ◌<◌, ◌≤◌, ◌+◌, ◌-◌, ◌++◌, ◌⊎◌, inl, inr, ℕ, zero, suc, Bool, true, false, List, [], ◌∷◌, length, None, Some, refl, sym, ◌∙◌, ap, subst, arith, length-append, get_or, slice_get, IfSome, IsNone}
+use Rattle.std.proofs.Common.{◌≡◌, ◌≢◌, ◌<◌, ◌≤◌, ◌+◌, ◌-◌, ◌++◌, ◌⊎◌, inl, inr, ℕ, zero, suc, false, List, [], ◌∷◌, length, None, Some, refl, sym, ◌∙◌, ap, subst, arith, length-append, get_or, slice_get, IfSome, IsNone}
 use Rattle.std.proofs.lemmas.List.{get_or_push}
 use Rattle.std.proofs.lemmas.Option.{slice_get-get_or}
 use Rattle.std.specs.Bool.{⊤}
@@ -15,13 +15,12 @@ use Rattle.a68_strand.specs.declared.ask.Mode.{Mode}
 use Rattle.a68_strand.specs.declared.ask.Mode.TheVariants.{Idle, Asking, Failed}
 use Rattle.a68_values.specs.declared.act.Act.{Act}
 use Rattle.a68_values.specs.declared.act.Entry.{Entry}
-use Rattle.a68_values.specs.declared.act.FaultKind.{FaultKind}
 use Rattle.a68_values.specs.declared.kept.End.{End}
 use Rattle.a68_values.specs.declared.kept.End.TheVariants as ends
 use Rattle.a68_values.specs.declared.kept.Kept.{Kept}
-use Rattle.a68_world.specs.Circle.{InTurn, EndedInTurn, IsNext}
+use Rattle.a68_world.specs.Circle.{InTurn, EndedInTurn}
 use Rattle.a68_world.specs.Run.{Run, EndsWithoutTurn, Begins}
-use Rattle.a68_world.specs.Turns.{Acts, EndsAt, EndsHere, HadEnded, IsAble, noted, last_strand, Finishes}
+use Rattle.a68_world.specs.Turns.{Acts, EndsAt, EndsHere, HadEnded, IsAble, last_strand, Finishes}
 
 -- ---- a journal with one entry more
 

@@ -1,4 +1,3 @@
-use Rattle.std.proofs.Common.{◌≡◌, IfErr}
 use Rattle.a68_top.proofs.Refusing.{overlong}
 use Rattle.a68_top.proofs.compile.compile.Goals as goal
 

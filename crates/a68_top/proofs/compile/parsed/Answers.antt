@@ -1,4 +1,4 @@
-use Rattle.std.proofs.Common.{◌≡◌, refl, IfErr}
+use Rattle.std.proofs.Common.{refl}
 use Rattle.a68_top.proofs.Refusing.{unparsed}
 use Rattle.a68_top.proofs.compile.parsed.Goals as goal
 

@@ -1,4 +1,3 @@
-use Rattle.std.proofs.Common.{◌≡◌, IfErr}
 use Rattle.a68_top.proofs.Refusing.{meaningless}
 use Rattle.a68_top.proofs.compile.program_of_text.Goals as goal
 

@@ -1,4 +1,3 @@
-use Rattle.std.proofs.Common.{◌≡◌, IfErr}
 use Rattle.a68_top.proofs.Refusing.{unsorted}
 use Rattle.a68_top.proofs.compile.tree_of.Goals as goal
 

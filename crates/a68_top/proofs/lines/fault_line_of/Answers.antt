@@ -1,7 +1,7 @@
-use Rattle.std.proofs.Common.{◌≡◌, ◌∙◌, ap, ◌++◌, ◌∷◌, List, [], ℕ, Vec}
+use Rattle.std.proofs.Common.{◌∙◌, ap, ◌++◌, ◌∷◌, List, [], ℕ}
 use Rattle.std.specs.Fmt.{decimal}
 use Rattle.std.specs.Prelude.{codes}
-use Rattle.a68_top.specs.Lines.{fault_line, fault_name}
+use Rattle.a68_top.specs.Lines.{fault_name}
 use Rattle.a68_top.proofs.Lined.{fault_bytes}
 use Rattle.a68_top.proofs.lines.fault_line_of.Goals as goal
 

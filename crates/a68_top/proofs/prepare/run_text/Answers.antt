@@ -1,6 +1,6 @@
-use Rattle.std.proofs.Common.{◌≡◌, subst, IfOk}
+use Rattle.std.proofs.Common.{subst}
 use Rattle.a68_elab.specs.Made.{program_of}
-use Rattle.a68_top.specs.Answer.{IsRunOf, refused, ran, IsRefusal, HasRun}
+use Rattle.a68_top.specs.Answer.{refused, ran}
 use Rattle.a68_check.specs.Annotates.{StopsBy}
 use Rattle.a68_top.specs.Compiles.{RefusedAs}
 use Rattle.a68_top.proofs.Refusing.{if_ok}

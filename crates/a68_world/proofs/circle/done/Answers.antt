@@ -1,5 +1,3 @@
-use Rattle.std.proofs.Common.{◌≡◌}
-use Rattle.a68_strand.specs.Cyclic.{Cyclic}
 use Rattle.a68_world.proofs.Circling.{cyclic}
 use Rattle.a68_world.proofs.circle.done.Goals as goal
 

@@ -1,6 +1,5 @@
-use Rattle.std.proofs.Common.{◌≡◌, sym, ◌∙◌, subst, None, ℕ, IfSome}
+use Rattle.std.proofs.Common.{sym, subst, None, IfSome}
 use Rattle.a68_strand.specs.Cyclic.{IsFirstBehind, IsTurnOf, last_of}
-use Rattle.a68_world.specs.Circle.{InTurn}
 use Rattle.a68_world.specs.Turns.{IsAble}
 use Rattle.a68_world.proofs.Circling.{in_turn, next_turn}
 use Rattle.a68_world.proofs.circle.step.Goals as goal
