@@ -10,7 +10,7 @@ use Rattle.a68_check.proofs.annotation.annotate_shaped.Goals as goal
 pub returns-in-Err-clause-refused : goal.returns-in-Err-clause-refused
 returns-in-Err-clause-refused c =
     subst (λ s. StopsBy (λ refusal. Breaks c.args.tree refusal) s) (sym c.broken.ensures)
-    (other refl (λ runs. c.in-Err.ensures.other (subst (λ g. IsProgram c.args.tree g) (sym (c.deref.ensures.value ∙ c.in_ok-asked.ensures)) runs)))
+    (other c.in-Err.id refl refl c.in-Err.ensures.there (λ runs. c.in-Err.ensures.other (subst (λ g. IsProgram c.args.tree g) (sym (c.deref.ensures.value ∙ c.in_ok-asked.ensures)) runs)))
 
 -- src/annotation.rt:38:20
 pub returns-in-Err-2-clause-refused : goal.returns-in-Err-2-clause-refused
