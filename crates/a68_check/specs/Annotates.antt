@@ -31,11 +31,12 @@ abbrev pub place_at : Built → (id : ℕ) → ℕ
 place_at tree id = option_map_or (λ (n : Node). n.span.from) (slice_get tree.nodes id) 0
 
 -- the rule that a tree of shaped formulas breaks: it has a form that does not run yet, it defines a tag twice, or it
--- uses one that it does not define
+-- defines none twice and uses one that it does not define
 pub data Breaks (tree : Built) (refusal : Refusal) : Type 0 where
   other : (id : ℕ) → (refusal.rule ≡ X0) → (refusal.place ≡ place_at tree id) → id < length tree.nodes → (Runs tree → ⊥) → Breaks tree refusal
   repeats : (n : ℕ) → (refusal.rule ≡ N3) → (refusal.place ≡ place_at tree (in_text tree n)) → Runs tree → FirstRepeat tree n → Breaks tree refusal
-  undefined : (n : ℕ) → (refusal.rule ≡ N1) → (refusal.place ≡ place_at tree (in_text tree n)) → Runs tree → FirstUndefined tree n → Breaks tree refusal
+  undefined : (n : ℕ) → (refusal.rule ≡ N1) → (refusal.place ≡ place_at tree (in_text tree n)) → Runs tree → ((k : ℕ) → k < length tree.nodes → Repeats tree k → ⊥)
+      → FirstUndefined tree n → Breaks tree refusal
 
 -- the rule that a flat tree breaks
 pub data Refuses (flat : Built) (refusal : Refusal) : Type 0 where

@@ -22,7 +22,7 @@ returns-in-Err-2-clause-refused c =
 pub returns-in-Some-clause-refused : goal.returns-in-Some-clause-refused
 returns-in-Some-clause-refused c =
     subst (λ s. StopsBy (λ refusal. Breaks c.args.tree refusal) s) (sym c.broken-in-Some.ensures)
-    (undefined c.in-Some.n refl (ap (λ id. place_at c.args.tree id) c.in_text-in-Some.ensures.is) (subst (λ g. IsProgram c.args.tree g) (c.deref.ensures.value ∙ c.in_ok-asked.ensures) c.in-Ok.ensures.is) c.in-Some.ensures)
+    (undefined c.in-Some.n refl (ap (λ id. place_at c.args.tree id) c.in_text-in-Some.ensures.is) (subst (λ g. IsProgram c.args.tree g) (c.deref.ensures.value ∙ c.in_ok-asked.ensures) c.in-Ok.ensures.is) (when-ok _ _ c.in_ok-table.field-0 c.in-Ok-2.table c.in-Ok-2.is c.in_ok-table.ensures).1 c.in-Some.ensures)
 
 -- src/annotation.rt:45:5
 pub invariant_of-result : goal.invariant_of-result
