@@ -10,7 +10,7 @@ use Rattle.a68_check.specs.Definitions.{in_text, Repeats, FirstRepeat, Undefined
 use Rattle.a68_check.specs.Notes.{notes_of}
 use Rattle.a68_check.specs.Small.{Runs}
 use Rattle.a68_modes.specs.Nodes.{standard_shapes}
-use Rattle.a68_op_ident.specs.Shapes.{Shaped, HasUnread}
+use Rattle.a68_op_ident.specs.Shapes.{Shaped}
 use Rattle.a68_tree.specs.Trees.{Built}
 use Rattle.a68_tree.specs.declared.node.Node.{Node}
 
@@ -38,10 +38,11 @@ pub data Breaks (tree : Built) (refusal : Refusal) : Type 0 where
   undefined : (n : ℕ) → (refusal.rule ≡ N1) → (refusal.place ≡ place_at tree (in_text tree n)) → Runs tree → ((k : ℕ) → k < length tree.nodes → Repeats tree k → ⊥)
       → FirstUndefined tree n → Breaks tree refusal
 
--- the rule that a flat tree breaks
-pub data Refuses (flat : Built) (refusal : Refusal) : Type 0 where
-  unread : (refusal.rule ≡ X0) → HasUnread flat → Refuses flat refusal
-  breaks : (shaped : Built) → Shaped flat shaped → Breaks shaped refusal → Refuses flat refusal
+-- the rule that a flat tree breaks, once its formulas are shaped where they can be read
+pub record Refuses (flat : Built) (refusal : Refusal) : Type 0 where
+  pub shaped : Built
+  pub is_shaped : Shaped flat shaped
+  pub breaks : Breaks shaped refusal
 
 -- what a stop says
 abbrev pub StopsBy : (Refusal → Type 0) → Stop → Type 0

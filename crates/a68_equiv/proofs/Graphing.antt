@@ -1,18 +1,23 @@
 -- The graph of the modes is what it is to be.
 use Rattle.std.proofs.Common.{◌≡◌, ◌<◌, ◌*◌, ◌+◌, ◌++◌, ℕ, List, [], ◌∷◌, Bool, true, false, length, get_or, refl, sym, ap, ◌∙◌, arith, subst, below_more, length-append}
+use Rattle.std.specs.List.{All}
 use Rattle.std.proofs.lemmas.List.Elements.{All-from_get_or, Contains-get_or}
 use Rattle.std.proofs.Math.ListN.{get_or-append}
 use Rattle.std.proofs.Math.Seq.{get_or-append_seam}
 use Rattle.a68_modes.specs.declared.shape.Shape.{Shape}
 use Rattle.a68_modes.specs.Nodes.{shape_at, HoldsNodes}
 use Rattle.a68_equiv.specs.declared.mode.Mode.{Mode}
+use Rattle.a68_equiv.specs.declared.steps.Steps.TheVariants.{WithinUnions}
+use Rattle.a68_equiv.specs.Ways.{steps_of}
 use Rattle.a68_equiv.specs.Unfolding.{unfolded, is_union, SameConstructor}
-use Rattle.a68_equiv.specs.Graph.{number_of, mode_of, AreBehind, code_of, HasCode, Stands, row_at, IsRowOf, AreRows, IsGraphOf}
-use Rattle.a68_equiv.specs.Rounds.{ByFirst, IsWired}
+use Rattle.a68_refine.specs.Rows.{Stands, row_at}
+use Rattle.a68_equiv.specs.Graph.{number_of, mode_of, AreBehind, code_of, HasCode, IsRowOf, IsShapeRow, AreRows, IsGraphOf}
+use Rattle.a68_refine.specs.Rounds.{ByFirst, IsWired}
 use Rattle.a68_equiv.proofs.Grasp.{behind_below}
-use Rattle.a68_equiv.proofs.Numbering.{OneKey}
+use Rattle.a68_refine.proofs.Numbering.{OneKey}
+use Rattle.a68_equiv.proofs.Parting.{row_here}
 use Rattle.a68_equiv.proofs.Numbers.{mode_number, number_below, mode_below}
-use Rattle.a68_equiv.proofs.Codes.{from_code, to_code, union_made}
+use Rattle.a68_equiv.proofs.Coding.{from_code, to_code, union_made}
 
 pub one_code : (nodes : List Shape) → OneKey (HasCode nodes)
 one_code nodes m x y p q = p ∙ sym q
@@ -41,12 +46,35 @@ rows_more nodes rows i m row so e is kind = record {
     last : row_at (rows ++ row ∷ []) i ≡ row
     last = subst (λ (k : ℕ). row_at (rows ++ row ∷ []) k ≡ row) so.long (get_or-append_seam rows row [] (false, []))
 
+-- both rows of one node more
+pub both_more : (nodes : List Shape) (rows one two : List (Bool × List ℕ)) (id : ℕ) (start : List ℕ) (s : Shape) (kept taken : Bool × List ℕ) → id < length nodes → AreRows nodes (2 * id) rows
+    → start ≡ steps_of WithinUnions (shape_at nodes id) → s ≡ unfolded nodes id → IsShapeRow nodes start s false kept → IsShapeRow nodes start s true taken
+    → one ≡ rows ++ kept ∷ [] → two ≡ one ++ taken ∷ [] → AreRows nodes (2 * (id + 1)) two
+both_more nodes rows one two id start s kept taken less so from is k t first second =
+    let free : Mode = record { id = id; fixed = false } in
+    let bound : Mode = record { id = id; fixed = true } in
+    let a : IsShapeRow nodes (steps_of WithinUnions (shape_at nodes id)) (unfolded nodes id) false kept = rw (← from, ← is) k in
+    let b : IsShapeRow nodes (steps_of WithinUnions (shape_at nodes id)) (unfolded nodes id) true taken = rw (← from, ← is) t in
+    let here : free ≡ mode_of (2 * id) = sym (mode_number free) ∙ ap mode_of (let e : number_of free ≡ 2 * id = omega arith in e) in
+    let next : bound ≡ mode_of (2 * id + 1) = sym (mode_number bound) in
+    let once = rows_more nodes rows (2 * id) free kept so here (row_here nodes free kept less a) a.kind in
+    let twice = rows_more nodes (rows ++ kept ∷ []) (2 * id + 1) bound taken once next (row_here nodes bound taken less b) b.kind in
+    let count : 2 * id + 1 + 1 ≡ 2 * (id + 1) = omega arith in
+    rw (second, first) (subst (λ (n : ℕ). AreRows nodes n ((rows ++ kept ∷ []) ++ taken ∷ [])) count twice)
+
 abbrev code_at : List Shape → ℕ → List ℕ
 code_at nodes i = code_of (mode_of i).fixed (unfolded nodes (mode_of i).id)
 
-stands_at : (u : Bool) (items : List ℕ) (k : ℕ) → k < length items → (place : ℕ) × Stands u items place (get_or items k 0)
+pub stands_at : (u : Bool) (items : List ℕ) (k : ℕ) → k < length items → (place : ℕ) × Stands u items place (get_or items k 0)
 stands_at true items k h = (0, (refl, Contains-get_or items k 0 h))
 stands_at false items k h = (k, (h, refl))
+
+-- a row has numbers of modes that are there
+pub row_below : (nodes : List Shape) (a : Mode) (row : Bool × List ℕ) → IsRowOf nodes a row → All (λ w. w < 2 * length nodes) row.1
+row_below nodes a row is = All-from_get_or (λ w. w < 2 * length nodes) row.1 0 (λ k lt.
+    let s = stands_at row.0 row.1 k lt in
+    let p = is.only s.0 (get_or row.1 k 0) s.1 in
+    rw p.3 (number_below (length nodes) p.0 p.1))
 
 module _ (nodes : List Shape) (heads : List ℕ) (rows : List (Bool × List ℕ)) (by : ByFirst (2 * length nodes) (HasCode nodes) heads) (are : AreRows nodes (2 * length nodes) rows) where
   same_code : (i j : ℕ) → i < 2 * length nodes → j < 2 * length nodes → get_or heads i 0 ≡ get_or heads j 0 → code_at nodes i ≡ code_at nodes j
@@ -73,6 +101,7 @@ module _ (nodes : List Shape) (heads : List ℕ) (rows : List (Bool × List ℕ)
           (code_at nodes (number_of a), refl, to_code (mode_of (number_of a)).fixed (mode_of (number_of b)).fixed (unfolded nodes (mode_of (number_of a)).id) (unfolded nodes (mode_of (number_of b)).id) (back a b e)),
     );
     rows_are = λ a h. subst (λ (m : Mode). IsRowOf nodes m (row_at rows (number_of a))) (mode_number a) (are.rows_are (number_of a) (number_below (length nodes) a h));
+    kinds = λ a h. subst (λ (m : Mode). (row_at rows (number_of a)).0 ≡ is_union (unfolded nodes m.id)) (mode_number a) (are.kinds (number_of a) (number_below (length nodes) a h));
     unions = λ a b h g e. same_kind (number_of a) (number_of b) (number_below (length nodes) a h) (number_below (length nodes) b g) (back a b e);
   }
     where
@@ -83,10 +112,7 @@ module _ (nodes : List Shape) (heads : List ℕ) (rows : List (Bool × List ℕ)
   wired = record {
     long = by.long ∙ sym are.long;
     low = λ v h. (by.first v (within v h)).0;
-    closed = λ v h. rw are.long (All-from_get_or (λ w. w < 2 * length nodes) (row_at rows v).1 0 (λ k lt.
-        let s = stands_at (row_at rows v).0 (row_at rows v).1 k lt in
-        let p = (are.rows_are v (within v h)).only s.0 (get_or (row_at rows v).1 k 0) s.1 in
-        rw p.3 (number_below (length nodes) p.0 p.1)));
+    closed = λ v h. rw are.long (row_below nodes (mode_of v) (row_at rows v) (are.rows_are v (within v h)));
     kinds = λ v w h g e. same_kind v w (within v h) (within w g) (same_made v w (within v h) (within w g) e);
   }
     where

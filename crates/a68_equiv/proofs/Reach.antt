@@ -71,7 +71,7 @@ pub record Halfway (graph : List (List ℕ)) (root : ℕ) (seen : List Bool) (to
   pub noted : (x : ℕ) → Contains todo x → (x < length graph) × ((x ≡ root) ⊎ Way graph root x)
   pub closed : (a : ℕ) → (a ≡ root) ⊎ Marked seen a → Contains todo a ⊎ ((p : ℕ) → Contains (row graph a) p → Marked seen p)
 
-step_on : (graph : List (List ℕ)) (a b c : ℕ) → Way graph a b → Contains (row graph b) c → Way graph a c
+pub step_on : (graph : List (List ℕ)) (a b c : ℕ) → Way graph a b → Contains (row graph b) c → Way graph a c
 step_on graph a b c (last_step i) j = more_steps i (last_step j)
 step_on graph a b c (more_steps {b = d} i w) j = more_steps i (step_on graph d b c w j)
 

@@ -2,18 +2,18 @@
 use Rattle.std.proofs.Common.{◌≡◌, ◌<◌, ℕ, List, [], Bool, true, false, length, get_or, refl, sym, ap, ◌∙◌, arith, subst}
 use Rattle.std.specs.Prelude.{◌↔◌, map}
 use Rattle.std.specs.List.{All, Contains}
-use Rattle.std.proofs.lemmas.List.{get_or-map, length-map, get_or_default}
+use Rattle.std.proofs.lemmas.List.{get_or-map, length-map}
 use Rattle.std.proofs.lemmas.List.Elements.{All-contains, Contains-get_or}
 use Rattle.a68_modes.specs.declared.shape.Shape.{Shape}
 use Rattle.a68_modes.specs.declared.shape.Shape.TheVariants.{Union, Same}
-use Rattle.a68_modes.specs.Nodes.{shape_at, parts_of}
+use Rattle.a68_modes.specs.Nodes.{parts_of}
 use Rattle.a68_equiv.specs.declared.mode.Mode.{Mode}
 use Rattle.a68_equiv.specs.declared.steps.Steps.TheVariants.{WithinUnions}
 use Rattle.a68_equiv.specs.Ways.{steps_of, row, Way}
 use Rattle.a68_equiv.specs.Ways.Way.{last_step, more_steps}
 use Rattle.a68_equiv.specs.Unfolding.{unfolded, leads_within, passes_on, is_union, IsMember}
-use Rattle.a68_equiv.specs.Graph.{number_of, ArePlain, Stands, AreAt, IsRowOf}
-use Rattle.a68_equiv.proofs.Stepping.{row_of_map}
+use Rattle.a68_refine.specs.Rows.{Stands}
+use Rattle.a68_equiv.specs.Graph.{number_of, AreAt, IsRowOf}
 
 pub at_parts : (nodes : List Shape) (m : ℕ) (s : Shape) → is_union s ≡ false → AreAt nodes m s (parts_of s)
 at_parts nodes m (Union ms) e = absurd (cc)
@@ -29,7 +29,7 @@ module _ (f : ℕ → ℕ) where
       let l = length-map xs f in let lt = i.1 in
       (i.0, omega arith, get_or-map f xs i.0 x (f x) i.1 ∙ ap f i.2)
 
-  from_map : (xs : List ℕ) (y : ℕ) → Contains (map f xs) y → (x : ℕ) × Contains xs x × (y ≡ f x)
+  pub from_map : (xs : List ℕ) (y : ℕ) → Contains (map f xs) y → (x : ℕ) × Contains xs x × (y ≡ f x)
   from_map xs y i =
       let l = length-map xs f in let lt = i.1 in
       let lt' : i.0 < length xs = omega arith in
@@ -71,12 +71,12 @@ row_is nodes a items among fixed same flex at below = record {
     inside false place x h = rw (← h.1) (below place 0 h.0)
 
 -- a mode word or a union leads on, and nothing else does
-no_steps : (s : Shape) → leads_within s ≡ false → steps_of WithinUnions s ≡ []
+pub no_steps : (s : Shape) → leads_within s ≡ false → steps_of WithinUnions s ≡ []
 no_steps (Union ms) e = absurd (cc)
 no_steps (Same m) e = absurd (cc)
 no_steps _ e = refl
 
-none_from : (graph : List (List ℕ)) (a b : ℕ) → row graph a ≡ [] → Way graph a b → ⊥
+pub none_from : (graph : List (List ℕ)) (a b : ℕ) → row graph a ≡ [] → Way graph a b → ⊥
 none_from graph a b e (last_step i) = none_here b (subst (λ (xs : List ℕ). Contains xs b) e i)
   where
     none_here : (x : ℕ) → Contains [] x → ⊥
@@ -85,20 +85,3 @@ none_from graph a b e (more_steps {b = c} i w) = none_here c (subst (λ (xs : Li
   where
     none_here : (x : ℕ) → Contains [] x → ⊥
     none_here x i = let h = i.1 in omega arith
-
--- the members of a union without words and unions are its members
-pub plain_are : (nodes : List Shape) (m : ℕ) (ms : List ℕ) → m < length nodes → shape_at nodes m ≡ Union ms → All (λ k. k < length nodes) ms → ArePlain nodes ms → (x : ℕ) → Contains ms x ↔ IsMember nodes m x
-plain_are nodes m ms h is below plain x = (λ i. record { way = last_step (rw here i); last = leaf x i }, λ member. go x member.way)
-  where
-    here : row (map (steps_of WithinUnions) nodes) m ≡ ms
-    here = row_of_map (steps_of WithinUnions) nodes m h ∙ ap (steps_of WithinUnions) is
-
-    leaf : (y : ℕ) → Contains ms y → leads_within (shape_at nodes y) ≡ false
-    leaf y i = subst (λ (k : ℕ). leads_within (shape_at nodes k) ≡ false) (get_or_default ms i.0 0 y i.1 ∙ i.2) (plain i.0 i.1)
-
-    go : (y : ℕ) → Way (map (steps_of WithinUnions) nodes) m y → Contains ms y
-    go y (last_step i) = rw here at i
-    go y (more_steps {b = c} i w) =
-        let j = rw here at i in
-        let lt = All-contains (λ k. k < length nodes) ms c below j in
-        absurd (none_from (map (steps_of WithinUnions) nodes) c y (row_of_map (steps_of WithinUnions) nodes c lt ∙ no_steps (shape_at nodes c) (leaf c j)) w)

@@ -1,11 +1,13 @@
 -- The graph in which modes are compared: a number for each mode with and without its FLEX.
 use Rattle.std.specs.Prelude.{◌≡◌, ◌<◌, ◌≤◌, ◌+◌, ◌*◌, ◌/◌, ◌%◌, nat_eq, ◌↔◌, ℕ, List, [], ◌∷◌, length, map, slice_index, slice_index_or, Bool, true, false}
-use Rattle.std.specs.List.{Contains}
+use Rattle.std.specs.List.{All, Contains}
 use Rattle.a68_modes.specs.declared.shape.Shape.{Shape}
 use Rattle.a68_modes.specs.declared.shape.Shape.TheVariants.{Void, Int, Bool as bool_shape, Char, Bits, Sema, Layout, Ref, Rows, Struct, Union, Proc, Same, Blank}
-use Rattle.a68_modes.specs.Nodes.{shape_at}
+use Rattle.a68_modes.specs.Nodes.{shape_at, parts_of}
 use Rattle.a68_equiv.specs.declared.mode.Mode.{Mode}
-use Rattle.a68_equiv.specs.Unfolding.{behind, unfolded, leads_within, flex_left, SameConstructor, is_union, IsAt, IsPart}
+use Rattle.a68_refine.specs.Rows.{row_at, Stands}
+use Rattle.a68_equiv.specs.Spread.{IsSpread}
+use Rattle.a68_equiv.specs.Unfolding.{behind, unfolded, leads_within, flex_left, passes_on, SameConstructor, is_union, IsAt, IsPart}
 
 abbrev pub bit : Bool → ℕ
 bit true = 1
@@ -22,6 +24,7 @@ mode_of i = record { id = i / 2; fixed = nat_eq (i % 2) 1 }
 pub record AreBehind (nodes : List Shape) (heads : List ℕ) : Type 0 where
   pub long : length heads ≡ length nodes
   pub each : (m : ℕ) → m < length nodes → slice_index heads m ≡ behind nodes (length nodes) m
+  pub there : (m : ℕ) → m < length nodes → slice_index heads m < length nodes
 
 -- a constructor as a list of numbers
 abbrev pub code_of : Bool → Shape → List ℕ
@@ -43,17 +46,6 @@ code_of fixed Blank = 13 ∷ []
 -- the code of the constructor of a mode
 abbrev pub HasCode : List Shape → ℕ → List ℕ → Type 0
 HasCode nodes i code = code ≡ code_of (mode_of i).fixed (unfolded nodes (mode_of i).id)
-
--- what stands in a row: all at one place, or each at its own
-abbrev pub Stands : Bool → List ℕ → ℕ → ℕ → Type 0
-Stands true items place w = (place ≡ 0) × Contains items w
-Stands false items place w = (place < length items) × (slice_index items place ≡ w)
-
-abbrev pub row_at : List (Bool × List ℕ) → ℕ → Bool × List ℕ
-row_at rows v = slice_index_or rows v (false, [])
-
-abbrev pub StandsIn : List (Bool × List ℕ) → ℕ → ℕ → ℕ → Type 0
-StandsIn rows v place w = Stands (row_at rows v).0 (row_at rows v).1 place w
 
 -- none of these modes is a mode word or a union
 abbrev pub ArePlain : List Shape → List ℕ → Type 0
@@ -81,4 +73,19 @@ pub record IsGraphOf (nodes : List Shape) (heads : List ℕ) (rows : List (Bool 
   pub low : (v : ℕ) → v < length heads → slice_index heads v ≤ v
   pub heads_tell : (a b : Mode) → a.id < length nodes → b.id < length nodes → (slice_index heads (number_of a) ≡ slice_index heads (number_of b)) ↔ SameConstructor nodes a b
   pub rows_are : (a : Mode) → a.id < length nodes → IsRowOf nodes a (row_at rows (number_of a))
+  pub kinds : (a : Mode) → a.id < length nodes → (row_at rows (number_of a)).0 ≡ is_union (unfolded nodes a.id)
   pub unions : (a b : Mode) → a.id < length nodes → b.id < length nodes → SameConstructor nodes a b → (row_at rows (number_of a)).0 ≡ (row_at rows (number_of b)).0
+
+-- these stand in a node of this shape, which is behind all mode words; start are the modes to which the node leads by
+-- mode words and unions
+abbrev pub ArePartsOf : List Shape → List ℕ → Shape → List ℕ → Type 0
+ArePartsOf nodes start (Union members) items = (x : ℕ) → Contains items x ↔ IsSpread nodes start x
+ArePartsOf nodes start shape items = items ≡ parts_of shape
+
+-- the row of such a node
+pub record IsShapeRow (nodes : List Shape) (start : List ℕ) (shape : Shape) (fixed : Bool) (row : Bool × List ℕ) : Type 0 where
+  pub kind : row.0 ≡ is_union shape
+  pub items : List ℕ
+  pub parts : ArePartsOf nodes start shape items
+  pub below : All (λ m. m < length nodes) items
+  pub numbers : row.1 ≡ map (λ m. number_of (record { id = m; fixed = passes_on fixed shape })) items

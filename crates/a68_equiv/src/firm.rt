@@ -9,8 +9,9 @@ ghost use Rattle.a68_equiv.specs.Ways.{AreWellFormed};
 
 use crate::Mode;
 use crate::classes::Classes;
-use crate::graph::{behind, is_union, members};
-use crate::steps::{Steps, graph};
+use crate::graph::behind;
+use crate::spread::{is_union, spread};
+use crate::steps::{Steps, row};
 use a68_base::NoMemory;
 use a68_modes::{Members, ModeId, Modes, Shape};
 use std::alloc::Global;
@@ -25,7 +26,7 @@ pub fn related(
     b: ModeId,
 ) -> Result<bool, NoMemory>
     requires formed { AreWellFormed modes.now }
-    requires exact { AreExact modes.now classes.now }
+    requires exact { AreExact modes.now classes.now.of }
     requires a_there { a < length modes.now }
     requires b_there { b < length modes.now }
     ensures { IfOk result (λ are. IsTrue are ↔ AreRelated modes.now a b) }
@@ -43,8 +44,8 @@ fn among(alloc: Global, modes: &Modes, mode: ModeId) -> Result<Members, NoMemory
     ensures below { IfOk result (λ among. All (λ m. m < length modes.now) among) }
 {
     if is_union(modes.shape(behind(modes, mode))) {
-        let unions = graph(alloc, modes, Steps::WithinUnions)?;
-        let among = members(alloc, modes, &unions, mode)?;
+        let start = row(alloc, Steps::WithinUnions, modes.shape(mode))?;
+        let among = spread(alloc, modes, &start.items)?;
         return Ok(among);
     }
     let among = Members::from_slice(alloc, &[mode])?;
@@ -54,7 +55,7 @@ fn among(alloc: Global, modes: &Modes, mode: ModeId) -> Result<Members, NoMemory
 /// Is one of these modes linked with one of those?
 fn any_linked(modes: &Modes, classes: &Classes, ones: &[ModeId], others: &[ModeId]) -> bool
     requires formed { AreWellFormed modes.now }
-    requires exact { AreExact modes.now classes.now }
+    requires exact { AreExact modes.now classes.now.of }
     requires ones { All (λ m. m < length modes.now) ones.now }
     requires others { All (λ m. m < length modes.now) others.now }
     ensures { IsTrue result ↔ ((x : ℕ) × (y : ℕ) × Contains ones.now x × Contains others.now y × AreLinked modes.now x y) }
@@ -70,7 +71,7 @@ fn any_linked(modes: &Modes, classes: &Classes, ones: &[ModeId], others: &[ModeI
 /// Is this mode linked with one of those?
 fn one_linked(modes: &Modes, classes: &Classes, one: ModeId, others: &[ModeId]) -> bool
     requires formed { AreWellFormed modes.now }
-    requires exact { AreExact modes.now classes.now }
+    requires exact { AreExact modes.now classes.now.of }
     requires one { one < length modes.now }
     requires others { All (λ m. m < length modes.now) others.now }
     ensures { IsTrue result ↔ ((y : ℕ) × Contains others.now y × AreLinked modes.now one y) }
@@ -89,7 +90,7 @@ fn one_linked(modes: &Modes, classes: &Classes, one: ModeId, others: &[ModeId]) 
 /// Does the one mode lead meekly to the other?
 fn leads(modes: &Modes, classes: &Classes, from: ModeId, to: ModeId) -> bool
     requires formed { AreWellFormed modes.now }
-    requires exact { AreExact modes.now classes.now }
+    requires exact { AreExact modes.now classes.now.of }
     requires from { from < length modes.now }
     requires to { to < length modes.now }
     ensures { IsTrue result ↔ LeadsMeekly modes.now (as_it_stands from) (as_it_stands to) }

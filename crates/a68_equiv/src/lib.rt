@@ -2,12 +2,15 @@
 #![tactic(auto)]
 
 mod classes;
+mod codes;
 mod firm;
 mod formed;
 mod graph;
+mod interning;
+mod keys;
 mod mode;
-mod rounds;
-mod split;
+mod rows;
+mod spread;
 mod steps;
 #[cfg(test)]
 mod tests;
@@ -16,4 +19,5 @@ mod walk;
 pub use classes::{Classes, settle};
 pub use firm::related;
 pub use formed::{all_well_formed, ill_formed};
+pub use interning::intern;
 pub use mode::Mode;

@@ -18,7 +18,7 @@ pub enum Steps {
 }
 
 /// The modes to which such a step leads from a shape.
-fn row(alloc: Global, steps: Steps, shape: &Shape) -> Result<Members, NoMemory>
+pub fn row(alloc: Global, steps: Steps, shape: &Shape) -> Result<Members, NoMemory>
     ensures { IfOk result (λ row. row ≡ steps_of steps shape.now) }
 {
     let taken = match shape {

@@ -1,8 +1,10 @@
 //! Modes as programs declare them: which are equivalent, well formed and related.
 ghost use Rattle.std.specs.Prelude.{◌≡◌, ◌*◌, IfOk, IsTrue, length};
 ghost use Rattle.a68_modes.specs.Nodes.{IsWithin};
+ghost use Rattle.a68_equiv.specs.Classes.{AreKept};
+ghost use Rattle.a68_equiv.specs.Ways.{AreWellFormed};
 
-use super::{Classes, Mode, all_well_formed, ill_formed, related, settle};
+use super::{Classes, Mode, all_well_formed, ill_formed, intern, related, settle};
 use a68_base::NoMemory;
 use a68_modes::{Fields, Members, ModeId, Modes, Shape};
 use std::alloc::Global;
@@ -63,10 +65,17 @@ fn procedure(alloc: Global, params: &[ModeId], yields: ModeId) -> Result<Shape, 
 }
 
 fn are_same(rt: &impl Abort, modes: &Modes, classes: &Classes, a: Mode, b: Mode) -> bool
-    requires { length classes.now ≡ 2 * length modes.now }
+    requires { length classes.now.of ≡ 2 * length modes.now }
 {
     assert!(rt; a.id < modes.len() && b.id < modes.len());
     classes.are_same(a, b)
+}
+
+fn same_modes(rt: &impl Abort, modes: &Modes, classes: &Classes, a: ModeId, b: ModeId) -> bool
+    requires { length classes.now.of ≡ 2 * length modes.now }
+{
+    assert!(rt; a < modes.len() && b < modes.len());
+    classes.same(a, b)
 }
 
 // MODE A = STRUCT (INT v, REF .. STRUCT (INT v, REF A n) .. n), with so many structures.
@@ -124,6 +133,8 @@ fn equivalent_modes(rt: HostRuntime) -> Result<(), Fail> {
         let are = are_same(&rt, &modes, &classes, one, other);
         assert_eq!(rt; are, want, "{one:?} and {other:?}");
     }
+    assert!(rt; same_modes(&rt, &modes, &classes, a, b));
+    assert!(rt; !same_modes(&rt, &modes, &classes, a, 1));
     Ok(())
 }
 
@@ -150,7 +161,15 @@ fn formed_modes(rt: HostRuntime) -> Result<(), Fail> {
     let b = recursive(&rt, alloc, &mut modes, 1)?;
     let c = recursive(&rt, alloc, &mut modes, 2)?;
     let d = recursive(&rt, alloc, &mut modes, 3)?;
-    for (root, want) in [(a, None), (b, Some(0)), (c, Some(0)), (d, Some(0))] {
+    // MODE E = STRUCT (INT v, REF STRUCT (INT v, REF E n) n)
+    let e = list_mode(&rt, alloc, &mut modes, 2)?;
+    for (root, want) in [
+        (a, None),
+        (b, Some(0)),
+        (c, Some(0)),
+        (d, Some(0)),
+        (e, None),
+    ] {
         assert!(rt; root < modes.len());
         assert_eq!(rt; ill_formed(alloc, &modes, &[root])?, want);
     }
@@ -168,6 +187,8 @@ fn related_modes(rt: HostRuntime) -> Result<(), Fail> {
     let with_bool = add(&rt, alloc, &mut modes, union_of(alloc, &[1, 2])?)?;
     let with_ref = add(&rt, alloc, &mut modes, union_of(alloc, &[5, 9])?)?;
     let function = add(&rt, alloc, &mut modes, procedure(alloc, &[1], 1)?)?;
+    // UNION (SEMA, UNION (INT, BOOL))
+    let nested = add(&rt, alloc, &mut modes, union_of(alloc, &[5, with_bool])?)?;
     let formed = all_well_formed(alloc, &modes)?;
     assert!(rt; formed);
     let classes = settle(alloc, &modes)?;
@@ -183,11 +204,98 @@ fn related_modes(rt: HostRuntime) -> Result<(), Fail> {
         (with_ref, 2, false),
         (10, 7, true),
         (10, 12, false),
+        (nested, 9, true),
+        (nested, 3, false),
     ];
     for (one, other, want) in rows {
         assert!(rt; one < modes.len() && other < modes.len());
         let are = related(alloc, &modes, &classes, one, other)?;
         assert_eq!(rt; are, want, "{one} and {other}");
     }
+    Ok(())
+}
+
+// Shapes over the standard modes and those of the test below.
+fn shape_of(alloc: Global, number: u32) -> Result<Shape, NoMemory> {
+    let row_of = |dims: u32, flex: bool, of: u32| Shape::Rows { dims, flex, of };
+    match number {
+        0 => Ok(Shape::Ref(1)),
+        1 => Ok(row_of(1, true, 3)),
+        2 => union_of(alloc, &[6, 7, 4, 3, 2, 1]),
+        3 => structure(alloc, &[(V, 1), (N, 14)]),
+        4 => Ok(Shape::Ref(15)),
+        5 => Ok(Shape::Same(15)),
+        6 => procedure(alloc, &[17], 16),
+        7 => Ok(Shape::Ref(7)),
+        8 => Ok(row_of(2, true, 1)),
+        9 => Ok(row_of(2, false, 1)),
+        10 => union_of(alloc, &[1, 2]),
+        11 => union_of(alloc, &[2, 1, 2]),
+        12 => union_of(alloc, &[3, 21]),
+        13 => union_of(alloc, &[22, 4, 7, 6]),
+        14 => procedure(alloc, &[1], 1),
+        15 => structure(alloc, &[(N, 1)]),
+        _ => structure(alloc, &[(V, 1)]),
+    }
+}
+
+fn interned(
+    rt: &impl Abort,
+    alloc: Global,
+    modes: &mut Modes,
+    classes: &mut Classes,
+    shape: Shape,
+) -> Result<ModeId, Fail>
+    requires formed { AreWellFormed modes.old }
+    requires kept { AreKept modes.old classes.old }
+    ensures formed { AreWellFormed modes.new }
+    ensures kept { AreKept modes.new classes.new }
+{
+    let within = is_within(alloc, modes, &shape)?;
+    assert!(rt; within);
+    Ok(intern(alloc, modes, classes, shape)?)
+}
+
+#[test]
+fn interned_modes(rt: HostRuntime) -> Result<(), Fail> {
+    let alloc = rt.alloc();
+    let mut modes = Modes::new(alloc)?;
+    // 13 is A, by MODE A = STRUCT (INT v, REF A n); 14 REF A, 15 the structure; 16 P, by MODE P = PROC (P) P; 17 the PROC
+    list_mode(&rt, alloc, &mut modes, 1)?;
+    recursive(&rt, alloc, &mut modes, 0)?;
+    let formed = all_well_formed(alloc, &modes)?;
+    assert!(rt; formed);
+    let mut classes = settle(alloc, &modes)?;
+    let wants = [
+        9, 12, 8, 13, 14, 13, 16, 18, 19, 20, 21, 21, 22, 8, 23, 24, 25,
+    ];
+    'twice: for _ in 0..2 {
+        'rows: for (number, want) in wants.iter().enumerate() {
+            let shape = shape_of(alloc, number as u32)?;
+            let id = interned(&rt, alloc, &mut modes, &mut classes, shape)?;
+            assert_eq!(rt; id, *want, "the shape {number}");
+        }
+    }
+    assert_eq!(rt; modes.len(), 26);
+    let fixed = Mode::without_flex(19);
+    assert!(rt; are_same(&rt, &modes, &classes, fixed, Mode::as_it_stands(20)));
+    assert!(rt;
+        !are_same(
+            &rt,
+            &modes,
+            &classes,
+            Mode::as_it_stands(19),
+            Mode::as_it_stands(20)
+        )
+    );
+    assert!(rt;
+        !are_same(
+            &rt,
+            &modes,
+            &classes,
+            Mode::as_it_stands(24),
+            Mode::as_it_stands(25)
+        )
+    );
     Ok(())
 }

@@ -16,6 +16,10 @@ fn nodes(rt: HostRuntime) -> Result<(), Fail> {
     assert!(rt; matches!(copy.shape(14), Shape::Same(13)));
     let parts = copy.shape(8).parts(rt.alloc())?;
     assert_eq!(rt; parts.items.as_slice(), [1, 2, 3, 4, 7, 6].as_slice());
+    // REF INT is plain, STRING and VOID are not; VOID alone is VOID
+    for (id, plain, void) in [(9, true, false), (12, false, false), (0, false, true)] {
+        assert_eq!(rt; (copy.is_plain(id), copy.is_void(id)), (plain, void));
+    }
     assert!(rt; modes.add(Shape::Int) != Err(ModeStop::Full));
     Ok(())
 }

@@ -1,15 +1,14 @@
 -- Shaping from the first node to the last.
-use Rattle.std.proofs.Common.{◌≡◌, ℕ, ◌+◌, ◌-◌, ◌*◌, ◌<◌, ◌≤◌, inl, inr, Bool, true, false, List, length, refl, sym, ◌∙◌, ap, arith, Some, None, slice_get, nat_lt}
+use Rattle.std.proofs.Common.{◌≡◌, ℕ, ◌+◌, ◌-◌, ◌*◌, ◌<◌, ◌≤◌, ◌⊎◌, inl, inr, Bool, true, false, List, length, refl, sym, ◌∙◌, ap, arith, Some, None, slice_get, nat_lt}
 use Rattle.std.specs.Prelude.{if◌then◌else◌}
 use Rattle.std.specs.Option.{option_map, option_and_then}
 use Rattle.std.specs.declared.option.Option.{Option}
 use Rattle.std.proofs.lemmas.Option.{slice_get-get_or}
 use borrow.Author.Tests.{ltb-true}
 use Rattle.a68_op_ident.specs.Formulas.{operand_at, sign_of, is_sign, is_formula, Reads}
-use Rattle.a68_base.specs.declared.refusal.Stop.{Stop}
-use Rattle.a68_base.specs.declared.refusal.Stop.TheVariants.{Refused, NoMemory}
-use Rattle.a68_op_ident.specs.Readings.{IsUnread, IsPlaced, IsRefusal}
-use Rattle.a68_op_ident.specs.Shapes.{IsShaped, HasUnread, Going}
+use Rattle.a68_op_ident.specs.Readings.{IsUnread, IsPlaced}
+use Rattle.a68_op_ident.specs.Shapes.{IsShaped, IsLeft, Going}
+use Rattle.a68_op_ident.specs.Roots.{Same}
 use Rattle.a68_op_ident.specs.declared.formula.Operand.{Operand}
 use Rattle.a68_op_ident.specs.declared.formula.Operator.{Operator}
 use Rattle.a68_op_ident.proofs.Placing.{keeps}
@@ -29,6 +28,10 @@ start flat sound = record {
 wider : {flat : Built} {nodes : List Node} {a b id : ℕ} {parts : List ℕ} → a ≤ b → IsShaped flat nodes a id parts → IsShaped flat nodes b id parts
 wider p s = let w = s.within in record { operands = s.operands; signs = s.signs; reads = s.reads; within = omega arith; placed = s.placed }
 
+wider_or_left : {flat : Built} {nodes : List Node} {a b id : ℕ} {n : Node} → a ≤ b → IsShaped flat nodes a id n.parts ⊎ IsLeft flat nodes id n → IsShaped flat nodes b id n.parts ⊎ IsLeft flat nodes id n
+wider_or_left p (inl s) = inl (wider p s)
+wider_or_left p (inr s) = inr s
+
 truth : {b : Bool} → b ≡ true → b ≡ false → ⊥
 truth p q = let e : true ≡ false = sym p ∙ q in absurd (cc)
 
@@ -42,7 +45,7 @@ pass flat nodes id n going at other = record {
       | inr q ↦ (let same : k ≡ id = omega arith in going.rest k (omega arith) ∙ e)
     ];
     formulas = λ k m p e f. elim (less_or_not k id) [
-      | inl q ↦ wider (omega arith) (going.shaped.formulas k m q e f)
+      | inl q ↦ wider_or_left (omega arith) (going.shaped.formulas k m q e f)
       | inr q ↦ (let same : k ≡ id = omega arith in
           let there : Some m ≡ Some n = sym e ∙ sym (going.rest k (omega arith)) ∙ ap (λ x. slice_get nodes x) same ∙ at in
           let eq : m ≡ n = cc in
@@ -87,14 +90,27 @@ reads_back : (nodes : List Node) (flat : Built) (id : ℕ) (parts : List ℕ) (o
 reads_back nodes flat id parts os ss same reads = reads_same flat.nodes (record { nodes = nodes; spellings = flat.spellings }) id parts os ss (λ k p. sym (same k p)) reads
 
 -- a formula that cannot be read
-pub unread : (flat : Built) (nodes : List Node) (id : ℕ) (n : Node) → Going flat nodes id → slice_get nodes id ≡ Some n → is_formula n.kind ≡ true
-    → IsUnread (record { nodes = nodes; spellings = flat.spellings }) id → HasUnread flat
-unread flat nodes id n going at is none = record {
-  formula = id;
-  node = n;
-  there = sym (going.rest id (omega arith)) ∙ at;
-  kind = is;
-  unread = λ m os ss e reads. none m os ss (going.rest id (omega arith) ∙ e) (reads_back nodes flat id m.parts os ss going.rest reads);
+pub left : (flat : Built) (nodes : List Node) (id : ℕ) (n : Node) → Going flat nodes id → slice_get nodes id ≡ Some n
+    → IsUnread (record { nodes = nodes; spellings = flat.spellings }) id → Going flat nodes (id + 1)
+left flat nodes id n going at none = record {
+  shaped = record {
+    long = going.shaped.long;
+    kept = λ k m p e f s. elim (less_or_not k id) [
+      | inl q ↦ going.shaped.kept k m q e f s
+      | inr q ↦ (let same : k ≡ id = omega arith in going.rest k (omega arith) ∙ e)
+    ];
+    formulas = λ k m p e f. elim (less_or_not k id) [
+      | inl q ↦ wider_or_left (omega arith) (going.shaped.formulas k m q e f)
+      | inr q ↦ (let same : k ≡ id = omega arith in
+          let found : IsLeft flat nodes k m = record {
+            unread = rw same (λ x os ss e reads. none x os ss (going.rest id (omega arith) ∙ e) (reads_back nodes flat id x.parts os ss going.rest reads));
+            same = going.rest k (omega arith) ∙ e;
+          } in
+          inr found)
+    ];
+  };
+  rest = λ k p. going.rest k (omega arith);
+  sound = going.sound;
 }
 
 no_sign : (spellings : List (List ℕ)) (n : Node) (m : Option Node) (s : Operator) → is_sign n.kind ≡ false → m ≡ Some n → option_and_then (sign_of spellings) m ≡ Some s → ⊥
@@ -111,6 +127,14 @@ kind_no_sign _ e = refl
 
 formula_no_sign : (n : Node) → is_formula n.kind ≡ true → is_sign n.kind ≡ false
 formula_no_sign n e = kind_no_sign n.kind e
+
+-- what stands before a formula that is shaped stays
+grown : {flat : Built} {nodes new : List Node} {id next bound k : ℕ} {n : Node} → Same nodes new id next → k < id → id ≤ bound
+    → IsShaped flat nodes id k n.parts ⊎ IsLeft flat nodes k n → IsShaped flat new bound k n.parts ⊎ IsLeft flat new k n
+grown same less room (inl old) =
+    let within = old.within in
+    inl (record { operands = old.operands; signs = old.signs; reads = old.reads; within = omega arith; placed = keeps old.placed (λ x u v. same.before x (omega arith)) })
+grown {k = k} same less room (inr old) = inr (record { unread = old.unread; same = same.before k less ∙ old.same })
 
 -- a formula that is shaped
 pub shaped_formula : (flat : Built) (nodes new : List Node) (id count : ℕ) (n : Node) → Going flat nodes id → slice_get nodes id ≡ Some n → is_formula n.kind ≡ true
@@ -138,14 +162,12 @@ shaped_formula flat nodes new id count n going at is placed =
           ]
         ];
         formulas = λ k m p e f. elim (less_or_not k id) [
-          | inl q ↦ (let old = going.shaped.formulas k m q e f in
-              let within = old.within in
-              record { operands = old.operands; signs = old.signs; reads = old.reads; within = omega arith; placed = keeps old.placed (λ x u v. same.before x (omega arith)) })
+          | inl q ↦ grown same q (omega arith) (going.shaped.formulas k m q e f)
           | inr q ↦ elim (eq_or_more id k q) [
             | inl z ↦ (let two : Some placed.node ≡ Some m = sym here ∙ ap (λ x. slice_get flat.nodes x) z ∙ e in
                 let eq : placed.node ≡ m = cc in
                 let found : IsShaped flat new (id + count + 1) id placed.node.parts = record { operands = placed.operands; signs = placed.signs; reads = reads; within = omega arith; placed = rw long placed.placed } in
-                rw (← z, ← eq) found)
+                inl (rw (← z, ← eq) found))
             | inr z ↦ (let j : ℕ = k - (id + 1) in
                 let at_k : id + 1 + j ≡ k = omega arith in
                 let sign = slice_get-get_or placed.signs j (record { name = 0; priority = 0 }) (omega arith) in
@@ -157,8 +179,3 @@ shaped_formula flat nodes new id count n going at is placed =
       rest = λ k p. same.behind k (omega arith) ∙ going.rest k (omega arith);
       sound = placed.sound;
     }
-
--- a refusal that comes only where one thing holds comes only where what follows from it holds
-pub refused_as : {P Q : Type 0} (s : Stop) → (P → Q) → IsRefusal s P → IsRefusal s Q
-refused_as (Refused r) f p = (p.0, f p.1)
-refused_as NoMemory f p = tt

@@ -1,9 +1,5 @@
 -- Formulas that are read, and those that are not such.
-use Rattle.std.specs.Prelude.{◌≡◌, ◌+◌, ℕ, List, length, None, Some, Ok, Err, slice_get}
-use Rattle.std.specs.declared.result.Result.{Result}
-use Rattle.a68_base.specs.declared.refusal.Rule.TheVariants.{X0}
-use Rattle.a68_base.specs.declared.refusal.Stop.{Stop}
-use Rattle.a68_base.specs.declared.refusal.Stop.TheVariants.{Refused, NoMemory}
+use Rattle.std.specs.Prelude.{◌≡◌, ◌+◌, ℕ, List, length, None, Some, slice_get}
 use Rattle.std.specs.declared.option.Option.{Option}
 use Rattle.a68_op_ident.specs.Formulas.{Reads, Placed}
 use Rattle.a68_op_ident.specs.Roots.{Same}
@@ -32,12 +28,3 @@ pub record IsPlaced (flat : Built) (shaped : List Node) (formula count : ℕ) : 
   pub placed : Placed operands signs shaped 0 count formula (formula + count) formula
   pub same : Same flat.nodes shaped formula (formula + count)
   pub sound : IsSound shaped (length flat.spellings)
-
--- a form that does not run yet is refused, and only where this holds
-abbrev pub IsRefusal : Stop → Type 0 → Type 0
-IsRefusal NoMemory P = Unit {0}
-IsRefusal (Refused refusal) P = (refusal.rule ≡ X0) × P
-
-abbrev pub OnRefused : {T : Type 0} → Result T Stop → Type 0 → Type 0
-OnRefused (Ok x) P = Unit {0}
-OnRefused (Err stop) P = IsRefusal stop P

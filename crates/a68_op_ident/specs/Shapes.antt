@@ -1,5 +1,5 @@
 -- A tree whose formulas are shaped by the priorities of their signs.
-use Rattle.std.specs.Prelude.{◌≡◌, ◌<◌, ◌≤◌, ◌+◌, ℕ, true, false, List, length, Some, slice_get}
+use Rattle.std.specs.Prelude.{◌≡◌, ◌<◌, ◌≤◌, ◌+◌, ◌⊎◌, ℕ, true, false, List, length, Some, slice_get}
 use Rattle.a68_op_ident.specs.Formulas.{is_sign, is_formula, Reads, Placed}
 use Rattle.a68_op_ident.specs.Readings.{IsUnread}
 use Rattle.a68_op_ident.specs.declared.formula.Operand.{Operand}
@@ -16,11 +16,16 @@ pub record IsShaped (flat : Built) (shaped : List Node) (bound formula : ℕ) (p
   pub within : formula + length signs < bound
   pub placed : Placed operands signs shaped 0 (length signs) formula (formula + length signs) formula
 
--- As the flat tree, but that the formulas among its first nodes are shaped.
+-- A formula that stays as it was, since its parts are no operands with signs of the standard environ between them.
+pub record IsLeft (flat : Built) (shaped : List Node) (formula : ℕ) (node : Node) : Type 0 where
+  pub unread : IsUnread flat formula
+  pub same : slice_get shaped formula ≡ Some node
+
+-- As the flat tree, but that the formulas among its first nodes are shaped where they can be read.
 pub record ShapedTo (flat : Built) (shaped : List Node) (bound : ℕ) : Type 0 where
   pub long : length shaped ≡ length flat.nodes
   pub kept : (id : ℕ) (n : Node) → id < bound → slice_get flat.nodes id ≡ Some n → is_formula n.kind ≡ false → is_sign n.kind ≡ false → slice_get shaped id ≡ Some n
-  pub formulas : (id : ℕ) (n : Node) → id < bound → slice_get flat.nodes id ≡ Some n → is_formula n.kind ≡ true → IsShaped flat shaped bound id n.parts
+  pub formulas : (id : ℕ) (n : Node) → id < bound → slice_get flat.nodes id ≡ Some n → is_formula n.kind ≡ true → IsShaped flat shaped bound id n.parts ⊎ IsLeft flat shaped id n
 
 -- a tree whose first nodes are shaped, and whose others are as they were
 pub record Going (flat : Built) (nodes : List Node) (id : ℕ) : Type 0 where
@@ -28,16 +33,8 @@ pub record Going (flat : Built) (nodes : List Node) (id : ℕ) : Type 0 where
   pub rest : (k : ℕ) → id ≤ k → slice_get nodes k ≡ slice_get flat.nodes k
   pub sound : IsSound nodes (length flat.spellings)
 
--- As the flat tree, but that all its formulas are shaped.
+-- As the flat tree, but that its formulas are shaped where they can be read.
 pub record Shaped (flat shaped : Built) : Type 0 where
   pub nodes : ShapedTo flat shaped.nodes (length flat.nodes)
   pub spellings : shaped.spellings ≡ flat.spellings
   pub sound : IsSound shaped.nodes (length shaped.spellings)
-
--- a formula whose parts are no operands with signs of the standard environ between them
-pub record HasUnread (flat : Built) : Type 0 where
-  pub formula : ℕ
-  pub node : Node
-  pub there : slice_get flat.nodes formula ≡ Some node
-  pub kind : is_formula node.kind ≡ true
-  pub unread : IsUnread flat formula

@@ -2,7 +2,7 @@
 ghost use Rattle.std.specs.Prelude.{◌≡◌, []};
 
 use super::shape;
-use a68_base::{NoMemory, Rule, Span, Stop, Text};
+use a68_base::{NoMemory, Span, Text};
 use a68_tree::{Node, NodeKind, Parts, Tree};
 use std::alloc::Global;
 use std::string::String;
@@ -87,11 +87,9 @@ fn signs_over_signs(rt: HostRuntime) -> Result<(), Fail> {
 #[test]
 fn an_unknown_sign(rt: HostRuntime) -> Result<(), Fail> {
     let alloc = rt.alloc();
-    let tree = flat(alloc, b"+", b"%")?;
-    let Err(Stop::Refused(refusal)) = shape(alloc, tree) else {
-        return Err("no refusal".into());
-    };
-    assert_eq!(rt; refusal.rule, Rule::X0);
-    assert_eq!(rt; refusal.place, 0);
+    let tree = shape(alloc, flat(alloc, b"+", b"%")?)?;
+    let node = tree.node(0);
+    assert_eq!(rt; node.kind, NodeKind::Formula);
+    assert_eq!(rt; node.parts.items.as_slice(), [3, 1, 4, 2, 5].as_slice());
     Ok(())
 }

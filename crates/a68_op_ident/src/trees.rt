@@ -1,15 +1,15 @@
 //! Trees whose formulas are shaped.
-ghost use Rattle.std.specs.Prelude.{◌≡◌, ◌≤◌, ◌<◌, ◌+◌, ◌-◌, ◌*◌, ◌^◌, length, vec_len, IfOk, OnErr, Some, slice_get};
+ghost use Rattle.std.specs.Prelude.{◌≡◌, ◌≤◌, ◌<◌, ◌+◌, ◌-◌, ◌*◌, ◌^◌, length, vec_len, IfOk, IfSome, IfNone};
 ghost use Rattle.a68_op_ident.specs.Formulas as formulas;
-ghost use Rattle.a68_op_ident.specs.Readings.{IsReading, IsUnread, IsPlaced, OnRefused};
-ghost use Rattle.a68_op_ident.specs.Shapes.{Shaped, HasUnread, Going};
+ghost use Rattle.a68_op_ident.specs.Readings.{IsReading, IsUnread, IsPlaced};
+ghost use Rattle.a68_op_ident.specs.Shapes.{Shaped, Going};
 ghost use Rattle.a68_tree.specs.Trees.{Built, IsSound};
 ghost use Rattle.a68_op_ident.specs.Roots.{IsFitting, Same};
 
 use crate::place::place;
 use crate::reading::{operands, signs};
 use crate::{Operand, Operator};
-use a68_base::{NoMemory, Refusal, Rule, Stop, Text};
+use a68_base::{NoMemory, Text};
 use a68_tree::{Node, NodeId, NodeKind, Tree};
 use std::alloc::Global;
 
@@ -54,31 +54,22 @@ fn is_formula(kind: NodeKind) -> bool
     matches!(kind, NodeKind::Formula)
 }
 
-// The refusal of a formula that does not run yet.
-fn unread(formula: &Node) -> Refusal
-    ensures { result ≡ record { rule = Rule.X0; place = formula.now.span.from } }
-{
-    Refusal {
-        rule: Rule::X0,
-        place: formula.span.from,
-    }
-}
-
-// Shapes a formula, and gives the number of its signs.
+// Shapes a formula where it can be read, and gives the number of its signs.
 fn shape_formula(
     alloc: Global,
     nodes: &mut Vec<Node>,
     spellings: &[Text],
     formula: NodeId,
-) -> Result<u32, Stop>
+) -> Result<Option<u32>, NoMemory>
     requires there { formula < vec_len nodes.old }
     requires sound { IsSound nodes.old.items (length spellings.now) }
-    ensures ok { IfOk result (λ count. IsPlaced (record { nodes = nodes.old.items; spellings = spellings.now }) nodes.new.items formula count) }
-    ensures within { IfOk result (λ count. (formula + count < vec_len nodes.new) × (vec_len nodes.new ≡ vec_len nodes.old)) }
-    ensures refused { OnRefused result (IsUnread (record { nodes = nodes.old.items; spellings = spellings.now }) formula) }
+    ensures none { IfOk result (λ count. IfNone count (IsUnread (record { nodes = nodes.old.items; spellings = spellings.now }) formula × (nodes.new.items ≡ nodes.old.items))) }
+    ensures some { IfOk result (λ count. IfSome count (λ signs. IsPlaced (record { nodes = nodes.old.items; spellings = spellings.now }) nodes.new.items formula signs)) }
+    ensures within { IfOk result (λ count. IfSome count (λ signs. formula + signs < vec_len nodes.new)) }
+    ensures long { IfOk result (λ count. vec_len nodes.new ≡ vec_len nodes.old) }
 {
     let Some(parts) = read(alloc, nodes, spellings, formula)? else {
-        return Err(Stop::Refused(unread(&nodes[formula as usize])));
+        return Ok(None);
     };
     let count = parts.signs.len();
     place(
@@ -90,34 +81,34 @@ fn shape_formula(
         count,
         formula,
     )?;
-    Ok(count as u32)
+    Ok(Some(count as u32))
 }
 
-// Shapes the formula at a node, if one stands there, and gives the node with which to go on.
+// Shapes the formula at a node, if one stands there that can be read, and gives the node with which to go on.
 fn shape_at(
     alloc: Global,
     nodes: &mut Vec<Node>,
     spellings: &[Text],
     id: NodeId,
-) -> Result<NodeId, Stop>
+) -> Result<NodeId, NoMemory>
     requires there { id < vec_len nodes.old }
     requires sound { IsSound nodes.old.items (length spellings.now) }
     ensures ok { IfOk result (λ next. (flat : Built) → flat.spellings ≡ spellings.now → Going flat nodes.old.items id → Going flat nodes.new.items next) }
     ensures onward { IfOk result (λ next. (id < next) × (next ≤ vec_len nodes.new) × (vec_len nodes.new ≡ vec_len nodes.old)) }
-    ensures refused { OnRefused result ((flat : Built) → flat.spellings ≡ spellings.now → Going flat nodes.old.items id → HasUnread flat) }
 {
     if !is_formula(nodes[id as usize].kind) {
         return Ok(id + 1);
     }
-    let signs = shape_formula(alloc, nodes, spellings, id)?;
-    Ok(id + signs + 1)
+    match shape_formula(alloc, nodes, spellings, id)? {
+        None => Ok(id + 1),
+        Some(signs) => Ok(id + signs + 1),
+    }
 }
 
-/// The tree with its formulas shaped. It is refused where the parts of a formula are no operands with signs of the
-/// standard environ between them, since no other formulas run yet.
-pub fn shape(alloc: Global, tree: Tree) -> Result<Tree, Stop>
-    ensures ok { IfOk result (λ shaped. Shaped tree shaped) }
-    ensures refused { OnRefused result (HasUnread tree) }
+/// The tree with its formulas shaped. A formula whose parts are no operands with signs of the standard environ between
+/// them stays as it is.
+pub fn shape(alloc: Global, tree: Tree) -> Result<Tree, NoMemory>
+    ensures { IfOk result (λ shaped. Shaped tree shaped) }
 {
     let (mut nodes, spellings) = tree.apart();
     let mut id: u32 = 0;

@@ -1,15 +1,2 @@
-pub mod Same
-pub mod Signs
-pub mod Operands
-pub mod Flat
-pub mod Terms
-pub mod Backwards
-pub mod Formulas
-pub mod Lookahead
-pub mod Simple
-pub mod Statements
-pub mod Choices
-pub mod Variables
-pub mod Programs
-pub mod Turning
-pub mod Parsing
+pub mod Bounds
+pub mod Trees

@@ -1,25 +1,22 @@
 -- What the symbols of a text are answered with.
-use Rattle.std.specs.Prelude.{◌≡◌, ◌⊎◌, ℕ, List, slice_get, Some, Result, Ok, Err}
-use Rattle.std.specs.Option.{option_map}
-use Rattle.a68_base.specs.declared.refusal.Rule.TheVariants.{X0}
+use Rattle.std.specs.Prelude.{◌≡◌, ℕ, List, Option, Result, Ok, Err}
+use Rattle.a68_base.specs.declared.refusal.Rule.TheVariants.{S6}
 use Rattle.a68_base.specs.declared.refusal.Stop.{Stop}
 use Rattle.a68_base.specs.declared.refusal.Stop.TheVariants.{Refused, NoMemory}
-use Rattle.a68_symbols.specs.declared.symbol.Symbol.{Symbol}
 use Rattle.a68_symbols.specs.Names.{Named}
 use Rattle.a68_tree.specs.declared.node.Node.{Node}
-use Rattle.a68_tree.specs.Trees.{Built, IsSmallTree}
+use Rattle.a68_tree.specs.Derived.{IsDerived}
+use Rattle.a68_tree.specs.Trees.{Built}
+use Rattle.a68_turn.specs.Places.{IsPlace}
+use Rattle.a68_words.specs.declared.class.Class.{Class}
+use Rattle.a68_parse.specs.Texts.{text_of}
 
--- the first byte of a symbol, or the text's end
-abbrev pub IsPlace : List Symbol → ℕ → ℕ → Type 0
-IsPlace symbols end place = (place ≡ end) ⊎ ((i : ℕ) × (s : Symbol) × (slice_get symbols i ≡ Some s) × (place ≡ s.span.from))
+-- the nodes of a derivation of all the symbols, whose words have these classes
+abbrev pub IsTree : Named → List (Option Class) → List Node → Type 0
+IsTree found classes list = IsDerived found.symbols (text_of found classes) list
 
--- each name of a symbol has the spelling that it has among the symbols
-abbrev pub SpellsAlike : Named → List (List ℕ) → Type 0
-SpellsAlike found spellings = (i : ℕ) (s : Symbol) → slice_get found.symbols i ≡ Some s
-    → slice_get spellings s.name ≡ option_map (λ spelled. spelled.bytes) (slice_get found.spellings s.name)
-
--- the nodes of the one tree of the symbols; or the refusal X0, and there is none
-abbrev pub Parses : Named → ℕ → Result Built Stop → Type 0
-Parses found end (Ok tree) = IsSmallTree found tree.nodes × ((others : List Node) → IsSmallTree found others → others ≡ tree.nodes)
-Parses found end (Err (Refused refusal)) = (refusal.rule ≡ X0) × IsPlace found.symbols end refusal.place × ((list : List Node) → IsSmallTree found list → ⊥)
-Parses found end (Err NoMemory) = Unit {0}
+-- the nodes of the one tree of the symbols; or the refusal S6, and there is none
+abbrev pub Parses : Named → List (Option Class) → ℕ → Result Built Stop → Type 0
+Parses found classes end (Ok tree) = IsTree found classes tree.nodes × ((others : List Node) → IsTree found classes others → others ≡ tree.nodes)
+Parses found classes end (Err (Refused refusal)) = (refusal.rule ≡ S6) × IsPlace found.symbols end refusal.place × ((list : List Node) → IsTree found classes list → ⊥)
+Parses found classes end (Err NoMemory) = Unit {0}

@@ -1,11 +1,8 @@
-//! The parser: from the symbols of a text to its tree.
+//! The parser: from the symbols of a text, with the classes of its words, to its tree.
 #![tactic(auto)]
 
-mod draft;
-mod formula;
 mod program;
-mod statement;
-mod turn;
+mod text;
 
 pub use program::{parse, symbols_are_bounded};
 

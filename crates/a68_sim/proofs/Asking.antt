@@ -13,7 +13,7 @@ use Rattle.a68_elab.specs.Rows.{Then, goes, acts, meets}
 use Rattle.a68_strand.specs.Machine.{State, stack_of, exec, at_end, does_one, silently, told_by, place_at}
 use Rattle.a68_strand.specs.declared.ask.Mode.{Mode}
 use Rattle.a68_strand.specs.declared.ask.Mode.TheVariants.{Idle, Asking, Failed}
-use Rattle.a68_strand.specs.declared.stack.Item.{Item}
+use Rattle.a68_stack.specs.declared.stack.Item.{Item}
 use Rattle.a68_values.specs.declared.chain.Environ.{Environ}
 
 -- a strand that stands before an instruction

@@ -20,7 +20,7 @@ use Rattle.a68_sim.proofs.Relation.{count_terms, AllTodo, doing_of, posed, parts
 use Rattle.a68_strand.specs.Machine.{State, asks_for, told_by}
 use Rattle.a68_strand.specs.declared.ask.Mode.TheVariants.{Asking}
 use Rattle.a68_strand.specs.declared.ask.Waiting.TheVariants as waiting
-use Rattle.a68_strand.specs.declared.stack.Item.{Item}
+use Rattle.a68_stack.specs.declared.stack.Item.{Item}
 use Rattle.a68_values.specs.Content.{Content}
 use Rattle.a68_values.specs.declared.act.FaultKind.TheVariants as fault
 use Rattle.a68_values.specs.declared.chain.Environ.{Environ}

@@ -25,7 +25,7 @@ use Rattle.a68_sim.proofs.Relation.{push, OperationAt, Continues, Sim}
 use Rattle.a68_strand.specs.Machine.{State, exec, operates, follows, at_end, does_leave, leaves_at, asks_for, told_by}
 use Rattle.a68_strand.specs.declared.ask.Mode.TheVariants.{Asking}
 use Rattle.a68_strand.specs.declared.ask.Waiting.TheVariants as waiting
-use Rattle.a68_strand.specs.declared.stack.Item.{Item}
+use Rattle.a68_stack.specs.declared.stack.Item.{Item}
 use Rattle.a68_values.specs.Content.{Content}
 use Rattle.a68_values.specs.declared.chain.Environ.{Environ}
 

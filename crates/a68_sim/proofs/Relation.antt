@@ -16,9 +16,9 @@ use Rattle.a68_gen.specs.Stretches.{Has, Stands, StandAll, does_of, leave}
 use Rattle.a68_sim.proofs.Asking.{idle}
 use Rattle.a68_sim.proofs.Quiet.{outwards}
 use Rattle.a68_strand.specs.Machine.{State, follows}
-use Rattle.a68_strand.specs.Values.{pop_values}
-use Rattle.a68_strand.specs.declared.stack.Item.{Item}
-use Rattle.a68_strand.specs.declared.stack.Item.TheVariants as item
+use Rattle.a68_stack.specs.Values.{pop_values}
+use Rattle.a68_stack.specs.declared.stack.Item.{Item}
+use Rattle.a68_stack.specs.declared.stack.Item.TheVariants as item
 use Rattle.a68_values.specs.Content.{Content}
 use Rattle.a68_values.specs.declared.chain.Environ.{Environ}
 

@@ -23,7 +23,7 @@ use Rattle.a68_sim.proofs.Quiet.{Quiet, still, quiet_on, Follows, Progress, move
 use Rattle.a68_sim.proofs.Relation.{Sim}
 use Rattle.a68_sim.proofs.Soundness.{Sound, step_sound}
 use Rattle.a68_strand.specs.Machine.{State, Stack, at_end, does_one, silently, settle_in, steps, goes_on, goes_to, fails, told_by, place_at}
-use Rattle.a68_strand.specs.Values.{top_counter}
+use Rattle.a68_stack.specs.Values.{top_counter}
 use Rattle.a68_strand.specs.declared.ask.Mode.{Mode}
 use Rattle.a68_strand.specs.declared.ask.Mode.TheVariants.{Idle, Asking, Failed}
 use Rattle.a68_strand.specs.declared.ask.Waiting.{Waiting}

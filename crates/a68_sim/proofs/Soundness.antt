@@ -20,13 +20,13 @@ use Rattle.a68_code.specs.declared.does.Does.TheVariants as does
 use Rattle.a68_modes.specs.declared.shape.Shape.{Shape}
 use Rattle.a68_sim.proofs.Chains.{Hangs, act_hangs, frame_told}
 use Rattle.a68_strand.specs.Machine.{State, Stack, exec, does_one, follows, operates, fails, enters, leaves_frame, yields_to, branches, unless, with_counter, counts, steps, advances, forgets, goes_on, goes_to, told_by, leaves_at}
-use Rattle.a68_strand.specs.Values.{pop_values, top_counter, top_value}
+use Rattle.a68_stack.specs.Values.{pop_values, top_counter, top_value}
 use Rattle.a68_strand.specs.declared.ask.Mode.{Mode}
 use Rattle.a68_strand.specs.declared.ask.Mode.TheVariants.{Idle, Asking}
 use Rattle.a68_strand.specs.declared.ask.Waiting.{Waiting}
 use Rattle.a68_strand.specs.declared.ask.Waiting.TheVariants as waiting
-use Rattle.a68_strand.specs.declared.stack.Item.{Item}
-use Rattle.a68_strand.specs.declared.stack.Item.TheVariants as item
+use Rattle.a68_stack.specs.declared.stack.Item.{Item}
+use Rattle.a68_stack.specs.declared.stack.Item.TheVariants as item
 use Rattle.a68_values.specs.Content.{Content, scope_of}
 use Rattle.a68_values.specs.declared.act.Act.{Act}
 use Rattle.a68_values.specs.declared.act.FaultKind.{FaultKind}

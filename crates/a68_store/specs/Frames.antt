@@ -1,8 +1,11 @@
 -- The frames of the store as contracts see them.
-use Rattle.std.specs.Prelude.{◌≡◌, ◌<◌, ℕ, List, Some, map, slice_get, length}
+use Rattle.std.specs.Prelude.{◌≡◌, ◌<◌, ℕ, List, None, Some, map, slice_get, length}
 use Rattle.std.specs.Option.{option_and_then}
 use Rattle.std.specs.declared.option.Option.{Option}
-use Rattle.a68_values.specs.Content.{Content}
+use Rattle.a68_values.specs.Content.{Content, plain}
+use Rattle.a68_values.specs.declared.held.Held.{Held}
+use Rattle.a68_values.specs.declared.held.Held.TheVariants as held
+use Rattle.a68_values.specs.declared.plain.Plain.{Plain}
 use Rattle.a68_acts.specs.Store as store
 use Rattle.a68_acts.specs.Store.{Store}
 use Rattle.a68_store.specs.declared.frame.Frame.{Frame}
@@ -24,3 +27,13 @@ HasSlot in_store f slot = (frame : store.Frame) → slice_get in_store.frames f 
 -- the slot of a frame, where they are there
 abbrev pub slot_in : Store → (frame slot : ℕ) → Option (Option Content)
 slot_in in_store f slot = option_and_then (λ (frame : store.Frame). slice_get frame.slots slot) (slice_get in_store.frames f)
+
+-- the plain value to which a slot is bound
+abbrev pub plain_bound : Option (Option Content) → Option Plain
+plain_bound (Some (Some (plain p))) = Some p
+plain_bound _ = None
+
+-- the plain value that a cell holds
+abbrev pub plain_held : Option Held → Option Plain
+plain_held (Some (held.Plain p)) = Some p
+plain_held _ = None

@@ -4,7 +4,7 @@ ghost use Rattle.std.specs.Option.{option_copied, option_map_or};
 ghost use Rattle.a68_acts.specs.Does.{does, did, refused};
 ghost use Rattle.a68_acts.specs.Store.{opening_store};
 ghost use Rattle.a68_store.specs.Acts.{Does};
-ghost use Rattle.a68_store.specs.Frames.{HasSlot, frame_of, slot_in};
+ghost use Rattle.a68_store.specs.Frames.{HasSlot, frame_of, plain_bound, plain_held, slot_in};
 
 use crate::chains::chain_behind;
 use crate::frame::Frame;
@@ -13,7 +13,7 @@ use crate::weight::{slot_weight, weight};
 use a68_acts::{Reply, Want};
 use a68_base::{NoMemory, Span, Text};
 use a68_layout::Plan;
-use a68_values::{Act, Cells, Chain, Environ, FaultKind, Held, Slots, Value};
+use a68_values::{Act, Cells, Chain, Environ, FaultKind, Held, Node, Plain, Slots, Value};
 use std::alloc::Global;
 use std::marker::Model;
 
@@ -173,6 +173,19 @@ impl Store {
         }
     }
 
+    /// The plain value that a slot is bound to; none where it is bound to none, or is not there. It takes no memory.
+    pub fn plain_at(&self, frame: u32, slot: u32) -> Option<Plain>
+        ensures { result ≡ plain_bound (slot_in self.now frame slot) }
+    {
+        match self.slot(frame, slot)? {
+            None => None,
+            Some(value) => match &value.node {
+                Node::Plain(held) => Some(*held),
+                _ => None,
+            },
+        }
+    }
+
     /// How many cells there are. It takes no memory.
     pub fn cells(&self) -> u32
         ensures { result ≡ length self.now.cells }
@@ -203,6 +216,17 @@ impl Store {
         ensures { IfOk result (λ held. does (Want.Fetch cell) self.now ≡ did (Act.Fetch cell) (Reply.Held held) self.now) }
     {
         self.cells[cell as usize].copy(alloc)
+    }
+
+    /// The plain value that a cell holds; none where it holds another, or is not there. It takes no memory.
+    pub fn plain_in(&self, cell: u32) -> Option<Plain>
+        ensures { result ≡ plain_held (slice_get self.now.cells cell) }
+    {
+        match self.cells.get(cell as usize)? {
+            Held::Plain(held) => Some(*held),
+            Held::Rows(_) => None,
+            Held::Member { .. } => None,
+        }
     }
 
     /// Gives a cell something to hold, and takes no memory.

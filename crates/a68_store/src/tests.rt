@@ -27,6 +27,9 @@ fn slots(rt: HostRuntime) -> Result<(), Fail> {
     };
     assert!(rt; matches!(value.node, Node::Plain(Plain::Int(5))));
     assert!(rt; matches!(store.look(rt.alloc(), 1, 1), Err(stop) if stop == unset));
+    assert_eq!(rt; store.plain_at(1, 0), Some(Plain::Int(5)));
+    assert_eq!(rt; store.plain_at(1, 1), None);
+    assert_eq!(rt; store.plain_at(2, 0), None);
     Ok(())
 }
 
@@ -47,6 +50,10 @@ fn cells(rt: HostRuntime) -> Result<(), Fail> {
     assert!(rt; matches!(store.fetch(rt.alloc(), 0)?, Held::Plain(Plain::Unset)));
     store.assign(0, Held::Plain(Plain::Int(7)));
     assert!(rt; matches!(store.fetch(rt.alloc(), 0)?, Held::Plain(Plain::Int(7))));
+    assert_eq!(rt;
+        (store.plain_in(0), store.plain_in(1)),
+        (Some(Plain::Int(7)), None)
+    );
     let full = StoreStop::Fault(FaultKind::Cells);
     assert!(rt; matches!(store.enter(rt.alloc(), 0, 1, 4_194_304), Err(stop) if stop == full));
     assert_eq!(rt; store.cells(), 1);

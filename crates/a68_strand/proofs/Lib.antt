@@ -1,4 +1,2 @@
 pub mod Making
-pub mod Popping
-pub mod Replying
 pub mod Settling

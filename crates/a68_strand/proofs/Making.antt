@@ -4,23 +4,13 @@ use Rattle.std.specs.Prelude.{None, Some}
 use Rattle.std.specs.Option.{option_map_or}
 use Rattle.std.specs.declared.option.Option.{Option}
 use Rattle.a68_strand.specs.Machine.{State, fails, follows, operates}
-use Rattle.a68_strand.specs.Values.{pop_values}
-use Rattle.a68_strand.specs.declared.stack.Item.{Item}
-use Rattle.a68_strand.proofs.Popping.{length-popped}
+use Rattle.a68_stack.specs.Values.{pop_values}
+use Rattle.a68_stack.specs.declared.stack.Item.{Item}
+use Rattle.a68_stack.proofs.Popping.{length-popped}
 use Rattle.a68_values.specs.Content.{Content}
 use Rattle.a68_acts.specs.Operations.{make, start}
-use Rattle.a68_acts.specs.declared.operation.Doing.TheVariants.{Meets}
-use Rattle.a68_layout.specs.Plans.{new_cells}
-use Rattle.a68_modes.specs.Nodes.{shape_at}
 use Rattle.a68_modes.specs.declared.shape.Shape.{Shape}
 use Rattle.a68_values.specs.declared.act.FaultKind.TheVariants as fault
-use Rattle.a68_values.specs.declared.chain.Environ.{Environ}
-
--- no name is made where no cells are planned
-pub make-none : (modes : List Shape) (mode : ℕ) (chain : List Environ) → new_cells (shape_at modes mode) [] ≡ None → start modes (make mode 0) chain [] ≡ Meets fault.Kind
-unfolding start
-make-none modes mode [] e = refl
-make-none modes mode (environ ∷ chain) e = rw e refl
 
 -- no name is made of a mode with bounds
 pub make-bounds : (modes : List Shape) (st : State) (mode bounds : ℕ) → 0 < bounds → operates modes st (make mode bounds) bounds ≡ fails st fault.Kind

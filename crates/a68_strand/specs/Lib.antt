@@ -2,8 +2,8 @@ pub mod Bodies
 pub mod Cyclic
 pub mod Ends
 pub mod Machine
+pub mod Replies
 pub mod Room
 pub mod RunOf
 pub mod Runs
 pub mod Strands
-pub mod Values

@@ -1,6 +1,6 @@
 //! What a strand asks, and what it waits for.
 use a68_acts::{Next, Want};
-use a68_values::FaultKind;
+use a68_values::{FaultKind, Plain};
 
 /// What a strand that has asked for an act does with the reply.
 #[derive(Drop)]
@@ -37,4 +37,15 @@ pub enum Ask {
     Fault { kind: FaultKind, place: u32 },
     /// It found no memory, and is spent.
     NoMemory,
+}
+
+/// A reply that is not made of other values, and is told without memory.
+#[derive(Clone, Copy, Debug, PartialEq, Eq)]
+pub enum PlainReply {
+    /// The act is done, and there is no more to tell.
+    Go,
+    /// The value that a slot is bound to.
+    Value(Plain),
+    /// What the cell holds.
+    Held(Plain),
 }

@@ -2,7 +2,8 @@
 ghost use Rattle.std.specs.Prelude.{IsTrue};
 ghost use Rattle.a68_strand.specs.Room.{has_room};
 
-use crate::stack::Stack;
+use crate::{Ask, Waiting};
+use a68_stack::Stack;
 use a68_values::Chain;
 
 /// Where a strand stands: the number of its instruction, its stack, and its chain of frames.
@@ -13,4 +14,12 @@ pub struct Body {
     pub chain: Chain,
     // A frame within the innermost one has a scope.
     ghost room: { IsTrue (has_room chain) },
+}
+
+/// What a strand shows, and what it does with the reply where it has asked for an act. While it runs its silent
+/// instructions it shows NoMemory, so that one that finds none is spent.
+#[derive(Drop)]
+pub struct About {
+    pub ask: Ask,
+    pub waiting: Waiting,
 }

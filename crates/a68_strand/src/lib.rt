@@ -7,12 +7,10 @@ mod calls;
 mod control;
 mod exec;
 mod instructions;
-mod operations;
 mod reply;
-mod stack;
 mod strand;
 
-pub use ask::{Ask, Mode, Waiting};
+pub use ask::{Ask, Mode, PlainReply, Waiting};
 pub use strand::Strand;
 
 #[cfg(test)]

@@ -1,5 +1,5 @@
 //! Strands of small codes, told their replies by hand.
-ghost use Rattle.std.specs.Prelude.{◌≡◌, IsTrue, IfOk};
+ghost use Rattle.std.specs.Prelude.{◌≡◌, ◌<◌, ◌^◌, length, IsTrue, IfOk};
 ghost use Rattle.a68_strand.specs.Room.{has_room};
 
 use super::*;
@@ -8,22 +8,53 @@ use a68_code::{Code, Does, Instr, Instrs, Routines};
 use a68_modes::Modes;
 use a68_values::{Chain, Environ, FaultKind, Held, Name, Node, Plain, Value};
 use std::alloc::Global;
+use std::process::Abort;
 use std::test::Fail;
 
 // The outermost frame.
 const STANDARD: Environ = Environ { frame: 0, scope: 0 };
 
-fn instr(place: u32, does: Does) -> Instr {
-    Instr { place, does }
+fn does(op: &str) -> Result<Does, Fail> {
+    let mut words = op.split_whitespace();
+    let name = words.next().ok_or("no name")?;
+    let one = words.next().unwrap_or("0");
+    let two = words.next().unwrap_or("0").parse()?;
+    if name == "Push" {
+        return Ok(Does::Push(Value::of(Plain::Int(one.parse()?))));
+    }
+    let one = one.parse()?;
+    let does = match name {
+        "Skip" => Does::Skip(one),
+        "Tag" => Does::Tag {
+            hops: one,
+            slot: two,
+        },
+        "Enter" => Does::Enter(one),
+        "Make" => Does::Make {
+            mode: one,
+            bounds: two,
+        },
+        "Store" => Does::Store(one),
+        "Bind" => Does::Bind(one),
+        "Deref" => Does::Deref(one),
+        "Apply" => Does::Apply(one),
+        "Print" => Does::Print(one),
+        "Leave" => Does::Leave(one),
+        "End" => Does::End,
+        _ => return Err("no instruction")?,
+    };
+    Ok(does)
 }
 
-fn int(value: i64) -> Does {
-    Does::Push(Value::of(Plain::Int(value)))
-}
-
-fn code(alloc: Global, items: Vec<Instr>) -> Result<Code, Fail>
-    ensures { IfOk result (λ code. code.list ≡ items.items) }
-{
+// The code of these instructions. The number of an instruction is its place.
+fn code_of(alloc: Global, ops: &str) -> Result<Code, Fail> {
+    let mut items = Vec::new(alloc);
+    let mut place = 0u32;
+    for op in ops.split(',') {
+        let does = does(op)?;
+        items.push(Instr { place, does })?;
+        place = place.saturating_add(1);
+    }
     Ok(Code {
         list: Instrs { items },
         texts: Routines {
@@ -41,20 +72,21 @@ fn chain(alloc: Global) -> Result<Chain, Fail>
     })
 }
 
+// The code of these instructions, and a strand at its beginning.
+fn begun(rt: &impl Abort, alloc: Global, ops: &str) -> Result<(Code, Strand), Fail>
+    ensures { IfOk result (λ begun. length begun.0.list < 2 ^ 32) }
+{
+    let code = code_of(alloc, ops)?;
+    assert!(rt; code.list.items.len() < 100);
+    let strand = Strand::begin(alloc, &code, 0, 0, chain(alloc)?)?;
+    Ok((code, strand))
+}
+
 #[test]
 fn prints(rt: HostRuntime) -> Result<(), Fail> {
     let alloc = rt.alloc();
-    let code = code(
-        alloc,
-        vec![in alloc;
-            instr(4, int(3)),
-            instr(2, Does::Print(1)),
-            instr(0, Does::End),
-        ]?,
-    )?;
-    let mut strand = Strand::begin(alloc, &code, 0, 0, chain(alloc)?)?;
-    assert_eq!(rt; strand.number(), 0);
-    assert_eq!(rt; strand.place(), 2);
+    let (code, mut strand) = begun(&rt, alloc, "Push 3, Print 1, End")?;
+    assert_eq!(rt; (strand.number(), strand.place()), (0, 1));
     let Ask::Want(Want::Print(text)) = strand.ask() else {
         return Err("nothing is printed".into());
     };
@@ -66,6 +98,10 @@ fn prints(rt: HostRuntime) -> Result<(), Fail> {
     Ok(())
 }
 
+// BEGIN INT x := 5; print(x) END
+const PRINTING: &str =
+    "Enter 1, Make 1 0, Push 5, Store 1, Bind 0, Tag 0 0, Deref 1, Print 1, Leave 0, End";
+
 // A frame within the outermost one.
 fn inner(alloc: Global) -> Result<Chain, Fail>
     ensures { IfOk result (λ chain. IsTrue (has_room chain)) }
@@ -75,37 +111,44 @@ fn inner(alloc: Global) -> Result<Chain, Fail>
     })
 }
 
-// BEGIN INT x := 5; print(x) END: each kind of reply once.
+// The variable is read and printed. Its slot and the end are told by plain replies.
+fn reads(rt: &impl Abort, alloc: Global, code: &Code, strand: &mut Strand) -> Result<(), Fail>
+    requires { length code.now.list < 2 ^ 32 }
+{
+    let Ask::Want(Want::Look { frame: 1, slot: 0 }) = strand.ask() else {
+        return Err("nothing is looked at".into());
+    };
+    let name = Plain::Name(Name { cell: 7, scope: 1 });
+    strand.told_plain(alloc, code, PlainReply::Value(name))?;
+    let Ask::Want(Want::Fetch { cell: 7 }) = strand.ask() else {
+        return Err("nothing is fetched".into());
+    };
+    strand.told(alloc, code, Reply::Held(Held::Plain(Plain::Int(5))))?;
+    assert_eq!(rt; strand.place(), 7);
+    let Ask::Want(Want::Print(text)) = strand.ask() else {
+        return Err("nothing is printed".into());
+    };
+    assert_eq!(rt; text.items.as_slice(), b"                  +5".as_slice());
+    strand.told_plain(alloc, code, PlainReply::Go)?;
+    assert!(rt; matches!(strand.ask(), Ask::Ended));
+    Ok(())
+}
+
+// Each kind of reply once.
 #[test]
 fn goes_on_with_replies(rt: HostRuntime) -> Result<(), Fail> {
     let alloc = rt.alloc();
-    let code = code(
-        alloc,
-        vec![in alloc;
-            instr(0, Does::Enter(1)),
-            instr(10, Does::Make { mode: 1, bounds: 0 }),
-            instr(15, int(5)),
-            instr(10, Does::Store(1)),
-            instr(10, Does::Bind(0)),
-            instr(24, Does::Tag { hops: 0, slot: 0 }),
-            instr(24, Does::Deref(1)),
-            instr(18, Does::Print(1)),
-            instr(0, Does::Leave(0)),
-            instr(0, Does::End),
-        ]?,
-    )?;
-    let mut strand = Strand::begin(alloc, &code, 0, 0, chain(alloc)?)?;
+    let (code, mut strand) = begun(&rt, alloc, PRINTING)?;
     let Ask::Want(
         Want::Enter {
-            outer,
-            scope,
-            slots,
+            outer: 0,
+            scope: 1,
+            slots: 1,
         },
     ) = strand.ask()
     else {
         return Err("no frame".into());
     };
-    assert_eq!(rt; (*outer, *scope, *slots), (0, 1, 1));
     strand.told(alloc, &code, Reply::Frame(inner(alloc)?))?;
     let Ask::Want(Want::Make(plan)) = strand.ask() else {
         return Err("no cells".into());
@@ -135,40 +178,20 @@ fn goes_on_with_replies(rt: HostRuntime) -> Result<(), Fail> {
     let name = Name { cell: 7, scope: 1 };
     assert!(rt; matches!(value.node, Node::Plain(Plain::Name(n)) if n == name));
     strand.told(alloc, &code, Reply::Go)?;
-    let Ask::Want(Want::Look { frame: 1, slot: 0 }) = strand.ask() else {
-        return Err("nothing is looked at".into());
-    };
-    strand.told(alloc, &code, Reply::Value(Value::of(Plain::Name(name))))?;
-    let Ask::Want(Want::Fetch { cell: 7 }) = strand.ask() else {
-        return Err("nothing is fetched".into());
-    };
-    strand.told(alloc, &code, Reply::Held(Held::Plain(Plain::Int(5))))?;
-    assert_eq!(rt; strand.place(), 18);
-    let Ask::Want(Want::Print(text)) = strand.ask() else {
-        return Err("nothing is printed".into());
-    };
-    assert_eq!(rt; text.items.as_slice(), b"                  +5".as_slice());
-    Ok(())
+    reads(&rt, alloc, &code, &mut strand)
 }
 
 // A reply of another kind than the one that is waited for.
 #[test]
 fn meets_kind(rt: HostRuntime) -> Result<(), Fail> {
     let alloc = rt.alloc();
-    let code = code(
-        alloc,
-        vec![in alloc;
-            instr(3, Does::Tag { hops: 0, slot: 0 }),
-            instr(0, Does::End),
-        ]?,
-    )?;
-    let mut strand = Strand::begin(alloc, &code, 0, 0, chain(alloc)?)?;
+    let (code, mut strand) = begun(&rt, alloc, "Skip 0, Tag 0 0, End")?;
     let Ask::Want(Want::Look { .. }) = strand.ask() else {
         return Err("nothing is looked at".into());
     };
     strand.told(alloc, &code, Reply::Go)?;
     let kind = FaultKind::Kind;
-    assert!(rt; matches!(strand.ask(), Ask::Fault { kind: k, place: 3 } if *k == kind));
+    assert!(rt; matches!(strand.ask(), Ask::Fault { kind: k, place: 1 } if *k == kind));
     Ok(())
 }
 
@@ -221,19 +244,12 @@ fn operators(rt: HostRuntime) -> Result<(), Fail> {
     let alloc = rt.alloc();
     for line in OPERATORS.lines() {
         let mut words = line.split_whitespace();
-        let row = words.next().ok_or("no row")?.parse()?;
-        let left = words.next().ok_or("no left operand")?.parse()?;
-        let right = words.next().ok_or("no right operand")?.parse()?;
-        let list = vec![in alloc;
-            instr(0, int(left)),
-            instr(0, int(right)),
-            instr(0, Does::Apply(row)),
-            instr(0, Does::Bind(0)),
-            instr(0, Does::End),
-        ]?;
-        let code = code(alloc, list)?;
-        let strand = Strand::begin(alloc, &code, 0, 0, chain(alloc)?)?;
+        let row = words.next().ok_or("no row")?;
+        let left = words.next().ok_or("no left operand")?;
+        let right = words.next().ok_or("no right operand")?;
         let expected = words.next().ok_or("no result")?;
+        let ops = format!(in alloc; "Push {left}, Push {right}, Apply {row}, Bind 0, End")?;
+        let (_, strand) = begun(&rt, alloc, &ops)?;
         assert!(rt; suits(strand.ask(), expected), "{line}");
     }
     Ok(())

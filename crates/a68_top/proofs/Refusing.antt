@@ -13,14 +13,16 @@ use Rattle.a68_parse.specs.Parses.{Parses}
 use Rattle.a68_symbols.specs.Names.{Named}
 use Rattle.a68_symbols.specs.Symbols.{SymbolsAre, piece_of}
 use Rattle.a68_top.specs.Compiles.{IsTreeOf, IsProgramOf, RefusedAs, unclassed, no_tree, no_meaning, too_long}
-use Rattle.a68_words.specs.Classes.{Answers}
+use Rattle.a68_words.specs.Classes.{Answers, IsClassed}
+use Rattle.a68_words.specs.declared.class.Class.{Class}
+use Rattle.std.specs.declared.option.Option.{Option}
 use Rattle.a68_tree.specs.Trees.{Built}
 
-pub unparsed : (text : List ℕ) (found : Named) (end : ℕ) → end ≡ length text → SymbolsAre text (map piece_of found.symbols)
-    → (r : Result Built Stop) → Parses found end r → IfErr r (λ why. StopsBy (RefusedAs text) why)
-unparsed text found end e symbols (Ok t) p = tt
-unparsed text found end e symbols (Err NoMemory) p = tt
-unparsed text found end e symbols (Err (Refused f)) p = no_tree found symbols (subst (λ x. Parses found x (Err (Refused f))) e p)
+pub unparsed : (text : List ℕ) (found : Named) (classes : List (Option Class)) (end : ℕ) → end ≡ length text → SymbolsAre text (map piece_of found.symbols) → IsClassed found classes
+    → (r : Result Built Stop) → Parses found classes end r → IfErr r (λ why. StopsBy (RefusedAs text) why)
+unparsed text found classes end e symbols classed (Ok t) p = tt
+unparsed text found classes end e symbols classed (Err NoMemory) p = tt
+unparsed text found classes end e symbols classed (Err (Refused f)) p = no_tree found classes symbols classed (subst (λ x. Parses found classes x (Err (Refused f))) e p)
 
 pub unsorted : (text : List ℕ) (found : Named) → SymbolsAre text (map piece_of found.symbols) → (s : Stop) → Answers found (Err s) → StopsBy (RefusedAs text) s
 unsorted text found symbols NoMemory p = tt

@@ -10,14 +10,15 @@ use Rattle.a68_gen.specs.Listing.{listing}
 use Rattle.a68_gen.specs.Stretches.{Translates}
 use Rattle.a68_gen.specs.Writing.{IsTooLong}
 use Rattle.a68_op_ident.specs.Shapes.{Shaped}
-use Rattle.a68_parse.specs.Parses.{Parses, SpellsAlike}
+use Rattle.a68_parse.specs.Parses.{IsTree, Parses}
 use Rattle.a68_symbols.specs.Names.{Named}
 use Rattle.a68_symbols.specs.Symbols.{SymbolsAre, RefusalIs, piece_of}
 use Rattle.a68_top.specs.declared.finish.Made.{Made}
 use Rattle.a68_words.specs.Classes.{IsClassed, IsRefused}
 use Rattle.a68_words.specs.declared.class.Class.{Class}
 use Rattle.std.specs.declared.option.Option.{Option}
-use Rattle.a68_tree.specs.Trees.{Built, IsSmallTree}
+use Rattle.a68_tree.specs.Trees.{Built}
+use Rattle.a68_turn.specs.Drafted.{SpellsAlike}
 
 -- the tree of the text's symbols, by the grammar, with their spellings; each bold word has its class
 pub record IsTreeOf (text : List ℕ) (tree : Built) : Type 0 where
@@ -25,7 +26,7 @@ pub record IsTreeOf (text : List ℕ) (tree : Built) : Type 0 where
   pub symbols : SymbolsAre text (map piece_of found.symbols)
   pub classes : List (Option Class)
   pub classed : IsClassed found classes
-  pub derived : IsSmallTree found tree.nodes
+  pub derived : IsTree found classes tree.nodes
   pub spelled : SpellsAlike found tree.spellings
 
 -- The tree of the text with its formulas shaped by the priorities of their signs, and what is known of each node.
@@ -45,6 +46,6 @@ pub data RefusedAs (text : List ℕ) (refusal : Refusal) : Type 0 where
   unlike_symbols : RefusalIs text refusal.rule refusal.place → RefusedAs text refusal
   empty : SymbolsAre text [] → refusal.rule ≡ S6 → refusal.place ≡ length text → RefusedAs text refusal
   unclassed : (found : Named) → SymbolsAre text (map piece_of found.symbols) → IsRefused found refusal.rule refusal.place → RefusedAs text refusal
-  no_tree : (found : Named) → SymbolsAre text (map piece_of found.symbols) → Parses found (length text) (Err (Refused refusal)) → RefusedAs text refusal
+  no_tree : (found : Named) (classes : List (Option Class)) → SymbolsAre text (map piece_of found.symbols) → IsClassed found classes → Parses found classes (length text) (Err (Refused refusal)) → RefusedAs text refusal
   no_meaning : (tree : Built) → IsTreeOf text tree → Refuses tree refusal → RefusedAs text refusal
   too_long : (program : Annotated) → IsProgramOf text program → IsTooLong (listing (program_of program)) refusal → RefusedAs text refusal

@@ -2,9 +2,10 @@
 ghost use Rattle.std.specs.Prelude.{◌≡◌, ◌<◌, ◌≤◌, ◌^◌, length, map, IfOk, IfErr};
 ghost use Rattle.a68_check.specs.Annotates.{StopsBy};
 ghost use Rattle.a68_code.specs.Valid.{IsValid};
-ghost use Rattle.a68_parse.specs.Parses.{SpellsAlike};
+ghost use Rattle.a68_parse.specs.Parses.{IsTree};
 ghost use Rattle.a68_symbols.specs.Symbols.{SymbolsAre, piece_of};
-ghost use Rattle.a68_tree.specs.Trees.{IsSmallTree};
+ghost use Rattle.a68_turn.specs.Drafted.{SpellsAlike};
+ghost use Rattle.a68_words.specs.Classes.{IsClassed};
 ghost use Rattle.a68_top.specs.Compiles.{IsTreeOf, IsProgramOf, Compiles, RefusedAs};
 
 use crate::finish::Made;
@@ -15,19 +16,20 @@ use a68_gen::generate;
 use a68_parse::{parse, symbols_are_bounded};
 use a68_symbols::{Symbols, symbols};
 use a68_tree::Tree;
-use a68_words::words;
+use a68_words::{Classed, words};
 use std::alloc::Global;
 
 // The tree of the symbols of a text.
-fn parsed(alloc: Global, text: &[u8], found: &Symbols) -> Result<Tree, Stop>
+fn parsed(alloc: Global, text: &[u8], found: &Symbols, classes: &Classed) -> Result<Tree, Stop>
     requires length { length text.now < 2 ^ 32 }
     requires symbols { SymbolsAre text.now (map piece_of found.now.symbols) }
-    ensures derived { IfOk result (λ tree. IsSmallTree found.now tree.nodes) }
+    requires classed { IsClassed found.now classes.now }
+    ensures derived { IfOk result (λ tree. IsTree found.now classes.now tree.nodes) }
     ensures spelled { IfOk result (λ tree. SpellsAlike found.now tree.spellings) }
     ensures refused { IfErr result (λ why. StopsBy (RefusedAs text.now) why) }
 {
     symbols_are_bounded();
-    parse(alloc, found, text.len() as u32)
+    parse(alloc, found, classes, text.len() as u32)
 }
 
 // The tree of a text, its formulas flat.
@@ -45,7 +47,7 @@ fn tree_of(alloc: Global, text: &[u8]) -> Result<Tree, Stop>
         }));
     }
     match words(alloc, &found) {
-        Ok(_) => parsed(alloc, text, &found),
+        Ok(classes) => parsed(alloc, text, &found, &classes),
         Err(stop) => Err(stop),
     }
 }

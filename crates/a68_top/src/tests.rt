@@ -78,7 +78,7 @@ fn call<R: Threads + Wait + Sync>(
 
 #[test]
 fn texts_are_answered(rt: HostRuntime) -> Result<(), Fail> {
-    let values: [(&[u8], &[u8]); 10] = [
+    let values: [(&[u8], &[u8]); 12] = [
         (FORMULA, SEVEN),
         (b"BEGIN print(2 - 3 * 4) END", b"                 -10"),
         (b"BEGIN print(8 - 2 - 1) END", b"                  +5"),
@@ -91,6 +91,8 @@ fn texts_are_answered(rt: HostRuntime) -> Result<(), Fail> {
             SEVEN,
         ),
         (b"BEGIN print(7) END PRAGMAT PR1 END PRAGMAT", SEVEN),
+        (b"( print(7) )", SEVEN),
+        (b"( ( 1 < 2 | print(7) | print(8) ) )", SEVEN),
         (
             b"BEGIN print(0-9223372036854775807)END",
             b"-9223372036854775807",
@@ -108,7 +110,7 @@ fn texts_are_answered(rt: HostRuntime) -> Result<(), Fail> {
 #[test]
 fn texts_are_refused_and_faults_met(rt: HostRuntime) -> Result<(), Fail> {
     let blanks = vec![in rt.alloc(); b' '; 1_048_577]?;
-    let rows: [(&[u8], u8, &[u8]); 35] = [
+    let rows: [(&[u8], u8, &[u8]); 36] = [
         (b"", 1, b"a68: refused S6 at byte 0\n"),
         (b" \n\t\r", 1, b"a68: refused S6 at byte 4\n"),
         (&blanks[1..], 1, b"a68: refused S6 at byte 1048576\n"),
@@ -124,7 +126,7 @@ fn texts_are_refused_and_faults_met(rt: HostRuntime) -> Result<(), Fail> {
         ),
         (b"BEGIN SKIP END ~", 1, b"a68: refused S2 at byte 15\n"),
         (b"BEGIN print(1) END CO", 1, b"a68: refused S1 at byte 19\n"),
-        (b"BEGIN print(#)#1)", 1, b"a68: refused X0 at byte 17\n"),
+        (b"BEGIN print(#)#1)", 1, b"a68: refused S6 at byte 17\n"),
         (
             b"BEGIN print(\"a\") END",
             1,
@@ -132,14 +134,19 @@ fn texts_are_refused_and_faults_met(rt: HostRuntime) -> Result<(), Fail> {
         ),
         (b"BEGIN print(2r1) END", 1, b"a68: refused X0 at byte 12\n"),
         (b"BEGIN write(1) END", 1, b"a68: refused X0 at byte 6\n"),
-        (b"( print(1) )", 1, b"a68: refused X0 at byte 0\n"),
+        (
+            b"( CASE 1 IN print(1), print(2) ESAC )",
+            1,
+            b"a68: refused X0 at byte 2\n",
+        ),
+        (b"(1, 2)", 1, b"a68: refused X0 at byte 0\n"),
         (
             b"BEGIN print(1 OVER 2) END",
             1,
-            b"a68: refused X0 at byte 14\n",
+            b"a68: refused X0 at byte 12\n",
         ),
-        (b"BEGIN print(1);", 1, b"a68: refused X0 at byte 15\n"),
-        (b"BEGIN print(1 +) END", 1, b"a68: refused X0 at byte 15\n"),
+        (b"BEGIN print(1);", 1, b"a68: refused S6 at byte 15\n"),
+        (b"BEGIN print(1 +) END", 1, b"a68: refused S6 at byte 15\n"),
         (b"BEGIN SKIP END", 1, b"a68: refused X0 at byte 6\n"),
         (b"BEGIN print(1x) END", 1, b"a68: refused S5 at byte 12\n"),
         (
@@ -147,13 +154,13 @@ fn texts_are_refused_and_faults_met(rt: HostRuntime) -> Result<(), Fail> {
             1,
             b"a68: refused S5 at byte 12\n",
         ),
-        (b"BEGIN print(1+*2) END", 1, b"a68: refused X0 at byte 13\n"),
-        (b"BEGIN print(1-+2) END", 1, b"a68: refused X0 at byte 14\n"),
-        (b"BEGIN print(1)", 1, b"a68: refused X0 at byte 14\n"),
+        (b"BEGIN print(1+*2) END", 1, b"a68: refused X0 at byte 12\n"),
+        (b"BEGIN print(1-+2) END", 1, b"a68: refused X0 at byte 12\n"),
+        (b"BEGIN print(1)", 1, b"a68: refused S6 at byte 14\n"),
         (
             b"BEGIN print(1) END END",
             1,
-            b"a68: refused X0 at byte 19\n",
+            b"a68: refused S6 at byte 19\n",
         ),
         (b"BEGIN1 print(1) END", 1, b"a68: refused N2 at byte 0\n"),
         (b"BEGIN print(x) END", 1, b"a68: refused N1 at byte 12\n"),
@@ -165,7 +172,7 @@ fn texts_are_refused_and_faults_met(rt: HostRuntime) -> Result<(), Fail> {
         (
             b"BEGIN print(1); INT x END",
             1,
-            b"a68: refused X0 at byte 16\n",
+            b"a68: refused S6 at byte 22\n",
         ),
         (
             b"BEGIN INT x; print(x) END",

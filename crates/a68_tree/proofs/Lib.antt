@@ -1,5 +1,5 @@
+pub mod Joining
 pub mod Listed
 pub mod Order
 pub mod Phrases
-pub mod Small
 pub mod Three

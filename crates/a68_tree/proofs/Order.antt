@@ -4,7 +4,6 @@ use Rattle.std.specs.Option.{option_map}
 use Rattle.std.proofs.lemmas.List.{map_push, reverse-append, length-map, length-reverse}
 use Rattle.std.proofs.lemmas.Option.{slice_get-map}
 use Rattle.a68_symbols.specs.declared.symbol.Symbol.{Symbol}
-use Rattle.a68_symbols.specs.Names.{Named}
 use Rattle.a68_tree.specs.declared.kind.NodeKind.{NodeKind}
 use Rattle.a68_tree.specs.declared.kind.NodeKind.TheVariants.{Sign}
 use Rattle.a68_tree.specs.declared.node.Node.{Node}
@@ -12,7 +11,7 @@ use Rattle.a68_tree.specs.declared.sym.Sym.{Sym}
 use Rattle.a68_tree.specs.declared.sym.Sym.TheVariants.{Closes, Is}
 use Rattle.a68_tree.specs.Forest.{Forest, end, mark, group, part, sign, aside, shared, forget, spells}
 use Rattle.a68_tree.specs.Nodes.{Entry, signs, signed, nodes, numbers, with_under, entry_of, with_node, turned, turned_entry, node_of}
-use Rattle.a68_tree.specs.Trees.{AllBetween, IsTreeBy, entries}
+use Rattle.a68_tree.specs.Trees.{AllBetween, entries}
 
 abbrev AllBelow : ℕ → List ℕ → Type 0
 AllBelow n [] = Unit {0}
@@ -178,11 +177,11 @@ opened symbols i count (Some e) n at h =
     let same : node_of symbols e ≡ n = cc in
     rw (← same) (h e refl)
 
-pub tree_behind : {Is : NodeKind → Forest → Type 0} (found : Named) (list : List Node) → IsTreeBy Is found list
+pub listed_behind : (symbols : List Symbol) (kind : NodeKind) (under : Forest) (list : List Node) → list ≡ map (node_of symbols) (entries kind under)
     → (i : ℕ) (n : Node) → slice_get list i ≡ Some n → AllBetween i (length list) n.parts
-tree_behind found list tree i n e =
-    let es : List Entry = entries tree.kind tree.under in
-    let at : option_map (node_of found.symbols) (slice_get es i) ≡ Some n = sym (slice_get-map (node_of found.symbols) es i) ∙ ap (λ (l : List Node). slice_get l i) (sym tree.listed) ∙ e in
-    let size : length list ≡ length es = ap length tree.listed ∙ length-map es (node_of found.symbols) in
+listed_behind symbols kind under list l i n e =
+    let es : List Entry = entries kind under in
+    let at : option_map (node_of symbols) (slice_get es i) ≡ Some n = sym (slice_get-map (node_of symbols) es i) ∙ ap (λ (l : List Node). slice_get l i) (sym l) ∙ e in
+    let size : length list ≡ length es = ap length l ∙ length-map es (node_of symbols) in
     let z : 0 + i ≡ i = omega arith in
-    rw size (opened found.symbols i (length es) (slice_get es i) n at (λ x f. rw z at (at_place 0 (length es) es (entries_behind tree.kind tree.under) i x f)))
+    rw size (opened symbols i (length es) (slice_get es i) n at (λ x f. rw z at (at_place 0 (length es) es (entries_behind kind under) i x f)))

@@ -1,9 +1,7 @@
 -- At most three nodes for each symbol: a recursion over the whole grammar.
 use Rattle.std.proofs.Common.{◌≡◌, ℕ, ◌+◌, ◌-◌, ◌*◌, ◌≤◌, List, [], ◌∷◌, ◌++◌, length, map, ap, arith}
 use Rattle.std.proofs.lemmas.List.{length-map, length-reverse}
-use Rattle.a68_symbols.specs.Names.{Named}
 use Rattle.a68_tree.specs.declared.kind.NodeKind.{NodeKind}
-use Rattle.a68_tree.specs.declared.node.Node.{Node}
 use Rattle.a68_tree.specs.declared.sym.Sym.{Sym}
 use Rattle.a68_tree.specs.declared.sym.Sym.TheVariants.{Closes}
 use Rattle.a68_tree.specs.declared.sym.Token.{Token}
@@ -12,8 +10,9 @@ use Rattle.a68_tree.specs.Forest.{Forest, end, mark, group, part, sign, aside, s
 use Rattle.a68_tree.specs.Grammar as g
 use Rattle.a68_tree.specs.Grammar.{IsEnclosed, IsElse, IsElseBrief, IsOut, IsOutBrief, IsOutC, IsOutCBrief, IsFor, IsFrom, IsBy, IsTo, IsWhile, IsChoices, IsSpec, IsSerial, IsEnquiry, IsUnits, IsUnits2, IsUnit, IsRoutine, IsResult, IsParams, IsTags, IsTertiary, IsOperands, IsSecondary, IsPrimary, IsIndexes, IsIndex, IsTrimmer, IsAt, IsDeclarer, IsYield, IsDeclarers, IsBounds, IsBound, IsDeclaration, IsDefinitions, IsDeclared, IsModes, IsPriorities, IsOps, IsPlan, IsPlanned, IsIdentities, IsProcs, IsVariables, IsVariable}
 use Rattle.a68_tree.specs.Nodes.{Entry, nodes, signs, with_under, with_node, turned, turned_entry, node_of}
-use Rattle.a68_tree.specs.Spellings.{sym_in}
-use Rattle.a68_tree.specs.Trees.{IsTree}
+use Rattle.a68_symbols.specs.declared.symbol.Symbol.{Symbol}
+use Rattle.a68_tree.specs.declared.node.Node.{Node}
+use Rattle.a68_tree.specs.Derived.{IsDerived}
 use Rattle.a68_tree.proofs.Order.{length_with}
 
 -- the nodes of a forest, signs among them, and its symbols
@@ -327,16 +326,19 @@ mutual
   few_IsVariable g.variable = omega arith
   few_IsVariable (g.variable_set p0) = omega (arith, few_IsUnit p0)
 
-pub tree_few : (found : Named) (list : List Node) → IsTree found list → length list ≤ 3 * length found.symbols
-tree_few found list tree =
+pub entries_few : (text : List Sym) (kind : NodeKind) (under : Forest) → IsEnclosed kind under → text ≡ spells under [] → length (with_node [] [] kind under []) ≤ 3 * length text
+entries_few text kind under is spelled =
+    let e = length_with [] [] kind under [] in
+    let f = length_nodes [] [] under [] in
+    let h = ap length spelled in
+    let i = length_spells under [] in
+    omega (arith, e, f, few_IsEnclosed is, h, i)
+
+pub derived_few : (symbols : List Symbol) (text : List Sym) (list : List Node) → IsDerived symbols text list → length list ≤ 3 * length text
+derived_few symbols text list tree =
     let es : List Entry = with_node [] [] tree.kind tree.under [] in
     let a = ap length tree.listed in
-    let b = length-map (turned es) (node_of found.symbols) in
+    let b = length-map (turned es) (node_of symbols) in
     let c = length-reverse (map (turned_entry (length es - 1)) es) in
     let d = length-map es (turned_entry (length es - 1)) in
-    let e = length_with [] [] tree.kind tree.under [] in
-    let f = length_nodes [] [] tree.under [] in
-    let h = ap length tree.spelled in
-    let i = length_spells tree.under [] in
-    let j = length-map found.symbols (sym_in found) in
-    omega (arith, a, b, c, d, e, f, few_IsEnclosed tree.is, h, i, j)
+    omega (arith, a, b, c, d, entries_few text tree.kind tree.under tree.is tree.spelled)

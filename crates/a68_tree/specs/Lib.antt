@@ -1,6 +1,6 @@
 pub mod Forest
 pub mod Grammar
 pub mod Nodes
-pub mod SmallGrammar
 pub mod Spellings
 pub mod Trees
+pub mod Derived

@@ -9,9 +9,7 @@ mod sym;
 mod tree;
 
 pub use kind::NodeKind;
-pub use laws::{
-    definitions_are_one_or_several, parts_stand_behind, small_trees_are_trees, trees_are_small,
-};
+pub use laws::{definitions_are_one_or_several, derived_trees_are_lists};
 pub use node::{FrameStep, Node, NodeId, Parts};
 pub use spelling::{sym_of, syms};
 pub use sym::{Bracket, Sym, Token};

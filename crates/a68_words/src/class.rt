@@ -32,6 +32,13 @@ impl Model for Classed {
 }
 
 impl Classed {
+    /// The classes of all symbols in order: none for a symbol that is no word.
+    pub fn as_slice(&self) -> &[Option<Class>]
+        ensures { result.now ≡ self.now }
+    {
+        &self.classes
+    }
+
     /// The class of the word that is the symbol of that number, from 0.
     pub fn class(&self, i: u32) -> Class
         requires { (class : Class) × (slice_get self.now i ≡ Some (Some class)) }

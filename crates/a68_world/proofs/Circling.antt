@@ -20,7 +20,7 @@ use Rattle.a68_values.specs.declared.kept.End.TheVariants as ends
 use Rattle.a68_values.specs.declared.kept.Kept.{Kept}
 use Rattle.a68_world.specs.Circle.{InTurn, EndedInTurn}
 use Rattle.a68_world.specs.Run.{Run, EndsWithoutTurn, Begins}
-use Rattle.a68_world.specs.Turns.{Acts, EndsAt, EndsHere, HadEnded, IsAble, last_strand, Finishes}
+use Rattle.a68_world.specs.Turns.{Acts, EndsAt, EndsHere, HadEnded, IsAbsent, IsAble, last_strand, Finishes}
 
 -- ---- a journal with one entry more
 
@@ -226,3 +226,29 @@ cyclic run handed kept i f = record {
       (subst (λ es. EndsInTurn run.code run.world (last_of None es) kept.end) (sym f.entries)
       (subst (λ e. EndsInTurn run.code run.world (last_of None run.entries) e) (sym is) i.ends));
 }
+
+-- ---- a strand whose turn it is, is there
+
+turn_is_there : (code : Code) (w : World) (n : ℕ) → HasTurn code w n → slice_get w.strands n ≡ None → ⊥
+turn_is_there code w n (inl can) gone = can (ap (λ o. option_and_then (λ (st : State). acts_in st.mode code w n st) o) gone)
+turn_is_there code w n (inr fault) gone = fault (ap (λ o. option_and_then (λ (st : State). fault_in st.mode w.store) o) gone)
+
+first_is_there : (code : Code) (w : World) (n : ℕ) → opening code ≡ w → n ≡ 0 → slice_get w.strands n ≡ None → ⊥
+first_is_there code w n is first gone =
+    let at_first : slice_get w.strands 0 ≡ None = subst (λ k. slice_get w.strands k ≡ None) first gone in
+    let there : slice_get (opening code).strands 0 ≡ None = subst (λ (v : World). slice_get v.strands 0 ≡ None) (sym is) at_first in
+    absurd (cc)
+
+last_is_some : (before : ℕ) (es : List Entry) → (k : ℕ) × (last_of (Some before) es ≡ Some k)
+last_is_some before [] = (before, refl)
+last_is_some before (e ∷ es) = last_is_some e.strand es
+
+turn_there : (code : Code) (w : World) (es : List Entry) (n : ℕ) → Machine code (opening code) es w → IsTurnOf code w (last_of None es) n → slice_get w.strands n ≡ None → ⊥
+turn_there code w [] n runs turn gone = first_is_there code w n runs turn gone
+turn_there code w (e ∷ es) n runs turn gone =
+    let last = last_is_some e.strand es in
+    let first = subst (λ b. IsTurnOf code w b n) last.1 turn in
+    turn_is_there code w n first.such gone
+
+pub never_absent : (old new : Run) (n : ℕ) → InTurn old n → IsAbsent old n new → ⊥
+never_absent old new n i a = turn_there old.code old.world old.entries n i.runs (i.next a.goes_on.unended) a.absent

@@ -6,7 +6,7 @@ use Rattle.a68_acts.specs.Does.{Outcome, did, refuses, refused, does}
 use Rattle.a68_acts.specs.Store.{Store}
 use Rattle.a68_acts.specs.declared.want.Want.{Want}
 use Rattle.a68_code.specs.declared.code.Code.{Code}
-use Rattle.a68_strand.specs.Bodies.{mode_of}
+use Rattle.a68_strand.specs.Bodies.{mode_in}
 use Rattle.a68_strand.specs.Cyclic.{HasTurn}
 use Rattle.a68_strand.specs.Ends.{fault_in, fault_of, HasEnded, EndsWith, done, all_halted}
 use Rattle.a68_strand.specs.Machine.{State, asked, place_at}
@@ -32,16 +32,8 @@ alone store st = record { store = store; strands = st ∷ [] }
 -- ---- what a strand shows
 
 -- a strand that shows an act has asked for it
-asking-in : (a : Ask) (wait : Option Waiting) (place : ℕ) (w : Want) → a ≡ asked place (mode_of a wait) → a ≡ ask.Want w → (x : Waiting) × (mode_of a wait ≡ Asking w x)
-asking-in (ask.Want v) (Some x) place w e f = (x, ap (λ (b : Ask). mode_of b (Some x)) f)
-asking-in (ask.Want v) None place w e f = absurd (cc)
-asking-in ask.Waits wait place w e f = absurd (cc)
-asking-in ask.Ended wait place w e f = absurd (cc)
-asking-in (ask.Fault why at) wait place w e f = absurd (cc)
-asking-in ask.NoMemory wait place w e f = absurd (cc)
-
-pub asking : (code : Code) (strand : Strand) (w : Want) → Shows code strand → strand.ask ≡ ask.Want w → (x : Waiting) × ((standing strand).mode ≡ Asking w x)
-asking code strand w shows e = asking-in strand.ask strand.waiting (place_at code.list strand.body.at) w shows.ask e
+pub asking : (code : Code) (strand : Strand) (w : Want) → Shows code strand → strand.about.ask ≡ ask.Want w → (x : Waiting) × ((standing strand).mode ≡ Asking w x)
+asking code strand w shows e = (strand.about.waiting, ap (λ (a : Ask). mode_in a strand.about.waiting) e)
 
 -- ---- the next act and the fault of the one strand
 
@@ -90,8 +82,8 @@ ends-without-in code store st place a is = by_mode st.mode refl
     by_mode (Asking w x) e = rw (shown (Asking w x) e) (open_ (Asking w x) e (λ f. absurd (cc)), (0, has-turn code store st (λ f. absurd (cc))))
     by_mode (Failed why) e = rw (shown (Failed why) e) (open_ (Failed why) e (λ f. absurd (cc)), (0, has-turn code store st (λ f. absurd (cc))))
 
-pub ends-without : (code : Code) (store : Store) (strand : Strand) → Shows code strand → EndsWithoutTurn code (alone store (standing strand)) (end_shown strand.ask)
-ends-without code store strand shows = ends-without-in code store (standing strand) (place_at code.list strand.body.at) strand.ask shows.ask
+pub ends-without : (code : Code) (store : Store) (strand : Strand) → Shows code strand → EndsWithoutTurn code (alone store (standing strand)) (end_shown strand.about.ask)
+ends-without code store strand shows = ends-without-in code store (standing strand) (place_at code.list strand.body.at) strand.about.ask shows.ask
 
 -- such an end is the machine's
 pub is-end : (code : Code) (fuel : ℕ) (entries : List Entry) (w : World) (end : Option End) → EndsWithoutTurn code w end → IfSome end (EndsWith code fuel entries w)

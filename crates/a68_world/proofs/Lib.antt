@@ -4,5 +4,6 @@ pub mod Ending
 pub mod Entering
 pub mod Running
 pub mod ScopesKept
+pub mod Sends
 pub mod Standing
 pub mod Turning

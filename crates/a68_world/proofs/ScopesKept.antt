@@ -20,13 +20,13 @@ use Rattle.a68_code.specs.declared.does.Does.TheVariants as does
 use Rattle.a68_modes.specs.declared.shape.Shape.{Shape}
 use Rattle.a68_strand.specs.Machine.{State, goes_on, goes_to, fails, follows, operates, enters, yields_to, leaves_frame, branches, unless, with_counter, counts, steps, advances, forgets, exec, at_end, does_one, silently, next_state, settle_in, settle, leaves_at, told_by, replied_in, replied}
 use Rattle.a68_strand.specs.Room.{has_room, brings_room}
-use Rattle.a68_strand.specs.Values.{pop_values, top_counter, top_value}
+use Rattle.a68_stack.specs.Values.{pop_values, top_counter, top_value}
 use Rattle.a68_strand.specs.declared.ask.Mode.{Mode}
 use Rattle.a68_strand.specs.declared.ask.Mode.TheVariants.{Idle, Asking, Failed}
 use Rattle.a68_strand.specs.declared.ask.Waiting.{Waiting}
 use Rattle.a68_strand.specs.declared.ask.Waiting.TheVariants as waiting
-use Rattle.a68_strand.specs.declared.stack.Item.{Item}
-use Rattle.a68_strand.specs.declared.stack.Item.TheVariants as item
+use Rattle.a68_stack.specs.declared.stack.Item.{Item}
+use Rattle.a68_stack.specs.declared.stack.Item.TheVariants as item
 use Rattle.a68_values.specs.Content.{Content, scope_of}
 use Rattle.a68_values.specs.declared.act.FaultKind.{FaultKind}
 use Rattle.a68_values.specs.declared.act.FaultKind.TheVariants as fault

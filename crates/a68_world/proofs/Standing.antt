@@ -47,10 +47,10 @@ pub record Made (code : Code) (fuel : ℕ) (journal : Vec Entry Global) (store :
   pub room : vec_capacity journal ≡ fuel
   pub store_is : store ≡ opening_store
   pub settled : HasSettled code (beginning 0 (record { frame = 0; scope = 0 } ∷ [])) strand
-  pub end_is : end ≡ end_shown strand.ask
+  pub end_is : end ≡ end_shown strand.about.ask
 
 pub made-from : (code : Code) (fuel : ℕ) (journal : Vec Entry Global) (store : Store) (strand : Strand) (end : Option End) (chain : List Environ) → journal.items ≡ []
-    → vec_capacity journal ≡ fuel → store ≡ opening_store → chain ≡ record { frame = 0; scope = 0 } ∷ [] → HasSettled code (beginning 0 chain) strand → end ≡ end_shown strand.ask
+    → vec_capacity journal ≡ fuel → store ≡ opening_store → chain ≡ record { frame = 0; scope = 0 } ∷ [] → HasSettled code (beginning 0 chain) strand → end ≡ end_shown strand.about.ask
     → Made code fuel journal store strand end
 made-from code fuel journal store strand end chain items room store_is is settled end_is = record {
   items = items;
@@ -75,7 +75,7 @@ pub made-sound : (code : Code) (fuel : ℕ) (journal : Vec Entry Global) (store 
 made-sound code fuel journal store strand end m valid short some little =
     let shows : Shows code strand = record { ask = m.settled.ask; place = m.settled.place } in
     let without : EndsWithoutTurn code (alone store (standing strand)) end = rw m.end_is (ends-without code store strand shows) in
-    let spent : is_spent strand.ask ≡ false = shown (place_at code.list (standing strand).at) strand.ask (standing strand).mode shows.ask in
+    let spent : is_spent strand.about.ask ≡ false = shown (place_at code.list (standing strand).at) strand.about.ask (standing strand).mode shows.ask in
     record {
       run = record {
         valid = valid;
@@ -100,24 +100,24 @@ pub made-is : (code : Code) (fuel : ℕ) (journal : Vec Entry Global) (store : S
     → Begins code fuel (run_of (record { code = code; fuel = fuel; journal = journal; store = store; strand = strand; lost = false; end = end }))
 made-is code fuel journal store strand end m =
     let shows : Shows code strand = record { ask = m.settled.ask; place = m.settled.place } in
-    let spent : is_spent strand.ask ≡ false = shown (place_at code.list (standing strand).at) strand.ask (standing strand).mode shows.ask in
+    let spent : is_spent strand.about.ask ≡ false = shown (place_at code.list (standing strand).at) strand.about.ask (standing strand).mode shows.ask in
     let same = opened code store strand m.store_is m.settled in
     let run_at : List Entry → World → Bool → Run = λ entries w b. record { code = code; fuel = fuel; entries = entries; world = w; spent = b; lost = false; end = end } in
     record {
-      is = ap (λ l. run_at l (alone store (standing strand)) (is_spent strand.ask)) m.items ∙ ap (λ b. run_at [] (alone store (standing strand)) b) spent ∙ ap (λ w. run_at [] w false) (sym same);
+      is = ap (λ l. run_at l (alone store (standing strand)) (is_spent strand.about.ask)) m.items ∙ ap (λ b. run_at [] (alone store (standing strand)) b) spent ∙ ap (λ w. run_at [] w false) (sym same);
       ends = rw same (rw m.end_is (ends-without code store strand shows));
     }
 
 -- ---- between two turns
 
 -- the strand asks for an act or stands before a fault
-pub not-idle : (s : Inside) → IsSound s → GoesOn (run_of s) → ((w : Want) → s.strand.ask ≡ ask.Want w → ⊥) → ((why : FaultKind) (place : ℕ) → s.strand.ask ≡ ask.Fault why place → ⊥) → ⊥
+pub not-idle : (s : Inside) → IsSound s → GoesOn (run_of s) → ((w : Want) → s.strand.about.ask ≡ ask.Want w → ⊥) → ((why : FaultKind) (place : ℕ) → s.strand.about.ask ≡ ask.Fault why place → ⊥) → ⊥
 not-idle s sound goes no_want no_fault = by_mode (standing s.strand).mode refl
   where
-    spent : is_spent s.strand.ask ≡ false
+    spent : is_spent s.strand.about.ask ≡ false
     spent = not-spent s sound goes.kept
 
-    ask_is : (m : Mode) → (standing s.strand).mode ≡ m → s.strand.ask ≡ asked (place_at s.code.list s.strand.body.at) m
+    ask_is : (m : Mode) → (standing s.strand).mode ≡ m → s.strand.about.ask ≡ asked (place_at s.code.list s.strand.body.at) m
     ask_is m e = (sound.shows spent).ask ∙ ap (asked (place_at s.code.list s.strand.body.at)) e
 
     by_mode : (m : Mode) → (standing s.strand).mode ≡ m → ⊥
@@ -129,12 +129,12 @@ pub none-from : (o : Option End) (b : Bool) → b ≡ is_some o → b ≡ false 
 none-from None b e f = refl
 none-from (Some x) b e f = absurd (cc)
 
-pub able-here : (s : Inside) → IsSound s → s.end ≡ None → is_spent s.strand.ask ≡ false → IsAble (run_of s) 0
+pub able-here : (s : Inside) → IsSound s → s.end ≡ None → is_spent s.strand.about.ask ≡ false → IsAble (run_of s) 0
 able-here s sound none kept =
     let turn = (sound.run.goes_on kept none).1 in
     record { unended = none; kept = kept; turn = subst (λ n. HasTurn s.code (run_of s).world n) (one-turn s.code s.store (standing s.strand) turn.0 turn.1) turn.1 }
 
-pub first-here : (s : Inside) (after : ℕ) → IsSound s → s.end ≡ None → is_spent s.strand.ask ≡ false → IsFirstBehind (IsAble (run_of s)) after 0
+pub first-here : (s : Inside) (after : ℕ) → IsSound s → s.end ≡ None → is_spent s.strand.about.ask ≡ false → IsFirstBehind (IsAble (run_of s)) after 0
 first-here s after sound none kept = record {
   such = able-here s sound none kept;
   first = λ other able sooner. not_sooner other (one-turn s.code s.store (standing s.strand) other able.turn) sooner;

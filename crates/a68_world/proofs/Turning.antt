@@ -37,10 +37,10 @@ use Rattle.a68_world.proofs.Running.{machine-more}
 use Rattle.a68_world.proofs.ScopesKept.{settle-below, replied-below, state-more, brings_room-below}
 
 -- no strand is spent in a run that goes on
-pub not-spent : (s : Inside) → IsSound s → s.lost ≡ false → is_spent s.strand.ask ≡ false
-not-spent s sound kept = by_case (is_spent s.strand.ask) refl
+pub not-spent : (s : Inside) → IsSound s → s.lost ≡ false → is_spent s.strand.about.ask ≡ false
+not-spent s sound kept = by_case (is_spent s.strand.about.ask) refl
   where
-    by_case : (b : Bool) → is_spent s.strand.ask ≡ b → is_spent s.strand.ask ≡ false
+    by_case : (b : Bool) → is_spent s.strand.about.ask ≡ b → is_spent s.strand.about.ask ≡ false
     by_case false e = e
     by_case true e = let lost : s.lost ≡ true = sound.run.spent e in absurd (cc)
 
@@ -113,11 +113,11 @@ pub record Asked (s : Inside) (w : Want) (done : Act) (told : Reply) (store : St
   pub sound : IsSound s
   pub goes : GoesOn (run_of s)
   pub fuel : length s.journal.items < s.fuel
-  pub asks : s.strand.ask ≡ ask.Want w
+  pub asks : s.strand.about.ask ≡ ask.Want w
   pub does_it : does w s.store ≡ did done told store
 
 pub asked-from : (s : Inside) (self : Run) (w : Want) (a : Ask) (d : Act) (r : Reply) (store : Store) → run_of s ≡ self → IsSound s → GoesOn self → IsDue self 0
-    → a ≡ s.strand.ask → a ≡ ask.Want w → does w s.store ≡ did d r store → Asked s w d r store
+    → a ≡ s.strand.about.ask → a ≡ ask.Want w → does w s.store ≡ did d r store → Asked s w d r store
 asked-from s self w a d r store view sound goes due shown is does_it = record {
   sound = sound;
   goes = subst (λ (run : Run). GoesOn run) (sym view) goes;
@@ -126,7 +126,7 @@ asked-from s self w a d r store view sound goes due shown is does_it = record {
   does_it = does_it;
 }
 
-asks-mode : (s : Inside) (w : Want) → IsSound s → s.lost ≡ false → s.strand.ask ≡ ask.Want w → (x : Waiting) × ((standing s.strand).mode ≡ Asking w x)
+asks-mode : (s : Inside) (w : Want) → IsSound s → s.lost ≡ false → s.strand.about.ask ≡ ask.Want w → (x : Waiting) × ((standing s.strand).mode ≡ Asking w x)
 asks-mode s w sound kept e = asking s.code s.strand w (sound.shows (not-spent s sound kept)) e
 
 pub next-world : (s : Inside) (w : Want) (d : Act) (r : Reply) (store : Store) → Asked s w d r store
@@ -138,7 +138,7 @@ next-world s w d r store a =
 abbrev world_of : Store → List State → World
 world_of store strands = record { store = store; strands = strands }
 
-pub machine-here : (s : Inside) → IsSound s → is_spent s.strand.ask ≡ false → Machine s.code (opening s.code) s.journal.items (run_of s).world
+pub machine-here : (s : Inside) → IsSound s → is_spent s.strand.about.ask ≡ false → Machine s.code (opening s.code) s.journal.items (run_of s).world
 machine-here s sound kept =
     let f = sound.run.follows in
     let store : f.world.store ≡ s.store = f.store in
@@ -198,7 +198,7 @@ longer s w d r store journal a noted = ap (λ l. length l) noted.items ∙ lengt
 
 -- the run behind the act
 pub acted-sound : (s : Inside) (w : Want) (d : Act) (r : Reply) (store : Store) (journal : Vec Entry Global) (strand : Strand) (end : Option End) → Asked s w d r store → Noted s d journal
-    → HasSettled s.code (replied s.code (standing s.strand) r) strand → end ≡ end_shown strand.ask
+    → HasSettled s.code (replied s.code (standing s.strand) r) strand → end ≡ end_shown strand.about.ask
     → IsSound (record s { journal = journal; store = store; strand = strand; end = end })
 acted-sound s w d r store journal strand end a noted told ends =
     let run = a.sound.run in
@@ -222,7 +222,7 @@ acted-sound s w d r store journal strand end a noted told ends =
         ended = is-end s.code s.fuel journal.items (alone store (standing strand)) end without;
         goes_on = λ e none. rw none at without;
         lost = λ lost. let kept = a.goes.kept in absurd (cc);
-        spent = λ e. absurd (not-both strand.ask (place_at s.code.list (standing strand).at) (standing strand).mode shows.ask e);
+        spent = λ e. absurd (not-both strand.about.ask (place_at s.code.list (standing strand).at) (standing strand).mode shows.ask e);
       };
       room = noted.room;
       shows = λ e. shows;
@@ -237,12 +237,12 @@ acted-sound s w d r store journal strand end a noted told ends =
     not-both b place (Failed why) e f = let is = ap is_spent e in absurd (cc)
 
 pub acted-is : (s : Inside) (w : Want) (d : Act) (r : Reply) (store : Store) (journal : Vec Entry Global) (strand : Strand) (end : Option End) → Asked s w d r store → Noted s d journal
-    → HasSettled s.code (replied s.code (standing s.strand) r) strand → end ≡ end_shown strand.ask
+    → HasSettled s.code (replied s.code (standing s.strand) r) strand → end ≡ end_shown strand.about.ask
     → Acts (run_of s) 0 (run_of (record s { journal = journal; store = store; strand = strand; end = end }))
 acted-is s w d r store journal strand end a noted told ends =
     let shows : Shows s.code strand = record { ask = told.ask; place = told.place } in
-    let spent : is_spent strand.ask ≡ false = shown (place_at s.code.list (standing strand).at) strand.ask (standing strand).mode shows.ask in
-    let was : is_spent s.strand.ask ≡ false = not-spent s a.sound a.goes.kept in
+    let spent : is_spent strand.about.ask ≡ false = shown (place_at s.code.list (standing strand).at) strand.about.ask (standing strand).mode shows.ask in
+    let was : is_spent s.strand.about.ask ≡ false = not-spent s a.sound a.goes.kept in
     record {
       goes_on = a.goes;
       fuel = a.fuel;
@@ -260,12 +260,12 @@ acted-is s w d r store journal strand end a noted told ends =
 -- ---- no memory behind the act
 
 pub spent-sound : (s : Inside) (w : Want) (d : Act) (r : Reply) (store : Store) (journal : Vec Entry Global) (strand : Strand) → Asked s w d r store → Noted s d journal
-    → strand.ask ≡ ask.NoMemory → IsSound (record s { journal = journal; store = store; strand = strand; lost = true })
+    → strand.about.ask ≡ ask.NoMemory → IsSound (record s { journal = journal; store = store; strand = strand; lost = true })
 spent-sound s w d r store journal strand a noted none =
     let run = a.sound.run in
     let long = longer s w d r store journal a noted in
     let room = room-behind s w d r store a in
-    let spent : is_spent strand.ask ≡ true = ap is_spent none in
+    let spent : is_spent strand.about.ask ≡ true = ap is_spent none in
     record {
       run = record {
         valid = run.valid;
@@ -291,15 +291,15 @@ spent-sound s w d r store journal strand a noted none =
       strand = λ e. absurd (cc);
     }
 
-pub due-here : (s : Inside) (w : Want) → IsSound s → GoesOn (run_of s) → s.strand.ask ≡ ask.Want w → length s.journal.items < s.fuel → IsDue (run_of s) 0
+pub due-here : (s : Inside) (w : Want) → IsSound s → GoesOn (run_of s) → s.strand.about.ask ≡ ask.Want w → length s.journal.items < s.fuel → IsDue (run_of s) 0
 due-here s w sound goes e fuel =
     let mode = asks-mode s w sound goes.kept e in
     record { st = standing s.strand; there = refl; want = w; wait = mode.0; asks = mode.1; fuel = fuel }
 
 pub spent-is : (s : Inside) (w : Want) (d : Act) (r : Reply) (store : Store) (journal : Vec Entry Global) (strand : Strand) → Asked s w d r store → Noted s d journal
-    → strand.ask ≡ ask.NoMemory → FindsNoMemory (run_of s) 0 (run_of (record s { journal = journal; store = store; strand = strand; lost = true }))
+    → strand.about.ask ≡ ask.NoMemory → FindsNoMemory (run_of s) 0 (run_of (record s { journal = journal; store = store; strand = strand; lost = true }))
 spent-is s w d r store journal strand a noted none =
-    let spent : is_spent strand.ask ≡ true = ap is_spent none in
+    let spent : is_spent strand.about.ask ≡ true = ap is_spent none in
     record {
       unended = a.goes.unended;
       due = inr (due-here s w a.sound a.goes a.asks a.fuel);

@@ -9,9 +9,9 @@ use Rattle.a68_store.specs.Codes.{store_code}
 use Rattle.a68_strand.specs.Machine.{State, Stack}
 use Rattle.a68_strand.specs.Runs.{World}
 use Rattle.a68_strand.specs.contracts.ask.Mode as mode
-use Rattle.a68_strand.specs.contracts.stack.Item as item
+use Rattle.a68_stack.specs.contracts.stack.Item as item
 use Rattle.a68_strand.specs.declared.ask.Mode.{Mode}
-use Rattle.a68_strand.specs.declared.stack.Item.{Item}
+use Rattle.a68_stack.specs.declared.stack.Item.{Item}
 use Rattle.a68_values.specs.contracts.act.Entry as entry
 use Rattle.a68_values.specs.contracts.chain.Environ as environ
 use Rattle.a68_values.specs.contracts.kept.End as end

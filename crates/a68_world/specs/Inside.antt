@@ -20,14 +20,14 @@ run_of s = record {
   fuel = s.fuel;
   entries = s.journal.items;
   world = record { store = s.store; strands = standing s.strand ∷ [] };
-  spent = is_spent s.strand.ask;
+  spent = is_spent s.strand.about.ask;
   lost = s.lost;
   end = s.end;
 }
 
 -- the strand shows what it asks, and the place of the construct that asks
 pub record Shows (code : Code) (strand : Strand) : Type 0 where
-  pub ask : strand.ask ≡ ask_of code (standing strand)
+  pub ask : strand.about.ask ≡ ask_of code (standing strand)
   pub place : strand.place ≡ place_at code.list strand.body.at
 
 -- the end of a run whose only strand shows this
@@ -39,8 +39,8 @@ pub record IsSound (s : Inside) : Type 0 where
   pub run : IsRun (run_of s)
   -- there is room for as many entries as there is fuel
   pub room : s.fuel ≤ vec_capacity s.journal
-  pub shows : is_spent s.strand.ask ≡ false → Shows s.code s.strand
+  pub shows : is_spent s.strand.about.ask ≡ false → Shows s.code s.strand
   -- an event makes one frame at most, and scopes are below the number of frames
   pub few : length s.store.frames ≤ length s.journal.items + 1
   pub frames : FramesBelow (length s.store.frames) s.store.frames
-  pub strand : is_spent s.strand.ask ≡ false → StateBelow (length s.store.frames) (standing s.strand)
+  pub strand : is_spent s.strand.about.ask ≡ false → StateBelow (length s.store.frames) (standing s.strand)

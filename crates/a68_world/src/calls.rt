@@ -6,7 +6,7 @@ ghost use Rattle.a68_world.specs.Inside.{end_shown};
 ghost use Rattle.a68_world.specs.Run.{IsRun, Begins, most_fuel};
 ghost use Rattle.a68_world.specs.Turns.{GoesOn, EndsAt, IsDue, TurnOf, IsAble, Finishes, last_strand};
 
-use crate::acts::act;
+use crate::acts::{act, act_plain};
 use crate::{Turned, World};
 use a68_acts::Reply;
 use a68_base::NoMemory;
@@ -80,7 +80,10 @@ impl World {
     {
         match self.ends_now() {
             Some(end) => self.end_with(end),
-            None => self.do_act(alloc),
+            None => match self.do_plain(alloc) {
+                Some(turned) => turned,
+                None => self.do_act(alloc),
+            },
         }
     }
 
@@ -132,6 +135,34 @@ impl World {
         }
     }
 
+    // The act for which strand 0 asks, where plain values alone take part in it; none where others do or it meets a fault.
+    fn do_plain(&mut self, alloc: Global) -> Option<Turned>
+        requires goes_on { GoesOn self.old }
+        requires due { IsDue self.old 0 }
+        ensures { MatchOption result (self.new ≡ self.old) (λ turned. TurnOf self.old 0 turned self.new) }
+    {
+        let Ask::Want(want) = self.strand.ask() else {
+            return None;
+        };
+        let (done, short) = act_plain(&mut self.store, want)?;
+        let entry = Entry {
+            strand: 0,
+            act: done,
+        };
+        // The journal has room for the whole fuel.
+        let _ = self.journal.push(entry);
+        match self.strand.told_plain(alloc, &self.code, short) {
+            Err(_) => {
+                self.lost = true;
+                Some(Turned::NoMemory)
+            }
+            Ok(()) => {
+                self.end = end_shown(self.strand.ask());
+                Some(Turned::Acted)
+            }
+        }
+    }
+
     // The act for which strand 0 asks.
     fn do_act(&mut self, alloc: Global) -> Turned
         requires goes_on { GoesOn self.old }
@@ -139,7 +170,8 @@ impl World {
         ensures { TurnOf self.old 0 result self.new }
     {
         let Ask::Want(want) = self.strand.ask() else {
-            return Turned::NotReady;
+            // The strand asks for an act that is due.
+            unreachable!();
         };
         let mut reply = Reply::Go;
         let done = match act(alloc, &mut self.store, want, &mut reply) {

@@ -23,20 +23,22 @@ fn step(alloc: Global, world: &mut World, strand: u32) -> Result<Option<u32>, No
     match world.turn(alloc, strand) {
         Turned::Acted => Ok(Some(world.next(world.last()).unwrap_or(strand))),
         Turned::Over(_) => Ok(None),
-        Turned::NotReady | Turned::NoMemory => Err(NoMemory),
+        // It is the strand's turn, so the strand is there.
+        Turned::NotReady => unreachable!(),
+        Turned::NoMemory => Err(NoMemory),
     }
 }
 
 // What is kept of a run that has ended.
-fn done(world: World) -> Result<(Code, Kept), NoMemory>
+fn done(world: World) -> (Code, Kept)
     requires { EndedInTurn world }
-    ensures code { IfOk result (λ done. done.0 ≡ world.code) }
-    ensures runs { IfOk result (λ done. RunOf world.code world.fuel done.1) }
-    ensures cyclic { IfOk result (λ done. Cyclic world.code done.1) }
+    ensures code { result.0 ≡ world.code }
+    ensures runs { RunOf world.code world.fuel result.1 }
+    ensures cyclic { Cyclic world.code result.1 }
 {
     match world.finish() {
-        Ok(done) => Ok(done),
-        Err(_) => Err(NoMemory),
+        Ok(done) => done,
+        Err(_) => unreachable!(),
     }
 }
 
@@ -55,7 +57,7 @@ pub fn run(alloc: Global, code: Code, fuel: u32) -> Result<(Code, Kept), NoMemor
     loop {
         match step(alloc, &mut world, strand)? {
             Some(next) => strand = next,
-            None => return done(world),
+            None => return Ok(done(world)),
         }
     }
 }

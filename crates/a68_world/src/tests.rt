@@ -159,3 +159,15 @@ fn turns(rt: HostRuntime) -> Result<(), Fail> {
     assert_eq!(rt; world.code().list.items.len(), 10);
     Ok(())
 }
+
+// Takes what may go to another thread.
+fn sent<T: Send>(value: T) -> T {
+    value
+}
+
+#[test]
+fn goes_to_another_thread(rt: HostRuntime) -> Result<(), Fail> {
+    let world = sent(world(&rt, rt.alloc(), "End", 1)?);
+    assert_eq!(rt; world.events(), 0);
+    Ok(())
+}

@@ -6,4 +6,5 @@ abbrev pub invariant-loop-id : goal.invariant-loop-id
 invariant-loop-id l = record {
   long : length l.heads.items ≡ l.id;
   each : (m : ℕ) → m < l.id → get_or l.heads.items m 0 ≡ behind l.modes (length l.modes) m;
+  there : (m : ℕ) → m < l.id → get_or l.heads.items m 0 < length l.modes;
 }

@@ -1,23 +1,18 @@
-use Rattle.std.proofs.Common.{arith, refl, ◌∙◌}
-use Rattle.a68_parse.proofs.Backwards.{draft_count}
-use Rattle.a68_parse.proofs.Parsing.{few_nodes, small_tree, one_tree, no_tree, tree_sound}
+use Rattle.std.proofs.Common.{◌∙◌, arith}
+use Rattle.a68_turn.proofs.Sound.{draft_count}
+use Rattle.a68_parse.proofs.Trees.{drafted, filled, few, derived, only}
 use Rattle.a68_parse.proofs.program.parse.Goals as goal
 
-pub turned-requires : goal.turned-requires
-turned-requires c =
-    let n = few_nodes _ _ _ (c.deref.ensures.value ∙ c.in_ok-list.ensures) c.in-Ok.ensures c.requires in
-    let d = draft_count c.program.new.drafts.items in omega (arith, n, d)
+pub tree-requires-clause-some : goal.tree-requires-clause-some
+tree-requires-clause-some c = filled _ _ _ _ (c.deref.ensures.value ∙ c.in_ok-list.ensures) c.in-Ok.ensures
 
-pub new-requires : goal.new-requires
-new-requires c =
-    tree_sound _ _ _ (c.deref.ensures.value ∙ c.in_ok-list.ensures) c.in-Ok.ensures c.requires _ _ c.in_ok-nodes-in-Ok.ensures c.in_ok-spellings-in-Ok.ensures.names
+pub tree-requires-clause-few : goal.tree-requires-clause-few
+tree-requires-clause-few c =
+    let a = few _ _ _ _ (c.deref.ensures.value ∙ c.in_ok-list.ensures) c.in-Ok.ensures c.requires in
+    let n = draft_count c.in-Ok.drafts.items in omega (arith, a, n)
 
 pub returns-in-Ok-clause-parses : goal.returns-in-Ok-clause-parses
 returns-in-Ok-clause-parses c =
     let e = c.deref.ensures.value ∙ c.in_ok-list.ensures in
-    rw c.new.ensures (small_tree _ _ _ e c.in-Ok.ensures _ c.in_ok-nodes-in-Ok.ensures, one_tree _ _ _ e c.in-Ok.ensures _ c.in_ok-nodes-in-Ok.ensures)
-
-pub returns-clause-parses : goal.returns-clause-parses
-returns-clause-parses c =
-    let none = rw c.in-Err-NoTree.field-0-is at c.in-Err-NoTree.ensures in
-    (refl, c.place.ensures, no_tree _ _ (c.deref.ensures.value ∙ c.in_ok-list.ensures) none)
+    let l = c.in_ok-tree-in-Ok.ensures.listed (drafted _ _ _ _ e c.in-Ok.ensures) in
+    (derived _ _ _ _ e c.in-Ok.ensures _ l, only _ _ _ _ e c.in-Ok.ensures _ l)

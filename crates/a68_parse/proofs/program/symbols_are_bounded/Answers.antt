@@ -1,4 +1,4 @@
-use Rattle.a68_parse.proofs.Parsing.{symbols_few, symbols_within}
+use Rattle.a68_parse.proofs.Bounds.{symbols_few, symbols_within}
 use Rattle.a68_parse.proofs.program.symbols_are_bounded.Goals as goal
 
 pub returns-clause-few : goal.returns-clause-few

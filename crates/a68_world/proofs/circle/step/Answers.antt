@@ -1,7 +1,7 @@
 use Rattle.std.proofs.Common.{sym, subst, None, IfSome}
 use Rattle.a68_strand.specs.Cyclic.{IsFirstBehind, IsTurnOf, last_of}
 use Rattle.a68_world.specs.Turns.{IsAble}
-use Rattle.a68_world.proofs.Circling.{in_turn, next_turn}
+use Rattle.a68_world.proofs.Circling.{in_turn, never_absent, next_turn}
 use Rattle.a68_world.proofs.circle.step.Goals as goal
 
 -- src/circle.rt:16:1
@@ -11,3 +11,6 @@ returns-in-Acted-clause-next c =
     (λ before last same stands ends unended. subst (λ m. IsTurnOf c.turn.new.self.code c.turn.new.self.world (last_of None c.turn.new.self.entries) m) (sym c.unwrap_or.ensures)
     (next_turn c.turn.new.self before c.args.strand c.next.result last same stands ends
     (subst (λ x. IfSome c.next.result (IsFirstBehind (IsAble c.turn.new.self) x)) c.last.ensures c.next.ensures.first) c.next.ensures.none.0 unended))
+
+pub unreachable-requires : goal.unreachable-requires
+unreachable-requires c = never_absent c.args.world.now c.turn.new.self c.args.strand c.requires c.in-NotReady.ensures

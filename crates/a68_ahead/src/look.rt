@@ -1,0 +1,234 @@
+//! Looking behind declarers and brackets.
+ghost use Rattle.std.specs.Prelude.{◌≡◌, ◌<◌, ◌^◌};
+ghost use Rattle.a68_ahead.specs.Ahead as spec;
+
+use a68_tree::{Bracket, Sym, Token};
+
+/// What is due outside the brackets.
+#[derive(Clone, Copy, Debug)]
+pub enum Due {
+    /// A declarer.
+    Declarer,
+    /// A declarer or VOID.
+    Result,
+    /// The parameters or the result of a mode that PROC begins.
+    Procedure,
+    /// The brackets behind STRUCT or UNION.
+    Fields,
+    /// What stands behind a declarer.
+    Ended,
+    /// What stands behind a tag in the brackets in which looking began.
+    Named,
+    /// One more tag, or a declarer.
+    More,
+    /// The colon behind the brackets of a spec.
+    Colon,
+}
+
+/// What is looked for.
+#[derive(Clone, Copy, Debug)]
+pub enum Mark {
+    /// A declarer and a colon.
+    Colon,
+    /// A declarer and a tag.
+    Tag,
+    /// Parameters, up to the bracket that closes them.
+    Parameters,
+    /// The spec of a choice.
+    Spec,
+}
+
+/// What a symbol says: looking goes on within so many brackets; or what is looked for ends here; or it does not stand here.
+#[derive(Clone, Copy, Debug)]
+pub enum Look {
+    Goes(usize, Due),
+    Found,
+    Missed,
+}
+
+fn word(token: Token) -> Look
+    ensures { result ≡ spec.word token }
+{
+    match token {
+        Token::Int | Token::Plain | Token::ModeWord => Look::Goes(0, Due::Ended),
+        Token::Ref | Token::Flex => Look::Goes(0, Due::Declarer),
+        Token::Struct | Token::Union => Look::Goes(0, Due::Fields),
+        Token::Proc => Look::Goes(0, Due::Procedure),
+        _ => Look::Missed,
+    }
+}
+
+fn word_or_void(token: Token) -> Look
+    ensures { result ≡ spec.word_or_void token }
+{
+    match token {
+        Token::Void => Look::Goes(0, Due::Ended),
+        _ => word(token),
+    }
+}
+
+fn test(mark: Mark, token: Token) -> Look
+    ensures { result ≡ spec.test mark token }
+{
+    match (mark, token) {
+        (Mark::Colon, Token::Colon) | (Mark::Tag, Token::Tag) => Look::Found,
+        (Mark::Parameters | Mark::Spec, Token::Tag) => Look::Goes(0, Due::Named),
+        _ => Look::Missed,
+    }
+}
+
+fn named(mark: Mark, token: Token) -> Look
+    ensures { result ≡ spec.named mark token }
+{
+    match (mark, token) {
+        (Mark::Parameters, Token::Comma) => Look::Goes(0, Due::More),
+        _ => Look::Missed,
+    }
+}
+
+fn more(token: Token) -> Look
+    ensures { result ≡ spec.more token }
+{
+    match token {
+        Token::Tag => Look::Goes(0, Due::Named),
+        _ => word(token),
+    }
+}
+
+fn colon(token: Token) -> Look
+    ensures { result ≡ spec.colon token }
+{
+    match token {
+        Token::Colon => Look::Found,
+        _ => Look::Missed,
+    }
+}
+
+fn bracket(due: Due, bracket: Bracket) -> Look
+    ensures { result ≡ spec.bracket due bracket }
+{
+    match (due, bracket) {
+        (Due::Declarer | Due::Result | Due::Procedure | Due::More, Bracket::Square) => {
+            Look::Goes(1, Due::Declarer)
+        }
+        (Due::Procedure, Bracket::Round) => Look::Goes(1, Due::Result),
+        (Due::Fields, Bracket::Round) => Look::Goes(1, Due::Ended),
+        _ => Look::Missed,
+    }
+}
+
+// The bracket that closes those in which looking began.
+fn closing(mark: Mark, due: Due, bracket: Bracket) -> Look
+    ensures { result ≡ spec.closing mark due bracket }
+{
+    match (mark, due, bracket) {
+        (Mark::Parameters, Due::Named, Bracket::Round) => Look::Found,
+        (Mark::Spec, Due::Ended, Bracket::Round) => Look::Found,
+        (Mark::Spec, Due::Named, Bracket::Round) => Look::Goes(0, Due::Colon),
+        _ => Look::Missed,
+    }
+}
+
+fn token(mark: Mark, due: Due, token: Token) -> Look
+    ensures { result ≡ spec.token mark due token }
+{
+    match due {
+        Due::Declarer => word(token),
+        Due::Result | Due::Procedure => word_or_void(token),
+        Due::Fields => Look::Missed,
+        Due::Ended => test(mark, token),
+        Due::Named => named(mark, token),
+        Due::More => more(token),
+        Due::Colon => colon(token),
+    }
+}
+
+fn outside(mark: Mark, due: Due, sym: Sym) -> Look
+    ensures { result ≡ spec.step mark 0 due sym }
+{
+    match sym {
+        Sym::Opens(opened) => bracket(due, opened),
+        Sym::Closes(closed) => closing(mark, due, closed),
+        Sym::Is(found) => token(mark, due, found),
+    }
+}
+
+fn step(mark: Mark, depth: usize, due: Due, sym: Sym) -> Look
+    requires { depth < 2 ^ 63 }
+    ensures { result ≡ spec.step mark depth due sym }
+{
+    if depth == 0 {
+        return outside(mark, due, sym);
+    }
+    match sym {
+        Sym::Opens(_) => Look::Goes(depth + 1, due),
+        Sym::Closes(_) => Look::Goes(depth - 1, due),
+        Sym::Is(_) => Look::Goes(depth, due),
+    }
+}
+
+fn behind(mark: Mark, first: Due, text: &[Sym]) -> bool
+    ensures { result ≡ spec.behind mark 0 first text.now }
+{
+    let mut depth = 0;
+    let mut due = first;
+    let mut rest = text;
+    while let Some((sym, after)) = rest.split_first() {
+        match step(mark, depth, due, *sym) {
+            Look::Goes(within, next) => {
+                depth = within;
+                due = next;
+            }
+            Look::Found => return true,
+            Look::Missed => return false,
+        }
+        rest = after;
+    }
+    false
+}
+
+fn inside(mark: Mark, text: &[Sym]) -> bool
+    ensures { result ≡ spec.inside mark text.now }
+{
+    match text.split_first() {
+        Some((Sym::Opens(Bracket::Round), listed)) => behind(mark, Due::Declarer, listed),
+        _ => false,
+    }
+}
+
+/// Whether a routine text stands at the front, if any unit does.
+pub fn routine_ahead(text: &[Sym]) -> bool
+    ensures { result ≡ spec.routine_ahead text.now }
+{
+    inside(Mark::Parameters, text) || behind(Mark::Colon, Due::Result, text)
+}
+
+/// Whether the spec of a choice stands at the front, if any choice does.
+pub fn spec_ahead(text: &[Sym]) -> bool
+    ensures { result ≡ spec.spec_ahead text.now }
+{
+    inside(Mark::Spec, text)
+}
+
+fn tag_first(text: &[Sym]) -> bool
+    ensures { result ≡ spec.tag_first text.now }
+{
+    match text.first() {
+        Some(Sym::Is(Token::Tag)) => true,
+        _ => false,
+    }
+}
+
+/// Whether a declaration stands at the front, if any phrase does.
+pub fn phrase_ahead(text: &[Sym]) -> bool
+    ensures { result ≡ spec.phrase_ahead text.now }
+{
+    match text.split_first() {
+        Some((Sym::Is(Token::Mode | Token::Prio | Token::Op), _)) => true,
+        Some((Sym::Is(Token::Loc | Token::Heap), declarer)) => {
+            behind(Mark::Tag, Due::Declarer, declarer)
+        }
+        Some((Sym::Is(Token::Proc), named)) if tag_first(named) => true,
+        _ => behind(Mark::Tag, Due::Declarer, text),
+    }
+}

@@ -1,0 +1,9 @@
+pub mod Joining
+pub mod Numbering
+pub mod Framing
+pub mod Backwards
+pub mod Closed
+pub mod Steps
+pub mod Making
+pub mod Seen
+pub mod Singles

@@ -1,0 +1,5 @@
+pub mod Stack
+pub mod Pieces
+pub mod Views
+pub mod Closing
+pub mod Built

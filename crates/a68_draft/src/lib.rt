@@ -1,0 +1,13 @@
+//! The nodes of a tree as a parser reads it.
+#![tactic(auto)]
+
+mod closing;
+mod draft;
+mod drafting;
+mod frames;
+
+pub use draft::Draft;
+pub use drafting::Drafting;
+
+#[cfg(test)]
+mod tests;

@@ -1,0 +1,108 @@
+//! The node of a shape over nodes that are there.
+ghost use Rattle.std.specs.Prelude.{◌≡◌, ◌≢◌, ◌<◌, ◌≤◌, ◌+◌, ◌*◌, ◌↔◌, ◌++◌, ◌∷◌, [], ℕ, List, Vec, IfOk, OnOk, OnErr, Err, length, vec_len, vec_capacity};
+ghost use Rattle.std.specs.Global.{Global};
+ghost use Rattle.indexmap.specs.IndexMap.{spare};
+ghost use Rattle.a68_modes.specs.Nodes.{IsWithin};
+ghost use Rattle.a68_modes.specs.declared.modes.ModeStop.TheVariants.{Full, NoMemory as no_memory};
+ghost use Rattle.a68_equiv.specs.Classes.{AreKept, IsAlready, IsNodeOf};
+ghost use Rattle.a68_refine.specs.Rounds.{IsNumbered};
+ghost use Rattle.a68_equiv.specs.Ways.{AreWellFormed};
+
+use crate::classes::Classes;
+use crate::keys::shape_key;
+use a68_base::NoMemory;
+use a68_modes::{ModeId, ModeStop, Modes, Shape};
+use a68_refine::{Table, numbered};
+use std::alloc::Global;
+
+/// The node of a shape over nodes that are there: the first that is equivalent, or a new one behind the others where
+/// none is. The classes stay those of the modes. Full where a new node is one too many; an error leaves both as they
+/// were.
+pub fn intern(
+    alloc: Global,
+    modes: &mut Modes,
+    classes: &mut Classes,
+    shape: Shape,
+) -> Result<ModeId, ModeStop>
+    requires within { IsWithin (length modes.old) shape }
+    requires formed { AreWellFormed modes.old }
+    requires kept { AreKept modes.old classes.old }
+    ensures node { IfOk result (λ id. IsNodeOf modes.old modes.new shape id) }
+    ensures formed { AreWellFormed modes.new }
+    ensures kept { AreKept modes.new classes.new }
+    ensures full { result ≢ Err no_memory → (result ≡ Err Full) ↔ ((length modes.old ≡ 16777216) × ((a : ℕ) → a < length modes.old → IsAlready modes.old shape a → ⊥)) }
+    ensures modes_stay { OnErr result (modes.new ≡ modes.old) }
+    ensures classes_stay { OnErr result (classes.new ≡ classes.old) }
+{
+    let key = shape_key(alloc, modes, &classes.items, &shape, false)?;
+    if let Some(old) = classes.nodes.get(&key) {
+        return Ok(*old);
+    }
+    let fixed = shape_key(alloc, modes, &classes.items, &shape, true)?;
+    let again = copied(alloc, &key)?;
+    make_room(&mut classes.items, &mut classes.keys, &mut classes.nodes)?;
+    let id = match modes.add(shape) {
+        Ok(id) => id,
+        Err(stop) => return Err(stop),
+    };
+    numbered_in_room(&mut classes.nodes, again, id);
+    let class = numbered_in_room(&mut classes.keys, key, 2 * id);
+    let without_flex = numbered_in_room(&mut classes.keys, fixed, 2 * id + 1);
+    push_two(&mut classes.items, class, without_flex);
+    Ok(id)
+}
+
+fn copied(alloc: Global, key: &[u32]) -> Result<Vec<u32>, NoMemory>
+    ensures { IfOk result (λ copy. copy.items ≡ key.now) }
+{
+    let copy = Vec::from_slice(alloc, key)?;
+    Ok(copy)
+}
+
+/// Makes room for one node more.
+fn make_room(items: &mut Vec<u32>, keys: &mut Table, nodes: &mut Table) -> Result<(), NoMemory>
+    ensures items { items.new.items ≡ items.old.items }
+    ensures keys { keys.new.entries ≡ keys.old.entries }
+    ensures nodes { nodes.new.entries ≡ nodes.old.entries }
+    ensures items_room { OnOk result (vec_len items.new + 2 ≤ vec_capacity items.new) }
+    ensures keys_room { OnOk result (2 ≤ spare keys.new) }
+    ensures nodes_room { OnOk result (1 ≤ spare nodes.new) }
+{
+    items.reserve(2)?;
+    keys.reserve(2)?;
+    nodes.reserve(1)?;
+    Ok(())
+}
+
+/// The number of a key in a table that has room, a new one where it has none.
+fn numbered_in_room(table: &mut Table, key: Vec<u32>, new: u32) -> u32
+    requires { 0 < spare table.old }
+    ensures numbered { IsNumbered table.old.entries table.new.entries key.items new result }
+    ensures room { spare table.old ≤ spare table.new + 1 }
+{
+    match numbered(table, key, new) {
+        Ok(number) => number,
+        Err(_) => unreachable!(),
+    }
+}
+
+/// Adds two numbers to a list that has room for them.
+fn push_two(items: &mut Vec<u32>, one: u32, other: u32)
+    requires { vec_len items.old + 2 ≤ vec_capacity items.old }
+    ensures { items.new.items ≡ (items.old.items ++ one ∷ []) ++ other ∷ [] }
+{
+    push_in_room(items, one);
+    push_in_room(items, other);
+}
+
+fn push_in_room(items: &mut Vec<u32>, number: u32)
+    requires { vec_len items.old < vec_capacity items.old }
+    ensures items { items.new.items ≡ items.old.items ++ number ∷ [] }
+    ensures len { vec_len items.new ≡ vec_len items.old + 1 }
+    ensures capacity { vec_capacity items.old ≤ vec_capacity items.new }
+{
+    match items.push(number) {
+        Ok(()) => {}
+        Err(_) => unreachable!(),
+    }
+}

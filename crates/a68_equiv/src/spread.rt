@@ -1,0 +1,90 @@
+//! What mode words and unions lead to.
+ghost use Rattle.std.specs.Prelude.{◌≡◌, ◌<◌, ◌↔◌, ℕ, IfOk, OnOk, IsTrue, length, nat_eq};
+ghost use Rattle.std.specs.List.{All, Contains, IsDistinct};
+ghost use Rattle.a68_equiv.specs.Graph.{ArePlain};
+ghost use Rattle.a68_equiv.specs.Spread.{IsLed, IsSpread, Notes};
+ghost use Rattle.a68_equiv.specs.Unfolding.{leads_within, is_union as is_union_lem};
+
+use crate::steps::{Steps, row};
+use a68_base::NoMemory;
+use a68_modes::{Members, ModeId, Modes, Shape};
+use indexmap::IndexSet;
+use std::alloc::Global;
+
+/// What these modes are where the members of a union stand in its place, and the mode of a mode word in the place of
+/// that; each mode at least once.
+pub fn spread(alloc: Global, modes: &Modes, start: &[ModeId]) -> Result<Members, NoMemory>
+    requires { All (λ m. m < length modes.now) start.now }
+    ensures members { IfOk result (λ members. (x : ℕ) → Contains members x ↔ IsSpread modes.now start.now x) }
+    ensures below { IfOk result (λ members. All (λ m. m < length modes.now) members) }
+{
+    if are_plain(modes, start) {
+        let plain = Members::from_slice(alloc, start)?;
+        return Ok(plain);
+    }
+    let found = led(alloc, modes, start)?;
+    let mut items = Vec::new(alloc);
+    for mode in found.as_slice() {
+        if leads_on(modes.shape(*mode)) {
+            continue;
+        }
+        items.push(*mode)?;
+    }
+    Ok(Members { items })
+}
+
+/// These modes, and those to which they lead by mode words and unions, each once.
+fn led(alloc: Global, modes: &Modes, start: &[ModeId]) -> Result<IndexSet<ModeId>, NoMemory>
+    requires { All (λ m. m < length modes.now) start.now }
+    ensures led { IfOk result (λ found. (x : ℕ) → Contains found.keys x ↔ IsLed modes.now start.now x) }
+    ensures below { IfOk result (λ found. All (λ m. m < length modes.now) found.keys) }
+{
+    let mut found = IndexSet::new(alloc);
+    note(&mut found, start)?;
+    let mut i = 0;
+    while i < found.len() {
+        let at = found[i];
+        let steps = row(alloc, Steps::WithinUnions, modes.shape(at))?;
+        note(&mut found, &steps.items)?;
+        i += 1;
+    }
+    Ok(found)
+}
+
+/// Notes these modes behind the others, each once.
+fn note(found: &mut IndexSet<ModeId>, modes: &[ModeId]) -> Result<(), NoMemory>
+    requires { IsDistinct nat_eq found.old.keys }
+    ensures { OnOk result (Notes modes.now found.old.keys found.new.keys) }
+{
+    for mode in modes {
+        found.insert(*mode)?;
+    }
+    Ok(())
+}
+
+/// Is none of these modes a mode word or a union?
+fn are_plain(modes: &Modes, members: &[ModeId]) -> bool
+    requires { All (λ m. m < length modes.now) members.now }
+    ensures { IsTrue result → ArePlain modes.now members.now }
+{
+    for member in members {
+        if leads_on(modes.shape(*member)) {
+            return false;
+        }
+    }
+    true
+}
+
+/// Is the shape a union or a mode word?
+fn leads_on(shape: &Shape) -> bool
+    ensures { result ≡ leads_within shape.now }
+{
+    matches!(shape, Shape::Union(_) | Shape::Same(_))
+}
+
+/// Is the shape a union?
+pub fn is_union(shape: &Shape) -> bool
+    ensures { result ≡ is_union_lem shape.now }
+{
+    matches!(shape, Shape::Union(_))
+}

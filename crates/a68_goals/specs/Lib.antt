@@ -1,0 +1,4 @@
+pub mod Declarations
+pub mod Declarers
+pub mod Primaries
+pub mod Units

@@ -1,0 +1,8 @@
+//! What the operations of the language do with the values of their parts.
+#![tactic(auto)]
+
+mod operations;
+
+pub use operations::{
+    advanced, applied, assigned, counter_of, has_turn, made, on_ints, print_next, resumed, skipped,
+};

@@ -1,8 +1,0 @@
-use Rattle.std.proofs.Common.{sym, ◌∙◌}
-use Rattle.a68_parse.proofs.Same.{begins}
-use Rattle.a68_parse.proofs.draft.behind.Goals as goal
-
-pub returns-then-eq-clause-rest : goal.returns-then-eq-clause-rest
-returns-then-eq-clause-rest c =
-    let d = c.in_ok-first.ensures.cases in
-    begins _ _ _ _ d.0 (sym c.eq.ensures ∙ c.if-eq.true)

@@ -1,0 +1,22 @@
+use Rattle.std.proofs.Common.{◌<◌, ℕ, List, arith, length, subst}
+use Rattle.std.proofs.lemmas.List.Elements.{All-from_get_or}
+use Rattle.a68_refine.specs.Rounds.{SplitsBy}
+use Rattle.a68_refine.proofs.Splitting.{splits}
+use Rattle.a68_refine.proofs.split.split_all.Goals as goal
+
+pub splits-init : goal.splits-init
+splits-init c = rw c.in_ok-classes.ensures.items record {
+  long = c.requires.first.long;
+  below = All-from_get_or (λ k. k < length c.args.rows.now) c.args.first.now 0 (λ k h. let e = c.requires.first.long in let l = c.requires.first.low k (omega arith) in omega arith);
+  coarse = c.requires.first.coarse;
+}
+
+pub splits-preserved : goal.splits-preserved
+splits-preserved c =
+    let rows = c.args.rows.now in
+    let is = subst (λ (xs : List ℕ). SplitsBy c.has_short_unions-unions.result rows xs c.in-Some.by c.in_ok-classes-2.classes.items) c.deref.ensures.value c.in_ok-classes-2.ensures.split in
+    record {
+      long = is.long;
+      below = c.in_ok-classes-2.ensures.below;
+      coarse = splits c.has_short_unions-unions.result c.args.heads.now rows c.splits.classes.items c.in-Some.by c.in_ok-classes-2.classes.items c.requires.wired c.splits.invariant.coarse is;
+    }

@@ -1,0 +1,197 @@
+//! The stack of a strand.
+ghost use Rattle.std.specs.Prelude.{◌≡◌, [], ◌∷◌, ◌++◌, None, Some, reverse, OnOk, OnErr, IfOk, IfSome, MatchOption, MatchBool};
+ghost use Rattle.std.specs.Option.{option_map};
+ghost use Rattle.a68_values.specs.Content.{Content, plain, scope_of};
+ghost use Rattle.a68_stack.specs.Values.{plain_in, pop_values, top_counter, top_plain, top_value};
+
+use a68_acts::Counter;
+use a68_base::NoMemory;
+use a68_values::{Node, Parts, Plain, Value};
+use std::alloc::Global;
+use std::marker::Model;
+
+/// What stands on a stack: a value, or the counter of a loop.
+#[derive(Drop)]
+pub enum Item {
+    Value(Value),
+    Counter(Counter),
+}
+
+/// A stack. Contracts see the list of its items, the topmost first.
+#[derive(Drop)]
+pub struct Stack {
+    items: Vec<Item>,
+}
+
+impl Model for Stack {
+    ghost use Rattle.std.specs.Coded.{coded_list};
+    ghost use Rattle.std.specs.Prelude.{List, reverse};
+    ghost use Rattle.a68_stack.specs.declared.stack.Item.{Item};
+    ghost use Rattle.a68_stack.specs.contracts.stack.Item as item;
+
+    ghost Value = { List Item };
+
+    ghost coded = { coded_list item.the_row.coded };
+
+    ghost view = { λ stack. reverse stack.items.items };
+}
+
+// The plain value that an item is.
+#[inline(always)]
+fn plain_in(item: &Item) -> Option<Plain>
+    ensures { result ≡ plain_in item.now }
+{
+    match item {
+        Item::Value(value) => match &value.node {
+            Node::Plain(held) => Some(*held),
+            _ => None,
+        },
+        Item::Counter(_) => None,
+    }
+}
+
+impl Stack {
+    /// A stack with nothing on it.
+    pub fn new(alloc: Global) -> Stack
+        ensures { result ≡ [] }
+    {
+        Stack {
+            items: Vec::new(alloc),
+        }
+    }
+
+    /// Takes all items off.
+    pub fn clear(&mut self)
+        ensures { self.new ≡ [] }
+    {
+        self.items.clear();
+    }
+
+    /// Puts an item on top.
+    pub fn push(&mut self, item: Item) -> Result<(), NoMemory>
+        ensures ok { OnOk result (self.new ≡ item ∷ self.old) }
+        ensures err { OnErr result (self.new ≡ self.old) }
+    {
+        self.items.push(item)?;
+        Ok(())
+    }
+
+    /// Puts a plain value on top.
+    #[inline(always)]
+    pub fn push_plain(&mut self, held: Plain) -> Result<(), NoMemory>
+        ensures ok { OnOk result (self.new ≡ Item.Value (plain held) ∷ self.old) }
+        ensures err { OnErr result (self.new ≡ self.old) }
+    {
+        self.items.push(Item::Value(Value::of(held)))?;
+        Ok(())
+    }
+
+    /// Takes the topmost item off.
+    pub fn pop(&mut self) -> Option<Item>
+        ensures { MatchOption result ((self.old ≡ []) × (self.new ≡ [])) (λ item. self.old ≡ item ∷ self.new) }
+    {
+        self.items.pop()
+    }
+
+    /// Takes the topmost item off where it is a plain value; elsewhere the stack stays.
+    #[inline(always)]
+    pub fn take_plain(&mut self) -> Option<Plain>
+        ensures { MatchOption result ((top_plain self.old ≡ None) × (self.new ≡ self.old)) (λ held. self.old ≡ Item.Value (plain held) ∷ self.new) }
+    {
+        let held = plain_in(self.items.last()?)?;
+        let _ = self.items.pop();
+        Some(held)
+    }
+
+    /// Takes the two topmost items off where they are plain values, the lower one first; elsewhere the stack stays.
+    #[inline(always)]
+    pub fn take_two(&mut self) -> Option<(Plain, Plain)>
+        ensures { MatchOption result (self.new ≡ self.old) (λ two. self.old ≡ Item.Value (plain two.1) ∷ Item.Value (plain two.0) ∷ self.new) }
+    {
+        let count = self.items.len();
+        if count < 2 {
+            return None;
+        }
+        let left = plain_in(&self.items[count - 2])?;
+        let right = plain_in(&self.items[count - 1])?;
+        let _ = self.items.pop();
+        let _ = self.items.pop();
+        Some((left, right))
+    }
+
+    /// Takes the topmost item off where it is a counter; elsewhere the stack stays.
+    #[inline(always)]
+    pub fn take_counter(&mut self) -> Option<Counter>
+        ensures { MatchOption result ((top_counter self.old ≡ None) × (self.new ≡ self.old)) (λ counter. self.old ≡ Item.Counter counter ∷ self.new) }
+    {
+        let counter = self.counter()?;
+        let _ = self.items.pop();
+        Some(counter)
+    }
+
+    /// Lets the topmost value go; false where no value is on top.
+    #[inline(always)]
+    pub fn drop_value(&mut self) -> bool
+        ensures { MatchBool result ((value : Content) × (self.old ≡ Item.Value value ∷ self.new)) (pop_values 1 self.old [] ≡ None) }
+    {
+        match self.items.pop() {
+            Some(Item::Value(_)) => true,
+            _ => false,
+        }
+    }
+
+    /// Takes the topmost value off; none where no value is on top, and then an item may be gone.
+    pub fn pop_value(&mut self) -> Option<Value>
+        ensures { MatchOption result (pop_values 1 self.old [] ≡ None) (λ value. pop_values 1 self.old [] ≡ Some (value ∷ [], self.new)) }
+    {
+        match self.items.pop() {
+            Some(Item::Value(value)) => Some(value),
+            _ => None,
+        }
+    }
+
+    /// Takes the two topmost values off, the lower one first; none where there are no two, and then items may be gone.
+    pub fn pop_two(&mut self) -> Option<(Value, Value)>
+        ensures { MatchOption result (pop_values 2 self.old [] ≡ None) (λ two. pop_values 2 self.old [] ≡ Some (two.0 ∷ two.1 ∷ [], self.new)) }
+    {
+        let right = self.pop_value()?;
+        let left = self.pop_value()?;
+        Some((left, right))
+    }
+
+    /// Takes the topmost values off, so many, the topmost first; none where there are fewer, and then items may be
+    /// gone.
+    pub fn pop_many(&mut self, alloc: Global, count: u32) -> Result<Option<Parts>, NoMemory>
+        ensures { IfOk result (λ popped. MatchOption popped (pop_values count self.old [] ≡ None) (λ values. pop_values count self.old [] ≡ Some (reverse values, self.new))) }
+    {
+        let mut items = Vec::new(alloc);
+        for _ in 0..count {
+            match self.pop_value() {
+                None => return Ok(None),
+                Some(value) => items.push(value)?,
+            }
+        }
+        Ok(Some(Parts { items }))
+    }
+
+    /// The counter on top; none where there is none.
+    #[inline(always)]
+    pub fn counter(&self) -> Option<Counter>
+        ensures { result ≡ top_counter self.now }
+    {
+        match self.items.last() {
+            Some(Item::Counter(counter)) => Some(*counter),
+            _ => None,
+        }
+    }
+
+    /// The scope of the value on top; none where there is none.
+    pub fn top_scope(&self) -> Option<u32>
+        ensures { result ≡ option_map scope_of (top_value self.now) }
+    {
+        match self.items.last() {
+            Some(Item::Value(value)) => Some(value.scope()),
+            _ => None,
+        }
+    }
+}

@@ -1,0 +1,127 @@
+-- A run may go to another thread.
+use denote.Param.Send.{IsSend, sendable}
+use denote.Model.Local.{Parts, rows}
+use denote.Model.Marks.{tied_send}
+use denote.Model.Goals.{send, has_of, part_has}
+use Rattle.std.proofs.Crossing.{crosses}
+use Rattle.a68_acts.specs.contracts.operation.Next as next
+use Rattle.a68_acts.specs.contracts.want.Want as want
+use Rattle.a68_base.proofs.text.Text.TheSendSync as text
+use Rattle.a68_code.proofs.code.Routines.TheSendSync as routines
+use Rattle.a68_code.specs.contracts.code.Code as code
+use Rattle.a68_code.specs.contracts.code.Instr as instr
+use Rattle.a68_code.specs.contracts.code.Instrs as instrs
+use Rattle.a68_code.specs.contracts.does.Does as does
+use Rattle.a68_layout.proofs.types.Plan.TheSendSync as plan
+use Rattle.a68_modes.proofs.modes.Modes.TheSendSync as modes
+use Rattle.a68_store.specs.contracts.frame.Frame as frame
+use Rattle.a68_store.specs.contracts.store.Store as store
+use Rattle.a68_strand.specs.contracts.ask.Ask as ask
+use Rattle.a68_strand.specs.contracts.ask.Waiting as waiting
+use Rattle.a68_strand.specs.contracts.body.About as about
+use Rattle.a68_strand.specs.contracts.body.Body as body
+use Rattle.a68_stack.specs.contracts.stack.Item as item
+use Rattle.a68_stack.specs.contracts.stack.Stack as stack
+use Rattle.a68_strand.specs.contracts.strand.Strand as strand
+use Rattle.a68_values.proofs.act.Entry.TheSendSync as entry
+use Rattle.a68_values.proofs.chain.Chain.TheSendSync as chain
+use Rattle.a68_values.proofs.chain.Entrances.TheSendSync as entrances
+use Rattle.a68_values.proofs.held.Held.TheSendSync as held
+use Rattle.a68_values.proofs.kept.End.TheSendSync as end
+use Rattle.a68_values.proofs.plain.Layout.TheSendSync as layout
+use Rattle.a68_values.proofs.plain.Plain.TheSendSync as plain
+use Rattle.a68_values.proofs.value.Bounds.TheSendSync as bounds
+use Rattle.a68_values.specs.contracts.value.Parts.TheKnot as knot
+use Rattle.a68_values.specs.contracts.value.Parts as parts
+use Rattle.a68_values.specs.contracts.value.Value as value
+use Rattle.a68_world.specs.contracts.world.World as world
+use Rattle.a68_values.specs.declared.value.Parts.TheDeep.{the_members, member-Parts, member-Value}
+
+-- the parts of a value, from those within them
+parts_send : (p : Parts knot.frame) → IsSend (rows knot.frame p member-Value) → IsSend (knot.view-Parts p)
+parts_send p v = search (sendable, crosses) depth 20
+
+node_send : (p : Parts knot.frame) → IsSend (rows knot.frame p member-Parts) → IsSend (rows knot.frame p member-Value) → IsSend (knot.at-Node p)
+node_send p ps v = search (sendable, crosses, plain.the_field_send, layout.the_field_send, bounds.the_send) depth 30
+
+fields_send : (p : Parts knot.frame) → IsSend (rows knot.frame p member-Parts) → IsSend (rows knot.frame p member-Value) → IsSend (knot.at-Value p)
+fields_send p ps v = let n = node_send p ps v in search sendable depth 20
+
+value_send_in : (p : Parts knot.frame) → IsSend (rows knot.frame p member-Parts) → IsSend (rows knot.frame p member-Value) → IsSend (knot.view-Value p)
+value_send_in p ps v = let f = fields_send p ps v in search sendable depth 20
+
+step_send : (p : Parts knot.frame) → ((j : the_members) → IsSend (rows knot.frame p j)) → (i : the_members) → IsSend (rows knot.frame (knot.step p) i)
+step_send p all member-Parts = has_of knot.frame send (knot.step p) member-Parts (part_has send (knot.view-Parts p) (parts_send p (all member-Value)))
+step_send p all member-Value = has_of knot.frame send (knot.step p) member-Value (part_has send (knot.view-Value p) (value_send_in p (all member-Parts) (all member-Value)))
+
+holes_send : (i : the_members) → IsSend (rows knot.frame knot.tied i)
+holes_send = tied_send knot.frame knot.step knot.sizes step_send
+
+pub value_send : IsSend value.the_row
+value_send =
+    let v = holes_send member-Value in
+    let p = holes_send member-Parts in
+    search (sendable, crosses) depth 20
+
+-- ---- the code
+
+does_send : IsSend (does.the_field).row
+does_send = search (sendable, crosses, value_send) depth 60
+
+instr_send : IsSend instr.the_row
+instr_send = search (sendable, crosses, does_send) depth 20
+
+instrs_send : IsSend instrs.the_row
+instrs_send = search (sendable, crosses, instr_send) depth 20
+
+code_send : IsSend (code.the_field).row
+code_send = search (sendable, crosses, instrs_send, routines.the_send, modes.the_send) depth 20
+
+-- ---- the store
+
+frame_send : IsSend frame.the_row
+frame_send = search (sendable, crosses, value_send) depth 20
+
+store_send : IsSend store.the_row
+store_send = search (sendable, crosses, frame_send, held.the_send) depth 20
+
+-- ---- the strand
+
+item_send : IsSend item.the_row
+item_send = search (sendable, crosses, value_send) depth 20
+
+stack_send : IsSend stack.the_row
+stack_send = search (sendable, crosses, item_send) depth 20
+
+body_send : IsSend (body.the_field).row
+body_send = search (sendable, crosses, stack_send, chain.the_send) depth 20
+
+want_send : IsSend (want.the_field).row
+want_send = search (sendable, crosses, value_send, plan.the_field_send, held.the_field_send, text.the_send, entrances.the_send) depth 60
+
+ask_send : IsSend (ask.the_field).row
+ask_send = search (sendable, crosses, want_send) depth 20
+
+parts_row_send : IsSend parts.the_row
+parts_row_send = let p = holes_send member-Parts in let v = holes_send member-Value in search (sendable, crosses) depth 20
+
+next_send : IsSend (next.the_field).row
+next_send = search (sendable, crosses, parts_row_send) depth 20
+
+waiting_send : IsSend (waiting.the_field).row
+waiting_send = search (sendable, crosses, next_send) depth 20
+
+about_send : IsSend (about.the_field).row
+about_send = search (sendable, crosses, ask_send, waiting_send) depth 20
+
+strand_send : IsSend (strand.the_field).row
+strand_send = search (sendable, crosses, body_send, about_send) depth 20
+
+-- ---- the run
+
+pub world_send : IsSend world.the_row
+world_send = search (sendable, crosses, code_send, store_send, strand_send, entry.the_send, end.the_send) depth 20
+
+-- the same, as what holds a run has it
+pub world_field_send : IsSend (world.the_field).row
+world_field_send = search (sendable, crosses, world_send) depth 20
