@@ -1,4 +1,5 @@
 pub mod Does
+pub mod Keeping
 pub mod Operations
 pub mod Printed
 pub mod Store

@@ -12,69 +12,69 @@ use Rattle.a68_tree.specs.Grammar.{IsSign, IsClosing, IsEnclosed, IsFor, IsFrom,
 use Rattle.a68_tree.proofs.Joining.{spells_joined}
 use Rattle.a68_ahead.specs.declared.look.Due.TheVariants as due
 use Rattle.a68_ahead.specs.declared.look.Due.{Due}
-use Rattle.a68_ahead.specs.declared.look.Mark.{Mark}
-use Rattle.a68_ahead.specs.declared.look.Mark.TheVariants as m
+use Rattle.a68_ahead.specs.declared.look.Sought.{Sought}
+use Rattle.a68_ahead.specs.declared.look.Sought.TheVariants as m
 use Rattle.a68_ahead.specs.Ahead.{behind, routine_ahead, phrase_ahead, spec_ahead}
 use Rattle.std.proofs.lemmas.Bool.{false≢true}
 use Rattle.a68_ahead.specs.Sets as set
 use Rattle.a68_ahead.specs.Symbols.{Follows, at_end, next}
 
 -- brackets that open in a forest close in it
-pub behind_forest : (mark_ : Mark) (n : ℕ) (d : Due) (f : Forest) (r : List Sym) → behind mark_ (suc n) d (spells f r) ≡ behind mark_ (suc n) d r
-behind_forest mark_ n d end r = refl
-behind_forest mark_ n d (mark s f) r = behind_forest mark_ n d f r
-behind_forest mark_ n d (group c i f) r = behind_forest mark_ (suc n) d i (Closes c ∷ spells f r) ∙ behind_forest mark_ n d f r
-behind_forest mark_ n d (part k u f) r = behind_forest mark_ n d u (spells f r) ∙ behind_forest mark_ n d f r
-behind_forest mark_ n d (sign s f) r = behind_forest mark_ n d f r
-behind_forest mark_ n d (aside k u f) r = behind_forest mark_ n d u (spells f r) ∙ behind_forest mark_ n d f r
-behind_forest mark_ n d (shared f) r = behind_forest mark_ n d f r
-behind_forest mark_ n d (forget f) r = behind_forest mark_ n d f r
+pub behind_forest : (sought : Sought) (n : ℕ) (d : Due) (f : Forest) (r : List Sym) → behind sought (suc n) d (spells f r) ≡ behind sought (suc n) d r
+behind_forest sought n d end r = refl
+behind_forest sought n d (mark s f) r = behind_forest sought n d f r
+behind_forest sought n d (group c i f) r = behind_forest sought (suc n) d i (Closes c ∷ spells f r) ∙ behind_forest sought n d f r
+behind_forest sought n d (part k u f) r = behind_forest sought n d u (spells f r) ∙ behind_forest sought n d f r
+behind_forest sought n d (sign s f) r = behind_forest sought n d f r
+behind_forest sought n d (aside k u f) r = behind_forest sought n d u (spells f r) ∙ behind_forest sought n d f r
+behind_forest sought n d (shared f) r = behind_forest sought n d f r
+behind_forest sought n d (forget f) r = behind_forest sought n d f r
 
 -- where a result may stand a declarer does as well
 mutual
-  pub behind_declarer : (mark_ : Mark) → {d : Forest} → IsDeclarer d → (y : List Sym) → behind mark_ zero due.Declarer (spells d y) ≡ behind mark_ zero due.Ended y
-  behind_declarer mark_ (g.plain g.plain_int) y = refl
-  behind_declarer mark_ (g.plain g.plain_other) y = refl
-  behind_declarer mark_ g.mode_word y = refl
-  behind_declarer mark_ (g.ref d) y = behind_declarer mark_ d y
-  behind_declarer mark_ (g.rows {f = f} {d = d} l i) y = behind_forest mark_ zero due.Declarer f (Closes b.Square ∷ spells d y) ∙ behind_declarer mark_ i y
-  behind_declarer mark_ (g.flex {f = f} {d = d} l i) y = behind_forest mark_ zero due.Declarer f (Closes b.Square ∷ spells d y) ∙ behind_declarer mark_ i y
-  behind_declarer mark_ (g.struct_ {f = f} l) y = behind_forest mark_ zero due.Ended f (Closes b.Round ∷ y)
-  behind_declarer mark_ (g.union_ {d = d} {f = f} i l) y = behind_forest mark_ zero due.Ended d (Is t.Comma ∷ spells f (Closes b.Round ∷ y)) ∙ behind_forest mark_ zero due.Ended f (Closes b.Round ∷ y)
-  behind_declarer mark_ (g.proc p) y = behind_proc mark_ p y
-  behind_declarer mark_ (g.proc_params {p = p} {f = f} l q) y = behind_forest mark_ zero due.Result p (Closes b.Round ∷ spells f y) ∙ behind_yield mark_ q y
+  pub behind_declarer : (sought : Sought) → {d : Forest} → IsDeclarer d → (y : List Sym) → behind sought zero due.Declarer (spells d y) ≡ behind sought zero due.Ended y
+  behind_declarer sought (g.plain g.plain_int) y = refl
+  behind_declarer sought (g.plain g.plain_other) y = refl
+  behind_declarer sought g.mode_word y = refl
+  behind_declarer sought (g.ref d) y = behind_declarer sought d y
+  behind_declarer sought (g.rows {f = f} {d = d} l i) y = behind_forest sought zero due.Declarer f (Closes b.Square ∷ spells d y) ∙ behind_declarer sought i y
+  behind_declarer sought (g.flex {f = f} {d = d} l i) y = behind_forest sought zero due.Declarer f (Closes b.Square ∷ spells d y) ∙ behind_declarer sought i y
+  behind_declarer sought (g.struct_ {f = f} l) y = behind_forest sought zero due.Ended f (Closes b.Round ∷ y)
+  behind_declarer sought (g.union_ {d = d} {f = f} i l) y = behind_forest sought zero due.Ended d (Is t.Comma ∷ spells f (Closes b.Round ∷ y)) ∙ behind_forest sought zero due.Ended f (Closes b.Round ∷ y)
+  behind_declarer sought (g.proc p) y = behind_proc sought p y
+  behind_declarer sought (g.proc_params {p = p} {f = f} l q) y = behind_forest sought zero due.Result p (Closes b.Round ∷ spells f y) ∙ behind_yield sought q y
 
-  as_result : (mark_ : Mark) → {d : Forest} → IsDeclarer d → (y : List Sym) → behind mark_ zero due.Result (spells d y) ≡ behind mark_ zero due.Ended y
-  as_result mark_ (g.plain g.plain_int) y = refl
-  as_result mark_ (g.plain g.plain_other) y = refl
-  as_result mark_ g.mode_word y = refl
-  as_result mark_ (g.ref d) y = behind_declarer mark_ d y
-  as_result mark_ (g.rows {f = f} {d = d} l i) y = behind_forest mark_ zero due.Declarer f (Closes b.Square ∷ spells d y) ∙ behind_declarer mark_ i y
-  as_result mark_ (g.flex {f = f} {d = d} l i) y = behind_forest mark_ zero due.Declarer f (Closes b.Square ∷ spells d y) ∙ behind_declarer mark_ i y
-  as_result mark_ (g.struct_ {f = f} l) y = behind_forest mark_ zero due.Ended f (Closes b.Round ∷ y)
-  as_result mark_ (g.union_ {d = d} {f = f} i l) y = behind_forest mark_ zero due.Ended d (Is t.Comma ∷ spells f (Closes b.Round ∷ y)) ∙ behind_forest mark_ zero due.Ended f (Closes b.Round ∷ y)
-  as_result mark_ (g.proc p) y = behind_proc mark_ p y
-  as_result mark_ (g.proc_params {p = p} {f = f} l q) y = behind_forest mark_ zero due.Result p (Closes b.Round ∷ spells f y) ∙ behind_yield mark_ q y
+  as_result : (sought : Sought) → {d : Forest} → IsDeclarer d → (y : List Sym) → behind sought zero due.Result (spells d y) ≡ behind sought zero due.Ended y
+  as_result sought (g.plain g.plain_int) y = refl
+  as_result sought (g.plain g.plain_other) y = refl
+  as_result sought g.mode_word y = refl
+  as_result sought (g.ref d) y = behind_declarer sought d y
+  as_result sought (g.rows {f = f} {d = d} l i) y = behind_forest sought zero due.Declarer f (Closes b.Square ∷ spells d y) ∙ behind_declarer sought i y
+  as_result sought (g.flex {f = f} {d = d} l i) y = behind_forest sought zero due.Declarer f (Closes b.Square ∷ spells d y) ∙ behind_declarer sought i y
+  as_result sought (g.struct_ {f = f} l) y = behind_forest sought zero due.Ended f (Closes b.Round ∷ y)
+  as_result sought (g.union_ {d = d} {f = f} i l) y = behind_forest sought zero due.Ended d (Is t.Comma ∷ spells f (Closes b.Round ∷ y)) ∙ behind_forest sought zero due.Ended f (Closes b.Round ∷ y)
+  as_result sought (g.proc p) y = behind_proc sought p y
+  as_result sought (g.proc_params {p = p} {f = f} l q) y = behind_forest sought zero due.Result p (Closes b.Round ∷ spells f y) ∙ behind_yield sought q y
 
-  as_proc : (mark_ : Mark) → {d : Forest} → IsDeclarer d → (y : List Sym) → behind mark_ zero due.Procedure (spells d y) ≡ behind mark_ zero due.Ended y
-  as_proc mark_ (g.plain g.plain_int) y = refl
-  as_proc mark_ (g.plain g.plain_other) y = refl
-  as_proc mark_ g.mode_word y = refl
-  as_proc mark_ (g.ref d) y = behind_declarer mark_ d y
-  as_proc mark_ (g.rows {f = f} {d = d} l i) y = behind_forest mark_ zero due.Declarer f (Closes b.Square ∷ spells d y) ∙ behind_declarer mark_ i y
-  as_proc mark_ (g.flex {f = f} {d = d} l i) y = behind_forest mark_ zero due.Declarer f (Closes b.Square ∷ spells d y) ∙ behind_declarer mark_ i y
-  as_proc mark_ (g.struct_ {f = f} l) y = behind_forest mark_ zero due.Ended f (Closes b.Round ∷ y)
-  as_proc mark_ (g.union_ {d = d} {f = f} i l) y = behind_forest mark_ zero due.Ended d (Is t.Comma ∷ spells f (Closes b.Round ∷ y)) ∙ behind_forest mark_ zero due.Ended f (Closes b.Round ∷ y)
-  as_proc mark_ (g.proc p) y = behind_proc mark_ p y
-  as_proc mark_ (g.proc_params {p = p} {f = f} l q) y = behind_forest mark_ zero due.Result p (Closes b.Round ∷ spells f y) ∙ behind_yield mark_ q y
+  as_proc : (sought : Sought) → {d : Forest} → IsDeclarer d → (y : List Sym) → behind sought zero due.Procedure (spells d y) ≡ behind sought zero due.Ended y
+  as_proc sought (g.plain g.plain_int) y = refl
+  as_proc sought (g.plain g.plain_other) y = refl
+  as_proc sought g.mode_word y = refl
+  as_proc sought (g.ref d) y = behind_declarer sought d y
+  as_proc sought (g.rows {f = f} {d = d} l i) y = behind_forest sought zero due.Declarer f (Closes b.Square ∷ spells d y) ∙ behind_declarer sought i y
+  as_proc sought (g.flex {f = f} {d = d} l i) y = behind_forest sought zero due.Declarer f (Closes b.Square ∷ spells d y) ∙ behind_declarer sought i y
+  as_proc sought (g.struct_ {f = f} l) y = behind_forest sought zero due.Ended f (Closes b.Round ∷ y)
+  as_proc sought (g.union_ {d = d} {f = f} i l) y = behind_forest sought zero due.Ended d (Is t.Comma ∷ spells f (Closes b.Round ∷ y)) ∙ behind_forest sought zero due.Ended f (Closes b.Round ∷ y)
+  as_proc sought (g.proc p) y = behind_proc sought p y
+  as_proc sought (g.proc_params {p = p} {f = f} l q) y = behind_forest sought zero due.Result p (Closes b.Round ∷ spells f y) ∙ behind_yield sought q y
 
-  behind_yield : (mark_ : Mark) → {f : Forest} → IsYield f → (y : List Sym) → behind mark_ zero due.Result (spells f y) ≡ behind mark_ zero due.Ended y
-  behind_yield mark_ (g.yield_ d) y = as_result mark_ d y
-  behind_yield mark_ g.yield_void y = refl
+  behind_yield : (sought : Sought) → {f : Forest} → IsYield f → (y : List Sym) → behind sought zero due.Result (spells f y) ≡ behind sought zero due.Ended y
+  behind_yield sought (g.yield_ d) y = as_result sought d y
+  behind_yield sought g.yield_void y = refl
 
-  behind_proc : (mark_ : Mark) → {f : Forest} → IsYield f → (y : List Sym) → behind mark_ zero due.Procedure (spells f y) ≡ behind mark_ zero due.Ended y
-  behind_proc mark_ (g.yield_ d) y = as_proc mark_ d y
-  behind_proc mark_ g.yield_void y = refl
+  behind_proc : (sought : Sought) → {f : Forest} → IsYield f → (y : List Sym) → behind sought zero due.Procedure (spells f y) ≡ behind sought zero due.Ended y
+  behind_proc sought (g.yield_ d) y = as_proc sought d y
+  behind_proc sought g.yield_void y = refl
 
 ahead_declarer : {d : Forest} → IsDeclarer d → (y : List Sym) → routine_ahead (spells d y) ≡ behind m.Colon zero due.Result (spells d y)
 ahead_declarer (g.plain g.plain_int) y = refl
@@ -92,17 +92,17 @@ result_seen : {f : Forest} → IsResult f → (r : List Sym) → routine_ahead (
 result_seen (g.result {u = u} d i) r = ahead_declarer d (Is t.Colon ∷ spells u r) ∙ as_result m.Colon d (Is t.Colon ∷ spells u r)
 result_seen (g.result_void i) r = refl
 
-declarer_more : (mark_ : Mark) → {d : Forest} → IsDeclarer d → (y : List Sym) → behind mark_ zero due.More (spells d y) ≡ behind mark_ zero due.Declarer (spells d y)
-declarer_more mark_ (g.plain g.plain_int) y = refl
-declarer_more mark_ (g.plain g.plain_other) y = refl
-declarer_more mark_ g.mode_word y = refl
-declarer_more mark_ (g.ref d) y = refl
-declarer_more mark_ (g.rows l i) y = refl
-declarer_more mark_ (g.flex l i) y = refl
-declarer_more mark_ (g.struct_ l) y = refl
-declarer_more mark_ (g.union_ i l) y = refl
-declarer_more mark_ (g.proc p) y = refl
-declarer_more mark_ (g.proc_params l q) y = refl
+declarer_more : (sought : Sought) → {d : Forest} → IsDeclarer d → (y : List Sym) → behind sought zero due.More (spells d y) ≡ behind sought zero due.Declarer (spells d y)
+declarer_more sought (g.plain g.plain_int) y = refl
+declarer_more sought (g.plain g.plain_other) y = refl
+declarer_more sought g.mode_word y = refl
+declarer_more sought (g.ref d) y = refl
+declarer_more sought (g.rows l i) y = refl
+declarer_more sought (g.flex l i) y = refl
+declarer_more sought (g.struct_ l) y = refl
+declarer_more sought (g.union_ i l) y = refl
+declarer_more sought (g.proc p) y = refl
+declarer_more sought (g.proc_params l q) y = refl
 
 -- parameters are seen
 mutual
@@ -127,51 +127,51 @@ routine_seen (g.routine_plain q) r = result_seen q r
 -- ---- and no other unit
 
 -- what is looked for behind a declarer
-data Asks : Mark → Type 0 where
+data Asks : Sought → Type 0 where
   asks_colon : Asks m.Colon
   asks_parameters : Asks m.Parameters
   asks_spec : Asks m.Spec
 
 -- what is looked for in brackets
-data Lists : Mark → Type 0 where
+data Lists : Sought → Type 0 where
   lists_parameters : Lists m.Parameters
   lists_spec : Lists m.Spec
 
-asks : {mark_ : Mark} → Lists mark_ → Asks mark_
+asks : {sought : Sought} → Lists sought → Asks sought
 asks lists_parameters = asks_parameters
 asks lists_spec = asks_spec
 
-while_ends : {mark_ : Mark} → Asks mark_ → {f : Forest} → IsWhile f → (r : List Sym) → behind mark_ zero due.Ended (spells f r) ≡ false
+while_ends : {sought : Sought} → Asks sought → {f : Forest} → IsWhile f → (r : List Sym) → behind sought zero due.Ended (spells f r) ≡ false
 while_ends asks_colon (g.while_ p q) r = refl
 while_ends asks_parameters (g.while_ p q) r = refl
 while_ends asks_spec (g.while_ p q) r = refl
 while_ends a (g.no_while p) r = refl
 
-to_ends : {mark_ : Mark} → Asks mark_ → {f : Forest} → IsTo f → (r : List Sym) → behind mark_ zero due.Ended (spells f r) ≡ false
+to_ends : {sought : Sought} → Asks sought → {f : Forest} → IsTo f → (r : List Sym) → behind sought zero due.Ended (spells f r) ≡ false
 to_ends asks_colon (g.to_ p q) r = refl
 to_ends asks_parameters (g.to_ p q) r = refl
 to_ends asks_spec (g.to_ p q) r = refl
 to_ends a (g.no_to p) r = while_ends a p r
 
-by_ends : {mark_ : Mark} → Asks mark_ → {f : Forest} → IsBy f → (r : List Sym) → behind mark_ zero due.Ended (spells f r) ≡ false
+by_ends : {sought : Sought} → Asks sought → {f : Forest} → IsBy f → (r : List Sym) → behind sought zero due.Ended (spells f r) ≡ false
 by_ends asks_colon (g.by_ p q) r = refl
 by_ends asks_parameters (g.by_ p q) r = refl
 by_ends asks_spec (g.by_ p q) r = refl
 by_ends a (g.no_by p) r = to_ends a p r
 
-from_ends : {mark_ : Mark} → Asks mark_ → {f : Forest} → IsFrom f → (r : List Sym) → behind mark_ zero due.Ended (spells f r) ≡ false
+from_ends : {sought : Sought} → Asks sought → {f : Forest} → IsFrom f → (r : List Sym) → behind sought zero due.Ended (spells f r) ≡ false
 from_ends asks_colon (g.from_ p q) r = refl
 from_ends asks_parameters (g.from_ p q) r = refl
 from_ends asks_spec (g.from_ p q) r = refl
 from_ends a (g.no_from p) r = by_ends a p r
 
-for_ends : {mark_ : Mark} → Asks mark_ → {f : Forest} → IsFor f → (r : List Sym) → behind mark_ zero due.Ended (spells f r) ≡ false
+for_ends : {sought : Sought} → Asks sought → {f : Forest} → IsFor f → (r : List Sym) → behind sought zero due.Ended (spells f r) ≡ false
 for_ends asks_colon (g.for_ p) r = refl
 for_ends asks_parameters (g.for_ p) r = refl
 for_ends asks_spec (g.for_ p) r = refl
 for_ends a (g.no_for p) r = from_ends a p r
 
-enclosed_ends : {mark_ : Mark} → Asks mark_ → {k : NodeKind} {u : Forest} → IsEnclosed k u → (r : List Sym) → behind mark_ zero due.Ended (spells u r) ≡ false
+enclosed_ends : {sought : Sought} → Asks sought → {k : NodeKind} {u : Forest} → IsEnclosed k u → (r : List Sym) → behind sought zero due.Ended (spells u r) ≡ false
 enclosed_ends a (g.closed c p) r = refl
 enclosed_ends a (g.collateral c p) r = refl
 enclosed_ends a (g.vacuum c) r = refl
@@ -187,43 +187,43 @@ enclosed_ends a (g.conformity_brief p q e) r = refl
 enclosed_ends a (g.loop p) r = for_ends a p r
 
 -- no unit begins as parameters or a spec do, up to their bracket
-while_unlisted : (mark_ : Mark) → {f : Forest} → IsWhile f → (r : List Sym) → behind mark_ zero due.Declarer (spells f r) ≡ false
-while_unlisted mark_ (g.while_ p q) r = refl
-while_unlisted mark_ (g.no_while p) r = refl
+while_unlisted : (sought : Sought) → {f : Forest} → IsWhile f → (r : List Sym) → behind sought zero due.Declarer (spells f r) ≡ false
+while_unlisted sought (g.while_ p q) r = refl
+while_unlisted sought (g.no_while p) r = refl
 
-to_unlisted : (mark_ : Mark) → {f : Forest} → IsTo f → (r : List Sym) → behind mark_ zero due.Declarer (spells f r) ≡ false
-to_unlisted mark_ (g.to_ p q) r = refl
-to_unlisted mark_ (g.no_to p) r = while_unlisted mark_ p r
+to_unlisted : (sought : Sought) → {f : Forest} → IsTo f → (r : List Sym) → behind sought zero due.Declarer (spells f r) ≡ false
+to_unlisted sought (g.to_ p q) r = refl
+to_unlisted sought (g.no_to p) r = while_unlisted sought p r
 
-by_unlisted : (mark_ : Mark) → {f : Forest} → IsBy f → (r : List Sym) → behind mark_ zero due.Declarer (spells f r) ≡ false
-by_unlisted mark_ (g.by_ p q) r = refl
-by_unlisted mark_ (g.no_by p) r = to_unlisted mark_ p r
+by_unlisted : (sought : Sought) → {f : Forest} → IsBy f → (r : List Sym) → behind sought zero due.Declarer (spells f r) ≡ false
+by_unlisted sought (g.by_ p q) r = refl
+by_unlisted sought (g.no_by p) r = to_unlisted sought p r
 
-from_unlisted : (mark_ : Mark) → {f : Forest} → IsFrom f → (r : List Sym) → behind mark_ zero due.Declarer (spells f r) ≡ false
-from_unlisted mark_ (g.from_ p q) r = refl
-from_unlisted mark_ (g.no_from p) r = by_unlisted mark_ p r
+from_unlisted : (sought : Sought) → {f : Forest} → IsFrom f → (r : List Sym) → behind sought zero due.Declarer (spells f r) ≡ false
+from_unlisted sought (g.from_ p q) r = refl
+from_unlisted sought (g.no_from p) r = by_unlisted sought p r
 
-for_unlisted : (mark_ : Mark) → {f : Forest} → IsFor f → (r : List Sym) → behind mark_ zero due.Declarer (spells f r) ≡ false
-for_unlisted mark_ (g.for_ p) r = refl
-for_unlisted mark_ (g.no_for p) r = from_unlisted mark_ p r
+for_unlisted : (sought : Sought) → {f : Forest} → IsFor f → (r : List Sym) → behind sought zero due.Declarer (spells f r) ≡ false
+for_unlisted sought (g.for_ p) r = refl
+for_unlisted sought (g.no_for p) r = from_unlisted sought p r
 
-enclosed_unlisted : (mark_ : Mark) → {k : NodeKind} {u : Forest} → IsEnclosed k u → (r : List Sym) → behind mark_ zero due.Declarer (spells u r) ≡ false
-enclosed_unlisted mark_ (g.closed g.closing_round p) r = refl
-enclosed_unlisted mark_ (g.closed g.closing_begin p) r = refl
-enclosed_unlisted mark_ (g.collateral g.closing_round p) r = refl
-enclosed_unlisted mark_ (g.collateral g.closing_begin p) r = refl
-enclosed_unlisted mark_ (g.vacuum g.closing_round) r = refl
-enclosed_unlisted mark_ (g.vacuum g.closing_begin) r = refl
-enclosed_unlisted mark_ (g.parallel c p) r = refl
-enclosed_unlisted mark_ (g.conditional p q e) r = refl
-enclosed_unlisted mark_ (g.conditional_brief p q e) r = refl
-enclosed_unlisted mark_ (g.case_ p q e) r = refl
-enclosed_unlisted mark_ (g.case_brief p q e) r = refl
-enclosed_unlisted mark_ (g.conformity p q e) r = refl
-enclosed_unlisted mark_ (g.conformity_brief p q e) r = refl
-enclosed_unlisted mark_ (g.loop p) r = for_unlisted mark_ p r
+enclosed_unlisted : (sought : Sought) → {k : NodeKind} {u : Forest} → IsEnclosed k u → (r : List Sym) → behind sought zero due.Declarer (spells u r) ≡ false
+enclosed_unlisted sought (g.closed g.closing_round p) r = refl
+enclosed_unlisted sought (g.closed g.closing_begin p) r = refl
+enclosed_unlisted sought (g.collateral g.closing_round p) r = refl
+enclosed_unlisted sought (g.collateral g.closing_begin p) r = refl
+enclosed_unlisted sought (g.vacuum g.closing_round) r = refl
+enclosed_unlisted sought (g.vacuum g.closing_begin) r = refl
+enclosed_unlisted sought (g.parallel c p) r = refl
+enclosed_unlisted sought (g.conditional p q e) r = refl
+enclosed_unlisted sought (g.conditional_brief p q e) r = refl
+enclosed_unlisted sought (g.case_ p q e) r = refl
+enclosed_unlisted sought (g.case_brief p q e) r = refl
+enclosed_unlisted sought (g.conformity p q e) r = refl
+enclosed_unlisted sought (g.conformity_brief p q e) r = refl
+enclosed_unlisted sought (g.loop p) r = for_unlisted sought p r
 
-primary_unlisted : {mark_ : Mark} → Lists mark_ → {k : NodeKind} {u : Forest} → IsPrimary k u → (r : List Sym) → behind mark_ zero due.Declarer (spells u r) ≡ false
+primary_unlisted : {sought : Sought} → Lists sought → {k : NodeKind} {u : Forest} → IsPrimary k u → (r : List Sym) → behind sought zero due.Declarer (spells u r) ≡ false
 primary_unlisted l (g.slice p i) r = primary_unlisted l p _
 primary_unlisted l (g.call p i) r = primary_unlisted l p _
 primary_unlisted l (g.cast {u = u} d e) r = behind_declarer _ d (spells u r) ∙ enclosed_ends (asks l) e r
@@ -237,13 +237,13 @@ primary_unlisted l (g.denotation g.denotation_true) r = refl
 primary_unlisted l (g.denotation g.denotation_false) r = refl
 primary_unlisted l (g.enclosed e) r = enclosed_unlisted _ e r
 
-secondary_unlisted : {mark_ : Mark} → Lists mark_ → {k : NodeKind} {u : Forest} → IsSecondary k u → (r : List Sym) → behind mark_ zero due.Declarer (spells u r) ≡ false
+secondary_unlisted : {sought : Sought} → Lists sought → {k : NodeKind} {u : Forest} → IsSecondary k u → (r : List Sym) → behind sought zero due.Declarer (spells u r) ≡ false
 secondary_unlisted l (g.selection p) r = refl
 secondary_unlisted l (g.generator_loc d) r = refl
 secondary_unlisted l (g.generator_heap d) r = refl
 secondary_unlisted l (g.primary p) r = primary_unlisted l p r
 
-tertiary_unlisted : {mark_ : Mark} → Lists mark_ → {k : NodeKind} {u : Forest} → IsTertiary k u → (r : List Sym) → behind mark_ zero due.Declarer (spells u r) ≡ false
+tertiary_unlisted : {sought : Sought} → Lists sought → {k : NodeKind} {u : Forest} → IsTertiary k u → (r : List Sym) → behind sought zero due.Declarer (spells u r) ≡ false
 tertiary_unlisted l g.nil r = refl
 tertiary_unlisted l (g.monadic g.monadic_plus o) r = refl
 tertiary_unlisted l (g.monadic g.monadic_minus o) r = refl
@@ -251,7 +251,7 @@ tertiary_unlisted l (g.monadic g.monadic_other o) r = refl
 tertiary_unlisted l (g.dyadic p s o) r = secondary_unlisted l p _
 tertiary_unlisted l (g.secondary p) r = secondary_unlisted l p r
 
-unit_unlisted : {mark_ : Mark} → Lists mark_ → {k : NodeKind} {u : Forest} → IsUnit k u → (r : List Sym) → behind mark_ zero due.Declarer (spells u r) ≡ false
+unit_unlisted : {sought : Sought} → Lists sought → {k : NodeKind} {u : Forest} → IsUnit k u → (r : List Sym) → behind sought zero due.Declarer (spells u r) ≡ false
 unit_unlisted l (g.assignation p q) r = tertiary_unlisted l p _
 unit_unlisted l (g.identity_is p q) r = tertiary_unlisted l p _
 unit_unlisted l (g.identity_isnt p q) r = tertiary_unlisted l p _
@@ -263,7 +263,7 @@ unit_unlisted l g.skip r = refl
 unit_unlisted l (g.tertiary p) r = tertiary_unlisted l p r
 
 -- nor does a declaration, with neither a comma nor that bracket behind it
-identities_unlisted : {mark_ : Mark} → Lists mark_ → {f : Forest} → IsIdentities f → (y : List Sym) → behind mark_ zero due.Ended (spells f y) ≡ false
+identities_unlisted : {sought : Sought} → Lists sought → {f : Forest} → IsIdentities f → (y : List Sym) → behind sought zero due.Ended (spells f y) ≡ false
 identities_unlisted lists_parameters (g.identity_one i) y = refl
 identities_unlisted lists_spec (g.identity_one i) y = refl
 identities_unlisted lists_parameters (g.identity_more i l) y = refl
@@ -275,7 +275,7 @@ variables_more (g.variable_one (g.variable_set i)) y h = refl
 variables_more (g.variable_more g.variable v) y h = variables_more v y h
 variables_more (g.variable_more (g.variable_set i) v) y h = refl
 
-variables_unlisted : {mark_ : Mark} → Lists mark_ → {f : Forest} → IsVariables f → (y : List Sym) → behind mark_ zero due.Named y ≡ false → behind mark_ zero due.Ended (spells f y) ≡ false
+variables_unlisted : {sought : Sought} → Lists sought → {f : Forest} → IsVariables f → (y : List Sym) → behind sought zero due.Named y ≡ false → behind sought zero due.Ended (spells f y) ≡ false
 variables_unlisted lists_parameters (g.variable_one g.variable) y h = h
 variables_unlisted lists_spec (g.variable_one g.variable) y h = h
 variables_unlisted lists_parameters (g.variable_one (g.variable_set i)) y h = refl
@@ -290,11 +290,11 @@ data Leads : Due → Type 0 where
   leads_first : Leads due.Declarer
   leads_more : Leads due.More
 
-led : {d : Due} → Leads d → (mark_ : Mark) → {c : Forest} → IsDeclarer c → (y : List Sym) → behind mark_ zero d (spells c y) ≡ behind mark_ zero due.Ended y
-led leads_first mark_ p y = behind_declarer mark_ p y
-led leads_more mark_ p y = declarer_more mark_ p y ∙ behind_declarer mark_ p y
+led : {d : Due} → Leads d → (sought : Sought) → {c : Forest} → IsDeclarer c → (y : List Sym) → behind sought zero d (spells c y) ≡ behind sought zero due.Ended y
+led leads_first sought p y = behind_declarer sought p y
+led leads_more sought p y = declarer_more sought p y ∙ behind_declarer sought p y
 
-declared_unlisted : {mark_ : Mark} → Lists mark_ → {d : Due} → Leads d → {f : Forest} → IsDeclared f → (y : List Sym) → behind mark_ zero due.Named y ≡ false → behind mark_ zero d (spells f y) ≡ false
+declared_unlisted : {sought : Sought} → Lists sought → {d : Due} → Leads d → {f : Forest} → IsDeclared f → (y : List Sym) → behind sought zero due.Named y ≡ false → behind sought zero d (spells f y) ≡ false
 declared_unlisted l leads_first (g.mode_ p) y h = refl
 declared_unlisted l leads_more (g.mode_ p) y h = refl
 declared_unlisted l leads_first (g.prio_ p) y h = refl
@@ -318,36 +318,36 @@ declared_unlisted l leads_more (g.proc_variables (g.procs_more p q)) y h = refl
 declared_unlisted l e (g.identities {f = f} p i) y h = led e _ p (spells f y) ∙ identities_unlisted l i y
 declared_unlisted l e (g.variables {f = f} p v) y h = led e _ p (spells f y) ∙ variables_unlisted l v y h
 
-definitions_unlisted : {mark_ : Mark} → Lists mark_ → {d : Due} → Leads d → {f : Forest} → IsDefinitions f → (y : List Sym) → behind mark_ zero due.Named y ≡ false → behind mark_ zero d (spells f y) ≡ false
+definitions_unlisted : {sought : Sought} → Lists sought → {d : Due} → Leads d → {f : Forest} → IsDefinitions f → (y : List Sym) → behind sought zero due.Named y ≡ false → behind sought zero d (spells f y) ≡ false
 definitions_unlisted l e (g.declared p) y h = declared_unlisted l e p y h
-definitions_unlisted {mark_ = mark_} lists_parameters {d = d} e (g.and_then {f = f} {h = z} p q) y h =
-    ap (behind mark_ zero d) (spells_joined f (mark t.Comma (forget z)) y)
+definitions_unlisted {sought = sought} lists_parameters {d = d} e (g.and_then {f = f} {h = z} p q) y h =
+    ap (behind sought zero d) (spells_joined f (mark t.Comma (forget z)) y)
     ∙ declared_unlisted lists_parameters e p (Is t.Comma ∷ spells z y) (definitions_unlisted lists_parameters leads_more q y h)
-definitions_unlisted {mark_ = mark_} lists_spec {d = d} e (g.and_then {f = f} {h = z} p q) y h =
-    ap (behind mark_ zero d) (spells_joined f (mark t.Comma (forget z)) y) ∙ declared_unlisted lists_spec e p (Is t.Comma ∷ spells z y) refl
+definitions_unlisted {sought = sought} lists_spec {d = d} e (g.and_then {f = f} {h = z} p q) y h =
+    ap (behind sought zero d) (spells_joined f (mark t.Comma (forget z)) y) ∙ declared_unlisted lists_spec e p (Is t.Comma ∷ spells z y) refl
 
-semicolon : {mark_ : Mark} → Lists mark_ → (y : List Sym) → behind mark_ zero due.Named (Is t.Semicolon ∷ y) ≡ false
+semicolon : {sought : Sought} → Lists sought → (y : List Sym) → behind sought zero due.Named (Is t.Semicolon ∷ y) ≡ false
 semicolon lists_parameters y = refl
 semicolon lists_spec y = refl
 
-declaration_unlisted : {mark_ : Mark} → Lists mark_ → {f : Forest} → IsDeclaration f → (y : List Sym) → behind mark_ zero due.Declarer (spells f (Is t.Semicolon ∷ y)) ≡ false
+declaration_unlisted : {sought : Sought} → Lists sought → {f : Forest} → IsDeclaration f → (y : List Sym) → behind sought zero due.Declarer (spells f (Is t.Semicolon ∷ y)) ≡ false
 declaration_unlisted l (g.single p s) y = definitions_unlisted l leads_first p (Is t.Semicolon ∷ y) (semicolon l y)
 declaration_unlisted l (g.joined_ p s) y = definitions_unlisted l leads_first p (Is t.Semicolon ∷ y) (semicolon l y)
 
 -- so no closed or collateral clause and no choice does, behind its bracket
-serial_unlisted : {mark_ : Mark} → Lists mark_ → {f : Forest} → IsSerial f → (r : List Sym) → behind mark_ zero due.Declarer (spells f r) ≡ false
+serial_unlisted : {sought : Sought} → Lists sought → {f : Forest} → IsSerial f → (r : List Sym) → behind sought zero due.Declarer (spells f r) ≡ false
 serial_unlisted l (g.serial_one p) r = unit_unlisted l p r
 serial_unlisted l (g.serial_unit p q) r = unit_unlisted l p _
-serial_unlisted {mark_ = mark_} l (g.serial_declaration {d = d} {f = f} p q) r =
-    ap (behind mark_ zero due.Declarer) (spells_joined d (mark t.Semicolon f) r) ∙ declaration_unlisted l p (spells f r)
+serial_unlisted {sought = sought} l (g.serial_declaration {d = d} {f = f} p q) r =
+    ap (behind sought zero due.Declarer) (spells_joined d (mark t.Semicolon f) r) ∙ declaration_unlisted l p (spells f r)
 
-enquiry_unlisted : {mark_ : Mark} → Lists mark_ → {f : Forest} → IsEnquiry f → (r : List Sym) → behind mark_ zero due.Declarer (spells f r) ≡ false
+enquiry_unlisted : {sought : Sought} → Lists sought → {f : Forest} → IsEnquiry f → (r : List Sym) → behind sought zero due.Declarer (spells f r) ≡ false
 enquiry_unlisted l (g.enquiry_one p) r = unit_unlisted l p r
 enquiry_unlisted l (g.enquiry_unit p q) r = unit_unlisted l p _
-enquiry_unlisted {mark_ = mark_} l (g.enquiry_declaration {d = d} {f = f} p q) r =
-    ap (behind mark_ zero due.Declarer) (spells_joined d (mark t.Semicolon f) r) ∙ declaration_unlisted l p (spells f r)
+enquiry_unlisted {sought = sought} l (g.enquiry_declaration {d = d} {f = f} p q) r =
+    ap (behind sought zero due.Declarer) (spells_joined d (mark t.Semicolon f) r) ∙ declaration_unlisted l p (spells f r)
 
-units_unlisted : {mark_ : Mark} → Lists mark_ → {f : Forest} → IsUnits2 f → (r : List Sym) → behind mark_ zero due.Declarer (spells f r) ≡ false
+units_unlisted : {sought : Sought} → Lists sought → {f : Forest} → IsUnits2 f → (r : List Sym) → behind sought zero due.Declarer (spells f r) ≡ false
 units_unlisted l (g.two p q) r = unit_unlisted l p _
 
 while_unseen : {f : Forest} → IsWhile f → (r : List Sym) → routine_ahead (spells f r) ≡ false

@@ -8,8 +8,8 @@ use Rattle.a68_tree.specs.declared.sym.Sym.{Sym}
 use Rattle.a68_tree.specs.declared.sym.Sym.TheVariants.{Opens, Closes, Is}
 use Rattle.a68_ahead.specs.declared.look.Due.{Due}
 use Rattle.a68_ahead.specs.declared.look.Due.TheVariants as due
-use Rattle.a68_ahead.specs.declared.look.Mark.{Mark}
-use Rattle.a68_ahead.specs.declared.look.Mark.TheVariants as m
+use Rattle.a68_ahead.specs.declared.look.Sought.{Sought}
+use Rattle.a68_ahead.specs.declared.look.Sought.TheVariants as m
 use Rattle.a68_ahead.specs.declared.look.Look.{Look}
 use Rattle.a68_ahead.specs.declared.look.Look.TheVariants.{Goes, Found, Missed}
 
@@ -30,7 +30,7 @@ word_or_void t.Void = Goes 0 due.Ended
 word_or_void t = word t
 
 -- the token behind a declarer
-abbrev pub test : Mark → Token → Look
+abbrev pub test : Sought → Token → Look
 test m.Colon t.Colon = Found
 test m.Tag t.Tag = Found
 test m.Parameters t.Tag = Goes 0 due.Named
@@ -38,7 +38,7 @@ test m.Spec t.Tag = Goes 0 due.Named
 test m t = Missed
 
 -- behind a tag in the brackets, if not their end: the comma before more parameters
-abbrev pub named : Mark → Token → Look
+abbrev pub named : Sought → Token → Look
 named m.Parameters t.Comma = Goes 0 due.More
 named m t = Missed
 
@@ -64,41 +64,41 @@ bracket d b = Missed
 
 -- The bracket that closes those in which looking began. A declarer alone in them is no more than a spec, whatever stands
 -- behind it; a declarer and a tag are parameters where no colon does.
-abbrev pub closing : Mark → Due → Bracket → Look
+abbrev pub closing : Sought → Due → Bracket → Look
 closing m.Parameters due.Named b.Round = Found
 closing m.Spec due.Ended b.Round = Found
 closing m.Spec due.Named b.Round = Goes 0 due.Colon
 closing m d b = Missed
 
 -- a token outside the brackets
-abbrev pub token : Mark → Due → Token → Look
-token mark due.Declarer t = word t
-token mark due.Result t = word_or_void t
-token mark due.Procedure t = word_or_void t
-token mark due.Fields t = Missed
-token mark due.Ended t = test mark t
-token mark due.Named t = named mark t
-token mark due.More t = more t
-token mark due.Colon t = colon t
+abbrev pub token : Sought → Due → Token → Look
+token sought due.Declarer t = word t
+token sought due.Result t = word_or_void t
+token sought due.Procedure t = word_or_void t
+token sought due.Fields t = Missed
+token sought due.Ended t = test sought t
+token sought due.Named t = named sought t
+token sought due.More t = more t
+token sought due.Colon t = colon t
 
 -- what one more symbol says, within so many brackets
-abbrev pub step : Mark → ℕ → Due → Sym → Look
-step mark zero d (Opens b) = bracket d b
-step mark zero d (Closes b) = closing mark d b
-step mark zero d (Is t) = token mark d t
-step mark (suc n) d (Opens b) = Goes (suc (suc n)) d
-step mark (suc n) d (Closes b) = Goes n d
-step mark (suc n) d (Is t) = Goes (suc n) d
+abbrev pub step : Sought → ℕ → Due → Sym → Look
+step sought zero d (Opens b) = bracket d b
+step sought zero d (Closes b) = closing sought d b
+step sought zero d (Is t) = token sought d t
+step sought (suc n) d (Opens b) = Goes (suc (suc n)) d
+step sought (suc n) d (Closes b) = Goes n d
+step sought (suc n) d (Is t) = Goes (suc n) d
 
 -- Within so many brackets: whether what is looked for stands at the front, of which this is due.
-abbrev pub behind : Mark → ℕ → Due → List Sym → Bool
-behind mark n d [] = false
-behind mark n d (s ∷ text) = elim (step mark n d s) [ Goes m e ↦ behind mark m e text | Found ↦ true | Missed ↦ false ]
+abbrev pub behind : Sought → ℕ → Due → List Sym → Bool
+behind sought n d [] = false
+behind sought n d (s ∷ text) = elim (step sought n d s) [ Goes m e ↦ behind sought m e text | Found ↦ true | Missed ↦ false ]
 
 -- whether that stands behind an opening bracket at the front
-abbrev pub inside : Mark → List Sym → Bool
-inside mark (Opens b.Round ∷ text) = behind mark 0 due.Declarer text
-inside mark text = false
+abbrev pub inside : Sought → List Sym → Bool
+inside sought (Opens b.Round ∷ text) = behind sought 0 due.Declarer text
+inside sought text = false
 
 -- a routine text: parameters in brackets; or a declarer or VOID, and a colon
 abbrev pub routine_ahead : List Sym → Bool

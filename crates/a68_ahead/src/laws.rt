@@ -6,7 +6,7 @@ ghost use Rattle.a68_tree.specs.Forest.{Forest, spells};
 ghost use Rattle.a68_tree.specs.Grammar.{IsUnit, IsRoutine, IsChoices};
 ghost use Rattle.a68_ahead.specs.Ahead as spec;
 ghost use Rattle.a68_ahead.specs.declared.look.Due.TheVariants as due;
-ghost use Rattle.a68_ahead.specs.declared.look.Mark.TheVariants as marks;
+ghost use Rattle.a68_ahead.specs.declared.look.Sought.TheVariants as sought;
 ghost use Rattle.a68_ahead.specs.Sets.{begins_unit};
 ghost use Rattle.a68_ahead.specs.Symbols.{Begins};
 
@@ -18,7 +18,7 @@ pub fn routines_are_told()
 
 /// Looking ahead sees no declaration where a unit stands, with no tag behind it.
 pub fn units_are_no_declarations()
-    ensures { (k : NodeKind) (u : Forest) (r : List Sym) → IsUnit k u → spec.behind marks.Tag 0 due.Ended r ≡ false → spec.phrase_ahead (spells u r) ≡ false }
+    ensures { (k : NodeKind) (u : Forest) (r : List Sym) → IsUnit k u → spec.behind sought.Tag 0 due.Ended r ≡ false → spec.phrase_ahead (spells u r) ≡ false }
 {}
 
 /// Looking ahead tells the choices of a conformity clause from a unit.

@@ -27,7 +27,7 @@ pub enum Due {
 
 /// What is looked for.
 #[derive(Clone, Copy, Debug)]
-pub enum Mark {
+pub enum Sought {
     /// A declarer and a colon.
     Colon,
     /// A declarer and a tag.
@@ -46,6 +46,7 @@ pub enum Look {
     Missed,
 }
 
+// A word of a declarer.
 fn word(token: Token) -> Look
     ensures { result ≡ spec.word token }
 {
@@ -58,6 +59,7 @@ fn word(token: Token) -> Look
     }
 }
 
+// A word of a declarer, or VOID.
 fn word_or_void(token: Token) -> Look
     ensures { result ≡ spec.word_or_void token }
 {
@@ -67,25 +69,28 @@ fn word_or_void(token: Token) -> Look
     }
 }
 
-fn test(mark: Mark, token: Token) -> Look
-    ensures { result ≡ spec.test mark token }
+// The token behind a declarer.
+fn test(sought: Sought, token: Token) -> Look
+    ensures { result ≡ spec.test sought token }
 {
-    match (mark, token) {
-        (Mark::Colon, Token::Colon) | (Mark::Tag, Token::Tag) => Look::Found,
-        (Mark::Parameters | Mark::Spec, Token::Tag) => Look::Goes(0, Due::Named),
+    match (sought, token) {
+        (Sought::Colon, Token::Colon) | (Sought::Tag, Token::Tag) => Look::Found,
+        (Sought::Parameters | Sought::Spec, Token::Tag) => Look::Goes(0, Due::Named),
         _ => Look::Missed,
     }
 }
 
-fn named(mark: Mark, token: Token) -> Look
-    ensures { result ≡ spec.named mark token }
+// The token behind a tag in the brackets, where these do not end.
+fn named(sought: Sought, token: Token) -> Look
+    ensures { result ≡ spec.named sought token }
 {
-    match (mark, token) {
-        (Mark::Parameters, Token::Comma) => Look::Goes(0, Due::More),
+    match (sought, token) {
+        (Sought::Parameters, Token::Comma) => Look::Goes(0, Due::More),
         _ => Look::Missed,
     }
 }
 
+// The token behind a comma there: one more tag, or a declarer.
 fn more(token: Token) -> Look
     ensures { result ≡ spec.more token }
 {
@@ -95,6 +100,7 @@ fn more(token: Token) -> Look
     }
 }
 
+// The token behind the brackets of a spec.
 fn colon(token: Token) -> Look
     ensures { result ≡ spec.colon token }
 {
@@ -104,6 +110,7 @@ fn colon(token: Token) -> Look
     }
 }
 
+// A bracket that opens outside the brackets.
 fn bracket(due: Due, bracket: Bracket) -> Look
     ensures { result ≡ spec.bracket due bracket }
 {
@@ -118,47 +125,50 @@ fn bracket(due: Due, bracket: Bracket) -> Look
 }
 
 // The bracket that closes those in which looking began.
-fn closing(mark: Mark, due: Due, bracket: Bracket) -> Look
-    ensures { result ≡ spec.closing mark due bracket }
+fn closing(sought: Sought, due: Due, bracket: Bracket) -> Look
+    ensures { result ≡ spec.closing sought due bracket }
 {
-    match (mark, due, bracket) {
-        (Mark::Parameters, Due::Named, Bracket::Round) => Look::Found,
-        (Mark::Spec, Due::Ended, Bracket::Round) => Look::Found,
-        (Mark::Spec, Due::Named, Bracket::Round) => Look::Goes(0, Due::Colon),
+    match (sought, due, bracket) {
+        (Sought::Parameters, Due::Named, Bracket::Round) => Look::Found,
+        (Sought::Spec, Due::Ended, Bracket::Round) => Look::Found,
+        (Sought::Spec, Due::Named, Bracket::Round) => Look::Goes(0, Due::Colon),
         _ => Look::Missed,
     }
 }
 
-fn token(mark: Mark, due: Due, token: Token) -> Look
-    ensures { result ≡ spec.token mark due token }
+// A token outside the brackets.
+fn token(sought: Sought, due: Due, token: Token) -> Look
+    ensures { result ≡ spec.token sought due token }
 {
     match due {
         Due::Declarer => word(token),
         Due::Result | Due::Procedure => word_or_void(token),
         Due::Fields => Look::Missed,
-        Due::Ended => test(mark, token),
-        Due::Named => named(mark, token),
+        Due::Ended => test(sought, token),
+        Due::Named => named(sought, token),
         Due::More => more(token),
         Due::Colon => colon(token),
     }
 }
 
-fn outside(mark: Mark, due: Due, sym: Sym) -> Look
-    ensures { result ≡ spec.step mark 0 due sym }
+// A symbol outside the brackets.
+fn outside(sought: Sought, due: Due, sym: Sym) -> Look
+    ensures { result ≡ spec.step sought 0 due sym }
 {
     match sym {
         Sym::Opens(opened) => bracket(due, opened),
-        Sym::Closes(closed) => closing(mark, due, closed),
-        Sym::Is(found) => token(mark, due, found),
+        Sym::Closes(closed) => closing(sought, due, closed),
+        Sym::Is(found) => token(sought, due, found),
     }
 }
 
-fn step(mark: Mark, depth: usize, due: Due, sym: Sym) -> Look
+// A symbol, within so many brackets.
+fn step(sought: Sought, depth: usize, due: Due, sym: Sym) -> Look
     requires { depth < 2 ^ 63 }
-    ensures { result ≡ spec.step mark depth due sym }
+    ensures { result ≡ spec.step sought depth due sym }
 {
     if depth == 0 {
-        return outside(mark, due, sym);
+        return outside(sought, due, sym);
     }
     match sym {
         Sym::Opens(_) => Look::Goes(depth + 1, due),
@@ -167,14 +177,15 @@ fn step(mark: Mark, depth: usize, due: Due, sym: Sym) -> Look
     }
 }
 
-fn behind(mark: Mark, first: Due, text: &[Sym]) -> bool
-    ensures { result ≡ spec.behind mark 0 first text.now }
+// Whether what is looked for stands at the front, of which this is due.
+fn behind(sought: Sought, first: Due, text: &[Sym]) -> bool
+    ensures { result ≡ spec.behind sought 0 first text.now }
 {
     let mut depth = 0;
     let mut due = first;
     let mut rest = text;
     while let Some((sym, after)) = rest.split_first() {
-        match step(mark, depth, due, *sym) {
+        match step(sought, depth, due, *sym) {
             Look::Goes(within, next) => {
                 depth = within;
                 due = next;
@@ -187,11 +198,12 @@ fn behind(mark: Mark, first: Due, text: &[Sym]) -> bool
     false
 }
 
-fn inside(mark: Mark, text: &[Sym]) -> bool
-    ensures { result ≡ spec.inside mark text.now }
+// Whether it stands behind an opening bracket at the front.
+fn inside(sought: Sought, text: &[Sym]) -> bool
+    ensures { result ≡ spec.inside sought text.now }
 {
     match text.split_first() {
-        Some((Sym::Opens(Bracket::Round), listed)) => behind(mark, Due::Declarer, listed),
+        Some((Sym::Opens(Bracket::Round), listed)) => behind(sought, Due::Declarer, listed),
         _ => false,
     }
 }
@@ -200,16 +212,17 @@ fn inside(mark: Mark, text: &[Sym]) -> bool
 pub fn routine_ahead(text: &[Sym]) -> bool
     ensures { result ≡ spec.routine_ahead text.now }
 {
-    inside(Mark::Parameters, text) || behind(Mark::Colon, Due::Result, text)
+    inside(Sought::Parameters, text) || behind(Sought::Colon, Due::Result, text)
 }
 
 /// Whether the spec of a choice stands at the front, if any choice does.
 pub fn spec_ahead(text: &[Sym]) -> bool
     ensures { result ≡ spec.spec_ahead text.now }
 {
-    inside(Mark::Spec, text)
+    inside(Sought::Spec, text)
 }
 
+// Whether a tag stands at the front.
 fn tag_first(text: &[Sym]) -> bool
     ensures { result ≡ spec.tag_first text.now }
 {
@@ -226,9 +239,9 @@ pub fn phrase_ahead(text: &[Sym]) -> bool
     match text.split_first() {
         Some((Sym::Is(Token::Mode | Token::Prio | Token::Op), _)) => true,
         Some((Sym::Is(Token::Loc | Token::Heap), declarer)) => {
-            behind(Mark::Tag, Due::Declarer, declarer)
+            behind(Sought::Tag, Due::Declarer, declarer)
         }
         Some((Sym::Is(Token::Proc), named)) if tag_first(named) => true,
-        _ => behind(Mark::Tag, Due::Declarer, text),
+        _ => behind(Sought::Tag, Due::Declarer, text),
     }
 }

@@ -1,8 +1,7 @@
 -- What the rules of the language permit a run to have done.
-use Rattle.std.specs.Prelude.{◌≡◌, ◌≢◌, ◌≤◌, ℕ, List, [], ◌∷◌, length, slice_get}
-use Rattle.std.specs.Option.{option_map_or}
-use Rattle.std.specs.declared.option.Option.{Option}
+use Rattle.std.specs.Prelude.{◌≡◌, ◌≢◌, ◌≤◌, ℕ, [], ◌∷◌, length}
 use Rattle.a68_acts.specs.Does.{did, refuses, does}
+use Rattle.a68_acts.specs.Keeping.{IsKept}
 use Rattle.a68_acts.specs.Store.{Store, opening_store}
 use Rattle.a68_acts.specs.declared.want.Reply.{Reply}
 use Rattle.a68_elab.specs.Elaborations.{Elaborates}
@@ -45,10 +44,6 @@ pub data EndsWith (program : Program) (fuel entries : ℕ) (t : Term) (store : S
   spent : (t2 : Term) (x : ℕ) (what : Then Term) → entries ≡ fuel → Elaborates program t store [] t2 store → HasOpen program 0 t2 x what
       → CanAct store what → EndsWith program fuel entries t store ends.Spent
 
--- what the slots of the outermost frame of the program are bound to; none where the program makes no frame
-abbrev pub outer_slots : Store → List (Option Content)
-outer_slots store = option_map_or (λ frame. frame.slots) (slice_get store.frames 1) []
-
 -- The rules of the language permit that a run of the program, with this fuel, leaves this: there is an elaboration of
 -- the program in the standard environ whose acts are the entries of the journal; the text, the cells and the outermost
 -- slots are those to which it comes, and so is the end.
@@ -56,8 +51,6 @@ pub record Permitted (program : Program) (fuel : ℕ) (kept : Kept) : Type 0 whe
   pub term : Term
   pub store : Store
   pub elaborated : Elaborates program (todo program.tree (record { frame = 0; scope = 0 } ∷ [])) opening_store kept.journal.entries term store
-  pub text : kept.journal.text ≡ store.text
-  pub cells : kept.cells ≡ store.cells
-  pub outer : kept.outer ≡ outer_slots store
+  pub keeps : IsKept store kept
   pub within : length kept.journal.entries ≤ fuel
   pub ends : EndsWith program fuel (length kept.journal.entries) term store kept.end

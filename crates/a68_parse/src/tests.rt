@@ -124,6 +124,16 @@ CASE 1 IN (INT a, b): 2 ESAC => 20
 CASE 1 IN (INT a) 2 ESAC => 18
 ";
 
+/// Long and deep texts: what begins one, what is repeated, how often, what stands in the middle, what is repeated as often
+/// behind it, and what ends the text; and of how many nodes the tree is.
+const LARGE: &str = "\
+(|(|199|1|)|) => 401
+(|+|997|1||) => 1001
+IF 1 THEN 2|ELIF 1 THEN 2|60000|FI|| => 300005
+( INT a|, a|87000|; 1 )|| => 87006
+( 1,|1,|130000|1 )|| => 130003
+";
+
 fn kinds(alloc: Global, tree: &Tree) -> Result<String, Fail> {
     let mut text = String::new(alloc);
     for id in 0..tree.len() {
@@ -142,6 +152,43 @@ fn tree_of(alloc: Global, text: &str) -> Result<Result<Tree, Stop>, Fail> {
         return Err(Fail::from("symbols"));
     }
     Ok(parse(alloc, &found, &classes, text.len() as u32))
+}
+
+// That text so often, each time behind a blank.
+fn repeated(alloc: Global, piece: &str, times: u32) -> Result<String, Fail> {
+    let mut text = String::new(alloc);
+    for _ in 0..times {
+        text.push(' ')?;
+        text.push_str(piece)?;
+    }
+    Ok(text)
+}
+
+fn large(alloc: Global, case: &str) -> Result<String, Fail> {
+    let mut pieces = case.split('|');
+    let mut text = String::new(alloc);
+    text.push_str(pieces.next().ok_or("a beginning")?)?;
+    let open = pieces.next().ok_or("a piece")?;
+    let times = pieces.next().ok_or("a number")?.parse()?;
+    text.push_str(&repeated(alloc, open, times)?)?;
+    text.push(' ')?;
+    text.push_str(pieces.next().ok_or("a middle")?)?;
+    text.push_str(&repeated(alloc, pieces.next().ok_or("a piece")?, times)?)?;
+    text.push(' ')?;
+    text.push_str(pieces.next().ok_or("an end")?)?;
+    Ok(text)
+}
+
+#[test]
+fn large_texts(rt: HostRuntime) -> Result<(), Fail> {
+    let alloc = rt.alloc();
+    for case in LARGE.lines() {
+        let (text, answer) = case.split_once(" => ").ok_or("no answer")?;
+        let tree = tree_of(alloc, &large(alloc, text)?)?.ok().ok_or("a tree")?;
+        let count = format!(in alloc; "{}", tree.len())?;
+        assert_eq!(rt; count.as_str(), answer, "{text}");
+    }
+    Ok(())
 }
 
 #[test]

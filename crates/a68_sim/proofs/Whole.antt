@@ -181,9 +181,7 @@ law program code fuel kept tr r =
       term = last.0;
       store = r.world.store;
       elaborated = quiet_elaborates {t2 = last.0} first.1 (elaborates_on {t2 = all.0} {t3 = last.0} all.1 last.1);
-      text = r.keeps.text;
-      cells = r.keeps.cells;
-      outer = r.keeps.outer;
+      keeps = r.keeps;
       within = r.within;
       ends = last.2;
     }

@@ -4,3 +4,6 @@
 mod stack;
 
 pub use stack::{Item, Stack};
+
+#[cfg(test)]
+mod tests;

@@ -1,6 +1,7 @@
 //! Strands of small codes, told their replies by hand.
 ghost use Rattle.std.specs.Prelude.{◌≡◌, ◌<◌, ◌^◌, length, IsTrue, IfOk};
-ghost use Rattle.a68_strand.specs.Room.{has_room};
+ghost use Rattle.a68_strand.specs.Room.{has_room, brings_room};
+ghost use Rattle.a68_strand.specs.Strands.{wants};
 
 use super::*;
 use a68_acts::{Reply, Want};
@@ -37,7 +38,6 @@ fn does(op: &str) -> Result<Does, Fail> {
         "Store" => Does::Store(one),
         "Bind" => Does::Bind(one),
         "Deref" => Does::Deref(one),
-        "Apply" => Does::Apply(one),
         "Print" => Does::Print(one),
         "Leave" => Does::Leave(one),
         "End" => Does::End,
@@ -98,87 +98,96 @@ fn prints(rt: HostRuntime) -> Result<(), Fail> {
     Ok(())
 }
 
-// BEGIN INT x := 5; print(x) END
+/// BEGIN INT x := 5; print(x) END
 const PRINTING: &str =
     "Enter 1, Make 1 0, Push 5, Store 1, Bind 0, Tag 0 0, Deref 1, Print 1, Leave 0, End";
 
-// A frame within the outermost one.
-fn inner(alloc: Global) -> Result<Chain, Fail>
-    ensures { IfOk result (λ chain. IsTrue (has_room chain)) }
-{
-    Ok(Chain {
-        items: vec![in alloc; Environ { frame: 1, scope: 1 }, STANDARD]?,
-    })
+/// The acts for which it asks, and the reply to each.
+const ACTS: &str = "\
+Enter Frame
+Make Base
+Assign Go
+Bind Go
+Look Name
+Fetch Held
+Print Done
+";
+
+const NAME: Name = Name { cell: 7, scope: 1 };
+
+// Whether this act is asked for.
+fn is_asked(want: &Want, act: &str) -> bool {
+    match want {
+        Want::Enter {
+            outer,
+            scope,
+            slots,
+        } => act == "Enter" && *outer == 0 && *scope == 1 && *slots == 1,
+        Want::Make(plan) => act == "Make" && plan.cells.items.len() == 1,
+        Want::Assign { cell, held } => {
+            act == "Assign" && *cell == 7 && matches!(held, Held::Plain(Plain::Int(5)))
+        }
+        Want::Bind { frame, slot, value } => {
+            let is_name = matches!(value.node, Node::Plain(Plain::Name(name)) if name == NAME);
+            act == "Bind" && *frame == 1 && *slot == 0 && is_name
+        }
+        Want::Look { frame, slot } => act == "Look" && *frame == 1 && *slot == 0,
+        Want::Fetch { cell } => act == "Fetch" && *cell == 7,
+        Want::Print(text) => {
+            act == "Print" && text.items.as_slice() == b"                  +5".as_slice()
+        }
+        _ => false,
+    }
 }
 
-// The variable is read and printed. Its slot and the end are told by plain replies.
-fn reads(rt: &impl Abort, alloc: Global, code: &Code, strand: &mut Strand) -> Result<(), Fail>
-    requires { length code.now.list < 2 ^ 32 }
+fn reply(alloc: Global, told: &str) -> Result<Reply, Fail>
+    ensures { IfOk result (λ reply. IsTrue (brings_room reply)) }
 {
-    let Ask::Want(Want::Look { frame: 1, slot: 0 }) = strand.ask() else {
-        return Err("nothing is looked at".into());
-    };
-    let name = Plain::Name(Name { cell: 7, scope: 1 });
-    strand.told_plain(alloc, code, PlainReply::Value(name))?;
-    let Ask::Want(Want::Fetch { cell: 7 }) = strand.ask() else {
-        return Err("nothing is fetched".into());
-    };
-    strand.told(alloc, code, Reply::Held(Held::Plain(Plain::Int(5))))?;
-    assert_eq!(rt; strand.place(), 7);
-    let Ask::Want(Want::Print(text)) = strand.ask() else {
-        return Err("nothing is printed".into());
-    };
-    assert_eq!(rt; text.items.as_slice(), b"                  +5".as_slice());
-    strand.told_plain(alloc, code, PlainReply::Go)?;
-    assert!(rt; matches!(strand.ask(), Ask::Ended));
+    if told == "Frame" {
+        let items = vec![in alloc; Environ { frame: 1, scope: 1 }, STANDARD]?;
+        return Ok(Reply::Frame(Chain { items }));
+    }
+    match told {
+        "Base" => Ok(Reply::Base(7)),
+        "Held" => Ok(Reply::Held(Held::Plain(Plain::Int(5)))),
+        _ => Ok(Reply::Go),
+    }
+}
+
+// The reply, where it is told as a plain one.
+fn plain_reply(told: &str) -> Option<PlainReply> {
+    match told {
+        "Name" => Some(PlainReply::Value(Plain::Name(NAME))),
+        "Done" => Some(PlainReply::Go),
+        _ => None,
+    }
+}
+
+fn tell(alloc: Global, code: &Code, strand: &mut Strand, told: &str) -> Result<(), Fail>
+    requires few { length code.now.list < 2 ^ 32 }
+    requires asks { IsTrue (wants strand.old.about.ask) }
+{
+    match plain_reply(told) {
+        Some(short) => strand.told_plain(alloc, code, short)?,
+        None => strand.told(alloc, code, reply(alloc, told)?)?,
+    }
     Ok(())
 }
 
-// Each kind of reply once.
 #[test]
 fn goes_on_with_replies(rt: HostRuntime) -> Result<(), Fail> {
     let alloc = rt.alloc();
     let (code, mut strand) = begun(&rt, alloc, PRINTING)?;
-    let Ask::Want(
-        Want::Enter {
-            outer: 0,
-            scope: 1,
-            slots: 1,
-        },
-    ) = strand.ask()
-    else {
-        return Err("no frame".into());
-    };
-    strand.told(alloc, &code, Reply::Frame(inner(alloc)?))?;
-    let Ask::Want(Want::Make(plan)) = strand.ask() else {
-        return Err("no cells".into());
-    };
-    assert_eq!(rt; plan.cells.items.len(), 1);
-    strand.told(alloc, &code, Reply::Base(7))?;
-    let Ask::Want(
-        Want::Assign {
-            cell: 7,
-            held: Held::Plain(Plain::Int(5)),
-        },
-    ) = strand.ask()
-    else {
-        return Err("nothing is assigned".into());
-    };
-    strand.told(alloc, &code, Reply::Go)?;
-    let Ask::Want(
-        Want::Bind {
-            frame: 1,
-            slot: 0,
-            value,
-        },
-    ) = strand.ask()
-    else {
-        return Err("nothing is bound".into());
-    };
-    let name = Name { cell: 7, scope: 1 };
-    assert!(rt; matches!(value.node, Node::Plain(Plain::Name(n)) if n == name));
-    strand.told(alloc, &code, Reply::Go)?;
-    reads(&rt, alloc, &code, &mut strand)
+    for line in ACTS.lines() {
+        let (act, told) = line.split_once(' ').ok_or("no reply")?;
+        let Ask::Want(want) = strand.ask() else {
+            return Err("nothing is asked".into());
+        };
+        assert!(rt; is_asked(want, act), "{act}");
+        tell(alloc, &code, &mut strand, told)?;
+    }
+    assert!(rt; matches!(strand.ask(), Ask::Ended));
+    Ok(())
 }
 
 // A reply of another kind than the one that is waited for.
@@ -192,65 +201,5 @@ fn meets_kind(rt: HostRuntime) -> Result<(), Fail> {
     strand.told(alloc, &code, Reply::Go)?;
     let kind = FaultKind::Kind;
     assert!(rt; matches!(strand.ask(), Ask::Fault { kind: k, place: 1 } if *k == kind));
-    Ok(())
-}
-
-// Rows of the table of operators on two INT, with the left and the right operand, and what comes of it.
-const OPERATORS: &str = "\
-9 3 3 T
-9 3 4 F
-10 3 3 F
-10 3 4 T
-11 3 4 T
-11 4 4 F
-12 4 4 T
-12 5 4 F
-13 4 4 T
-13 3 4 F
-14 5 4 T
-14 4 4 F
-15 3 -4 -1
-15 9223372036854775806 1 9223372036854775807
-15 9223372036854775807 1 Overflow
-15 -9223372036854775807 -1 Overflow
-16 3 4 -1
-16 -9223372036854775807 1 Overflow
-16 9223372036854775807 -1 Overflow
-17 -3 4 -12
-17 3037000499 3037000499 9223372030926249001
-17 3037000500 3037000500 Overflow
-17 4294967296 -2147483648 Overflow
-17 9223372036854775807 -1 -9223372036854775807
-";
-
-// Whether this came of an operator, whose value is bound.
-fn suits(ask: &Ask, expected: &str) -> bool {
-    match ask {
-        Ask::Fault {
-            kind: FaultKind::Overflow,
-            ..
-        } => expected == "Overflow",
-        Ask::Want(Want::Bind { value, .. }) => match &value.node {
-            Node::Plain(Plain::Bool(b)) => expected == if *b { "T" } else { "F" },
-            Node::Plain(Plain::Int(i)) => expected.parse() == Ok(*i),
-            _ => false,
-        },
-        _ => false,
-    }
-}
-
-#[test]
-fn operators(rt: HostRuntime) -> Result<(), Fail> {
-    let alloc = rt.alloc();
-    for line in OPERATORS.lines() {
-        let mut words = line.split_whitespace();
-        let row = words.next().ok_or("no row")?;
-        let left = words.next().ok_or("no left operand")?;
-        let right = words.next().ok_or("no right operand")?;
-        let expected = words.next().ok_or("no result")?;
-        let ops = format!(in alloc; "Push {left}, Push {right}, Apply {row}, Bind 0, End")?;
-        let (_, strand) = begun(&rt, alloc, &ops)?;
-        assert!(rt; suits(strand.ask(), expected), "{line}");
-    }
     Ok(())
 }

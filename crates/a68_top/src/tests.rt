@@ -110,7 +110,7 @@ fn texts_are_answered(rt: HostRuntime) -> Result<(), Fail> {
 #[test]
 fn texts_are_refused_and_faults_met(rt: HostRuntime) -> Result<(), Fail> {
     let blanks = vec![in rt.alloc(); b' '; 1_048_577]?;
-    let rows: [(&[u8], u8, &[u8]); 36] = [
+    let rows: [(&[u8], u8, &[u8]); 38] = [
         (b"", 1, b"a68: refused S6 at byte 0\n"),
         (b" \n\t\r", 1, b"a68: refused S6 at byte 4\n"),
         (&blanks[1..], 1, b"a68: refused S6 at byte 1048576\n"),
@@ -144,6 +144,16 @@ fn texts_are_refused_and_faults_met(rt: HostRuntime) -> Result<(), Fail> {
             b"BEGIN print(1 OVER 2) END",
             1,
             b"a68: refused X0 at byte 12\n",
+        ),
+        (
+            b"BEGIN print(1 OVER 2); SKIP END",
+            1,
+            b"a68: refused X0 at byte 12\n",
+        ),
+        (
+            b"BEGIN SKIP; print(1 OVER 2) END",
+            1,
+            b"a68: refused X0 at byte 6\n",
         ),
         (b"BEGIN print(1);", 1, b"a68: refused S6 at byte 15\n"),
         (b"BEGIN print(1 +) END", 1, b"a68: refused S6 at byte 15\n"),

@@ -13,7 +13,7 @@ use Rattle.a68_code.specs.declared.code.Code.{Code}
 use Rattle.a68_strand.specs.Cyclic.{HasTurn, Sooner, IsFirstBehind}
 use Rattle.a68_strand.specs.Ends.{EndsWith}
 use Rattle.a68_strand.specs.Machine.{State, asked, place_at, beginning}
-use Rattle.a68_strand.specs.RunOf.{outer_slots}
+use Rattle.a68_acts.specs.Keeping.{outer_slots}
 use Rattle.a68_strand.specs.Runs.{World, opening}
 use Rattle.a68_strand.specs.Strands.{standing, is_spent, HasSettled}
 use Rattle.a68_strand.specs.declared.ask.Ask.{Ask}

@@ -2,7 +2,7 @@
 use super::*;
 use a68_code::{Code, Does, Instr, Instrs, Routines};
 use a68_modes::Modes;
-use a68_values::{Held, Plain, Value};
+use a68_values::{End, Held, Kept, Plain, Value};
 use std::alloc::Global;
 use std::process::Abort;
 use std::test::Fail;
@@ -97,14 +97,26 @@ fn world(rt: &impl Abort, alloc: Global, ops: &str, fuel: u32) -> Result<World, 
     Ok(World::start(alloc, code, fuel)?)
 }
 
-// Turns strand 0 until the run has ended, and writes its events and its end.
-fn run(alloc: Global, world: &mut World) -> Result<String, Fail> {
+// Turns strand 0 until the run has ended.
+fn turn_on(alloc: Global, world: &mut World) -> Option<End> {
     for _ in 0..20 {
         if let Turned::Over(end) = world.turn(alloc, 0) {
-            return Ok(format!(in alloc; "{} | {end:?}", world.events())?);
+            return Some(end);
         }
     }
-    Err("no end".into())
+    None
+}
+
+// How many events such a run has, and its end.
+fn outcome(
+    rt: &impl Abort,
+    alloc: Global,
+    ops: &str,
+    fuel: u32,
+) -> Result<(u64, Option<End>), Fail> {
+    let mut world = world(rt, alloc, ops, fuel)?;
+    let end = turn_on(alloc, &mut world);
+    Ok((world.events(), end))
 }
 
 #[test]
@@ -113,10 +125,25 @@ fn runs(rt: HostRuntime) -> Result<(), Fail> {
     for line in RUNS.lines() {
         let (ops, rest) = line.split_once(" | ").ok_or("no code")?;
         let (fuel, expected) = rest.split_once(" | ").ok_or("no fuel")?;
-        let mut world = world(&rt, alloc, ops, fuel.parse()?)?;
-        let came = run(alloc, &mut world)?;
+        let (events, end) = outcome(&rt, alloc, ops, fuel.parse()?)?;
+        let end = end.ok_or("no end")?;
+        let came = format!(in alloc; "{events} | {end:?}")?;
         assert_eq!(rt; came.as_str(), expected, "{ops}");
     }
+    Ok(())
+}
+
+// Whether this is what a run of PRINTING keeps.
+fn is_printed(rt: &impl Abort, alloc: Global, kept: &Kept) -> Result<(), Fail> {
+    let mut journal = String::new(alloc);
+    for entry in &kept.journal.entries.items {
+        journal.push_str(format!(in alloc; "{:?}\n", entry.act)?.as_str())?;
+    }
+    assert_eq!(rt; journal.as_str(), JOURNAL);
+    let text = kept.journal.text.items.as_slice();
+    assert_eq!(rt; text, b"                  +5".as_slice());
+    assert_eq!(rt; (kept.cells.items.len(), kept.outer.items.len()), (1, 1));
+    assert!(rt; matches!(kept.cells.items[0], Held::Plain(Plain::Int(5))));
     Ok(())
 }
 
@@ -124,39 +151,38 @@ fn runs(rt: HostRuntime) -> Result<(), Fail> {
 fn keeps(rt: HostRuntime) -> Result<(), Fail> {
     let alloc = rt.alloc();
     let mut world = world(&rt, alloc, PRINTING, 7)?;
-    let _ = run(alloc, &mut world)?;
+    assert_eq!(rt; turn_on(alloc, &mut world), Some(End::Done));
     let Ok((_, kept)) = world.finish() else {
         return Err("not finished".into());
     };
-    let mut journal = String::new(alloc);
-    for entry in &kept.journal.entries.items {
-        journal.push_str(format!(in alloc; "{:?}\n", entry.act)?.as_str())?;
-    }
-    assert_eq!(rt; journal.as_str(), JOURNAL);
-    assert_eq!(rt;
-        kept.journal.text.items.as_slice(),
-        b"                  +5".as_slice()
-    );
-    assert_eq!(rt; (kept.cells.items.len(), kept.outer.items.len()), (1, 1));
-    assert!(rt; matches!(kept.cells.items[0], Held::Plain(Plain::Int(5))));
-    Ok(())
+    is_printed(&rt, alloc, &kept)
+}
+
+// One turn of a run that has fuel for one.
+fn turns_once(rt: &impl Abort, alloc: Global, world: &mut World) {
+    assert!(rt; matches!(world.turn(alloc, 1), Turned::NotReady));
+    assert!(rt; matches!(world.next(0), Some(0)));
+    assert!(rt; matches!(world.turn(alloc, 0), Turned::Acted));
+    assert!(rt; world.events() == 1 && world.last() == 0);
+    assert!(rt; world.end().is_none() && !world.lost());
+}
+
+// Its end.
+fn is_spent(rt: &impl Abort, alloc: Global, world: &mut World) {
+    assert!(rt; matches!(world.turn(alloc, 0), Turned::Over(End::Spent)));
+    assert!(rt; world.next(0).is_none());
+    assert!(rt; world.code().list.items.len() == 10);
 }
 
 #[test]
 fn turns(rt: HostRuntime) -> Result<(), Fail> {
     let alloc = rt.alloc();
     let mut world = world(&rt, alloc, ENDLESS, 1)?;
-    assert_eq!(rt; world.turn(alloc, 1), Turned::NotReady);
-    assert_eq!(rt; world.next(0), Some(0));
-    assert_eq!(rt; world.turn(alloc, 0), Turned::Acted);
-    assert_eq!(rt; (world.events(), world.last()), (1, 0));
-    assert!(rt; world.end().is_none() && !world.lost());
+    turns_once(&rt, alloc, &mut world);
     let Err(mut world) = world.finish() else {
         return Err("finished".into());
     };
-    assert_eq!(rt; world.turn(alloc, 0), Turned::Over(a68_values::End::Spent));
-    assert_eq!(rt; world.next(0), None);
-    assert_eq!(rt; world.code().list.items.len(), 10);
+    is_spent(&rt, alloc, &mut world);
     Ok(())
 }
 
