@@ -1,4 +1,7 @@
 //! Runs of small codes, with journals and ends found by hand.
+ghost use Rattle.std.specs.Prelude.{◌<◌, ◌^◌, length, IfOk};
+ghost use Rattle.a68_code.specs.Valid.{IsValid};
+
 use super::*;
 use a68_code::{Code, Does, Instr, Instrs, Routines};
 use a68_modes::Modes;
@@ -89,10 +92,18 @@ fn code_of(alloc: Global, ops: &str) -> Result<Code, Fail> {
     })
 }
 
-fn world(rt: &impl Abort, alloc: Global, ops: &str, fuel: u32) -> Result<World, Fail> {
+fn valid_code(rt: &impl Abort, alloc: Global, ops: &str) -> Result<Code, Fail>
+    ensures valid { IfOk result (λ code. IsValid code) }
+    ensures short { IfOk result (λ code. length code.list < 2 ^ 32) }
+{
     let code = code_of(alloc, ops)?;
     assert!(rt; code.list.items.len() < 100);
     assert!(rt; code.valid(alloc)?);
+    Ok(code)
+}
+
+fn world(rt: &impl Abort, alloc: Global, ops: &str, fuel: u32) -> Result<World, Fail> {
+    let code = valid_code(rt, alloc, ops)?;
     assert!(rt; 1 <= fuel && fuel <= 100);
     Ok(World::start(alloc, code, fuel)?)
 }
@@ -172,6 +183,14 @@ fn is_spent(rt: &impl Abort, alloc: Global, world: &mut World) {
     assert!(rt; matches!(world.turn(alloc, 0), Turned::Over(End::Spent)));
     assert!(rt; world.next(0).is_none());
     assert!(rt; world.code().list.items.len() == 10);
+}
+
+#[test]
+fn runs_in_turn(rt: HostRuntime) -> Result<(), Fail> {
+    let alloc = rt.alloc();
+    let (_, kept) = run(alloc, valid_code(&rt, alloc, PRINTING)?, 7)?;
+    assert!(rt; matches!(kept.end, End::Done));
+    is_printed(&rt, alloc, &kept)
 }
 
 #[test]
