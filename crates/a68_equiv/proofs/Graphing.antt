@@ -47,18 +47,18 @@ rows_more nodes rows i m row so e is kind = record {
     last = subst (λ (k : ℕ). row_at (rows ++ row ∷ []) k ≡ row) so.long (get_or-append_seam rows row [] (false, []))
 
 -- both rows of one node more
-pub both_more : (nodes : List Shape) (rows one two : List (Bool × List ℕ)) (id : ℕ) (start : List ℕ) (s : Shape) (kept taken : Bool × List ℕ) → id < length nodes → AreRows nodes (2 * id) rows
-    → start ≡ steps_of WithinUnions (shape_at nodes id) → s ≡ unfolded nodes id → IsShapeRow nodes start s false kept → IsShapeRow nodes start s true taken
+pub both_more : (nodes : List Shape) → HoldsNodes nodes → (rows one two : List (Bool × List ℕ)) (id : ℕ) (start : List ℕ) (s : Shape) (kept taken : Bool × List ℕ) → id < length nodes → AreRows nodes (2 * id) rows
+    → start ≡ steps_of WithinUnions (unfolded nodes id) → s ≡ unfolded nodes id → IsShapeRow nodes start s false kept → IsShapeRow nodes start s true taken
     → one ≡ rows ++ kept ∷ [] → two ≡ one ++ taken ∷ [] → AreRows nodes (2 * (id + 1)) two
-both_more nodes rows one two id start s kept taken less so from is k t first second =
+both_more nodes holds rows one two id start s kept taken less so from is k t first second =
     let free : Mode = record { id = id; fixed = false } in
     let bound : Mode = record { id = id; fixed = true } in
-    let a : IsShapeRow nodes (steps_of WithinUnions (shape_at nodes id)) (unfolded nodes id) false kept = rw (← from, ← is) k in
-    let b : IsShapeRow nodes (steps_of WithinUnions (shape_at nodes id)) (unfolded nodes id) true taken = rw (← from, ← is) t in
+    let a : IsShapeRow nodes (steps_of WithinUnions (unfolded nodes id)) (unfolded nodes id) false kept = rw (← from, ← is) k in
+    let b : IsShapeRow nodes (steps_of WithinUnions (unfolded nodes id)) (unfolded nodes id) true taken = rw (← from, ← is) t in
     let here : free ≡ mode_of (2 * id) = sym (mode_number free) ∙ ap mode_of (let e : number_of free ≡ 2 * id = omega arith in e) in
     let next : bound ≡ mode_of (2 * id + 1) = sym (mode_number bound) in
-    let once = rows_more nodes rows (2 * id) free kept so here (row_here nodes free kept less a) a.kind in
-    let twice = rows_more nodes (rows ++ kept ∷ []) (2 * id + 1) bound taken once next (row_here nodes bound taken less b) b.kind in
+    let once = rows_more nodes rows (2 * id) free kept so here (row_here nodes holds free kept less a) a.kind in
+    let twice = rows_more nodes (rows ++ kept ∷ []) (2 * id + 1) bound taken once next (row_here nodes holds bound taken less b) b.kind in
     let count : 2 * id + 1 + 1 ≡ 2 * (id + 1) = omega arith in
     rw (second, first) (subst (λ (n : ℕ). AreRows nodes n ((rows ++ kept ∷ []) ++ taken ∷ [])) count twice)
 

@@ -255,7 +255,7 @@ module _ (nodes : List Shape) (s : Shape) (holds : HoldsNodes nodes) (formed : A
 
   pub new_row : (fixed : Bool) (row : Bool × List ℕ) → IsShapeRow nodes (steps_of WithinUnions s) (bare nodes s) fixed row → IsRowOf (nodes ++ s ∷ []) (record { id = length nodes; fixed = fixed }) row
   new_row fixed row is =
-      let at = parts_at (nodes ++ s ∷ []) nodes (steps_of WithinUnions s) (length nodes) (bare nodes s) is.items new_member is.parts in
+      let at = parts_at (nodes ++ s ∷ []) nodes (steps_of WithinUnions s) (length nodes) (bare nodes s) is.items (λ u. new_member) is.parts in
       let below = All-weaker (λ m. m < length nodes) (λ m. m < length (nodes ++ s ∷ [])) (λ k g. let l = longer in omega arith) is.items is.below in
       let a : Mode = record { id = length nodes; fixed = fixed } in
       subst (λ (xs : List ℕ). IsRowOf (nodes ++ s ∷ []) a (row.0, xs)) (sym is.numbers)

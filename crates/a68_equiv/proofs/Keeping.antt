@@ -15,7 +15,7 @@ use Rattle.a68_equiv.specs.Related.{as_it_stands, without_flex}
 use Rattle.a68_equiv.specs.Unfolding.{unfolded, passes_on, is_union, IsPart, Alike, Equivalent}
 use Rattle.a68_refine.specs.Rows.{row_at}
 use Rattle.a68_equiv.specs.Graph.{number_of, mode_of, AreBehind, IsShapeRow, IsRowOf, IsGraphOf}
-use Rattle.a68_refine.specs.Rounds.{at_key, Shares, ByFirst, SoFar, IsRowKey, IsNumbered}
+use Rattle.a68_refine.specs.Rounds.{at_key, Shares, ByFirst, SoFar, IsNumbered}
 use Rattle.a68_equiv.specs.ModeKeys.{IsKeyOf, IsModeKey, HasModeKey, IsNewKey}
 use Rattle.a68_equiv.specs.Classes.{class_of, AreExact, AreKept, IsAlready, IsOldNode}
 use Rattle.a68_equiv.proofs.Growing.{part_below, longer, old_unfolded, new_unfolded, inside, grows, shrinks, row_in, new_row}

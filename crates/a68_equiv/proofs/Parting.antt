@@ -4,16 +4,17 @@ use Rattle.std.specs.Prelude.{◌↔◌}
 use Rattle.std.specs.List.{Contains}
 use Rattle.a68_modes.specs.declared.shape.Shape.{Shape}
 use Rattle.a68_modes.specs.declared.shape.Shape.TheVariants.{Union}
-use Rattle.a68_modes.specs.Nodes.{shape_at, parts_of}
+use Rattle.a68_modes.specs.Nodes.{shape_at, parts_of, HoldsNodes}
 use Rattle.a68_equiv.specs.declared.mode.Mode.{Mode}
 use Rattle.a68_equiv.specs.declared.steps.Steps.TheVariants.{WithinUnions}
 use Rattle.a68_equiv.specs.Ways.{steps_of}
 use Rattle.a68_equiv.specs.Spread.{IsSpread}
-use Rattle.a68_equiv.specs.Unfolding.{unfolded, passes_on, is_union, IsMember}
+use Rattle.a68_equiv.specs.Unfolding.{unfolded, behind, passes_on, is_union, IsMember}
 use Rattle.a68_equiv.specs.Graph.{AreAt, ArePartsOf, IsShapeRow, IsRowOf}
 use Rattle.a68_equiv.specs.Related.{IsAmong}
 use Rattle.a68_equiv.proofs.Rowing.{at_parts, at_members, row_is}
-use Rattle.a68_equiv.proofs.Spreading.{members_spread}
+use Rattle.a68_equiv.proofs.Spreading.{members_spread, members_behind}
+use Rattle.a68_equiv.proofs.Grasp.{behind_below}
 
 spread_members : (others : List Shape) (start : List ℕ) (s : Shape) (items : List ℕ) → is_union s ≡ true → ArePartsOf others start s items → (x : ℕ) → Contains items x ↔ IsSpread others start x
 spread_members others start (Union ms) items e are = are
@@ -24,19 +25,24 @@ plain_parts others start (Union ms) items e are = absurd (cc)
 plain_parts others start _ items e are = are
 
 -- what a union spreads to are its members
-pub parts_at : (nodes others : List Shape) (start : List ℕ) (m : ℕ) (s : Shape) (items : List ℕ) → ((x : ℕ) → IsMember nodes m x ↔ IsSpread others start x) → ArePartsOf others start s items → AreAt nodes m s items
+pub parts_at : (nodes others : List Shape) (start : List ℕ) (m : ℕ) (s : Shape) (items : List ℕ) → (is_union s ≡ true → (x : ℕ) → IsMember nodes m x ↔ IsSpread others start x) → ArePartsOf others start s items → AreAt nodes m s items
 parts_at nodes others start m s items same are = go (is_union s) refl
   where
     go : (b : Bool) → is_union s ≡ b → AreAt nodes m s items
     go true e =
         let f = spread_members others start s items e are in
-        at_members nodes m s items e (λ x. (λ i. (same x).1 ((f x).0 i), λ is. (f x).1 ((same x).0 is)))
+        at_members nodes m s items e (λ x. (λ i. (same e x).1 ((f x).0 i), λ is. (f x).1 ((same e x).0 is)))
     go false e = subst (λ (xs : List ℕ). AreAt nodes m s xs) (sym (plain_parts others start s items e are)) (at_parts nodes m s e)
 
+same_members : {P Q R : Type 0} → P ↔ Q → Q ↔ R → P ↔ R
+same_members p q = (λ i. q.0 (p.0 i), λ i. p.1 (q.1 i))
+
 -- the row of a node
-pub row_here : (nodes : List Shape) (a : Mode) (row : Bool × List ℕ) → a.id < length nodes → IsShapeRow nodes (steps_of WithinUnions (shape_at nodes a.id)) (unfolded nodes a.id) a.fixed row → IsRowOf nodes a row
-row_here nodes a row h is =
-    let at = parts_at nodes nodes (steps_of WithinUnions (shape_at nodes a.id)) a.id (unfolded nodes a.id) is.items (λ x. members_spread nodes a.id x h) is.parts in
+pub row_here : (nodes : List Shape) → HoldsNodes nodes → (a : Mode) (row : Bool × List ℕ) → a.id < length nodes → IsShapeRow nodes (steps_of WithinUnions (unfolded nodes a.id)) (unfolded nodes a.id) a.fixed row → IsRowOf nodes a row
+row_here nodes holds a row h is =
+    let head = behind nodes (length nodes) a.id in
+    let members = λ (u : is_union (unfolded nodes a.id) ≡ true) (x : ℕ). same_members (members_behind nodes holds (length nodes) a.id x h u) (members_spread nodes head x (behind_below nodes holds (length nodes) a.id h)) in
+    let at = parts_at nodes nodes (steps_of WithinUnions (unfolded nodes a.id)) a.id (unfolded nodes a.id) is.items members is.parts in
     subst (λ (xs : List ℕ). IsRowOf nodes a (row.0, xs)) (sym is.numbers) (row_is nodes a is.items row.0 (passes_on a.fixed (unfolded nodes a.id)) is.kind refl at is.below)
 
 -- what a union spreads to is among it

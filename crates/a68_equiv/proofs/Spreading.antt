@@ -1,20 +1,22 @@
 -- What mode words and unions lead to.
-use Rattle.std.proofs.Common.{◌≡◌, ◌<◌, ◌≤◌, ◌+◌, ◌++◌, ℕ, List, [], ◌∷◌, Bool, true, false, nat_eq, length, get_or, refl, sym, ◌∙◌, arith, subst, inl, inr, ⊎_elim, below_more, length-append}
+use Rattle.std.proofs.Common.{◌≡◌, ◌<◌, ◌≤◌, ◌+◌, ◌++◌, ℕ, zero, suc, ap, List, [], ◌∷◌, Bool, true, false, nat_eq, length, get_or, refl, sym, ◌∙◌, arith, subst, inl, inr, ⊎_elim, below_more, length-append}
 use Rattle.std.specs.Prelude.{◌↔◌, map}
 use Rattle.std.specs.List.{All, Contains, IsDistinct, list_any}
 use Rattle.std.proofs.Math.ListN.{get_or-append}
 use Rattle.std.proofs.lemmas.List.{get_or_default}
 use Rattle.std.proofs.lemmas.List.Elements.{Contains-push_cases, Contains-push, Contains-append_left, All-contains, All-from_get_or, Contains-get_or}
+use Rattle.std.proofs.lemmas.Bool.{false≢true}
 use Rattle.std.proofs.lemmas.Map.Steps.{length-le_from_distinct_below}
 use Rattle.std.proofs.lemmas.Map.Views.{exact_unsigned_eq}
 use Rattle.indexmap.specs.IndexSet.{insert_key}
 use Rattle.indexmap.proofs.CallerLemmas.{Contains-list_any, Contains-insert_key}
 use Rattle.a68_modes.specs.declared.shape.Shape.{Shape}
-use Rattle.a68_modes.specs.Nodes.{shape_at}
+use Rattle.a68_modes.specs.declared.shape.Shape.TheVariants.{Same, Union}
+use Rattle.a68_modes.specs.Nodes.{shape_at, IsWithin, HoldsNodes}
 use Rattle.a68_equiv.specs.declared.steps.Steps.TheVariants.{WithinUnions}
 use Rattle.a68_equiv.specs.Graph.{ArePlain}
 use Rattle.a68_equiv.specs.Spread.{IsLed, IsSpread, Notes}
-use Rattle.a68_equiv.specs.Unfolding.{leads_within, IsMember}
+use Rattle.a68_equiv.specs.Unfolding.{leads_within, is_union, IsMember, behind, word_or}
 use Rattle.a68_equiv.specs.Ways.{steps_of, row, Way, IsClosed}
 use Rattle.a68_equiv.specs.Ways.Way.{last_step, more_steps}
 use Rattle.a68_equiv.proofs.Reach.{step_on}
@@ -171,3 +173,55 @@ members_spread nodes m x h = (λ is. go is.way is.last, λ s. record { way = bac
     back led =
         let i : Contains (row (map (steps_of WithinUnions) nodes) m) led.from = rw here led.begun in
         ⊎_elim (λ e. last_step (subst (Contains (row (map (steps_of WithinUnions) nodes) m)) e i)) (λ w. more_steps i w) led.way
+
+-- ---- behind mode words
+
+one_of : (t b : ℕ) → Contains (t ∷ []) b → t ≡ b
+one_of t b (zero, less, e) = e
+one_of t b (suc k, less, e) = absurd (omega (arith, less))
+
+-- a mode word that leads on has the members of what it stands for
+word_members : (nodes : List Shape) (m t x : ℕ) → m < length nodes → shape_at nodes m ≡ Same t → leads_within (shape_at nodes t) ≡ true → IsMember nodes m x ↔ IsMember nodes t x
+word_members nodes m t x h e leads = (λ is. record { way = on is.way is.last; last = is.last }, λ is. record { way = more_steps (rw here first) is.way; last = is.last })
+  where
+    here : row (map (steps_of WithinUnions) nodes) m ≡ t ∷ []
+    here = row_of_map (steps_of WithinUnions) nodes m h ∙ ap (steps_of WithinUnions) e
+
+    first : Contains (t ∷ []) t
+    first = (0, omega arith, refl)
+
+    on : Way (map (steps_of WithinUnions) nodes) m x → leads_within (shape_at nodes x) ≡ false → Way (map (steps_of WithinUnions) nodes) t x
+    on (last_step i) l =
+        let same : t ≡ x = one_of t x (rw here at i) in
+        absurd (false≢true (sym l ∙ ap (λ k. leads_within (shape_at nodes k)) (sym same) ∙ leads))
+    on (more_steps {b = b} i w) l =
+        let same : t ≡ b = one_of t b (rw here at i) in
+        subst (λ k. Way (map (steps_of WithinUnions) nodes) k x) (sym same) w
+
+union_leads : (s : Shape) → is_union s ≡ true → leads_within s ≡ true
+union_leads (Union members) e = refl
+union_leads _ e = absurd (false≢true e)
+
+led_by : (nodes : List Shape) (k t : ℕ) → is_union (shape_at nodes (behind nodes k t)) ≡ true → leads_within (shape_at nodes t) ≡ true
+led_by nodes zero t u = union_leads (shape_at nodes t) u
+led_by nodes (suc k) t u = go (shape_at nodes t) refl u
+  where
+    go : (s : Shape) → shape_at nodes t ≡ s → is_union (shape_at nodes (word_or (behind nodes k) t s)) ≡ true → leads_within s ≡ true
+    go (Same v) e u = refl
+    go (Union members) e u = refl
+    go s e u = union_leads s (ap is_union (sym e) ∙ u)
+
+-- mode words before a union have its members
+pub members_behind : (nodes : List Shape) → HoldsNodes nodes → (k m x : ℕ) → m < length nodes → is_union (shape_at nodes (behind nodes k m)) ≡ true
+    → IsMember nodes m x ↔ IsMember nodes (behind nodes k m) x
+members_behind nodes holds zero m x h u = (λ i. i, λ i. i)
+members_behind nodes holds (suc k) m x h u = go (shape_at nodes m) refl (holds.within m h) u (λ t less v. members_behind nodes holds k t x less v)
+  where
+    go : (s : Shape) → shape_at nodes m ≡ s → IsWithin (length nodes) s → is_union (shape_at nodes (word_or (behind nodes k) m s)) ≡ true
+        → ((t : ℕ) → t < length nodes → is_union (shape_at nodes (behind nodes k t)) ≡ true → IsMember nodes t x ↔ IsMember nodes (behind nodes k t) x)
+        → IsMember nodes m x ↔ IsMember nodes (word_or (behind nodes k) m s) x
+    go (Same t) e p v more =
+        let word = word_members nodes m t x h e (led_by nodes k t v) in
+        let rest = more t (p 0 0 (omega arith)) v in
+        (λ i. rest.0 (word.0 i), λ i. word.1 (rest.1 i))
+    go _ e p v more = (λ i. i, λ i. i)

@@ -1,5 +1,5 @@
 -- The graph in which modes are compared: a number for each mode with and without its FLEX.
-use Rattle.std.specs.Prelude.{◌≡◌, ◌<◌, ◌≤◌, ◌+◌, ◌*◌, ◌/◌, ◌%◌, nat_eq, ◌↔◌, ℕ, List, [], ◌∷◌, length, map, slice_index, slice_index_or, Bool, true, false}
+use Rattle.std.specs.Prelude.{◌≡◌, ◌<◌, ◌≤◌, ◌+◌, ◌*◌, ◌/◌, ◌%◌, nat_eq, ◌↔◌, ℕ, List, [], ◌∷◌, length, map, slice_index, Bool, true, false}
 use Rattle.std.specs.List.{All, Contains}
 use Rattle.a68_modes.specs.declared.shape.Shape.{Shape}
 use Rattle.a68_modes.specs.declared.shape.Shape.TheVariants.{Void, Int, Bool as bool_shape, Char, Bits, Sema, Layout, Ref, Rows, Struct, Union, Proc, Same, Blank}

@@ -75,8 +75,8 @@ fn rows(alloc: Global, modes: &Modes, behind: &[ModeId]) -> Result<Vec<Row>, NoM
 {
     let mut rows = Vec::new(alloc);
     for id in 0..modes.len() {
-        let start = row(alloc, Steps::WithinUnions, modes.shape(id))?;
         let shape = modes.shape(behind[id as usize]);
+        let start = row(alloc, Steps::WithinUnions, shape)?;
         let (with, without) = both_rows(alloc, modes, &start.items, shape)?;
         rows.push(with)?;
         rows.push(without)?;

@@ -1,5 +1,4 @@
-use Rattle.std.proofs.Common.{◌≡◌, ◌<◌, ◌+◌, ◌*◌, ◌∙◌, arith, length, ℕ, List, Bool, true, false, ap, sym, subst}
-use Rattle.a68_modes.specs.declared.shape.Shape.{Shape}
+use Rattle.std.proofs.Common.{◌≡◌, ◌<◌, ◌*◌, ◌∙◌, arith, length, ℕ, ap, subst}
 use Rattle.a68_modes.specs.Nodes.{shape_at, IsWithin}
 use Rattle.a68_equiv.specs.declared.steps.Steps.TheVariants.{WithinUnions}
 use Rattle.a68_equiv.specs.Ways.{steps_of}
@@ -26,8 +25,9 @@ pub both_rows-requires-clause-start : goal.both_rows-requires-clause-start
 both_rows-requires-clause-start c =
     let nodes = c.args.modes.now in
     let lt : c.loop-id.id < length nodes = omega arith in
-    let within : IsWithin (length nodes) c.shape.result.now = rw c.shape.ensures.shape (c.len-id-end.ensures.nodes.within c.loop-id.id lt) in
-    rw (c.deref.ensures.value, c.start.view_is, c.in_ok-start.ensures) (steps_within WithinUnions (length nodes) c.shape.result.now within)
+    let head = head_below nodes c.args.behind.now c.len-id-end.ensures.nodes c.requires c.loop-id.id lt in
+    let within : IsWithin (length nodes) c.shape-shape.result.now = rw c.shape-shape.ensures.shape (c.len-id-end.ensures.nodes.within _ head) in
+    rw (c.deref.ensures.value, c.start.view_is, c.in_ok-start.ensures) (steps_within WithinUnions (length nodes) c.shape-shape.result.now within)
 
 pub both_rows-requires-clause-within : goal.both_rows-requires-clause-within
 both_rows-requires-clause-within c =
@@ -41,6 +41,6 @@ loop-id-preserved c =
     let id = c.loop-id.id in
     let lt : id < length nodes = omega arith in
     let shape : c.shape-shape.result.now ≡ unfolded nodes id = c.shape-shape.ensures.shape ∙ ap (shape_at nodes) (c.requires.each id lt) in
-    let start : c.deref.result.now ≡ steps_of WithinUnions (shape_at nodes id) = c.deref.ensures.value ∙ c.start.view_is ∙ c.in_ok-start.ensures ∙ ap (steps_of WithinUnions) c.shape.ensures.shape in
-    both_more nodes c.loop-id.rows.items c.push.new.self.items c.push-in-loop-id.new.self.items id c.deref.result.now c.shape-shape.result.now _ _ lt c.loop-id.invariant start shape
+    let start : c.deref.result.now ≡ steps_of WithinUnions (unfolded nodes id) = c.deref.ensures.value ∙ c.start.view_is ∙ c.in_ok-start.ensures ∙ ap (steps_of WithinUnions) shape in
+    both_more nodes c.len-id-end.ensures.nodes c.loop-id.rows.items c.push.new.self.items c.push-in-loop-id.new.self.items id c.deref.result.now c.shape-shape.result.now _ _ lt c.loop-id.invariant start shape
     c.in_ok-with.ensures.kept c.in_ok-with.ensures.taken c.in_ok-push.ensures.items c.in_ok-push-2.ensures.items
