@@ -2,7 +2,7 @@
 ghost use Rattle.std.specs.Prelude.{◌≡◌, [], ◌∷◌, ◌++◌, None, Some, reverse, OnOk, OnErr, IfOk, IfSome, MatchOption, MatchBool};
 ghost use Rattle.std.specs.Option.{option_map};
 ghost use Rattle.a68_values.specs.Content.{Content, plain, scope_of};
-ghost use Rattle.a68_stack.specs.Values.{plain_in, pop_values, top_counter, top_plain, top_value};
+ghost use Rattle.a68_stack.specs.Values.{plain_in, pop_values, top_counter, top_plain, top_two, top_value};
 
 use a68_acts::Counter;
 use a68_base::NoMemory;
@@ -106,14 +106,11 @@ impl Stack {
     /// Takes the two topmost items off where they are plain values, the lower one first; elsewhere the stack stays.
     #[inline(always)]
     pub fn take_two(&mut self) -> Option<(Plain, Plain)>
-        ensures { MatchOption result (self.new ≡ self.old) (λ two. self.old ≡ Item.Value (plain two.1) ∷ Item.Value (plain two.0) ∷ self.new) }
+        ensures { MatchOption result ((top_two self.old ≡ None) × (self.new ≡ self.old)) (λ two. self.old ≡ Item.Value (plain two.1) ∷ Item.Value (plain two.0) ∷ self.new) }
     {
-        let count = self.items.len();
-        if count < 2 {
-            return None;
-        }
-        let left = plain_in(&self.items[count - 2])?;
-        let right = plain_in(&self.items[count - 1])?;
+        let (topmost, below) = self.items.split_last()?;
+        let right = plain_in(topmost)?;
+        let left = plain_in(below.last()?)?;
         let _ = self.items.pop();
         let _ = self.items.pop();
         Some((left, right))
