@@ -9,6 +9,3 @@ mod want;
 pub use operation::{Counter, Doing, Next};
 pub use printed::printed_int;
 pub use want::{Reply, Want};
-
-#[cfg(test)]
-mod tests;

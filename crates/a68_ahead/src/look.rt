@@ -5,7 +5,7 @@ ghost use Rattle.a68_ahead.specs.Ahead as spec;
 use a68_tree::{Bracket, Sym, Token};
 
 /// What is due outside the brackets.
-#[derive(Clone, Copy, Debug)]
+#[derive(Clone, Copy)]
 pub enum Due {
     /// A declarer.
     Declarer,
@@ -26,7 +26,7 @@ pub enum Due {
 }
 
 /// What is looked for.
-#[derive(Clone, Copy, Debug)]
+#[derive(Clone, Copy)]
 pub enum Sought {
     /// A declarer and a colon.
     Colon,
@@ -39,7 +39,7 @@ pub enum Sought {
 }
 
 /// What a symbol says: looking goes on within so many brackets; or what is looked for ends here; or it does not stand here.
-#[derive(Clone, Copy, Debug)]
+#[derive(Clone, Copy)]
 pub enum Look {
     Goes(usize, Due),
     Found,

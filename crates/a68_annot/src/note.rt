@@ -4,7 +4,7 @@ use a68_tree::{FrameStep, NodeId};
 use std::marker::Model;
 
 /// What is known of a node. A field that says nothing of its kind of node holds 0, or nothing.
-#[derive(Debug, Drop)]
+#[derive(Drop)]
 pub struct Note {
     /// The mode of a unit before its coercions, or of a declarer or a definition; VOID where there is none.
     pub mode: ModeId,
@@ -24,7 +24,7 @@ pub struct Note {
 }
 
 /// A note for each node of a tree, in the order of the nodes.
-#[derive(Debug, Drop)]
+#[derive(Drop)]
 pub struct Notes {
     pub items: Vec<Note>,
 }

@@ -9,7 +9,7 @@ use a68_tree::{NodeId, Tree};
 use std::alloc::Global;
 
 /// Where a tag is defined: the slot that it gets, and the node that defines it.
-#[derive(Clone, Copy, Debug, PartialEq, Eq)]
+#[derive(Clone, Copy)]
 pub struct Definition {
     pub slot: u32,
     pub id: NodeId,

@@ -9,7 +9,7 @@ use a68_denote::int_of;
 use a68_tree::{Node, NodeId, NodeKind, Tree};
 
 /// What a node is, of the forms that run, with its parts.
-#[derive(Clone, Copy, Debug, PartialEq, Eq)]
+#[derive(Clone, Copy)]
 pub enum Form {
     /// A number.
     Number,

@@ -8,7 +8,7 @@ use a68_tree::{NodeId, Tree};
 use std::alloc::Global;
 
 /// What a node asks of a part (Report, 6.1.1).
-#[derive(Clone, Copy, Debug, PartialEq, Eq)]
+#[derive(Clone, Copy)]
 pub enum Goal {
     /// A value of mode INT, or a phrase.
     Plain,

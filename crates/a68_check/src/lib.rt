@@ -15,6 +15,3 @@ pub use definitions::Definition;
 pub use form::Form;
 pub use goals::Goal;
 pub use laws::annotated_trees_fit;
-
-#[cfg(test)]
-mod tests;

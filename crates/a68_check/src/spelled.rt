@@ -1,20 +1,34 @@
 //! What a symbol says by its spelling.
-ghost use Rattle.std.specs.Prelude.{◌≡◌};
+ghost use Rattle.std.specs.Prelude.{◌≡◌, map};
 ghost use Rattle.a68_check.specs.Spelled as spelled;
+
+// The tags of the standard environ.
+fn standard_tags() -> &'static [&'static str]
+    ensures { map (λ tag. tag.now) result.now ≡ spelled.standard_tags }
+{
+    &[
+        "maxint",
+        "intwidth",
+        "bitswidth",
+        "maxabschar",
+        "newline",
+        "space",
+        "print",
+        "write",
+        "whole",
+    ]
+}
 
 /// Is this a tag of the standard environ?
 pub fn is_standard(tag: &[u8]) -> bool
     ensures { result ≡ spelled.is_standard tag.now }
 {
-    tag == b"maxint".as_slice()
-        || tag == b"intwidth".as_slice()
-        || tag == b"bitswidth".as_slice()
-        || tag == b"maxabschar".as_slice()
-        || tag == b"newline".as_slice()
-        || tag == b"space".as_slice()
-        || is_print(tag)
-        || tag == b"write".as_slice()
-        || tag == b"whole".as_slice()
+    for standard in standard_tags() {
+        if tag == standard.as_bytes() {
+            return true;
+        }
+    }
+    false
 }
 
 /// Is this the tag that prints?
@@ -31,29 +45,31 @@ pub fn is_int(word: &[u8]) -> bool
     word == b"INT".as_slice()
 }
 
+// The signs that run, with their rows in the table of operators.
+fn signs() -> &'static [(&'static str, u32)]
+    ensures { map (λ row. (row.0.now, row.1)) result.now ≡ spelled.signs }
+{
+    &[
+        ("=", 9),
+        ("/=", 10),
+        ("<", 11),
+        ("<=", 12),
+        (">=", 13),
+        (">", 14),
+        ("+", 15),
+        ("-", 16),
+        ("*", 17),
+    ]
+}
+
 /// The row of a sign in the table of operators, on two operands of mode INT.
 pub fn row_of(sign: &[u8]) -> Option<u32>
     ensures { result ≡ spelled.row_of sign.now }
 {
-    if sign == b"=".as_slice() {
-        Some(9)
-    } else if sign == b"/=".as_slice() {
-        Some(10)
-    } else if sign == b"<".as_slice() {
-        Some(11)
-    } else if sign == b"<=".as_slice() {
-        Some(12)
-    } else if sign == b">=".as_slice() {
-        Some(13)
-    } else if sign == b">".as_slice() {
-        Some(14)
-    } else if sign == b"+".as_slice() {
-        Some(15)
-    } else if sign == b"-".as_slice() {
-        Some(16)
-    } else if sign == b"*".as_slice() {
-        Some(17)
-    } else {
-        None
+    for (spelling, row) in signs() {
+        if sign == spelling.as_bytes() {
+            return Some(*row);
+        }
     }
+    None
 }

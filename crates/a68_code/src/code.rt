@@ -59,14 +59,14 @@ impl Instrs {
 }
 
 /// Where a routine text begins in the list, and whether its body leaves a value.
-#[derive(Clone, Copy, Debug, PartialEq, Eq)]
+#[derive(Clone, Copy)]
 pub struct RoutineEntrance {
     pub at: u32,
     pub yields: bool,
 }
 
 /// Entrances of routine texts, in order of text.
-#[derive(Debug, Drop)]
+#[derive(Drop)]
 pub struct Routines {
     pub items: Vec<RoutineEntrance>,
 }

@@ -10,6 +10,3 @@ mod walk;
 
 pub use code::{Code, Instr, Instrs, RoutineEntrance, Routines};
 pub use does::Does;
-
-#[cfg(test)]
-mod tests;

@@ -19,10 +19,7 @@ pub struct Walk {
 fn no_heights(alloc: Global, count: usize) -> Result<Vec<Option<usize>>, NoMemory>
     ensures { IfOk result (λ heights. heights.items ≡ replicate count None) }
 {
-    let mut heights = Vec::with_capacity(alloc, count)?;
-    for _ in 0..count {
-        heights.push(None)?;
-    }
+    let heights = vec![in alloc; None; count]?;
     Ok(heights)
 }
 

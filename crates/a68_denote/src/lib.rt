@@ -6,6 +6,3 @@ mod strings;
 
 pub use numbers::{bits_of, int_of};
 pub use strings::string_of;
-
-#[cfg(test)]
-mod tests;

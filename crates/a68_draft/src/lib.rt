@@ -8,6 +8,3 @@ mod frames;
 
 pub use draft::Draft;
 pub use drafting::Drafting;
-
-#[cfg(test)]
-mod tests;

@@ -13,3 +13,4 @@ pub mod Graphing
 pub mod Carrying
 pub mod Chains
 pub mod Meekly
+pub mod Pushing

@@ -15,7 +15,7 @@ use Rattle.a68_modes.specs.declared.shape.Shape.TheVariants.{Same, Union}
 use Rattle.a68_modes.specs.Nodes.{shape_at, IsWithin, HoldsNodes}
 use Rattle.a68_equiv.specs.declared.steps.Steps.TheVariants.{WithinUnions}
 use Rattle.a68_equiv.specs.Graph.{ArePlain}
-use Rattle.a68_equiv.specs.Spread.{IsLed, IsSpread, Notes}
+use Rattle.a68_equiv.specs.Spread.{AreLast, IsLed, IsSpread, Notes}
 use Rattle.a68_equiv.specs.Unfolding.{leads_within, is_union, IsMember, behind, word_or}
 use Rattle.a68_equiv.specs.Ways.{steps_of, row, Way, IsClosed}
 use Rattle.a68_equiv.specs.Ways.Way.{last_step, more_steps}
@@ -127,32 +127,28 @@ plain_spread nodes start below plain x = (λ i. record { led = record { from = x
         let lt = All-contains (λ k. k < length nodes) start a below i in
         none_from (map (steps_of WithinUnions) nodes) a b (row_of_map (steps_of WithinUnions) nodes a lt ∙ no_steps (shape_at nodes a) (leaf a i)) w
 
--- the members among the first so many that were found
-abbrev pub SpreadSoFar : List Shape → List ℕ → List ℕ → Type 0
-SpreadSoFar nodes found items = (x : ℕ) → Contains items x ↔ (Contains found x × (leads_within (shape_at nodes x) ≡ false))
-
-pub no_spread : (nodes : List Shape) → SpreadSoFar nodes [] []
+pub no_spread : (nodes : List Shape) → AreLast nodes [] []
 no_spread nodes x = (λ i. absurd (none_in x i), λ i. absurd (none_in x i.0))
 
-pub spread_on : (nodes : List Shape) (found items : List ℕ) (m : ℕ) → SpreadSoFar nodes found items → leads_within (shape_at nodes m) ≡ true → SpreadSoFar nodes (found ++ m ∷ []) items
+pub spread_on : (nodes : List Shape) (found items : List ℕ) (m : ℕ) → AreLast nodes found items → leads_within (shape_at nodes m) ≡ true → AreLast nodes (found ++ m ∷ []) items
 spread_on nodes found items m so e x = (
   λ i. let w = (so x).0 i in (Contains-append_left found (m ∷ []) x w.0, w.1),
   λ w. ⊎_elim (λ i. (so x).1 (i, w.1)) (λ f. let g : leads_within (shape_at nodes m) ≡ false = subst (λ (k : ℕ). leads_within (shape_at nodes k) ≡ false) (sym f) w.1 in absurd (cc)) (Contains-push_cases found m x w.0),
 )
 
-pub spread_more : (nodes : List Shape) (found items : List ℕ) (m : ℕ) → SpreadSoFar nodes found items → leads_within (shape_at nodes m) ≡ false → SpreadSoFar nodes (found ++ m ∷ []) (items ++ m ∷ [])
+pub spread_more : (nodes : List Shape) (found items : List ℕ) (m : ℕ) → AreLast nodes found items → leads_within (shape_at nodes m) ≡ false → AreLast nodes (found ++ m ∷ []) (items ++ m ∷ [])
 spread_more nodes found items m so e x = (
   λ i. ⊎_elim (λ j. let w = (so x).0 j in (Contains-append_left found (m ∷ []) x w.0, w.1)) (λ f. (subst (Contains (found ++ m ∷ [])) f (Contains-push found m), subst (λ (k : ℕ). leads_within (shape_at nodes k) ≡ false) f e)) (Contains-push_cases items m x i),
   λ w. ⊎_elim (λ i. Contains-append_left items (m ∷ []) x ((so x).1 (i, w.1))) (λ f. subst (Contains (items ++ m ∷ [])) f (Contains-push items m)) (Contains-push_cases found m x w.0),
 )
 
-pub spread_whole : (nodes : List Shape) (start found items : List ℕ) → ((x : ℕ) → Contains found x ↔ IsLed nodes start x) → SpreadSoFar nodes found items → (x : ℕ) → Contains items x ↔ IsSpread nodes start x
+pub spread_whole : (nodes : List Shape) (start found items : List ℕ) → ((x : ℕ) → Contains found x ↔ IsLed nodes start x) → AreLast nodes found items → (x : ℕ) → Contains items x ↔ IsSpread nodes start x
 spread_whole nodes start found items led so x = (
   λ i. let w = (so x).0 i in record { led = (led x).0 w.0; last = w.1 },
   λ s. (so x).1 ((led x).1 s.led, s.last),
 )
 
-pub spread_below : (nodes : List Shape) (found items : List ℕ) → SpreadSoFar nodes found items → All (λ m. m < length nodes) found → All (λ m. m < length nodes) items
+pub spread_below : (nodes : List Shape) (found items : List ℕ) → AreLast nodes found items → All (λ m. m < length nodes) found → All (λ m. m < length nodes) items
 spread_below nodes found items so below = All-from_get_or (λ m. m < length nodes) items 0 (λ k h. All-contains (λ m. m < length nodes) found (get_or items k 0) below ((so (get_or items k 0)).0 (Contains-get_or items k 0 h)).0)
 
 -- the members of a union are what its steps spread to

@@ -1,5 +1,5 @@
 -- What mode words and unions lead to.
-use Rattle.std.specs.Prelude.{◌≡◌, ◌<◌, ◌≤◌, ◌⊎◌, ℕ, List, length, map, slice_index, false, nat_eq}
+use Rattle.std.specs.Prelude.{◌≡◌, ◌<◌, ◌≤◌, ◌⊎◌, ◌↔◌, ℕ, List, length, map, slice_index, false, nat_eq}
 use Rattle.std.specs.List.{Contains, IsDistinct}
 use Rattle.a68_modes.specs.declared.shape.Shape.{Shape}
 use Rattle.a68_modes.specs.Nodes.{shape_at}
@@ -17,6 +17,10 @@ pub record IsLed (nodes : List Shape) (start : List ℕ) (x : ℕ) : Type 0 wher
 pub record IsSpread (nodes : List Shape) (start : List ℕ) (x : ℕ) : Type 0 where
   pub led : IsLed nodes start x
   pub last : leads_within (shape_at nodes x) ≡ false
+
+-- the items are those among these modes that are neither a mode word nor a union
+abbrev pub AreLast : List Shape → List ℕ → List ℕ → Type 0
+AreLast nodes found items = (x : ℕ) → Contains items x ↔ (Contains found x × (leads_within (shape_at nodes x) ≡ false))
 
 -- behind the old modes stand those of these that were not among them
 pub record Notes (modes old new : List ℕ) : Type 0 where

@@ -1,8 +1,10 @@
 //! The classes of equivalent modes.
-ghost use Rattle.std.specs.Prelude.{◌≡◌, ◌<◌, ◌+◌, ◌*◌, ◌↔◌, List, IfOk, IsTrue, length};
+ghost use Rattle.std.specs.Prelude.{◌≡◌, ◌<◌, ◌+◌, ◌*◌, ◌^◌, ◌↔◌, List, IfOk, IsTrue, length};
 ghost use Rattle.a68_modes.specs.declared.shape.Shape.{Shape};
 ghost use Rattle.a68_equiv.specs.Unfolding.{Equivalent};
 ghost use Rattle.a68_equiv.specs.Related.{as_it_stands};
+ghost use Rattle.a68_equiv.specs.Graph.{AreBehind, IsGraphOf};
+ghost use Rattle.a68_refine.specs.Rounds.{IsWired};
 ghost use Rattle.a68_equiv.specs.Classes.{class_of, AreExact, AreKept};
 
 use crate::Mode;
@@ -19,7 +21,7 @@ use std::marker::Model;
 ///
 /// Contracts see the list of the classes, for each node two numbers, that of the mode as it stands and that of the mode
 /// without its FLEX; and the entries of the tables.
-#[derive(Debug, Drop)]
+#[derive(Drop)]
 pub struct Classes {
     pub(crate) items: Vec<u32>,
     pub(crate) keys: Table,
@@ -39,9 +41,21 @@ pub fn settle(alloc: Global, modes: &Modes) -> Result<Classes, NoMemory>
     ensures { IfOk result (λ classes. AreKept modes.now classes) }
 {
     let graph = ModeGraph::of(alloc, modes)?;
+    let classes = classes_of(alloc, modes, &graph)?;
+    Ok(classes)
+}
+
+/// The classes of these modes, by the graph in which they are compared.
+fn classes_of(alloc: Global, modes: &Modes, graph: &ModeGraph) -> Result<Classes, NoMemory>
+    requires graph { IsGraphOf modes.now graph.now.heads.items graph.now.rows.items }
+    requires behind { AreBehind modes.now graph.now.behind.items }
+    requires wired { IsWired graph.now.heads.items graph.now.rows.items }
+    requires few { length graph.now.rows.items < 2 ^ 32 }
+    ensures { IfOk result (λ classes. AreKept modes.now classes) }
+{
     let items = refine(alloc, &graph.heads, &graph.rows)?;
-    let keys = classes_by_key(alloc, modes, &graph, &items)?;
-    let nodes = nodes_by_key(alloc, modes, &graph, &items)?;
+    let keys = classes_by_key(alloc, modes, graph, &items)?;
+    let nodes = nodes_by_key(alloc, modes, graph, &items)?;
     Ok(Classes { items, keys, nodes })
 }
 

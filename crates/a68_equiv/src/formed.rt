@@ -1,12 +1,12 @@
 //! Well-formed modes.
-ghost use Rattle.std.specs.Prelude.{◌≡◌, ◌<◌, ◌^◌, ◌↔◌, length, IfOk, IsTrue};
+ghost use Rattle.std.specs.Prelude.{◌≡◌, ◌<◌, ◌^◌, ◌↔◌, ℕ, length, slice_index, IfOk, IsTrue};
 ghost use Rattle.std.specs.List.{All};
-ghost use Rattle.a68_equiv.specs.Ways.{AreWellFormed, IsFirstIllFormed};
+ghost use Rattle.a68_equiv.specs.Ways.{AreWellFormed, IsClosed, IsFirstIllFormed, Way};
 
 use crate::steps::{Steps, graph};
 use crate::walk::reached;
 use a68_base::NoMemory;
-use a68_modes::{ModeId, Modes};
+use a68_modes::{Members, ModeId, Modes};
 use std::alloc::Global;
 
 /// The place in `roots` of the first mode that is not well formed; None exactly where all are (7.4).
@@ -18,25 +18,45 @@ pub fn ill_formed(alloc: Global, modes: &Modes, roots: &[ModeId]) -> Result<Opti
     let besides_names = graph(alloc, modes, Steps::BesidesNames)?;
     let besides_structures = graph(alloc, modes, Steps::BesidesStructures)?;
     for (place, root) in roots.iter().enumerate() {
-        let by_names = reached(alloc, &besides_names, *root)?;
-        let by_structures = reached(alloc, &besides_structures, *root)?;
-        if by_names[*root as usize] || by_structures[*root as usize] {
+        let by_names = comes_back(alloc, &besides_names, *root)?;
+        let by_structures = comes_back(alloc, &besides_structures, *root)?;
+        if by_names || by_structures {
             return Ok(Some(place as u32));
         }
     }
     Ok(None)
 }
 
+/// Does a way of one or more steps lead from the node back to itself?
+fn comes_back(alloc: Global, graph: &[Members], node: u32) -> Result<bool, NoMemory>
+    requires there { node < length graph.now }
+    requires closed { IsClosed graph.now }
+    ensures { IfOk result (λ back. IsTrue back ↔ Way graph.now node node) }
+{
+    let seen = reached(alloc, graph, node)?;
+    Ok(seen[node as usize])
+}
+
 /// Are all modes well formed?
 pub fn all_well_formed(alloc: Global, modes: &Modes) -> Result<bool, NoMemory>
     ensures { IfOk result (λ are. IsTrue are ↔ AreWellFormed modes.now) }
 {
-    let mut roots = Vec::new(alloc);
-    for id in 0..modes.len() {
-        roots.push(id)?;
-    }
+    let roots = numbers(alloc, modes)?;
     match ill_formed(alloc, modes, &roots)? {
         None => Ok(true),
         Some(_) => Ok(false),
     }
+}
+
+/// The numbers of all modes.
+fn numbers(alloc: Global, modes: &Modes) -> Result<Vec<ModeId>, NoMemory>
+    ensures long { IfOk result (λ ids. length ids.items ≡ length modes.now) }
+    ensures each { IfOk result (λ ids. (k : ℕ) → k < length modes.now → slice_index ids.items k ≡ k) }
+    ensures few { length modes.now < 2 ^ 32 }
+{
+    let mut ids = Vec::new(alloc);
+    for id in 0..modes.len() {
+        ids.push(id)?;
+    }
+    Ok(ids)
 }

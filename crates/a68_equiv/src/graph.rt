@@ -1,7 +1,7 @@
 //! The graph in which modes are compared.
-ghost use Rattle.std.specs.Prelude.{◌≡◌, ◌<◌, ◌*◌, ◌^◌, IfOk, length};
+ghost use Rattle.std.specs.Prelude.{◌≡◌, ◌<◌, ◌*◌, ◌^◌, IfOk, OnOk, length};
 ghost use Rattle.a68_equiv.specs.Unfolding.{behind as behind_lem};
-ghost use Rattle.a68_refine.specs.Rounds.{ByFirst, IsWired};
+ghost use Rattle.a68_refine.specs.Rounds.{ByFirst, IsWired, SoFar};
 ghost use Rattle.a68_equiv.specs.Graph.{mode_of, AreBehind, HasCode, AreRows, IsGraphOf};
 
 use crate::Mode;
@@ -58,13 +58,30 @@ fn constructors(alloc: Global, modes: &Modes, behind: &[ModeId]) -> Result<Vec<u
 {
     let mut table: Table = IndexMap::new(alloc);
     let mut heads = Vec::new(alloc);
+    number_constructors(alloc, modes, behind, &mut table, &mut heads)?;
+    Ok(heads)
+}
+
+/// Numbers the constructors of all modes in a table that has none yet.
+fn number_constructors(
+    alloc: Global,
+    modes: &Modes,
+    behind: &[ModeId],
+    table: &mut Table,
+    heads: &mut Vec<u32>,
+) -> Result<(), NoMemory>
+    requires behind { AreBehind modes.now behind.now }
+    requires begun { SoFar (HasCode modes.now) table.old.entries heads.old.items 0 }
+    ensures { OnOk result (SoFar (HasCode modes.now) table.new.entries heads.new.items (2 * length modes.now)) }
+{
     for i in 0..2 * modes.len() {
         let mode = mode_at(i);
         let shape = modes.shape(behind[mode.id as usize]);
         let key = code(alloc, mode.fixed, shape)?;
-        heads.push(numbered(&mut table, key, i)?)?;
+        let head = numbered(table, key, i)?;
+        heads.push(head)?;
     }
-    Ok(heads)
+    Ok(())
 }
 
 /// The rows of all modes. What a node leads to is found once for both of its rows.
@@ -86,7 +103,7 @@ fn rows(alloc: Global, modes: &Modes, behind: &[ModeId]) -> Result<Vec<Row>, NoM
 
 /// The graph in which modes are compared: the constructors by number, and the rows; besides, the nodes behind the mode
 /// words.
-#[derive(Debug, Drop)]
+#[derive(Drop)]
 pub struct ModeGraph {
     pub heads: Vec<u32>,
     pub rows: Vec<Row>,

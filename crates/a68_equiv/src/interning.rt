@@ -1,11 +1,12 @@
 //! The node of a shape over nodes that are there.
-ghost use Rattle.std.specs.Prelude.{◌≡◌, ◌≢◌, ◌<◌, ◌≤◌, ◌+◌, ◌*◌, ◌↔◌, ◌++◌, ◌∷◌, [], ℕ, List, Vec, IfOk, OnOk, OnErr, Err, length, vec_len, vec_capacity};
+ghost use Rattle.std.specs.Prelude.{◌≡◌, ◌≢◌, ◌<◌, ◌≤◌, ◌+◌, ◌*◌, ◌↔◌, ◌++◌, ◌∷◌, [], ℕ, List, Vec, true, IfOk, OnOk, OnErr, Err, length, vec_len, vec_capacity};
 ghost use Rattle.std.specs.Global.{Global};
 ghost use Rattle.indexmap.specs.IndexMap.{spare};
 ghost use Rattle.a68_modes.specs.Nodes.{IsWithin};
 ghost use Rattle.a68_modes.specs.declared.modes.ModeStop.TheVariants.{Full, NoMemory as no_memory};
 ghost use Rattle.a68_equiv.specs.Classes.{AreKept, IsAlready, IsNodeOf};
 ghost use Rattle.a68_refine.specs.Rounds.{IsNumbered};
+ghost use Rattle.a68_equiv.specs.ModeKeys.{IsNewKey};
 ghost use Rattle.a68_equiv.specs.Ways.{AreWellFormed};
 
 use crate::classes::Classes;
@@ -38,9 +39,8 @@ pub fn intern(
     if let Some(old) = classes.nodes.get(&key) {
         return Ok(*old);
     }
-    let fixed = shape_key(alloc, modes, &classes.items, &shape, true)?;
-    let again = copied(alloc, &key)?;
     make_room(&mut classes.items, &mut classes.keys, &mut classes.nodes)?;
+    let (again, fixed) = more_keys(alloc, modes, &classes.items, &shape, &key)?;
     let id = match modes.add(shape) {
         Ok(id) => id,
         Err(stop) => return Err(stop),
@@ -52,11 +52,22 @@ pub fn intern(
     Ok(id)
 }
 
-fn copied(alloc: Global, key: &[u32]) -> Result<Vec<u32>, NoMemory>
-    ensures { IfOk result (λ copy. copy.items ≡ key.now) }
+/// The key of a new node once more, and its key without its FLEX.
+fn more_keys(
+    alloc: Global,
+    modes: &Modes,
+    classes: &[u32],
+    shape: &Shape,
+    key: &[u32],
+) -> Result<(Vec<u32>, Vec<u32>), NoMemory>
+    requires within { IsWithin (length modes.now) shape.now }
+    requires long { length classes.now ≡ 2 * length modes.now }
+    ensures again { IfOk result (λ two. two.0.items ≡ key.now) }
+    ensures fixed { IfOk result (λ two. IsNewKey modes.now classes.now shape.now true two.1.items) }
 {
-    let copy = Vec::from_slice(alloc, key)?;
-    Ok(copy)
+    let again = Vec::from_slice(alloc, key)?;
+    let fixed = shape_key(alloc, modes, classes, shape, true)?;
+    Ok((again, fixed))
 }
 
 /// Makes room for one node more.

@@ -12,8 +12,6 @@ mod mode;
 mod rows;
 mod spread;
 mod steps;
-#[cfg(test)]
-mod tests;
 mod walk;
 
 pub use classes::{Classes, settle};

@@ -4,7 +4,7 @@ ghost use Rattle.std.specs.Prelude.{◌≡◌, true, false};
 use a68_modes::ModeId;
 
 /// A mode: that of a node as it stands, or without its FLEX down to the next REF or PROC, as dereferencing leaves it.
-#[derive(Clone, Copy, Debug, PartialEq, Eq)]
+#[derive(Clone, Copy, PartialEq, Eq)]
 pub struct Mode {
     pub id: ModeId,
     pub fixed: bool,

@@ -1,8 +1,8 @@
 //! What mode words and unions lead to.
-ghost use Rattle.std.specs.Prelude.{◌≡◌, ◌<◌, ◌↔◌, ℕ, IfOk, OnOk, IsTrue, length, nat_eq};
+ghost use Rattle.std.specs.Prelude.{◌≡◌, ◌<◌, ◌↔◌, ℕ, [], IfOk, OnOk, IsTrue, length, nat_eq};
 ghost use Rattle.std.specs.List.{All, Contains, IsDistinct};
 ghost use Rattle.a68_equiv.specs.Graph.{ArePlain};
-ghost use Rattle.a68_equiv.specs.Spread.{IsLed, IsSpread, Notes};
+ghost use Rattle.a68_equiv.specs.Spread.{AreLast, IsLed, IsSpread, Notes};
 ghost use Rattle.a68_equiv.specs.Unfolding.{leads_within, is_union as is_union_lem};
 
 use crate::steps::{Steps, row};
@@ -23,8 +23,17 @@ pub fn spread(alloc: Global, modes: &Modes, start: &[ModeId]) -> Result<Members,
         return Ok(plain);
     }
     let found = led(alloc, modes, start)?;
+    let members = last_of(alloc, modes, found.as_slice())?;
+    Ok(members)
+}
+
+/// Those of these modes that are neither a mode word nor a union.
+fn last_of(alloc: Global, modes: &Modes, found: &[ModeId]) -> Result<Members, NoMemory>
+    requires { All (λ m. m < length modes.now) found.now }
+    ensures { IfOk result (λ members. AreLast modes.now found.now members) }
+{
     let mut items = Vec::new(alloc);
-    for mode in found.as_slice() {
+    for mode in found {
         if leads_on(modes.shape(*mode)) {
             continue;
         }
@@ -40,15 +49,32 @@ fn led(alloc: Global, modes: &Modes, start: &[ModeId]) -> Result<IndexSet<ModeId
     ensures below { IfOk result (λ found. All (λ m. m < length modes.now) found.keys) }
 {
     let mut found = IndexSet::new(alloc);
-    note(&mut found, start)?;
+    lead(alloc, modes, start, &mut found)?;
+    Ok(found)
+}
+
+/// Notes in a set that is empty these modes, and those to which they lead by mode words and unions.
+fn lead(
+    alloc: Global,
+    modes: &Modes,
+    start: &[ModeId],
+    found: &mut IndexSet<ModeId>,
+) -> Result<(), NoMemory>
+    requires start { All (λ m. m < length modes.now) start.now }
+    requires empty { found.old.keys ≡ [] }
+    requires distinct { IsDistinct nat_eq found.old.keys }
+    ensures led { OnOk result ((x : ℕ) → Contains found.new.keys x ↔ IsLed modes.now start.now x) }
+    ensures below { OnOk result (All (λ m. m < length modes.now) found.new.keys) }
+{
+    note(found, start)?;
     let mut i = 0;
     while i < found.len() {
         let at = found[i];
         let steps = row(alloc, Steps::WithinUnions, modes.shape(at))?;
-        note(&mut found, &steps.items)?;
+        note(found, &steps.items)?;
         i += 1;
     }
-    Ok(found)
+    Ok(())
 }
 
 /// Notes these modes behind the others, each once.

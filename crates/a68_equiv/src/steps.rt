@@ -7,7 +7,7 @@ use a68_modes::{Members, Modes, Shape};
 use std::alloc::Global;
 
 /// Which steps from a mode to the modes within it are taken.
-#[derive(Clone, Copy, Debug, PartialEq, Eq)]
+#[derive(Clone, Copy, PartialEq, Eq)]
 pub enum Steps {
     /// All but those from a REF or a PROC.
     BesidesNames,

@@ -8,6 +8,3 @@ mod translate;
 mod writer;
 
 pub use translate::generate;
-
-#[cfg(test)]
-mod tests;

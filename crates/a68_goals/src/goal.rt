@@ -3,7 +3,7 @@
 use a68_tree::{Bracket, NodeKind, Token};
 
 /// What a definition defines, by the form of its declaration.
-#[derive(Clone, Copy, Debug)]
+#[derive(Clone, Copy)]
 pub enum Defining {
     Mode,
     Priority,
@@ -24,7 +24,7 @@ pub enum Defining {
 /// What is still to be read at the front of a text, or to be done with what was read. Goals stand on a stack, and the
 /// first one of it is next. Where a goal names a form of the grammar, it stands for that form; where a form is read in
 /// pieces, the rest of it is a goal.
-#[derive(Clone, Copy, Debug)]
+#[derive(Clone, Copy)]
 pub enum Goal {
     // ---- a symbol that stands next, or else the text is of no tree
     Take(Token),

@@ -6,6 +6,3 @@ mod types;
 
 pub use cells::{cells_of, plan};
 pub use types::{LayoutStop, Plan};
-
-#[cfg(test)]
-mod tests;

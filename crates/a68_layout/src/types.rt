@@ -11,7 +11,7 @@ pub enum LayoutStop {
 
 /// The cells of a new name, in order. Where the plan is shifted, the cells of rows and unions in it are counted from
 /// its first cell.
-#[derive(Debug, Drop)]
+#[derive(Drop)]
 pub struct Plan {
     pub cells: Cells,
     pub shifted: bool,

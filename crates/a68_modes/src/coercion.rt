@@ -3,7 +3,7 @@ use crate::ModeId;
 use std::marker::Model;
 
 /// How far a position lets the mode of a unit be changed (6.1.1).
-#[derive(Clone, Copy, Debug, PartialEq, Eq)]
+#[derive(Clone, Copy, PartialEq, Eq)]
 pub enum Sort {
     Soft,
     Weak,

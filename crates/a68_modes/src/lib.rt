@@ -6,8 +6,6 @@ mod lists;
 mod modes;
 mod shape;
 mod standard;
-#[cfg(test)]
-mod tests;
 
 pub use coercion::{Coercion, Path, Sort};
 pub use lists::{Fields, Members};

@@ -7,7 +7,7 @@ use std::alloc::Global;
 use std::marker::Model;
 
 /// The fields of a structure, in declared order: the name of a field's tag, and its mode.
-#[derive(Debug, Drop)]
+#[derive(Drop)]
 pub struct Fields {
     pub items: Vec<(u32, ModeId)>,
 }
@@ -37,7 +37,7 @@ impl Fields {
 }
 
 /// A list of modes, in declared order: the members of a union, or the parameters of a procedure.
-#[derive(Debug, Drop)]
+#[derive(Drop)]
 pub struct Members {
     pub items: Vec<ModeId>,
 }

@@ -35,7 +35,7 @@ impl From<NoMemory> for ModeStop {
 /// of what can be printed, 9 REF INT, 10 REF STRING, 11 `[] BOOL` and 12 STRING, which is `FLEX [] CHAR` (10.2.2).
 ///
 /// Contracts see the list of the shapes.
-#[derive(Debug, Drop)]
+#[derive(Drop)]
 pub struct Modes {
     items: Vec<Shape>,
 }
@@ -59,7 +59,8 @@ impl Modes {
     {
         let mut items = Vec::new(alloc);
         for id in 0..STANDARD {
-            items.push(standard_shape(alloc, id)?)?;
+            let shape = standard_shape(alloc, id)?;
+            items.push(shape)?;
         }
         Ok(Modes { items })
     }
@@ -129,10 +130,18 @@ impl Modes {
     pub fn copy(&self, alloc: Global) -> Result<Modes, NoMemory>
         ensures { IfOk result (λ modes. modes ≡ self.now) }
     {
-        let mut items = Vec::with_capacity(alloc, self.items.len())?;
-        for shape in &self.items {
-            items.push(shape.copy(alloc)?)?;
-        }
+        let items = copied(alloc, &self.items)?;
         Ok(Modes { items })
     }
+}
+
+fn copied(alloc: Global, shapes: &[Shape]) -> Result<Vec<Shape>, NoMemory>
+    ensures { IfOk result (λ copies. copies.items ≡ shapes.now) }
+{
+    let mut copies = Vec::with_capacity(alloc, shapes.len())?;
+    for shape in shapes {
+        let copy = shape.copy(alloc)?;
+        copies.push(copy)?;
+    }
+    Ok(copies)
 }

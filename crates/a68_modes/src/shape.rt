@@ -10,7 +10,7 @@ use std::alloc::Global;
 pub type ModeId = u32;
 
 /// What a node is: a plain mode, a mode made of others, a mode word, or nothing yet.
-#[derive(Debug, Drop)]
+#[derive(Drop)]
 pub enum Shape {
     /// VOID.
     Void,

@@ -2,3 +2,4 @@ pub mod Going
 pub mod Placing
 pub mod Shaping
 pub mod Signs
+pub mod Unread

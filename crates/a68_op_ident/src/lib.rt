@@ -8,6 +8,3 @@ mod trees;
 
 pub use formula::{Operand, Operator};
 pub use trees::shape;
-
-#[cfg(test)]
-mod tests;

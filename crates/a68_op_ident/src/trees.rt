@@ -14,7 +14,7 @@ use a68_tree::{Node, NodeId, NodeKind, Tree};
 use std::alloc::Global;
 
 /// What a formula is made of.
-#[derive(Debug, Drop)]
+#[derive(Drop)]
 pub struct FormulaParts {
     pub operands: Vec<Operand>,
     pub signs: Vec<Operator>,

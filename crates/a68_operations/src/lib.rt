@@ -6,6 +6,3 @@ mod operations;
 pub use operations::{
     advanced, applied, assigned, counter_of, has_turn, made, on_ints, print_next, resumed, skipped,
 };
-
-#[cfg(test)]
-mod tests;

@@ -1,13 +1,13 @@
 //! Operations on the values of their parts.
-ghost use Rattle.std.specs.Prelude.{◌≡◌, ◌<◌, [], ◌∷◌, length, reverse, IfOk, ◌+ℤ◌, ◌-ℤ◌, ◌*ℤ◌};
+ghost use Rattle.std.specs.Prelude.{◌≡◌, ◌<◌, [], ◌∷◌, length, reverse, List, IfOk, ◌+ℤ◌, ◌-ℤ◌, ◌*ℤ◌};
 ghost use Rattle.a68_acts.specs.Operations as operations;
 ghost use Rattle.a68_acts.specs.Operations.{make};
 ghost use Rattle.a68_modes.specs.Nodes.{shape_at};
-ghost use Rattle.a68_operations.specs.Results.{doing_of};
-ghost use Rattle.a68_values.specs.Content.{plain};
+ghost use Rattle.a68_operations.specs.Results.{doing_of, printing};
+ghost use Rattle.a68_values.specs.Content.{Content, plain};
 
 use a68_acts::{Counter, Doing, Next, Reply, Want, printed_int};
-use a68_base::NoMemory;
+use a68_base::{NoMemory, Text};
 use a68_layout::{LayoutStop, plan};
 use a68_modes::{ModeId, Modes};
 use a68_values::{Chain, FaultKind, Held, Name, Node, Parts, Plain, Value};
@@ -73,6 +73,20 @@ pub fn made(alloc: Global, modes: &Modes, mode: ModeId, chain: &Chain) -> Result
     }
 }
 
+// What is printed of an item, or the fault that it meets.
+fn printed_item(alloc: Global, item: &Value) -> Result<Result<Text, FaultKind>, NoMemory>
+    ensures { IfOk result (λ printed. (items : List Content) → printing printed items ≡ operations.print_next (item.now ∷ items)) }
+{
+    match &item.node {
+        Node::Plain(Plain::Unset) => Ok(Err(FaultKind::Unset)),
+        Node::Plain(Plain::Int(value)) => {
+            let text = printed_int(alloc, *value)?;
+            Ok(Ok(text))
+        }
+        _ => Ok(Err(FaultKind::Kind)),
+    }
+}
+
 /// The items that are left printed, the next one last.
 pub fn print_next(alloc: Global, left: Parts) -> Result<Doing, NoMemory>
     ensures { IfOk result (λ doing. doing ≡ operations.print_next (reverse left)) }
@@ -81,13 +95,11 @@ pub fn print_next(alloc: Global, left: Parts) -> Result<Doing, NoMemory>
     let Some(item) = items.pop() else {
         return Ok(Doing::Yields(Value { node: Node::Void }));
     };
-    match &item.node {
-        Node::Plain(Plain::Unset) => Ok(Doing::Meets(FaultKind::Unset)),
-        Node::Plain(Plain::Int(value)) => {
-            let text = printed_int(alloc, *value)?;
-            Ok(Doing::Asks(Want::Print(text), Next::Printing(Parts { items })))
-        }
-        _ => Ok(Doing::Meets(FaultKind::Kind)),
+    let printed = printed_item(alloc, &item);
+    drop(item);
+    match printed? {
+        Ok(text) => Ok(Doing::Asks(Want::Print(text), Next::Printing(Parts { items }))),
+        Err(kind) => Ok(Doing::Meets(kind)),
     }
 }
 
@@ -105,7 +117,11 @@ pub fn resumed(alloc: Global, next: Next, reply: Reply) -> Result<Doing, NoMemor
             Doing::Yields(Value::of(Plain::Name(Name { cell, scope })))
         }
         (Next::Printing(left), Reply::Go) => print_next(alloc, left)?,
-        _ => Doing::Meets(FaultKind::Kind),
+        (next, reply) => {
+            drop(next);
+            drop(reply);
+            Doing::Meets(FaultKind::Kind)
+        }
     };
     Ok(doing)
 }

@@ -5,6 +5,3 @@ mod program;
 mod text;
 
 pub use program::{parse, symbols_are_bounded};
-
-#[cfg(test)]
-mod tests;

@@ -7,7 +7,7 @@ use a68_base::NoMemory;
 use std::alloc::{AllocError, AllocFailed};
 
 /// Why a text was not read.
-#[derive(Clone, Copy, Debug)]
+#[derive(Clone, Copy)]
 pub enum Fault {
     /// An allocation was refused.
     Memory,

@@ -1,5 +1,6 @@
 //! Classes of the numbers whose unfoldings end.
-ghost use Rattle.std.specs.Prelude.{◌≡◌, ◌≢◌, ◌<◌, ◌^◌, ℕ, IfOk, OnOk, IsTrue, length, slice_index, false};
+ghost use Rattle.std.specs.Global.{Global};
+ghost use Rattle.std.specs.Prelude.{◌≡◌, ◌≢◌, ◌<◌, ◌^◌, ℕ, List, Vec, IfOk, OnOk, IsTrue, length, slice_index, false};
 ghost use Rattle.std.specs.List.{All, Contains};
 ghost use Rattle.a68_refine.specs.Finite.{IsSettled, LeadsOn, Ended};
 ghost use Rattle.a68_refine.specs.Rows.{row_at};
@@ -22,25 +23,44 @@ pub fn finite(alloc: Global, heads: &[u32], rows: &[Row]) -> Result<Vec<u32>, No
     ensures long { IfOk result (λ classes. length classes.items ≡ length rows.now) }
     ensures coarse { IfOk result (λ classes. IsCoarse heads.now rows.now classes.items) }
 {
-    let mut classes: Vec<u32> = vec![in alloc; NONE; rows.len()]?;
-    let mut seen: Vec<bool> = vec![in alloc; false; rows.len()]?;
-    let mut table: Table = IndexMap::new(alloc);
-    'roots: for root in 0..rows.len() {
-        walk(
-            alloc,
-            heads,
-            rows,
-            root as u32,
-            &mut seen,
-            &mut table,
-            &mut classes,
-        )?;
-    }
+    let classes = ended(alloc, heads, rows)?;
     if lead_on(rows, &classes) {
         return Ok(classes);
     }
     let none = vec![in alloc; NONE; rows.len()]?;
     Ok(none)
+}
+
+/// A class for each number behind whose parts a walk has come.
+fn ended(alloc: Global, heads: &[u32], rows: &[Row]) -> Result<Vec<u32>, NoMemory>
+    requires few { length rows.now < 2 ^ 32 }
+    requires wired { IsWired heads.now rows.now }
+    ensures { IfOk result (λ classes. (table : List (Vec ℕ Global × ℕ)) × Ended heads.now rows.now table classes.items) }
+{
+    let mut classes: Vec<u32> = vec![in alloc; NONE; rows.len()]?;
+    let mut table: Table = IndexMap::new(alloc);
+    walk_all(alloc, heads, rows, &mut table, &mut classes)?;
+    Ok(classes)
+}
+
+/// Gives a class to all numbers, as far as the walks come behind their parts.
+fn walk_all(
+    alloc: Global,
+    heads: &[u32],
+    rows: &[Row],
+    table: &mut Table,
+    classes: &mut Vec<u32>,
+) -> Result<(), NoMemory>
+    requires few { length rows.now < 2 ^ 32 }
+    requires wired { IsWired heads.now rows.now }
+    requires ended { Ended heads.now rows.now table.old.entries classes.old.items }
+    ensures { OnOk result (Ended heads.now rows.now table.new.entries classes.new.items) }
+{
+    let mut seen: Vec<bool> = vec![in alloc; false; rows.len()]?;
+    'roots: for root in 0..rows.len() {
+        walk(alloc, heads, rows, root as u32, &mut seen, table, classes)?;
+    }
+    Ok(())
 }
 
 /// Gives a class to what stands in this number, and then to it.
@@ -60,6 +80,25 @@ fn walk(
 {
     let mut todo = Vec::new(alloc);
     todo.push((root, false))?;
+    settle(alloc, heads, rows, &mut todo, seen, table, classes)?;
+    Ok(())
+}
+
+/// Gives a class to the numbers that are to do, each behind what stands in it.
+fn settle(
+    alloc: Global,
+    heads: &[u32],
+    rows: &[Row],
+    todo: &mut Vec<(u32, bool)>,
+    seen: &mut Vec<bool>,
+    table: &mut Table,
+    classes: &mut Vec<u32>,
+) -> Result<(), NoMemory>
+    requires few { length rows.now < 2 ^ 32 }
+    requires wired { IsWired heads.now rows.now }
+    requires ended { Ended heads.now rows.now table.old.entries classes.old.items }
+    ensures { OnOk result (Ended heads.now rows.now table.new.entries classes.new.items) }
+{
     'steps: for _ in 0..u64::MAX {
         let Some((at, last)) = todo.pop() else {
             return Ok(());
@@ -72,7 +111,7 @@ fn walk(
             continue;
         }
         todo.push((at, true))?;
-        note_parts(rows, at, seen, &mut todo)?;
+        note_parts(rows, at, seen, todo)?;
     }
     Ok(())
 }

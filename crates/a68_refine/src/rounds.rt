@@ -3,7 +3,7 @@ ghost use Rattle.std.specs.Prelude.{◌≡◌, ◌≢◌, ◌<◌, ◌≤◌, �
 ghost use Rattle.indexmap.specs.IndexMap.{spare};
 ghost use Rattle.std.specs.Global.{Global};
 ghost use Rattle.std.specs.List.{All};
-ghost use Rattle.a68_refine.specs.Rounds.{at_key, ByFirst, IsSetOf, IsRowKey, HasRowKey, IsWired, IsRefined};
+ghost use Rattle.a68_refine.specs.Rounds.{at_key, ByFirst, IsSetOf, IsRowKey, HasRowKey, IsWired, IsRefined, SoFar};
 ghost use Rattle.a68_refine.specs.Rows.{row_at};
 
 use crate::row::Row;
@@ -40,12 +40,31 @@ fn round(alloc: Global, rows: &[Row], classes: &[u32]) -> Result<Vec<u32>, NoMem
 {
     let mut table: Table = IndexMap::new(alloc);
     let mut next = Vec::new(alloc);
+    number_rows(alloc, rows, classes, &mut table, &mut next)?;
+    Ok(next)
+}
+
+/// Numbers the keys of all rows in a table that has none yet.
+fn number_rows(
+    alloc: Global,
+    rows: &[Row],
+    classes: &[u32],
+    table: &mut Table,
+    next: &mut Vec<u32>,
+) -> Result<(), NoMemory>
+    requires few { length rows.now < 2 ^ 32 }
+    requires long { length classes.now ≡ length rows.now }
+    requires closed { (v : ℕ) → v < length rows.now → All (λ w. w < length rows.now) (row_at rows.now v).1 }
+    requires begun { SoFar (HasRowKey rows.now classes.now) table.old.entries next.old.items 0 }
+    ensures { OnOk result (SoFar (HasRowKey rows.now classes.now) table.new.entries next.new.items (length rows.now)) }
+{
     for i in 0..rows.len() {
         let row = &rows[i];
         let key = row_key(alloc, classes[i], row, classes)?;
-        next.push(numbered(&mut table, key, i as u32)?)?;
+        let first = numbered(table, key, i as u32)?;
+        next.push(first)?;
     }
-    Ok(next)
+    Ok(())
 }
 
 /// The number of a key, a new one where it has none.

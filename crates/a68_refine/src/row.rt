@@ -2,7 +2,7 @@
 use std::marker::Model;
 
 /// What stands within a number, by number: all of it at one place, or each at its own.
-#[derive(Debug, Drop)]
+#[derive(Drop)]
 pub struct Row {
     pub among: bool,
     pub items: Vec<u32>,

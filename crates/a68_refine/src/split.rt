@@ -1,8 +1,8 @@
 //! Classes by splitting: a quick start for the rounds.
-ghost use Rattle.std.specs.Prelude.{◌≡◌, ◌<◌, ◌^◌, ◌↔◌, ◌∷◌, [], ℕ, IfOk, IsTrue, length, slice_index};
+ghost use Rattle.std.specs.Prelude.{◌≡◌, ◌<◌, ◌^◌, ◌↔◌, ◌∷◌, [], ℕ, IfOk, OnOk, IsTrue, length, slice_index};
 ghost use Rattle.std.specs.List.{All, Contains};
 ghost use Rattle.a68_refine.specs.Rows.{row_at, Stands};
-ghost use Rattle.a68_refine.specs.Rounds.{ByFirst, IsWired, SameTouch, Touches, GoesTo, SplitsBy, IsCoarse, IsStart};
+ghost use Rattle.a68_refine.specs.Rounds.{ByFirst, SoFar, IsWired, SameTouch, Touches, GoesTo, SplitsBy, IsCoarse, IsStart};
 
 use crate::finite::{NONE, finite};
 use crate::rounds::{Table, numbered};
@@ -42,11 +42,29 @@ fn joined(alloc: Global, heads: &[u32], classes: &[u32]) -> Result<Vec<u32>, NoM
 {
     let mut table: Table = IndexMap::new(alloc);
     let mut next = Vec::new(alloc);
+    number_pairs(alloc, heads, classes, &mut table, &mut next)?;
+    Ok(next)
+}
+
+/// Numbers the pairs of heads and classes in a table that has none yet.
+fn number_pairs(
+    alloc: Global,
+    heads: &[u32],
+    classes: &[u32],
+    table: &mut Table,
+    next: &mut Vec<u32>,
+) -> Result<(), NoMemory>
+    requires few { length heads.now < 2 ^ 32 }
+    requires long { length classes.now ≡ length heads.now }
+    requires begun { SoFar (λ v key. key ≡ slice_index heads.now v ∷ slice_index classes.now v ∷ []) table.old.entries next.old.items 0 }
+    ensures { OnOk result (SoFar (λ v key. key ≡ slice_index heads.now v ∷ slice_index classes.now v ∷ []) table.new.entries next.new.items (length heads.now)) }
+{
     for i in 0..heads.len() {
         let key = Vec::from_slice(alloc, &[heads[i], classes[i]])?;
-        next.push(numbered(&mut table, key, i as u32)?)?;
+        let first = numbered(table, key, i as u32)?;
+        next.push(first)?;
     }
-    Ok(next)
+    Ok(())
 }
 
 /// Are the unions short enough to be looked at again and again? If not, the rounds alone tell them apart.

@@ -4,6 +4,3 @@
 mod stack;
 
 pub use stack::{Item, Stack};
-
-#[cfg(test)]
-mod tests;

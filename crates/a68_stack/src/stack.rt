@@ -76,6 +76,15 @@ impl Stack {
         Ok(())
     }
 
+    /// Puts a value on top.
+    #[inline(always)]
+    pub fn push_value(&mut self, value: Value) -> Result<(), NoMemory>
+        ensures ok { OnOk result (self.new ≡ Item.Value value ∷ self.old) }
+        ensures err { OnErr result (self.new ≡ self.old) }
+    {
+        self.push(Item::Value(value))
+    }
+
     /// Puts a plain value on top.
     #[inline(always)]
     pub fn push_plain(&mut self, held: Plain) -> Result<(), NoMemory>
@@ -99,7 +108,7 @@ impl Stack {
         ensures { MatchOption result ((top_plain self.old ≡ None) × (self.new ≡ self.old)) (λ held. self.old ≡ Item.Value (plain held) ∷ self.new) }
     {
         let held = plain_in(self.items.last()?)?;
-        let _ = self.items.pop();
+        drop(self.items.pop());
         Some(held)
     }
 
@@ -111,8 +120,8 @@ impl Stack {
         let (topmost, below) = self.items.split_last()?;
         let right = plain_in(topmost)?;
         let left = plain_in(below.last()?)?;
-        let _ = self.items.pop();
-        let _ = self.items.pop();
+        drop(self.items.pop());
+        drop(self.items.pop());
         Some((left, right))
     }
 
@@ -122,7 +131,7 @@ impl Stack {
         ensures { MatchOption result ((top_counter self.old ≡ None) × (self.new ≡ self.old)) (λ counter. self.old ≡ Item.Counter counter ∷ self.new) }
     {
         let counter = self.counter()?;
-        let _ = self.items.pop();
+        drop(self.items.pop());
         Some(counter)
     }
 
@@ -131,10 +140,13 @@ impl Stack {
     pub fn drop_value(&mut self) -> bool
         ensures { MatchBool result ((value : Content) × (self.old ≡ Item.Value value ∷ self.new)) (pop_values 1 self.old [] ≡ None) }
     {
-        match self.items.pop() {
+        let popped = self.items.pop();
+        let is_value = match &popped {
             Some(Item::Value(_)) => true,
             _ => false,
-        }
+        };
+        drop(popped);
+        is_value
     }
 
     /// Takes the topmost value off; none where no value is on top, and then an item may be gone.

@@ -9,6 +9,3 @@ mod weight;
 
 pub use stop::StoreStop;
 pub use store::Store;
-
-#[cfg(test)]
-mod tests;

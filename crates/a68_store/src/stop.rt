@@ -7,7 +7,7 @@ use a68_values::FaultKind;
 use std::alloc::{AllocError, AllocFailed};
 
 /// Why an act is not done.
-#[derive(Clone, Copy, Debug, PartialEq, Eq)]
+#[derive(Clone, Copy, PartialEq, Eq)]
 pub enum StoreStop {
     /// The strand meets this fault.
     Fault(FaultKind),

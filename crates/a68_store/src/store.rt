@@ -1,5 +1,5 @@
 //! The store.
-ghost use Rattle.std.specs.Prelude.{◌≡◌, ◌<◌, ◌-◌, ◌^◌, [], false, None, Some, length, replicate, slice_get, slice_set, vec_len, IfOk, IfSome};
+ghost use Rattle.std.specs.Prelude.{◌≡◌, ◌<◌, ◌-◌, ◌^◌, [], false, None, Some, length, replicate, slice_get, slice_set, vec_len, IfOk, IfSome, OnOk};
 ghost use Rattle.std.specs.Option.{option_copied, option_map_or};
 ghost use Rattle.a68_acts.specs.Does.{does, did, refused};
 ghost use Rattle.a68_acts.specs.Store.{opening_store};
@@ -57,15 +57,61 @@ fn set_slot(frame: &mut Frame, slot: u32, value: Value)
     frame.slots[slot as usize] = Some(value);
 }
 
+// The plain value to which a slot is bound; none where it is bound to none.
+#[inline(always)]
+fn plain_value(slot: &Option<Value>) -> Option<Plain>
+    ensures { result ≡ plain_bound (Some slot.now) }
+{
+    match slot {
+        None => None,
+        Some(value) => match &value.node {
+            Node::Plain(held) => Some(*held),
+            _ => None,
+        },
+    }
+}
+
+// So many slots that are not bound put where there are none.
+fn add_unbound(unbound: &mut Vec<Option<Value>>, slots: u32) -> Result<(), NoMemory>
+    requires { unbound.old.items ≡ [] }
+    ensures { OnOk result (unbound.new.items ≡ replicate slots None) }
+{
+    for _ in 0..slots {
+        unbound.push(None)?;
+    }
+    Ok(())
+}
+
 // So many slots that are not bound.
 fn unbound(alloc: Global, slots: u32) -> Result<Vec<Option<Value>>, NoMemory>
     ensures { IfOk result (λ unbound. unbound.items ≡ replicate slots None) }
 {
     let mut unbound = Vec::with_capacity(alloc, slots as usize)?;
-    for _ in 0..slots {
-        unbound.push(None)?;
-    }
+    add_unbound(&mut unbound, slots)?;
     Ok(unbound)
+}
+
+// The plain value that is held; none where another is.
+#[inline(always)]
+fn plain_of(held: &Held) -> Option<Plain>
+    ensures { result ≡ plain_held (Some held.now) }
+{
+    match held {
+        Held::Plain(held) => Some(*held),
+        Held::Rows(_) => None,
+        Held::Member { .. } => None,
+    }
+}
+
+// Equal held values put where there are none.
+fn add_copies(alloc: Global, copies: &mut Vec<Held>, cells: &[Held]) -> Result<(), NoMemory>
+    requires { copies.old.items ≡ [] }
+    ensures { OnOk result (copies.new.items ≡ cells.now) }
+{
+    for held in cells {
+        copies.push(held.copy(alloc)?)?;
+    }
+    Ok(())
 }
 
 // Equal held values.
@@ -73,9 +119,7 @@ fn copies(alloc: Global, cells: &[Held]) -> Result<Vec<Held>, NoMemory>
     ensures { IfOk result (λ copies. copies.items ≡ cells.now) }
 {
     let mut copies = Vec::with_capacity(alloc, cells.len())?;
-    for held in cells {
-        copies.push(held.copy(alloc)?)?;
-    }
+    add_copies(alloc, &mut copies, cells)?;
     Ok(copies)
 }
 
@@ -177,13 +221,7 @@ impl Store {
     pub fn plain_at(&self, frame: u32, slot: u32) -> Option<Plain>
         ensures { result ≡ plain_bound (slot_in self.now frame slot) }
     {
-        match self.slot(frame, slot)? {
-            None => None,
-            Some(value) => match &value.node {
-                Node::Plain(held) => Some(*held),
-                _ => None,
-            },
-        }
+        plain_value(self.slot(frame, slot)?)
     }
 
     /// How many cells there are. It takes no memory.
@@ -222,11 +260,7 @@ impl Store {
     pub fn plain_in(&self, cell: u32) -> Option<Plain>
         ensures { result ≡ plain_held (slice_get self.now.cells cell) }
     {
-        match self.cells.get(cell as usize)? {
-            Held::Plain(held) => Some(*held),
-            Held::Rows(_) => None,
-            Held::Member { .. } => None,
-        }
+        plain_of(self.cells.get(cell as usize)?)
     }
 
     /// Gives a cell something to hold, and takes no memory.

@@ -40,7 +40,7 @@ pub enum Ask {
 }
 
 /// A reply that is not made of other values, and is told without memory.
-#[derive(Clone, Copy, Debug, PartialEq, Eq)]
+#[derive(Clone, Copy)]
 pub enum PlainReply {
     /// The act is done, and there is no more to tell.
     Go,

@@ -2,6 +2,7 @@
 #![tactic(auto)]
 
 mod ask;
+mod asking;
 mod body;
 mod calls;
 mod control;
@@ -12,6 +13,3 @@ mod strand;
 
 pub use ask::{Ask, Mode, PlainReply, Waiting};
 pub use strand::Strand;
-
-#[cfg(test)]
-mod tests;

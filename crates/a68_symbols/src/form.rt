@@ -3,7 +3,7 @@ use crate::SymbolKind;
 use a68_base::Rule;
 
 /// The forms that a stretch of a text can have (Report, 8 and 9).
-#[derive(Clone, Copy, Debug, PartialEq, Eq)]
+#[derive(Clone, Copy, PartialEq, Eq)]
 pub enum Form {
     /// One byte of layout.
     Layout,
@@ -26,7 +26,7 @@ pub enum Form {
 }
 
 /// What a stretch gives.
-#[derive(Clone, Copy, Debug, PartialEq, Eq)]
+#[derive(Clone, Copy, PartialEq, Eq)]
 pub enum Given {
     Nothing,
     Symbol(SymbolKind),

@@ -14,6 +14,3 @@ mod symbol;
 
 pub use cut::{symbols, symbols_are_one};
 pub use symbol::{Symbol, SymbolKind, Symbols};
-
-#[cfg(test)]
-mod tests;

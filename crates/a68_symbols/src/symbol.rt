@@ -28,7 +28,7 @@ pub enum SymbolKind {
 }
 
 /// A symbol: its kind, its stretch of the text, and the number of its kind and spelling.
-#[derive(Clone, Copy, Debug)]
+#[derive(Clone, Copy)]
 pub struct Symbol {
     pub kind: SymbolKind,
     pub span: Span,
@@ -36,7 +36,7 @@ pub struct Symbol {
 }
 
 /// A kind of symbol, and the bytes that spell it.
-#[derive(Debug, PartialEq, Eq, Hash, Drop)]
+#[derive(PartialEq, Eq, Hash, Drop)]
 pub struct Spelling {
     pub kind: SymbolKind,
     pub bytes: Vec<u8>,

@@ -4,6 +4,7 @@ ghost use Rattle.a68_outside.specs.Cause.{Rose};
 ghost use Rattle.a68_top.specs.Words.{MayAskFor, run, task_in, files_of};
 ghost use Rattle.a68_code.specs.Valid.{IsValid};
 ghost use Rattle.a68_top.specs.Commands.{task_of, HasFuel};
+ghost use Rattle.a68_top.specs.Lines.{end_line};
 ghost use Rattle.a68_top.specs.Answer.{IsRefusal, HasRun, IsRunOf, IsUsage, read_of};
 ghost use Rattle.a68_top.specs.Outcome.{IsAnswer, Owes};
 ghost use Rattle.a68_world.specs.Run.{most_fuel};
@@ -13,9 +14,12 @@ use crate::compile::compile;
 use crate::finish::{Due, Finish, Made, bare, status_of};
 use crate::lines::{USAGE, end_line_of, refusal_line_of};
 use crate::words::{Command, command_of};
+use a68_annot::Annotated;
 use a68_base::{NoMemory, Refusal, Status, Stop, Text};
+use a68_code::Code;
 use a68_outside::{ReadStop, Shelf, read_at_most};
 use a68_sim::permitted_law;
+use a68_values::Kept;
 use a68_world::run;
 use std::alloc::Global;
 
@@ -23,7 +27,7 @@ use std::alloc::Global;
 const MOST_READ: usize = 1_048_577;
 
 /// Why nothing could be prepared.
-#[derive(Clone, Copy, Debug, PartialEq, Eq)]
+#[derive(Clone, Copy)]
 pub enum Early {
     ReadFault,
     NoMemory,
@@ -61,10 +65,12 @@ fn usage(alloc: Global) -> Result<Due, NoMemory>
     ensures status { IfOk result (λ due. IsAnswer due.finish.status) }
     ensures answer { IfOk result (λ due. IsUsage due.finish due.out due.notes) }
 {
+    let out = Text::from_slice(alloc, b"")?;
+    let notes = Text::from_slice(alloc, USAGE.as_bytes())?;
     Ok(Due {
         finish: bare(Status::Usage),
-        out: Text::from_slice(alloc, b"")?,
-        notes: Text::from_slice(alloc, USAGE.as_bytes())?,
+        out,
+        notes,
     })
 }
 
@@ -73,6 +79,8 @@ fn refused(alloc: Global, refusal: Refusal) -> Result<Due, NoMemory>
     ensures status { IfOk result (λ due. IsAnswer due.finish.status) }
     ensures answer { IfOk result (λ due. IsRefusal refusal due.finish due.out due.notes) }
 {
+    let out = Text::from_slice(alloc, b"")?;
+    let notes = refusal_line_of(alloc, refusal)?;
     Ok(Due {
         finish: Finish {
             status: Status::Refused,
@@ -80,34 +88,44 @@ fn refused(alloc: Global, refusal: Refusal) -> Result<Due, NoMemory>
             made: None,
             ran: None,
         },
-        out: Text::from_slice(alloc, b"")?,
-        notes: refusal_line_of(alloc, refusal)?,
-    })
-}
-
-// What the run of a program owes.
-fn ran(alloc: Global, made: Made, fuel: u32) -> Result<Due, NoMemory>
-    requires valid { IsValid made.code }
-    requires short { length made.code.list < 2 ^ 32 }
-    requires some_fuel { 1 ≤ fuel }
-    requires little_fuel { fuel ≤ most_fuel }
-    ensures status { IfOk result (λ due. IsAnswer due.finish.status) }
-    ensures answer { IfOk result (λ due. HasRun made fuel due.finish due.out due.notes) }
-{
-    let Made { program, code } = made;
-    let (code, kept) = run(alloc, code, fuel)?;
-    let out = Text::from_slice(alloc, kept.journal.text.as_slice())?;
-    let notes = end_line_of(alloc, kept.end)?;
-    Ok(Due {
-        finish: Finish {
-            status: status_of(kept.end),
-            refusal: None,
-            made: Some(Made { program, code }),
-            ran: Some(kept),
-        },
         out,
         notes,
     })
+}
+
+// What a run writes to out, and its line on notes.
+fn told(alloc: Global, kept: &Kept) -> Result<(Text, Text), NoMemory>
+    ensures out { IfOk result (λ texts. texts.0 ≡ kept.now.journal.text) }
+    ensures notes { IfOk result (λ texts. texts.1 ≡ end_line kept.now.end) }
+{
+    let out = Text::from_slice(alloc, kept.journal.text.as_slice())?;
+    let notes = end_line_of(alloc, kept.end)?;
+    Ok((out, notes))
+}
+
+// What the run of a program owes.
+fn ran(alloc: Global, program: Annotated, code: Code, fuel: u32) -> Result<Due, NoMemory>
+    requires valid { IsValid code }
+    requires short { length code.list < 2 ^ 32 }
+    requires some_fuel { 1 ≤ fuel }
+    requires little_fuel { fuel ≤ most_fuel }
+    ensures status { IfOk result (λ due. IsAnswer due.finish.status) }
+    ensures answer { IfOk result (λ due. HasRun (record { program = program; code = code }) fuel due.finish due.out due.notes) }
+{
+    let (code, kept) = run(alloc, code, fuel)?;
+    match told(alloc, &kept) {
+        Ok((out, notes)) => Ok(Due {
+            finish: Finish {
+                status: status_of(kept.end),
+                refusal: None,
+                made: Some(Made { program, code }),
+                ran: Some(kept),
+            },
+            out,
+            notes,
+        }),
+        Err(error) => Err(error),
+    }
 }
 
 // What a run of a text owes.
@@ -122,7 +140,7 @@ fn run_text(alloc: Global, text: &[u8], fuel: u32) -> Result<Due, NoMemory>
     match compile(alloc, text) {
         Err(Stop::NoMemory) => Err(NoMemory),
         Err(Stop::Refused(refusal)) => refused(alloc, refusal),
-        Ok(made) => ran(alloc, made, fuel),
+        Ok(Made { program, code }) => ran(alloc, program, code, fuel),
     }
 }
 

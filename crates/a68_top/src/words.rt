@@ -10,7 +10,7 @@ use std::alloc::Global;
 use std::marker::Model;
 
 /// The name of a file; contracts see its bytes.
-#[derive(Debug, Drop)]
+#[derive(Drop)]
 pub struct FileName {
     pub items: String,
 }
@@ -33,7 +33,7 @@ impl FileName {
 }
 
 /// What the words ask for.
-#[derive(Debug, Drop)]
+#[derive(Drop)]
 pub enum Command {
     /// To compile the text of a file and to run it.
     Run { file: FileName, fuel: u32 },

@@ -12,120 +12,96 @@ use Rattle.a68_tree.specs.declared.sym.Token.TheVariants as t
 use Rattle.a68_tree.specs.declared.sym.Sym.{Sym}
 use Rattle.a68_tree.specs.declared.sym.Sym.TheVariants.{Opens, Closes, Is}
 
--- the words that are brackets
-abbrev pub bracket_word : List ℕ → Option Sym
-bracket_word s =
-    if bytes_eq s (codes "BEGIN") then Some (Opens b.Begin) else (
-    if bytes_eq s (codes "END") then Some (Closes b.Begin) else (
-    if bytes_eq s (codes "IF") then Some (Opens b.If) else (
-    if bytes_eq s (codes "FI") then Some (Closes b.If) else (
-    if bytes_eq s (codes "CASE") then Some (Opens b.Case) else (
-    if bytes_eq s (codes "ESAC") then Some (Closes b.Case) else (
-    if bytes_eq s (codes "DO") then Some (Opens b.Do) else (
-    if bytes_eq s (codes "OD") then Some (Closes b.Do) else (
-    None))))))))
+-- the reserved words: the brackets; the words within choices and loops; those that begin declarations and parallel clauses,
+-- LOC, HEAP and OF; those of declarers; those within units
+abbrev pub words : List (List ℕ × Sym)
+words =
+    (codes "BEGIN", Opens b.Begin) ∷
+    (codes "END", Closes b.Begin) ∷
+    (codes "IF", Opens b.If) ∷
+    (codes "FI", Closes b.If) ∷
+    (codes "CASE", Opens b.Case) ∷
+    (codes "ESAC", Closes b.Case) ∷
+    (codes "DO", Opens b.Do) ∷
+    (codes "OD", Closes b.Do) ∷
+    (codes "THEN", Is t.Then) ∷
+    (codes "ELIF", Is t.Elif) ∷
+    (codes "ELSE", Is t.Else) ∷
+    (codes "IN", Is t.In) ∷
+    (codes "OUSE", Is t.Ouse) ∷
+    (codes "OUT", Is t.Out) ∷
+    (codes "FOR", Is t.For) ∷
+    (codes "FROM", Is t.From) ∷
+    (codes "BY", Is t.By) ∷
+    (codes "TO", Is t.To) ∷
+    (codes "WHILE", Is t.While) ∷
+    (codes "PAR", Is t.Par) ∷
+    (codes "MODE", Is t.Mode) ∷
+    (codes "PRIO", Is t.Prio) ∷
+    (codes "OP", Is t.Op) ∷
+    (codes "PROC", Is t.Proc) ∷
+    (codes "LOC", Is t.Loc) ∷
+    (codes "HEAP", Is t.Heap) ∷
+    (codes "OF", Is t.Of) ∷
+    (codes "REF", Is t.Ref) ∷
+    (codes "FLEX", Is t.Flex) ∷
+    (codes "STRUCT", Is t.Struct) ∷
+    (codes "UNION", Is t.Union) ∷
+    (codes "INT", Is t.Int) ∷
+    (codes "BOOL", Is t.Plain) ∷
+    (codes "CHAR", Is t.Plain) ∷
+    (codes "BITS", Is t.Plain) ∷
+    (codes "SEMA", Is t.Plain) ∷
+    (codes "STRING", Is t.Plain) ∷
+    (codes "VOID", Is t.Void) ∷
+    (codes "IS", Is t.Is) ∷
+    (codes "ISNT", Is t.Isnt) ∷
+    (codes "AT", Is t.At) ∷
+    (codes "SKIP", Is t.Skip) ∷
+    (codes "NIL", Is t.Nil) ∷
+    (codes "TRUE", Is t.True) ∷
+    (codes "FALSE", Is t.False) ∷
+    []
 
--- the words within choices and loops
-abbrev pub clause_word : List ℕ → Option Sym
-clause_word s =
-    if bytes_eq s (codes "THEN") then Some (Is t.Then) else (
-    if bytes_eq s (codes "ELIF") then Some (Is t.Elif) else (
-    if bytes_eq s (codes "ELSE") then Some (Is t.Else) else (
-    if bytes_eq s (codes "IN") then Some (Is t.In) else (
-    if bytes_eq s (codes "OUSE") then Some (Is t.Ouse) else (
-    if bytes_eq s (codes "OUT") then Some (Is t.Out) else (
-    if bytes_eq s (codes "FOR") then Some (Is t.For) else (
-    if bytes_eq s (codes "FROM") then Some (Is t.From) else (
-    if bytes_eq s (codes "BY") then Some (Is t.By) else (
-    if bytes_eq s (codes "TO") then Some (Is t.To) else (
-    if bytes_eq s (codes "WHILE") then Some (Is t.While) else (
-    None)))))))))))
+-- the marks that the grammar tells apart: the brackets; those that are no operators; the operators
+abbrev pub marks : List (List ℕ × Sym)
+marks =
+    (codes "(", Opens b.Round) ∷
+    (codes ")", Closes b.Round) ∷
+    (codes "[", Opens b.Square) ∷
+    (codes "]", Closes b.Square) ∷
+    (codes ",", Is t.Comma) ∷
+    (codes ";", Is t.Semicolon) ∷
+    (codes ":", Is t.Colon) ∷
+    (codes "|", Is t.Bar) ∷
+    (codes "|:", Is t.BarColon) ∷
+    (codes "@", Is t.At) ∷
+    (codes ":=", Is t.Becomes) ∷
+    (codes ":=:", Is t.Is) ∷
+    (codes ":/=:", Is t.Isnt) ∷
+    (codes "=", Is t.Equals) ∷
+    (codes "+", Is t.Plus) ∷
+    (codes "-", Is t.Minus) ∷
+    (codes "*", Is t.Times) ∷
+    (codes "/=", Is t.Differs) ∷
+    (codes "<", Is t.Less) ∷
+    (codes "<=", Is t.AtMost) ∷
+    (codes ">", Is t.Greater) ∷
+    (codes ">=", Is t.AtLeast) ∷
+    []
 
--- the words that begin declarations and parallel clauses, LOC, HEAP and OF
-abbrev pub declaring_word : List ℕ → Option Sym
-declaring_word s =
-    if bytes_eq s (codes "PAR") then Some (Is t.Par) else (
-    if bytes_eq s (codes "MODE") then Some (Is t.Mode) else (
-    if bytes_eq s (codes "PRIO") then Some (Is t.Prio) else (
-    if bytes_eq s (codes "OP") then Some (Is t.Op) else (
-    if bytes_eq s (codes "PROC") then Some (Is t.Proc) else (
-    if bytes_eq s (codes "LOC") then Some (Is t.Loc) else (
-    if bytes_eq s (codes "HEAP") then Some (Is t.Heap) else (
-    if bytes_eq s (codes "OF") then Some (Is t.Of) else (
-    None))))))))
+-- what stands beside a spelling
+abbrev pub find : List (List ℕ × Sym) → List ℕ → Option Sym
+find [] s = None
+find (row ∷ more) s = if bytes_eq s row.0 then Some row.1 else find more s
 
--- the words of declarers
-abbrev pub mode_word : List ℕ → Option Sym
-mode_word s =
-    if bytes_eq s (codes "REF") then Some (Is t.Ref) else (
-    if bytes_eq s (codes "FLEX") then Some (Is t.Flex) else (
-    if bytes_eq s (codes "STRUCT") then Some (Is t.Struct) else (
-    if bytes_eq s (codes "UNION") then Some (Is t.Union) else (
-    if bytes_eq s (codes "INT") then Some (Is t.Int) else (
-    if bytes_eq s (codes "BOOL") then Some (Is t.Plain) else (
-    if bytes_eq s (codes "CHAR") then Some (Is t.Plain) else (
-    if bytes_eq s (codes "BITS") then Some (Is t.Plain) else (
-    if bytes_eq s (codes "SEMA") then Some (Is t.Plain) else (
-    if bytes_eq s (codes "STRING") then Some (Is t.Plain) else (
-    if bytes_eq s (codes "VOID") then Some (Is t.Void) else (
-    None)))))))))))
-
--- the words within units
-abbrev pub unit_word : List ℕ → Option Sym
-unit_word s =
-    if bytes_eq s (codes "IS") then Some (Is t.Is) else (
-    if bytes_eq s (codes "ISNT") then Some (Is t.Isnt) else (
-    if bytes_eq s (codes "AT") then Some (Is t.At) else (
-    if bytes_eq s (codes "SKIP") then Some (Is t.Skip) else (
-    if bytes_eq s (codes "NIL") then Some (Is t.Nil) else (
-    if bytes_eq s (codes "TRUE") then Some (Is t.True) else (
-    if bytes_eq s (codes "FALSE") then Some (Is t.False) else (
-    None)))))))
-
--- the marks that are brackets
-abbrev pub bracket_mark : List ℕ → Option Sym
-bracket_mark s =
-    if bytes_eq s (codes "(") then Some (Opens b.Round) else (
-    if bytes_eq s (codes ")") then Some (Closes b.Round) else (
-    if bytes_eq s (codes "[") then Some (Opens b.Square) else (
-    if bytes_eq s (codes "]") then Some (Closes b.Square) else (
-    None))))
-
--- the marks that are neither brackets nor operators
-abbrev pub separating_mark : List ℕ → Option Sym
-separating_mark s =
-    if bytes_eq s (codes ",") then Some (Is t.Comma) else (
-    if bytes_eq s (codes ";") then Some (Is t.Semicolon) else (
-    if bytes_eq s (codes ":") then Some (Is t.Colon) else (
-    if bytes_eq s (codes "|") then Some (Is t.Bar) else (
-    if bytes_eq s (codes "|:") then Some (Is t.BarColon) else (
-    if bytes_eq s (codes "@") then Some (Is t.At) else (
-    if bytes_eq s (codes ":=") then Some (Is t.Becomes) else (
-    if bytes_eq s (codes ":=:") then Some (Is t.Is) else (
-    if bytes_eq s (codes ":/=:") then Some (Is t.Isnt) else (
-    None)))))))))
-
--- the operators that the grammar tells apart
-abbrev pub plain_sign : List ℕ → Option Sym
-plain_sign s =
-    if bytes_eq s (codes "=") then Some (Is t.Equals) else (
-    if bytes_eq s (codes "+") then Some (Is t.Plus) else (
-    if bytes_eq s (codes "-") then Some (Is t.Minus) else (
-    if bytes_eq s (codes "*") then Some (Is t.Times) else (
-    if bytes_eq s (codes "/=") then Some (Is t.Differs) else (
-    if bytes_eq s (codes "<") then Some (Is t.Less) else (
-    if bytes_eq s (codes "<=") then Some (Is t.AtMost) else (
-    if bytes_eq s (codes ">") then Some (Is t.Greater) else (
-    if bytes_eq s (codes ">=") then Some (Is t.AtLeast) else (
-    None)))))))))
-
--- the first that is there, or else the last
+-- what is there, or else the other
 abbrev pub or_else : Option Sym → Sym → Sym
 or_else (Some s) other = s
 or_else None other = other
 
 abbrev pub word_sym : List ℕ → Sym
-word_sym s = or_else (bracket_word s) (or_else (clause_word s) (or_else (declaring_word s) (or_else (mode_word s) (or_else (unit_word s) (Is t.Word)))))
+word_sym s = or_else (find words s) (Is t.Word)
 
 -- any other operator: by the mark that it begins with it may stand before an operand alone, or not
 abbrev pub begins_monad : List ℕ → Bool
@@ -136,7 +112,7 @@ abbrev pub other_sign : List ℕ → Sym
 other_sign s = if begins_monad s then Is t.Monad else Is t.Nomad
 
 abbrev pub mark_sym : List ℕ → Sym
-mark_sym s = or_else (bracket_mark s) (or_else (separating_mark s) (or_else (plain_sign s) (other_sign s)))
+mark_sym s = or_else (find marks s) (other_sign s)
 
 -- one digit from 1 to 9
 abbrev pub is_digit : List ℕ → Bool

@@ -9,7 +9,7 @@ use std::marker::Model;
 pub type NodeId = u32;
 
 /// The parts of a node, in order of text.
-#[derive(Debug, Drop)]
+#[derive(Drop)]
 pub struct Parts {
     pub items: Vec<NodeId>,
 }
@@ -22,7 +22,7 @@ impl Model for Parts {
 
 /// A node of a tree: its kind, its stretch of the text, the name of the symbol that names it, and its parts. The stretch
 /// is from the first byte of its first symbol to behind the last byte of its last; where it has none, it is empty.
-#[derive(Debug, Drop)]
+#[derive(Drop)]
 pub struct Node {
     pub kind: NodeKind,
     pub span: Span,
@@ -31,7 +31,7 @@ pub struct Node {
 }
 
 /// Where a value stands, as seen from a node: so many frames outwards, in that slot.
-#[derive(Clone, Copy, Debug, PartialEq, Eq)]
+#[derive(Clone, Copy, PartialEq, Eq)]
 pub struct FrameStep {
     pub hops: u32,
     pub slot: u32,

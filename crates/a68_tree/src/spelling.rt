@@ -1,6 +1,6 @@
 //! The symbols of a text as the grammar tells them apart.
-ghost use Rattle.std.specs.Prelude.{◌≡◌, IfOk};
-ghost use Rattle.a68_symbols.specs.Marks as marks;
+ghost use Rattle.std.specs.Prelude.{◌≡◌, map, IfOk};
+ghost use Rattle.a68_symbols.specs.Marks as nomads;
 ghost use Rattle.a68_tree.specs.Spellings as spellings;
 
 use crate::{Bracket, Sym, Token};
@@ -8,235 +8,112 @@ use a68_base::NoMemory;
 use a68_symbols::{SymbolKind, Symbols};
 use std::alloc::Global;
 
-// The words that are brackets.
-fn bracket_word(s: &[u8]) -> Option<Sym>
-    ensures { result ≡ spellings.bracket_word s.now }
+// The reserved words.
+fn words() -> &'static [(&'static str, Sym)]
+    ensures { map (λ row. (row.0.now, row.1)) result.now ≡ spellings.words }
 {
-    if s == b"BEGIN".as_slice() {
-        Some(Sym::Opens(Bracket::Begin))
-    } else if s == b"END".as_slice() {
-        Some(Sym::Closes(Bracket::Begin))
-    } else if s == b"IF".as_slice() {
-        Some(Sym::Opens(Bracket::If))
-    } else if s == b"FI".as_slice() {
-        Some(Sym::Closes(Bracket::If))
-    } else if s == b"CASE".as_slice() {
-        Some(Sym::Opens(Bracket::Case))
-    } else if s == b"ESAC".as_slice() {
-        Some(Sym::Closes(Bracket::Case))
-    } else if s == b"DO".as_slice() {
-        Some(Sym::Opens(Bracket::Do))
-    } else if s == b"OD".as_slice() {
-        Some(Sym::Closes(Bracket::Do))
-    } else {
-        None
-    }
+    &[
+        ("BEGIN", Sym::Opens(Bracket::Begin)),
+        ("END", Sym::Closes(Bracket::Begin)),
+        ("IF", Sym::Opens(Bracket::If)),
+        ("FI", Sym::Closes(Bracket::If)),
+        ("CASE", Sym::Opens(Bracket::Case)),
+        ("ESAC", Sym::Closes(Bracket::Case)),
+        ("DO", Sym::Opens(Bracket::Do)),
+        ("OD", Sym::Closes(Bracket::Do)),
+        ("THEN", Sym::Is(Token::Then)),
+        ("ELIF", Sym::Is(Token::Elif)),
+        ("ELSE", Sym::Is(Token::Else)),
+        ("IN", Sym::Is(Token::In)),
+        ("OUSE", Sym::Is(Token::Ouse)),
+        ("OUT", Sym::Is(Token::Out)),
+        ("FOR", Sym::Is(Token::For)),
+        ("FROM", Sym::Is(Token::From)),
+        ("BY", Sym::Is(Token::By)),
+        ("TO", Sym::Is(Token::To)),
+        ("WHILE", Sym::Is(Token::While)),
+        ("PAR", Sym::Is(Token::Par)),
+        ("MODE", Sym::Is(Token::Mode)),
+        ("PRIO", Sym::Is(Token::Prio)),
+        ("OP", Sym::Is(Token::Op)),
+        ("PROC", Sym::Is(Token::Proc)),
+        ("LOC", Sym::Is(Token::Loc)),
+        ("HEAP", Sym::Is(Token::Heap)),
+        ("OF", Sym::Is(Token::Of)),
+        ("REF", Sym::Is(Token::Ref)),
+        ("FLEX", Sym::Is(Token::Flex)),
+        ("STRUCT", Sym::Is(Token::Struct)),
+        ("UNION", Sym::Is(Token::Union)),
+        ("INT", Sym::Is(Token::Int)),
+        ("BOOL", Sym::Is(Token::Plain)),
+        ("CHAR", Sym::Is(Token::Plain)),
+        ("BITS", Sym::Is(Token::Plain)),
+        ("SEMA", Sym::Is(Token::Plain)),
+        ("STRING", Sym::Is(Token::Plain)),
+        ("VOID", Sym::Is(Token::Void)),
+        ("IS", Sym::Is(Token::Is)),
+        ("ISNT", Sym::Is(Token::Isnt)),
+        ("AT", Sym::Is(Token::At)),
+        ("SKIP", Sym::Is(Token::Skip)),
+        ("NIL", Sym::Is(Token::Nil)),
+        ("TRUE", Sym::Is(Token::True)),
+        ("FALSE", Sym::Is(Token::False)),
+    ]
 }
 
-// The words within choices and loops.
-fn clause_word(s: &[u8]) -> Option<Sym>
-    ensures { result ≡ spellings.clause_word s.now }
+// The marks that the grammar tells apart.
+fn marks() -> &'static [(&'static str, Sym)]
+    ensures { map (λ row. (row.0.now, row.1)) result.now ≡ spellings.marks }
 {
-    if s == b"THEN".as_slice() {
-        Some(Sym::Is(Token::Then))
-    } else if s == b"ELIF".as_slice() {
-        Some(Sym::Is(Token::Elif))
-    } else if s == b"ELSE".as_slice() {
-        Some(Sym::Is(Token::Else))
-    } else if s == b"IN".as_slice() {
-        Some(Sym::Is(Token::In))
-    } else if s == b"OUSE".as_slice() {
-        Some(Sym::Is(Token::Ouse))
-    } else if s == b"OUT".as_slice() {
-        Some(Sym::Is(Token::Out))
-    } else if s == b"FOR".as_slice() {
-        Some(Sym::Is(Token::For))
-    } else if s == b"FROM".as_slice() {
-        Some(Sym::Is(Token::From))
-    } else if s == b"BY".as_slice() {
-        Some(Sym::Is(Token::By))
-    } else if s == b"TO".as_slice() {
-        Some(Sym::Is(Token::To))
-    } else if s == b"WHILE".as_slice() {
-        Some(Sym::Is(Token::While))
-    } else {
-        None
-    }
+    &[
+        ("(", Sym::Opens(Bracket::Round)),
+        (")", Sym::Closes(Bracket::Round)),
+        ("[", Sym::Opens(Bracket::Square)),
+        ("]", Sym::Closes(Bracket::Square)),
+        (",", Sym::Is(Token::Comma)),
+        (";", Sym::Is(Token::Semicolon)),
+        (":", Sym::Is(Token::Colon)),
+        ("|", Sym::Is(Token::Bar)),
+        ("|:", Sym::Is(Token::BarColon)),
+        ("@", Sym::Is(Token::At)),
+        (":=", Sym::Is(Token::Becomes)),
+        (":=:", Sym::Is(Token::Is)),
+        (":/=:", Sym::Is(Token::Isnt)),
+        ("=", Sym::Is(Token::Equals)),
+        ("+", Sym::Is(Token::Plus)),
+        ("-", Sym::Is(Token::Minus)),
+        ("*", Sym::Is(Token::Times)),
+        ("/=", Sym::Is(Token::Differs)),
+        ("<", Sym::Is(Token::Less)),
+        ("<=", Sym::Is(Token::AtMost)),
+        (">", Sym::Is(Token::Greater)),
+        (">=", Sym::Is(Token::AtLeast)),
+    ]
 }
 
-// The words that begin declarations and parallel clauses, LOC, HEAP and OF.
-fn declaring_word(s: &[u8]) -> Option<Sym>
-    ensures { result ≡ spellings.declaring_word s.now }
+// What stands beside this spelling.
+fn find(rows: &[(&str, Sym)], s: &[u8]) -> Option<Sym>
+    ensures { result ≡ spellings.find (map (λ row. (row.0.now, row.1)) rows.now) s.now }
 {
-    if s == b"PAR".as_slice() {
-        Some(Sym::Is(Token::Par))
-    } else if s == b"MODE".as_slice() {
-        Some(Sym::Is(Token::Mode))
-    } else if s == b"PRIO".as_slice() {
-        Some(Sym::Is(Token::Prio))
-    } else if s == b"OP".as_slice() {
-        Some(Sym::Is(Token::Op))
-    } else if s == b"PROC".as_slice() {
-        Some(Sym::Is(Token::Proc))
-    } else if s == b"LOC".as_slice() {
-        Some(Sym::Is(Token::Loc))
-    } else if s == b"HEAP".as_slice() {
-        Some(Sym::Is(Token::Heap))
-    } else if s == b"OF".as_slice() {
-        Some(Sym::Is(Token::Of))
-    } else {
-        None
+    for (spelling, sym) in rows {
+        if s == spelling.as_bytes() {
+            return Some(*sym);
+        }
     }
-}
-
-// The words of declarers.
-fn mode_word(s: &[u8]) -> Option<Sym>
-    ensures { result ≡ spellings.mode_word s.now }
-{
-    if s == b"REF".as_slice() {
-        Some(Sym::Is(Token::Ref))
-    } else if s == b"FLEX".as_slice() {
-        Some(Sym::Is(Token::Flex))
-    } else if s == b"STRUCT".as_slice() {
-        Some(Sym::Is(Token::Struct))
-    } else if s == b"UNION".as_slice() {
-        Some(Sym::Is(Token::Union))
-    } else if s == b"INT".as_slice() {
-        Some(Sym::Is(Token::Int))
-    } else if s == b"BOOL".as_slice() {
-        Some(Sym::Is(Token::Plain))
-    } else if s == b"CHAR".as_slice() {
-        Some(Sym::Is(Token::Plain))
-    } else if s == b"BITS".as_slice() {
-        Some(Sym::Is(Token::Plain))
-    } else if s == b"SEMA".as_slice() {
-        Some(Sym::Is(Token::Plain))
-    } else if s == b"STRING".as_slice() {
-        Some(Sym::Is(Token::Plain))
-    } else if s == b"VOID".as_slice() {
-        Some(Sym::Is(Token::Void))
-    } else {
-        None
-    }
-}
-
-// The words within units.
-fn unit_word(s: &[u8]) -> Option<Sym>
-    ensures { result ≡ spellings.unit_word s.now }
-{
-    if s == b"IS".as_slice() {
-        Some(Sym::Is(Token::Is))
-    } else if s == b"ISNT".as_slice() {
-        Some(Sym::Is(Token::Isnt))
-    } else if s == b"AT".as_slice() {
-        Some(Sym::Is(Token::At))
-    } else if s == b"SKIP".as_slice() {
-        Some(Sym::Is(Token::Skip))
-    } else if s == b"NIL".as_slice() {
-        Some(Sym::Is(Token::Nil))
-    } else if s == b"TRUE".as_slice() {
-        Some(Sym::Is(Token::True))
-    } else if s == b"FALSE".as_slice() {
-        Some(Sym::Is(Token::False))
-    } else {
-        None
-    }
+    None
 }
 
 fn word_sym(s: &[u8]) -> Sym
     ensures { result ≡ spellings.word_sym s.now }
 {
-    if let Some(sym) = bracket_word(s) {
-        return sym;
-    }
-    if let Some(sym) = clause_word(s) {
-        return sym;
-    }
-    if let Some(sym) = declaring_word(s) {
-        return sym;
-    }
-    if let Some(sym) = mode_word(s) {
-        return sym;
-    }
-    if let Some(sym) = unit_word(s) {
-        return sym;
-    }
-    Sym::Is(Token::Word)
-}
-
-// The marks that are brackets.
-fn bracket_mark(s: &[u8]) -> Option<Sym>
-    ensures { result ≡ spellings.bracket_mark s.now }
-{
-    if s == b"(".as_slice() {
-        Some(Sym::Opens(Bracket::Round))
-    } else if s == b")".as_slice() {
-        Some(Sym::Closes(Bracket::Round))
-    } else if s == b"[".as_slice() {
-        Some(Sym::Opens(Bracket::Square))
-    } else if s == b"]".as_slice() {
-        Some(Sym::Closes(Bracket::Square))
-    } else {
-        None
-    }
-}
-
-// The marks that are neither brackets nor operators.
-fn separating_mark(s: &[u8]) -> Option<Sym>
-    ensures { result ≡ spellings.separating_mark s.now }
-{
-    if s == b",".as_slice() {
-        Some(Sym::Is(Token::Comma))
-    } else if s == b";".as_slice() {
-        Some(Sym::Is(Token::Semicolon))
-    } else if s == b":".as_slice() {
-        Some(Sym::Is(Token::Colon))
-    } else if s == b"|".as_slice() {
-        Some(Sym::Is(Token::Bar))
-    } else if s == b"|:".as_slice() {
-        Some(Sym::Is(Token::BarColon))
-    } else if s == b"@".as_slice() {
-        Some(Sym::Is(Token::At))
-    } else if s == b":=".as_slice() {
-        Some(Sym::Is(Token::Becomes))
-    } else if s == b":=:".as_slice() {
-        Some(Sym::Is(Token::Is))
-    } else if s == b":/=:".as_slice() {
-        Some(Sym::Is(Token::Isnt))
-    } else {
-        None
-    }
-}
-
-// The operators that the grammar tells apart.
-fn plain_sign(s: &[u8]) -> Option<Sym>
-    ensures { result ≡ spellings.plain_sign s.now }
-{
-    if s == b"=".as_slice() {
-        Some(Sym::Is(Token::Equals))
-    } else if s == b"+".as_slice() {
-        Some(Sym::Is(Token::Plus))
-    } else if s == b"-".as_slice() {
-        Some(Sym::Is(Token::Minus))
-    } else if s == b"*".as_slice() {
-        Some(Sym::Is(Token::Times))
-    } else if s == b"/=".as_slice() {
-        Some(Sym::Is(Token::Differs))
-    } else if s == b"<".as_slice() {
-        Some(Sym::Is(Token::Less))
-    } else if s == b"<=".as_slice() {
-        Some(Sym::Is(Token::AtMost))
-    } else if s == b">".as_slice() {
-        Some(Sym::Is(Token::Greater))
-    } else if s == b">=".as_slice() {
-        Some(Sym::Is(Token::AtLeast))
-    } else {
-        None
+    match find(words(), s) {
+        Some(sym) => sym,
+        None => Sym::Is(Token::Word),
     }
 }
 
 fn is_monad(byte: u8) -> bool
-    ensures { result ≡ marks.is_monad byte }
+    ensures { result ≡ nomads.is_monad byte }
 {
     matches!(byte, b'+' | b'-' | b'&' | b'%' | b'^' | b'!' | b'?')
 }
@@ -253,16 +130,10 @@ fn other_sign(s: &[u8]) -> Sym
 fn mark_sym(s: &[u8]) -> Sym
     ensures { result ≡ spellings.mark_sym s.now }
 {
-    if let Some(sym) = bracket_mark(s) {
-        return sym;
+    match find(marks(), s) {
+        Some(sym) => sym,
+        None => other_sign(s),
     }
-    if let Some(sym) = separating_mark(s) {
-        return sym;
-    }
-    if let Some(sym) = plain_sign(s) {
-        return sym;
-    }
-    other_sign(s)
 }
 
 fn number_sym(s: &[u8]) -> Sym

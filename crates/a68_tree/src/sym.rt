@@ -1,7 +1,7 @@
 //! Symbols as the grammar tells them apart.
 
 /// A pair of brackets.
-#[derive(Clone, Copy, Debug, PartialEq, Eq)]
+#[derive(Clone, Copy, PartialEq, Eq)]
 pub enum Bracket {
     /// `(` and `)`.
     Round,
@@ -18,7 +18,7 @@ pub enum Bracket {
 }
 
 /// A symbol that is no bracket.
-#[derive(Clone, Copy, Debug, PartialEq, Eq)]
+#[derive(Clone, Copy, PartialEq, Eq)]
 pub enum Token {
     Comma,
     Semicolon,
@@ -99,7 +99,7 @@ pub enum Token {
 }
 
 /// A symbol: an opening or a closing bracket, or another.
-#[derive(Clone, Copy, Debug, PartialEq, Eq)]
+#[derive(Clone, Copy, PartialEq, Eq)]
 pub enum Sym {
     Opens(Bracket),
     Closes(Bracket),

@@ -8,6 +8,3 @@ mod whole;
 
 pub use places::place;
 pub use whole::tree;
-
-#[cfg(test)]
-mod tests;

@@ -29,7 +29,7 @@ pub enum FaultKind {
 }
 
 /// An act of a strand on what all strands share. Frames, slots, cells, strands and printed bytes are numbered from 0.
-#[derive(Clone, Copy, Debug, PartialEq, Eq)]
+#[derive(Clone, Copy, Debug)]
 pub enum Act {
     /// A new frame.
     Enter { frame: u32 },
@@ -58,14 +58,14 @@ pub enum Act {
 }
 
 /// An act in the journal of a run, and the strand that did it.
-#[derive(Clone, Copy, Debug, PartialEq, Eq)]
+#[derive(Clone, Copy)]
 pub struct Entry {
     pub strand: u32,
     pub act: Act,
 }
 
 /// Entries in the order in which they were done.
-#[derive(Debug, Drop)]
+#[derive(Drop)]
 pub struct Entries {
     pub items: Vec<Entry>,
 }

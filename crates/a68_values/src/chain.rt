@@ -9,7 +9,7 @@ pub struct Environ {
 }
 
 /// A frame and those about it, from the innermost outwards to that of the standard environ.
-#[derive(Debug, Drop)]
+#[derive(Drop)]
 pub struct Chain {
     pub items: Vec<Environ>,
 }
@@ -24,7 +24,7 @@ impl Model for Chain {
 }
 
 /// Where the units of a parallel clause begin in the code, in order.
-#[derive(Debug, Drop)]
+#[derive(Drop)]
 pub struct Entrances {
     pub items: Vec<u32>,
 }

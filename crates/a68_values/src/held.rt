@@ -7,7 +7,7 @@ use std::alloc::Global;
 use std::marker::Model;
 
 /// A dimension of a row in the store: its bounds, and how many cells lie between two neighbours.
-#[derive(Clone, Copy, Debug, PartialEq, Eq)]
+#[derive(Clone, Copy)]
 pub struct Dim {
     pub lower: i64,
     pub upper: i64,
@@ -15,7 +15,7 @@ pub struct Dim {
 }
 
 /// The dimensions of a row, from the first subscript to the last.
-#[derive(Debug, Drop)]
+#[derive(Drop)]
 pub struct Dims {
     pub items: Vec<Dim>,
 }
@@ -30,14 +30,14 @@ impl Model for Dims {
 }
 
 /// A row in the store: the cell of its first element, and its dimensions (Report, 2.1.3.4).
-#[derive(Debug, Drop)]
+#[derive(Drop)]
 pub struct Descriptor {
     pub base: u32,
     pub dims: Dims,
 }
 
 /// What a cell holds.
-#[derive(Debug, Drop)]
+#[derive(Drop)]
 pub enum Held {
     Plain(Plain),
     /// The descriptor of a row, whose elements lie in cells of their own.
@@ -47,7 +47,7 @@ pub enum Held {
 }
 
 /// What the cells hold, by their numbers.
-#[derive(Debug, Drop)]
+#[derive(Drop)]
 pub struct Cells {
     pub items: Vec<Held>,
 }

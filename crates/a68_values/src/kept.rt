@@ -3,7 +3,7 @@ use crate::{Cells, Entries, FaultKind, Slots};
 use a68_base::Text;
 
 /// The journal of a run: its acts in order, and the text that they printed.
-#[derive(Debug, Drop)]
+#[derive(Drop)]
 pub struct Journal {
     pub entries: Entries,
     pub text: Text,

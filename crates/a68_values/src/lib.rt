@@ -14,6 +14,3 @@ pub use held::{Cells, Descriptor, Dim, Dims, Held, Slots};
 pub use kept::{End, Journal, Kept};
 pub use plain::{Layout, Name, Plain, Routine};
 pub use value::{Bounds, Node, Parts, Value};
-
-#[cfg(test)]
-mod tests;

@@ -38,7 +38,7 @@ pub enum Plain {
 }
 
 /// A value of the hidden mode of `newline` and `space` (own).
-#[derive(Clone, Copy, Debug, PartialEq, Eq)]
+#[derive(Clone, Copy)]
 pub enum Layout {
     Newline,
     Space,

@@ -8,7 +8,7 @@ use std::alloc::Global;
 use std::marker::Model;
 
 /// A lower and an upper bound for each dimension of a row.
-#[derive(Debug, Drop)]
+#[derive(Drop)]
 pub struct Bounds {
     pub items: Vec<(i64, i64)>,
 }

@@ -12,6 +12,3 @@ mod spelling;
 
 pub use class::{Class, Classed};
 pub use classify::{classes_are_one, words};
-
-#[cfg(test)]
-mod tests;

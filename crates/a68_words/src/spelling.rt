@@ -1,5 +1,5 @@
 //! The roles of symbols by their spellings.
-ghost use Rattle.std.specs.Prelude.{◌≡◌, ◌<◌, ◌^◌, length, IfOk};
+ghost use Rattle.std.specs.Prelude.{◌≡◌, map, ◌<◌, ◌^◌, length, IfOk};
 ghost use Rattle.a68_words.specs.Spellings as spellings;
 
 use crate::role::Role;
@@ -7,188 +7,144 @@ use a68_base::NoMemory;
 use a68_symbols::{SymbolKind, Symbols};
 use std::alloc::Global;
 
-// The words that are opening brackets, but DO.
-fn is_opening_word(s: &[u8]) -> bool
-    ensures { result ≡ spellings.is_opening_word s.now }
+// The reserved words.
+fn reserved() -> &'static [(&'static str, Role)]
+    ensures { map (λ row. (row.0.now, row.1)) result.now ≡ spellings.reserved }
 {
-    s == b"BEGIN".as_slice() || s == b"IF".as_slice() || s == b"CASE".as_slice()
+    &[
+        ("BEGIN", Role::Open),
+        ("IF", Role::Open),
+        ("CASE", Role::Open),
+        ("DO", Role::Do),
+        ("END", Role::Close),
+        ("FI", Role::Close),
+        ("ESAC", Role::Close),
+        ("OD", Role::Close),
+        ("THEN", Role::Separator),
+        ("ELIF", Role::Separator),
+        ("ELSE", Role::Separator),
+        ("IN", Role::Separator),
+        ("OUSE", Role::Separator),
+        ("OUT", Role::Separator),
+        ("FROM", Role::Separator),
+        ("BY", Role::Separator),
+        ("TO", Role::Separator),
+        ("WHILE", Role::Separator),
+        ("MODE", Role::Mode),
+        ("PRIO", Role::Prio),
+        ("OP", Role::Op),
+        ("PROC", Role::Reserved),
+        ("REF", Role::Reserved),
+        ("FLEX", Role::Reserved),
+        ("STRUCT", Role::Reserved),
+        ("UNION", Role::Reserved),
+        ("LOC", Role::Reserved),
+        ("HEAP", Role::Reserved),
+        ("INT", Role::Reserved),
+        ("BOOL", Role::Reserved),
+        ("CHAR", Role::Reserved),
+        ("BITS", Role::Reserved),
+        ("SEMA", Role::Reserved),
+        ("STRING", Role::Reserved),
+        ("VOID", Role::Reserved),
+        ("FOR", Role::Reserved),
+        ("PAR", Role::Reserved),
+        ("OF", Role::Reserved),
+        ("IS", Role::Reserved),
+        ("ISNT", Role::Reserved),
+        ("AT", Role::Reserved),
+        ("SKIP", Role::Reserved),
+        ("NIL", Role::Reserved),
+        ("TRUE", Role::Reserved),
+        ("FALSE", Role::Reserved),
+    ]
 }
 
-// The words that are closing brackets.
-fn is_closing_word(s: &[u8]) -> bool
-    ensures { result ≡ spellings.is_closing_word s.now }
+// The standard operator words.
+fn standard() -> &'static [(&'static str, Role)]
+    ensures { map (λ row. (row.0.now, row.1)) result.now ≡ spellings.standard }
 {
-    s == b"END".as_slice()
-        || s == b"FI".as_slice()
-        || s == b"ESAC".as_slice()
-        || s == b"OD".as_slice()
+    &[
+        ("NOT", Role::Standard),
+        ("ABS", Role::Standard),
+        ("SIGN", Role::Standard),
+        ("ODD", Role::Standard),
+        ("REPR", Role::Standard),
+        ("BIN", Role::Standard),
+        ("LEVEL", Role::Standard),
+        ("UP", Role::Standard),
+        ("DOWN", Role::Standard),
+        ("OVER", Role::Standard),
+        ("MOD", Role::Standard),
+        ("ELEM", Role::Standard),
+        ("AND", Role::Standard),
+        ("OR", Role::Standard),
+        ("SHL", Role::Standard),
+        ("SHR", Role::Standard),
+        ("LWB", Role::Standard),
+        ("UPB", Role::Standard),
+        ("EQ", Role::Standard),
+        ("NE", Role::Standard),
+        ("LT", Role::Standard),
+        ("LE", Role::Standard),
+        ("GE", Role::Standard),
+        ("GT", Role::Standard),
+        ("PLUSAB", Role::Standard),
+        ("MINUSAB", Role::Standard),
+        ("TIMESAB", Role::Standard),
+        ("OVERAB", Role::Standard),
+        ("MODAB", Role::Standard),
+        ("PLUSTO", Role::Standard),
+    ]
 }
 
-// The words behind which a stretch begins, but DO.
-fn is_separating_word(s: &[u8]) -> bool
-    ensures { result ≡ spellings.is_separating_word s.now }
+// The marks that open, close, separate and define.
+fn marks() -> &'static [(&'static str, Role)]
+    ensures { map (λ row. (row.0.now, row.1)) result.now ≡ spellings.marks }
 {
-    s == b"THEN".as_slice()
-        || s == b"ELIF".as_slice()
-        || s == b"ELSE".as_slice()
-        || s == b"IN".as_slice()
-        || s == b"OUSE".as_slice()
-        || s == b"OUT".as_slice()
-        || s == b"FROM".as_slice()
-        || s == b"BY".as_slice()
-        || s == b"TO".as_slice()
-        || s == b"WHILE".as_slice()
+    &[
+        ("(", Role::Round),
+        ("[", Role::Open),
+        (")", Role::Close),
+        ("]", Role::Close),
+        (",", Role::Comma),
+        (";", Role::Separator),
+        ("|", Role::Separator),
+        ("|:", Role::Separator),
+        ("=", Role::Equals),
+    ]
 }
 
-// The words of declarers, generators and routines.
-fn is_declarer_word(s: &[u8]) -> bool
-    ensures { result ≡ spellings.is_declarer_word s.now }
+// What stands beside this spelling.
+fn find(rows: &[(&str, Role)], s: &[u8]) -> Option<Role>
+    ensures { result ≡ spellings.find (map (λ row. (row.0.now, row.1)) rows.now) s.now }
 {
-    s == b"PROC".as_slice()
-        || s == b"REF".as_slice()
-        || s == b"FLEX".as_slice()
-        || s == b"STRUCT".as_slice()
-        || s == b"UNION".as_slice()
-        || s == b"LOC".as_slice()
-        || s == b"HEAP".as_slice()
-        || s == b"INT".as_slice()
-        || s == b"BOOL".as_slice()
-        || s == b"CHAR".as_slice()
-        || s == b"BITS".as_slice()
-        || s == b"SEMA".as_slice()
-        || s == b"STRING".as_slice()
-        || s == b"VOID".as_slice()
-}
-
-// The other words of units, and PAR and FOR.
-fn is_unit_word(s: &[u8]) -> bool
-    ensures { result ≡ spellings.is_unit_word s.now }
-{
-    s == b"FOR".as_slice()
-        || s == b"PAR".as_slice()
-        || s == b"OF".as_slice()
-        || s == b"IS".as_slice()
-        || s == b"ISNT".as_slice()
-        || s == b"AT".as_slice()
-        || s == b"SKIP".as_slice()
-        || s == b"NIL".as_slice()
-        || s == b"TRUE".as_slice()
-        || s == b"FALSE".as_slice()
-}
-
-// The standard operators that stand before an operand alone.
-fn is_monadic_word(s: &[u8]) -> bool
-    ensures { result ≡ spellings.is_monadic_word s.now }
-{
-    s == b"NOT".as_slice()
-        || s == b"ABS".as_slice()
-        || s == b"SIGN".as_slice()
-        || s == b"ODD".as_slice()
-        || s == b"REPR".as_slice()
-        || s == b"BIN".as_slice()
-        || s == b"LEVEL".as_slice()
-        || s == b"UP".as_slice()
-        || s == b"DOWN".as_slice()
-}
-
-// The standard operators between operands, LWB and UPB among them.
-fn is_dyadic_word(s: &[u8]) -> bool
-    ensures { result ≡ spellings.is_dyadic_word s.now }
-{
-    s == b"OVER".as_slice()
-        || s == b"MOD".as_slice()
-        || s == b"ELEM".as_slice()
-        || s == b"AND".as_slice()
-        || s == b"OR".as_slice()
-        || s == b"SHL".as_slice()
-        || s == b"SHR".as_slice()
-        || s == b"LWB".as_slice()
-        || s == b"UPB".as_slice()
-}
-
-// The standard operators that compare.
-fn is_comparing_word(s: &[u8]) -> bool
-    ensures { result ≡ spellings.is_comparing_word s.now }
-{
-    s == b"EQ".as_slice()
-        || s == b"NE".as_slice()
-        || s == b"LT".as_slice()
-        || s == b"LE".as_slice()
-        || s == b"GE".as_slice()
-        || s == b"GT".as_slice()
-}
-
-// The standard operators that assign.
-fn is_assigning_word(s: &[u8]) -> bool
-    ensures { result ≡ spellings.is_assigning_word s.now }
-{
-    s == b"PLUSAB".as_slice()
-        || s == b"MINUSAB".as_slice()
-        || s == b"TIMESAB".as_slice()
-        || s == b"OVERAB".as_slice()
-        || s == b"MODAB".as_slice()
-        || s == b"PLUSTO".as_slice()
-}
-
-fn is_standard(s: &[u8]) -> bool
-    ensures { result ≡ spellings.is_standard s.now }
-{
-    is_monadic_word(s) || is_dyadic_word(s) || is_comparing_word(s) || is_assigning_word(s)
-}
-
-fn free_word(s: &[u8]) -> Role
-    ensures { result ≡ spellings.free_word s.now }
-{
-    if is_standard(s) {
-        Role::Standard
-    } else {
-        Role::Bold
+    for (spelling, role) in rows {
+        if s == spelling.as_bytes() {
+            return Some(*role);
+        }
     }
+    None
 }
 
-#[tactic(auto, unfolding(crate::specs::Spellings::word_role))]
 fn word_role(s: &[u8]) -> Role
     ensures { result ≡ spellings.word_role s.now }
 {
-    if s == b"DO".as_slice() {
-        Role::Do
-    } else if s == b"MODE".as_slice() {
-        Role::Mode
-    } else if s == b"PRIO".as_slice() {
-        Role::Prio
-    } else if s == b"OP".as_slice() {
-        Role::Op
-    } else if is_opening_word(s) {
-        Role::Open
-    } else if is_closing_word(s) {
-        Role::Close
-    } else if is_separating_word(s) {
-        Role::Separator
-    } else if is_declarer_word(s) || is_unit_word(s) {
-        Role::Reserved
-    } else {
-        free_word(s)
+    if let Some(role) = find(reserved(), s) {
+        return role;
+    }
+    match find(standard(), s) {
+        Some(role) => role,
+        None => Role::Bold,
     }
 }
 
-#[tactic(auto, unfolding(crate::specs::Spellings::mark_role))]
 fn mark_role(s: &[u8]) -> Role
     ensures { result ≡ spellings.mark_role s.now }
 {
-    if s == b"(".as_slice() {
-        Role::Round
-    } else if s == b"[".as_slice() {
-        Role::Open
-    } else if s == b")".as_slice() || s == b"]".as_slice() {
-        Role::Close
-    } else if s == b",".as_slice() {
-        Role::Comma
-    } else if s == b";".as_slice() || s == b"|".as_slice() || s == b"|:".as_slice() {
-        Role::Separator
-    } else if s == b"=".as_slice() {
-        Role::Equals
-    } else {
-        Role::Other
+    match find(marks(), s) {
+        Some(role) => role,
+        None => Role::Other,
     }
 }
 

@@ -23,7 +23,6 @@ use Rattle.a68_strand.specs.declared.ask.Mode.TheVariants.{Idle, Asking, Failed}
 use Rattle.a68_strand.specs.declared.strand.Strand.{Strand}
 use Rattle.a68_values.specs.declared.act.Entry.{Entry}
 use Rattle.a68_values.specs.declared.act.FaultKind.{FaultKind}
-use Rattle.a68_values.specs.declared.chain.Environ.{Environ}
 use Rattle.a68_values.specs.declared.kept.End.{End}
 use Rattle.a68_values.specs.declared.kept.Kept.{Kept}
 use Rattle.a68_world.specs.Inside.{run_of, IsSound, Shows, end_shown}
@@ -48,17 +47,6 @@ pub record Made (code : Code) (fuel : ℕ) (journal : Vec Entry Global) (store :
   pub store_is : store ≡ opening_store
   pub settled : HasSettled code (beginning 0 (record { frame = 0; scope = 0 } ∷ [])) strand
   pub end_is : end ≡ end_shown strand.about.ask
-
-pub made-from : (code : Code) (fuel : ℕ) (journal : Vec Entry Global) (store : Store) (strand : Strand) (end : Option End) (chain : List Environ) → journal.items ≡ []
-    → vec_capacity journal ≡ fuel → store ≡ opening_store → chain ≡ record { frame = 0; scope = 0 } ∷ [] → HasSettled code (beginning 0 chain) strand → end ≡ end_shown strand.about.ask
-    → Made code fuel journal store strand end
-made-from code fuel journal store strand end chain items room store_is is settled end_is = record {
-  items = items;
-  room = room;
-  store_is = store_is;
-  settled = subst (λ (l : List Environ). HasSettled code (beginning 0 l) strand) is settled;
-  end_is = end_is;
-}
 
 shown : (place : ℕ) (b : Ask) (m : Mode) → b ≡ asked place m → is_spent b ≡ false
 shown place b Idle e = ap is_spent e

@@ -1,7 +1,11 @@
 //! The calls of a world.
-ghost use Rattle.std.specs.Prelude.{◌≡◌, ◌<◌, ◌≤◌, ◌^◌, ◌↔◌, ℕ, length, Some, None, IfOk, IfSome, IsNone, MatchOption, MatchResult};
+ghost use Rattle.std.specs.Prelude.{◌≡◌, [], ◌∷◌, ◌<◌, ◌≤◌, ◌^◌, ◌↔◌, ℕ, length, Some, None, IfOk, IfSome, IsNone, MatchOption, MatchResult};
+ghost use Rattle.std.specs.Vec.{vec_capacity};
+ghost use Rattle.a68_acts.specs.Store.{opening_store};
 ghost use Rattle.a68_code.specs.Valid.{IsValid};
 ghost use Rattle.a68_strand.specs.Cyclic.{IsFirstBehind};
+ghost use Rattle.a68_strand.specs.Machine.{beginning};
+ghost use Rattle.a68_strand.specs.Strands.{HasSettled};
 ghost use Rattle.a68_world.specs.Inside.{end_shown};
 ghost use Rattle.a68_world.specs.Run.{IsRun, Begins, most_fuel};
 ghost use Rattle.a68_world.specs.Turns.{GoesOn, EndsAt, IsDue, TurnOf, IsAble, Finishes, last_strand};
@@ -29,6 +33,32 @@ fn end_shown(ask: &Ask) -> Option<End>
     }
 }
 
+// Strand 0 at the beginning of the code, in the frame of the standard environ.
+fn first_strand(alloc: Global, code: &Code) -> Result<Strand, NoMemory>
+    requires short { length code.now.list < 2 ^ 32 }
+    ensures { IfOk result (HasSettled code.now (beginning 0 (record { frame = 0; scope = 0 } ∷ []))) }
+{
+    let chain = Chain {
+        items: vec![in alloc; STANDARD]?,
+    };
+    let strand = Strand::begin(alloc, code, 0, 0, chain)?;
+    Ok(strand)
+}
+
+// The journal, the store and strand 0 of a run that is yet to begin.
+fn parts(alloc: Global, code: &Code, fuel: u32) -> Result<(Vec<Entry>, Store, Strand), NoMemory>
+    requires short { length code.now.list < 2 ^ 32 }
+    ensures empty { IfOk result (λ parts. parts.0.items ≡ []) }
+    ensures room { IfOk result (λ parts. vec_capacity parts.0 ≡ fuel) }
+    ensures store { IfOk result (λ parts. parts.1 ≡ opening_store) }
+    ensures strand { IfOk result (λ parts. HasSettled code.now (beginning 0 (record { frame = 0; scope = 0 } ∷ [])) parts.2) }
+{
+    let journal = Vec::with_capacity(alloc, fuel as usize)?;
+    let store = Store::new(alloc)?;
+    let strand = first_strand(alloc, code)?;
+    Ok((journal, store, strand))
+}
+
 impl World {
     /// A run of this code that is yet to begin. The journal is reserved for the whole fuel, and its memory is not touched.
     pub fn start(alloc: Global, code: Code, fuel: u32) -> Result<World, NoMemory>
@@ -38,12 +68,7 @@ impl World {
         requires little_fuel { fuel ≤ most_fuel }
         ensures { IfOk result (Begins code fuel) }
     {
-        let journal = Vec::with_capacity(alloc, fuel as usize)?;
-        let store = Store::new(alloc)?;
-        let chain = Chain {
-            items: vec![in alloc; STANDARD]?,
-        };
-        let strand = Strand::begin(alloc, &code, 0, 0, chain)?;
+        let (journal, store, strand) = parts(alloc, &code, fuel)?;
         let end = end_shown(strand.ask());
         Ok(World {
             code,

@@ -10,6 +10,3 @@ mod world;
 pub use circle::run;
 pub use turned::Turned;
 pub use world::World;
-
-#[cfg(test)]
-mod tests;

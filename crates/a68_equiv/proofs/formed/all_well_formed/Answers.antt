@@ -1,4 +1,5 @@
 use Rattle.std.proofs.Common.{◌≡◌, ◌<◌, ◌∙◌, ℕ, List, Option, Some, None, length, get_or, refl, arith, subst}
+use Rattle.std.proofs.lemmas.List.Elements.{All-from_get_or}
 use Rattle.a68_modes.specs.declared.shape.Shape.{Shape}
 use Rattle.a68_equiv.specs.Ways.{IsWellFormed, AreWellFormed, IsFirstIllFormed}
 use Rattle.a68_equiv.proofs.formed.all_well_formed.Goals as goal
@@ -10,10 +11,16 @@ all_formed nodes given roots None first e same long each = λ m h.
     let all = subst (λ (xs : List ℕ). IsFirstIllFormed nodes xs None) same first in
     subst (IsWellFormed nodes) (each m h) (all m there)
 
+pub ill_formed-requires-clause-roots : goal.ill_formed-requires-clause-roots
+ill_formed-requires-clause-roots c =
+    let ids = c.in_ok-roots.roots.items in
+    rw c.deref.ensures.value (All-from_get_or (λ m. m < length c.args.modes.now) ids 0 (λ k h.
+    let long = c.in_ok-roots.ensures.long in
+    let there : k < length c.args.modes.now = omega arith in
+    rw (c.in_ok-roots.ensures.each k there) there))
+
 pub returns-in-None : goal.returns-in-None
-returns-in-None c =
-    let nodes = c.args.modes.now in
-    let all : c.loop-id.id ≡ length nodes = omega arith in (
-      λ t. all_formed nodes c.deref.result.now c.loop-id.roots.items c.in_ok-ill_formed.field-0 c.in_ok-ill_formed.ensures c.in-None.is c.deref.ensures.value (c.loop-id.invariant.long ∙ all) (λ k h. c.loop-id.invariant.each k (omega arith)),
-      λ formed. refl,
-    )
+returns-in-None c = (
+  λ t. all_formed c.args.modes.now c.deref.result.now c.in_ok-roots.roots.items c.in_ok-ill_formed.field-0 c.in_ok-ill_formed.ensures c.in-None.is c.deref.ensures.value c.in_ok-roots.ensures.long c.in_ok-roots.ensures.each,
+  λ formed. refl,
+)

@@ -1,22 +1,10 @@
-use Rattle.std.proofs.Common.{◌<◌, ◌*◌, refl, arith, length}
+use Rattle.std.proofs.Common.{◌*◌, refl, length}
 use Rattle.a68_equiv.specs.Graph.{HasCode}
-use Rattle.a68_refine.specs.Rounds.{at_key}
-use Rattle.a68_refine.proofs.Numbering.{more, complete}
-use Rattle.a68_equiv.proofs.Graphing.{one_code, head_below, mode_there, has_code}
+use Rattle.a68_refine.proofs.Numbering.{complete}
+use Rattle.a68_equiv.proofs.Graphing.{one_code}
 use Rattle.a68_equiv.proofs.graph.constructors.Goals as goal
 
 pub returns : goal.returns
-returns c = complete (HasCode c.args.modes.now) c.loop-i.table.entries c.loop-i.heads.items c.loop-i.i (2 * length c.args.modes.now) (one_code c.args.modes.now) (omega arith) c.loop-i.invariant
-
-pub shape-shape-requires : goal.shape-shape-requires
-shape-shape-requires c =
-    let lt : c.loop-i.i < 2 * length c.args.modes.now = omega arith in
-    head_below c.args.modes.now c.args.behind.now c.len-i-end.ensures.nodes c.requires c.mode_at-mode.result.id (mode_there c.args.modes.now c.loop-i.i c.mode_at-mode.result c.mode_at-mode.ensures lt)
-
-pub loop-i-preserved : goal.loop-i-preserved
-loop-i-preserved c =
-    let nodes = c.args.modes.now in
-    let lt : c.loop-i.i < 2 * length nodes = omega arith in
-    let key = c.in_ok-key.key in
-    let has = has_code nodes c.args.behind.now c.requires c.loop-i.i c.mode_at-mode.result c.shape-shape.result.now key.items c.mode_at-mode.ensures (mode_there nodes c.loop-i.i c.mode_at-mode.result c.mode_at-mode.ensures lt) c.shape-shape.ensures.shape c.in_ok-key.ensures in
-    rw c.in_ok-push.ensures.items (more (HasCode nodes) c.loop-i.table.entries c.numbered.new.table.entries c.loop-i.heads.items c.loop-i.i c.in_ok-numbered.field-0 key c.loop-i.invariant has c.in_ok-numbered.ensures.here c.in_ok-numbered.ensures.others (at_key c.loop-i.table.entries key.items) refl c.in_ok-numbered.ensures.number)
+returns c =
+    let n = 2 * length c.args.modes.now in
+    complete (HasCode c.args.modes.now) c.number_constructors.new.table.entries c.number_constructors.new.heads.items n n (one_code c.args.modes.now) refl c.in_ok-number_constructors.ensures

@@ -68,12 +68,12 @@ returns-clause-kept c =
     let t : Classified = record { of = c.classes.inside.items.items; by_key = c.classes.inside.keys.entries; nodes_by_key = c.classes.inside.nodes.entries } in
     let kept : AreKept nodes t = subst (λ (x : Classified). AreKept nodes x) (sym c.classes.view_is) c.requires.kept in
     let key = c.in_ok-key.key in
-    let fixed = c.in_ok-fixed.fixed in
+    let fixed = c.in_ok-again.fixed in
     let again = c.in_ok-again.again in
     let id = c.in-Ok.id in
     let has : IsNewKey nodes t.of s false key.items = subst (λ (xs : List ℕ). IsNewKey nodes xs s false key.items) c.deref.ensures.value c.in_ok-key.ensures.key in
-    let has1 : IsNewKey nodes t.of s true fixed.items = subst (λ (xs : List ℕ). IsNewKey nodes xs s true fixed.items) c.deref-2.ensures.value c.in_ok-fixed.ensures.key in
-    let has2 : IsNewKey nodes t.of s false again.items = subst (λ (xs : List ℕ). IsNewKey nodes t.of s false xs) (sym (c.in_ok-again.ensures ∙ c.deref-3.ensures.value)) has in
+    let has1 : IsNewKey nodes t.of s true fixed.items = subst (λ (xs : List ℕ). IsNewKey nodes xs s true fixed.items) (c.deref-2.ensures.value ∙ c.in_ok-make_room.ensures.items) c.in_ok-again.ensures.fixed in
+    let has2 : IsNewKey nodes t.of s false again.items = subst (λ (xs : List ℕ). IsNewKey nodes t.of s false xs) (sym (c.in_ok-again.ensures.again ∙ c.deref-3.ensures.value)) has in
     let is : id ≡ length nodes = c.in-Ok.ensures.id in
     let num0 = subst (λ (xs : List (Vec ℕ Global × ℕ)). IsNumbered xs c.numbered_in_room-class.new.table.entries key.items (2 * length nodes) c.numbered_in_room-class.result) c.in_ok-make_room.ensures.keys
     (subst (λ (m : ℕ). IsNumbered c.make_room.new.keys.entries c.numbered_in_room-class.new.table.entries key.items (2 * m) c.numbered_in_room-class.result) is c.numbered_in_room-class.ensures.numbered) in

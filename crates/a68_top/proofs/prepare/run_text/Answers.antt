@@ -12,5 +12,6 @@ returns-in-Err-Refused-clause-answer c =
 
 pub returns-in-Ok-clause-answer : goal.returns-in-Ok-clause-answer
 returns-in-Ok-clause-answer c =
-    if_ok c.ran.result (λ due has. ran c.in-Ok.made c.in-Ok.ensures.ok has
-    (c.permitted_law.ensures (program_of c.in-Ok.made.program) c.in-Ok.made.code c.args.fuel has.kept c.in-Ok.ensures.ok.translated has.machine)) c.ran.ensures.answer
+    let made = c.in-Ok.field-0 in
+    if_ok c.ran.result (λ due has. ran made c.in-Ok.ensures.ok has
+    (c.permitted_law.ensures (program_of made.program) made.code c.args.fuel has.kept c.in-Ok.ensures.ok.translated has.machine)) c.ran.ensures.answer

@@ -1,0 +1,12 @@
+use Rattle.std.proofs.Common.{◌≡◌, ◌<◌, ◌∙◌, ◌++◌, ◌∷◌, [], ℕ, List, length, take, get_or, ap, sym, arith}
+use Rattle.std.specs.Prelude.{map}
+use Rattle.std.proofs.lemmas.List.{take_more, map-append}
+use Rattle.a68_equiv.specs.Graph.{number_of}
+use Rattle.a68_equiv.proofs.rows.numbers.Goals as goal
+
+pub loop-id-preserved : goal.loop-id-preserved
+loop-id-preserved c =
+    let xs = c.deref-id-items.result.now in
+    let lt : c.loop-id.id-index < length xs = omega arith in
+    let f = λ (m : ℕ). number_of (record { id = m; fixed = c.args.fixed }) in
+    c.in_ok-push.ensures.items ∙ ap (λ (n : ℕ). c.loop-id.items.items ++ n ∷ []) c.number.ensures ∙ ap (λ (ys : List ℕ). ys ++ f (get_or xs c.loop-id.id-index 0) ∷ []) c.loop-id.invariant ∙ sym (ap (λ (ys : List ℕ). map f ys) (take_more xs c.loop-id.id-index 0 lt) ∙ map-append f (take c.loop-id.id-index xs) _)

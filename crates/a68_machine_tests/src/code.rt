@@ -1,0 +1,90 @@
+//! Which codes the machine runs.
+use crate::codes::code_of;
+use crate::table::{agrees, cut};
+use a68_code::Code;
+use std::alloc::Global;
+use std::test::Fail;
+
+/// Codes: + where the machine runs it, what is to be seen in it, and its instructions. Push pushes an INT. The modes
+/// are the standard ones: 0 VOID, 1 INT, 6 layout, 7 `[] CHAR`, 8 a union, 9 REF INT; there are 13.
+const CASES: &str = "\
++ BEGIN INT x := 5; print(x) END | Enter 1, Make 1 0, Push, Store 1, Bind 0, Tag 0 0, Deref 1, Print 1, Leave 0, End
+- nothing |
++ SKIP | End
+- a landing outside | Jump 2, End
++ a landing inside | Jump 1, End
+- a landing outside, not reached | End, Jump 2
+- a way past the end | Push, Drop
++ no way past the end | End, Push
+- a way past the end behind a condition | Push, Unless 2, Skip 0
+- a jump to itself | Jump 0
+- a jump backwards | Jump 2, End, Jump 1
+- a condition that goes backwards | Jump 2, End, Push, Unless 1, End
++ the same forwards | Jump 2, End, Push, Unless 4, End
+- a value too few | Drop, End
++ a value too few, not reached | End, Drop, End
+- a name and no value | Push, Store 1, Drop, End
+- an item too few | Push, Print 2, End
+- two values for a counter | Push, Push, Counter, Forget, End
++ a condition | Push, Unless 4, Push, Jump 5, Push, Drop, End
+- two heights | Push, Unless 3, Push, End
++ one height | Push, Unless 4, Push, Drop, End
++ a loop | Push, Push, Push, Counter, Step 10, Turn, Push, Drop, Advance 4, Jump 10, Forget, End
++ its end comes first to its Step | Push, Push, Push, Counter, Jump 7, Step 9, Turn, Advance 5, Jump 9, Forget, End
+- the end lands at no Step | Push, Push, Push, Counter, Step 10, Turn, Push, Drop, Advance 5, Jump 10, Forget, End
++ a Turn behind the Step | Push, Push, Push, Counter, Step 9, Turn, Push, Drop, Advance 4, Forget, End
+- no Turn behind the Step | Push, Push, Push, Counter, Step 9, Jump 6, Push, Drop, Advance 4, Forget, End
++ the Step lands behind | Push, Push, Push, Counter, Step 9, Turn, Jump 8, Jump 9, Advance 4, Forget, End
+- the Step lands before | Push, Push, Push, Counter, Step 7, Turn, Jump 8, Jump 9, Advance 4, Forget, End
+- the Step lands at the end itself | Push, Push, Push, Counter, Step 8, Turn, Jump 8, Jump 9, Advance 4, Forget, End
+- the end goes forwards | Push, Push, Push, Counter, Advance 6, Jump 8, Step 8, Turn, Forget, End
++ a Step forwards | Push, Push, Push, Counter, Jump 6, Jump 8, Step 8, Jump 8, Forget, End
+- a Step backwards | Push, Push, Push, Counter, Jump 6, Jump 8, Step 5, Jump 8, Forget, End
+- a turn that leaves a value | Push, Push, Push, Counter, Step 8, Turn, Push, Advance 4, Forget, End
++ SKIP of VOID | Skip 0, End
+- SKIP of VOID leaves nothing | Skip 0, Drop, End
++ SKIP of INT | Skip 1, Drop, End
++ SKIP of REF INT | Skip 9, Drop, End
+- SKIP of layout | Skip 6, Drop, End
+- SKIP of a row | Skip 7, Drop, End
+- SKIP of a union | Skip 8, Drop, End
+- a mode that is not there | Skip 13, Drop, End
++ a cell of INT | Make 1 0, Drop, End
+- a cell of VOID | Make 0 0, Drop, End
+- a cell with a bound | Push, Make 1 1, Drop, End
+- a row is fetched | Push, Deref 7, Drop, End
+- a row is assigned | Push, Push, Store 7, Drop, End
++ a value is kept | Enter 0, Push, Leave 1, Drop, End
++ no value is kept | Enter 0, Push, Drop, Leave 0, End
+- two values are kept | Enter 0, Push, Push, Leave 2, Drop, Drop, End
+- row 8 | Push, Push, Apply 8, Drop, End
++ row 9 | Push, Push, Apply 9, Drop, End
++ row 17 | Push, Push, Apply 17, Drop, End
+- row 18 | Push, Push, Apply 18, Drop, End
+- row 40 | Push, Push, Apply 40, Drop, End
++ nothing is printed | Print 0, End
+";
+
+fn copy_is_valid(alloc: Global, code: &Code) -> Result<bool, Fail> {
+    let copy = code.copy(alloc)?;
+    let valid = copy.valid(alloc);
+    drop(copy);
+    Ok(valid?)
+}
+
+fn is_valid(alloc: Global, ops: &str) -> Result<bool, Fail> {
+    let code = code_of(alloc, ops)?;
+    let valid = copy_is_valid(alloc, &code);
+    drop(code);
+    valid
+}
+
+#[test]
+fn valid_codes_and_others(rt: HostRuntime) -> Result<(), Fail> {
+    for case in CASES.lines() {
+        let (what, ops) = cut(case, "|")?;
+        let valid = if is_valid(rt.alloc(), ops)? { "+" } else { "-" };
+        agrees(&rt, valid, what.get(..1).unwrap_or(""), what);
+    }
+    Ok(())
+}
