@@ -1,4 +1,4 @@
-use Rattle.std.proofs.Common.{◌≡◌, ◌<◌, ◌↔◌, ◌∙◌, ℕ, List, Bool, true, false, length, get_or, sym, subst, arith, below_more}
+use Rattle.std.proofs.Common.{◌≡◌, ◌↔◌, ◌∙◌, ℕ, List, Bool, true, false, get_or, sym, subst, arith, below_more}
 use Rattle.std.specs.Prelude.{map, IsTrue}
 use Rattle.a68_modes.specs.declared.shape.Shape.{Shape}
 use Rattle.a68_equiv.specs.declared.steps.Steps.TheVariants.{BesidesNames, BesidesStructures}

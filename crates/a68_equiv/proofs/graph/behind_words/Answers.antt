@@ -1,4 +1,4 @@
-use Rattle.std.proofs.Common.{◌≡◌, ◌<◌, length, arith}
+use Rattle.std.proofs.Common.{◌≡◌, ◌<◌, length}
 use Rattle.a68_equiv.specs.Unfolding.{behind}
 use Rattle.a68_equiv.proofs.Pushing.{each_more, long_more}
 use Rattle.a68_equiv.proofs.graph.behind_words.Goals as goal
