@@ -31,7 +31,7 @@ pub enum Next {
 }
 
 /// A loop's counter: what it counts now, what each turn adds, and the limit where there is one (Report, 3.5).
-#[derive(Clone, Copy, Debug, PartialEq, Eq)]
+#[derive(Clone, Copy, PartialEq, Eq)]
 pub struct Counter {
     pub at: i64,
     pub by: i64,

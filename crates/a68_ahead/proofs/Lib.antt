@@ -1,2 +1,3 @@
-pub mod Told
 pub mod Firsts
+pub mod Looking
+pub mod Told

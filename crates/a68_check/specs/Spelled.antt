@@ -1,8 +1,8 @@
 -- What a symbol says by its spelling.
-use Rattle.std.specs.Prelude.{ℕ, Bool, List, [], ◌∷◌, codes, None, Some, if◌then◌else◌}
-use Rattle.std.specs.List.{list_any}
+use Rattle.std.specs.Prelude.{ℕ, Bool, List, [], ◌∷◌, codes}
 use Rattle.std.specs.Str.{bytes_eq}
 use Rattle.std.specs.declared.option.Option.{Option}
+use Rattle.a68_base.specs.Tables.{find, is_listed}
 
 -- the tags of the standard environ (Report, 10.2, 10.3; the other ones are own)
 abbrev pub standard_tags : List (List ℕ)
@@ -11,7 +11,7 @@ standard_tags =
     codes "print" ∷ codes "write" ∷ codes "whole" ∷ []
 
 abbrev pub is_standard : List ℕ → Bool
-is_standard tag = list_any (bytes_eq tag) standard_tags
+is_standard tag = is_listed standard_tags tag
 
 abbrev pub is_print : List ℕ → Bool
 is_print tag = bytes_eq tag (codes "print")
@@ -25,11 +25,6 @@ signs =
     (codes "=", 9) ∷ (codes "/=", 10) ∷ (codes "<", 11) ∷ (codes "<=", 12) ∷ (codes ">=", 13) ∷ (codes ">", 14) ∷
     (codes "+", 15) ∷ (codes "-", 16) ∷ (codes "*", 17) ∷ []
 
--- the row that stands beside a sign
-abbrev pub row_in : List (List ℕ × ℕ) → List ℕ → Option ℕ
-row_in [] sign = None
-row_in (row ∷ more) sign = if bytes_eq sign row.0 then Some row.1 else row_in more sign
-
 -- the row of a sign in the table of operators, on two operands of mode INT; the other operators do not run yet
 abbrev pub row_of : List ℕ → Option ℕ
-row_of sign = row_in signs sign
+row_of sign = find signs sign

@@ -1,14 +1,17 @@
 //! Trees that run, with what is known of each node.
 ghost use Rattle.std.specs.Prelude.{◌≡◌, ◌<◌, IfOk, IfErr, length};
 ghost use Rattle.a68_base.specs.declared.refusal.Stop.TheVariants as stop;
-ghost use Rattle.a68_check.specs.Annotates.{IsAnnotated, Breaks, Refuses, StopsBy, place_at};
+ghost use Rattle.a68_check.specs.Annotates.{IsAnnotated, IsNamed, Breaks, Refuses, StopsBy, place_at};
+ghost use Rattle.a68_check.specs.Notes.{notes_of};
+ghost use Rattle.a68_check.specs.Small.{Runs};
+ghost use Rattle.a68_modes.specs.Nodes.{standard_shapes};
 ghost use Rattle.a68_op_ident.specs.Shapes.{Shaped};
 
 use crate::definitions::{definitions, first_undefined, in_text};
 use crate::goals::goals;
 use crate::notes::notes;
 use crate::small::program;
-use a68_annot::Annotated;
+use a68_annot::{Annotated, Notes};
 use a68_base::{Refusal, Rule, Stop};
 use a68_modes::Modes;
 use a68_op_ident::shape;
@@ -26,28 +29,45 @@ fn broken(tree: &Tree, id: NodeId, rule: Rule) -> Stop
     })
 }
 
+// The modes of a tree whose formulas are shaped, and what is known of its nodes.
+fn known(alloc: Global, tree: &Tree) -> Result<(Modes, Notes), Stop>
+    ensures runs { IfOk result (λ known. Runs tree.now) }
+    ensures named { IfOk result (λ known. IsNamed tree.now) }
+    ensures modes { IfOk result (λ known. known.0 ≡ standard_shapes) }
+    ensures notes { IfOk result (λ known. known.1 ≡ notes_of tree.now) }
+    ensures refused { IfErr result (λ why. StopsBy (λ refusal. Breaks tree.now refusal) why) }
+{
+    let asked = goals(alloc, tree)?;
+    match program(tree, &asked) {
+        Ok(()) => {}
+        Err(id) => return Err(broken(tree, id, Rule::X0)),
+    }
+    let table = match definitions(alloc, tree)? {
+        Ok(table) => table,
+        Err(n) => return Err(broken(tree, in_text(tree, n), Rule::N3)),
+    };
+    match first_undefined(tree, &table) {
+        None => {}
+        Some(n) => return Err(broken(tree, in_text(tree, n), Rule::N1)),
+    }
+    let notes = notes(alloc, tree, &asked, &table)?;
+    let modes = Modes::new(alloc)?;
+    Ok((modes, notes))
+}
+
 // Annotates a tree whose formulas are shaped.
 fn annotate_shaped(alloc: Global, tree: Tree) -> Result<Annotated, Stop>
     ensures tree { IfOk result (λ program. program.tree ≡ tree) }
     ensures ok { IfOk result (λ program. IsAnnotated program) }
     ensures refused { IfErr result (λ why. StopsBy (λ refusal. Breaks tree refusal) why) }
 {
-    let asked = goals(alloc, &tree)?;
-    match program(&tree, &asked) {
-        Ok(()) => {}
-        Err(id) => return Err(broken(&tree, id, Rule::X0)),
+    match known(alloc, &tree) {
+        Ok((modes, notes)) => Ok(Annotated { tree, modes, notes }),
+        Err(stop) => {
+            drop(tree);
+            Err(stop)
+        }
     }
-    let table = match definitions(alloc, &tree)? {
-        Ok(table) => table,
-        Err(n) => return Err(broken(&tree, in_text(&tree, n), Rule::N3)),
-    };
-    match first_undefined(&tree, &table) {
-        None => {}
-        Some(n) => return Err(broken(&tree, in_text(&tree, n), Rule::N1)),
-    }
-    let notes = notes(alloc, &tree, &asked, &table)?;
-    let modes = Modes::new(alloc)?;
-    Ok(Annotated { tree, modes, notes })
 }
 
 /// What each node of a tree means, whose formulas are flat. The tree is refused by X0 where it has a form that does not

@@ -2,6 +2,8 @@
 ghost use Rattle.std.specs.Prelude.{◌≡◌, map};
 ghost use Rattle.a68_check.specs.Spelled as spelled;
 
+use a68_base::{find, is_listed};
+
 // The tags of the standard environ.
 fn standard_tags() -> &'static [&'static str]
     ensures { map (λ tag. tag.now) result.now ≡ spelled.standard_tags }
@@ -23,12 +25,7 @@ fn standard_tags() -> &'static [&'static str]
 pub fn is_standard(tag: &[u8]) -> bool
     ensures { result ≡ spelled.is_standard tag.now }
 {
-    for standard in standard_tags() {
-        if tag == standard.as_bytes() {
-            return true;
-        }
-    }
-    false
+    is_listed(standard_tags(), tag)
 }
 
 /// Is this the tag that prints?
@@ -66,10 +63,5 @@ fn signs() -> &'static [(&'static str, u32)]
 pub fn row_of(sign: &[u8]) -> Option<u32>
     ensures { result ≡ spelled.row_of sign.now }
 {
-    for (spelling, row) in signs() {
-        if sign == spelling.as_bytes() {
-            return Some(*row);
-        }
-    }
-    None
+    find(signs(), sign)
 }

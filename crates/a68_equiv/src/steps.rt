@@ -1,5 +1,6 @@
 //! The steps from a mode to the modes within it.
-ghost use Rattle.std.specs.Prelude.{◌≡◌, IfOk, map};
+ghost use Rattle.std.specs.Prelude.{◌≡◌, [], IfOk, MatchBool, map};
+ghost use Rattle.a68_modes.specs.Nodes.{parts_of};
 ghost use Rattle.a68_equiv.specs.Ways.{steps_of, IsClosed};
 
 use a68_base::NoMemory;
@@ -17,11 +18,11 @@ pub enum Steps {
     WithinUnions,
 }
 
-/// The modes to which such a step leads from a shape.
-pub fn row(alloc: Global, steps: Steps, shape: &Shape) -> Result<Members, NoMemory>
-    ensures { IfOk result (λ row. row ≡ steps_of steps shape.now) }
+/// Are such steps taken from this shape?
+fn are_taken(steps: Steps, shape: &Shape) -> bool
+    ensures { MatchBool result (steps_of steps shape.now ≡ parts_of shape.now) (steps_of steps shape.now ≡ []) }
 {
-    let taken = match shape {
+    match shape {
         Shape::Ref(_) => steps == Steps::BesidesStructures,
         Shape::Rows { .. } => steps != Steps::WithinUnions,
         Shape::Struct(_) => steps == Steps::BesidesNames,
@@ -29,8 +30,14 @@ pub fn row(alloc: Global, steps: Steps, shape: &Shape) -> Result<Members, NoMemo
             steps == Steps::BesidesStructures && params.items.is_empty()
         }
         _ => true,
-    };
-    if taken {
+    }
+}
+
+/// The modes to which such a step leads from a shape.
+pub fn row(alloc: Global, steps: Steps, shape: &Shape) -> Result<Members, NoMemory>
+    ensures { IfOk result (λ row. row ≡ steps_of steps shape.now) }
+{
+    if are_taken(steps, shape) {
         shape.parts(alloc)
     } else {
         Members::from_slice(alloc, &[])

@@ -1,4 +1,5 @@
 //! Codes by their instructions in words: a name and at most two numbers each, with commas between.
+use a68_base::find;
 use a68_code::{Code, Does, Instr, Instrs, Routines};
 use a68_modes::Modes;
 use a68_values::{Plain, Value};
@@ -52,12 +53,7 @@ const FORMS: &[(&str, Form)] = &[
 ];
 
 fn form_of(word: &str) -> Result<Form, Fail> {
-    for (name, form) in FORMS {
-        if *name == word {
-            return Ok(*form);
-        }
-    }
-    Err("no instruction".into())
+    Ok(find(FORMS, word.as_bytes()).ok_or("no instruction")?)
 }
 
 fn instruction(form: Form, one: u32, two: u32) -> Does {

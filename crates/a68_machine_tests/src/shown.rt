@@ -1,15 +1,12 @@
 //! Values, acts and operations in words.
 use a68_acts::{Doing, Next, Want};
 use a68_base::NoMemory;
-use a68_values::{Held, Node, Plain, Value};
+use a68_values::{Held, Plain, Value};
 use std::alloc::{AllocError, Global};
 
 /// A value that fits one cell; Unset where it is none.
 pub fn plain(value: &Value) -> Plain {
-    match &value.node {
-        Node::Plain(plain) => *plain,
-        _ => Plain::Unset,
-    }
+    value.plain().unwrap_or(Plain::Unset)
 }
 
 /// What a cell holds, where it is a plain value.

@@ -18,21 +18,21 @@ fn counts(rt: &impl Abort, stack: &mut Stack) -> Result<(), Fail> {
     stack.push_plain(Plain::Int(1))?;
     stack.push(Item::Counter(COUNTER))?;
     let plain = stack.take_plain();
-    assert_eq!(rt; (plain, stack.counter()), (None, Some(COUNTER)));
+    assert!(rt; (plain, stack.counter()) == (None, Some(COUNTER)));
     Ok(())
 }
 
 fn counts_no_more(rt: &impl Abort, stack: &mut Stack) {
     let (first, second) = (stack.take_counter(), stack.take_counter());
     let taken = (first, second, stack.top_scope());
-    assert_eq!(rt; taken, (Some(COUNTER), None, Some(0)));
+    assert!(rt; taken == (Some(COUNTER), None, Some(0)));
 }
 
 fn gives_two(rt: &impl Abort, stack: &mut Stack) -> Result<(), Fail> {
     stack.push_plain(Plain::Int(2))?;
     let (first, second) = (stack.take_two(), stack.take_two());
     let two = (Plain::Int(1), Plain::Int(2));
-    assert_eq!(rt; (first, second), (Some(two), None));
+    assert!(rt; (first, second) == (Some(two), None));
     Ok(())
 }
 
@@ -82,7 +82,7 @@ fn gives_all(rt: &impl Abort, alloc: Global, stack: &mut Stack) -> Result<(), Fa
     let many = many(alloc, stack)?;
     let given = (many, two(stack), stack.pop().is_none());
     let two = (Plain::Int(1), Plain::Int(2));
-    assert_eq!(rt; given, ((2, Some(Plain::Int(4))), Some(two), true));
+    assert!(rt; given == ((2, Some(Plain::Int(4))), Some(two), true));
     Ok(())
 }
 

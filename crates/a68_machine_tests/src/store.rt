@@ -26,7 +26,7 @@ const FRAMES: [Environ; 2] = [
 fn has_one_frame(rt: &impl Abort, store: &Store)
     requires { store.now ≡ opening_store }
 {
-    assert_eq!(rt; (store.frames(), store.slots(0)), (1, 0));
+    assert!(rt; (store.frames(), store.slots(0)) == (1, 0));
 }
 
 // A frame of two slots.
@@ -73,13 +73,13 @@ fn is_bound(rt: &impl Abort, alloc: Global, store: &Store)
     let unset = store.look(alloc, 1, 1).err();
     let found = look(alloc, store).ok();
     assert!(rt; unset == Some(UNSET));
-    assert_eq!(rt; found, Some(Plain::Int(5)));
+    assert!(rt; found == Some(Plain::Int(5)));
 }
 
 fn has_plain_slots(rt: &impl Abort, store: &Store) {
     let first = store.plain_at(1, 0);
     let others = (store.plain_at(1, 1), store.plain_at(2, 0));
-    assert_eq!(rt; (first, others), (Some(Plain::Int(5)), (None, None)));
+    assert!(rt; (first, others) == (Some(Plain::Int(5)), (None, None)));
 }
 
 fn has_slots(rt: &impl Abort, alloc: Global, store: &mut Store) -> Result<(), Fail>
@@ -141,7 +141,7 @@ fn assign(rt: &impl Abort, store: &mut Store)
 
 fn has_plain_cells(rt: &impl Abort, store: &Store) {
     let seven = Some(Plain::Int(7));
-    assert_eq!(rt; (store.plain_in(0), store.plain_in(1)), (seven, None));
+    assert!(rt; (store.plain_in(0), store.plain_in(1)) == (seven, None));
 }
 
 fn is_full(rt: &impl Abort, alloc: Global, store: &mut Store)
@@ -149,18 +149,18 @@ fn is_full(rt: &impl Abort, alloc: Global, store: &mut Store)
 {
     let stop = store.enter(alloc, 0, 1, 4_194_304).err();
     assert!(rt; stop == Some(FULL));
-    assert_eq!(rt; store.cells(), 1);
+    assert!(rt; store.cells() == 1);
 }
 
 fn has_cells(rt: &impl Abort, alloc: Global, store: &mut Store) -> Result<(), Fail>
     requires { store.old ≡ opening_store }
 {
     let made = make(alloc, store)?;
-    assert_eq!(rt; (made, store.cells()), (0, 1));
+    assert!(rt; (made, store.cells()) == (0, 1));
     let unset = fetch(rt, alloc, store)?;
     assign(rt, store);
     let seven = fetch(rt, alloc, store)?;
-    assert_eq!(rt; (unset, seven), (Some(Plain::Unset), Some(Plain::Int(7))));
+    assert!(rt; (unset, seven) == (Some(Plain::Unset), Some(Plain::Int(7))));
     has_plain_cells(rt, store);
     is_full(rt, alloc, store);
     Ok(())
@@ -184,6 +184,6 @@ fn text(rt: HostRuntime) -> Result<(), Fail> {
     let mut store = Store::new(rt.alloc())?;
     let spans = (print(&mut store, b"a"), print(&mut store, b"bc"));
     drop(store);
-    assert_eq!(rt; spans, (Some((0, 1)), Some((1, 3))));
+    assert!(rt; spans == (Some((0, 1)), Some((1, 3))));
     Ok(())
 }

@@ -130,7 +130,7 @@ fn run_of(rt: &impl Abort, alloc: Global, ops: &str, acts: &str) -> Result<Strin
 
 fn is_at_its_end(rt: &impl Abort, strand: &Strand) {
     assert!(rt; !strand.spent());
-    assert_eq!(rt; strand.chain().items.as_slice(), [STANDARD].as_slice());
+    assert!(rt; strand.chain().items.as_slice() == [STANDARD].as_slice());
 }
 
 fn prints_three(
@@ -139,7 +139,7 @@ fn prints_three(
     code: &Code,
     strand: &mut Strand,
 ) -> Result<(), Fail> {
-    assert_eq!(rt; (strand.number(), strand.place()), (0, 1));
+    assert!(rt; (strand.number(), strand.place()) == (0, 1));
     let acts = "Print \"                  +3\" = Go";
     let end = goes_on(rt, alloc, code, strand, acts)?;
     agrees(rt, &end, "End", acts);

@@ -44,7 +44,7 @@ fn copies(rt: HostRuntime) -> Result<(), Fail> {
     let fields = fields(&copy);
     drop(copy);
     let two = (Some(Plain::Int(1)), Some(Plain::Int(2)));
-    assert_eq!(rt; fields, Some((3, two)));
+    assert!(rt; fields == Some((3, two)));
     Ok(())
 }
 
@@ -71,6 +71,6 @@ fn scopes(rt: HostRuntime) -> Result<(), Fail> {
     let nil = scope(Value::of(Plain::Nil));
     let routine = Plain::Routine(ROUTINE).scope();
     let row = scope(row(rt.alloc())?);
-    assert_eq!(rt; (structure, nil, routine, row), (3, 0, 2, 3));
+    assert!(rt; (structure, nil, routine, row) == (3, 0, 2, 3));
     Ok(())
 }

@@ -136,13 +136,13 @@ fn has_five(rt: &impl Abort, kept: &Kept) {
     let cells = kept.cells.items.as_slice();
     let five = cells.first().and_then(plain_in);
     let left = (cells.len(), kept.outer.items.len(), five);
-    assert_eq!(rt; left, (1, 1, Some(Plain::Int(5))));
+    assert!(rt; left == (1, 1, Some(Plain::Int(5))));
 }
 
 // Whether this is what a run of PRINTING keeps.
 fn is_printed(rt: &impl Abort, alloc: Global, kept: &Kept) -> Result<(), Fail> {
     let text = kept.journal.text.items.as_slice();
-    assert_eq!(rt; text, b"                  +5".as_slice());
+    assert!(rt; text == b"                  +5".as_slice());
     has_five(rt, kept);
     is_journal(rt, alloc, &kept.journal.entries.items)
 }
@@ -150,7 +150,7 @@ fn is_printed(rt: &impl Abort, alloc: Global, kept: &Kept) -> Result<(), Fail> {
 // What is kept of a run of PRINTING that is turned by hand.
 fn kept(rt: &impl Abort, alloc: Global) -> Result<Kept, Fail> {
     let mut world = world(rt, alloc, PRINTING, 7)?;
-    assert_eq!(rt; turn_on(alloc, &mut world), Some(End::Done));
+    assert!(rt; turn_on(alloc, &mut world) == Some(End::Done));
     let (code, kept) = world.finish().ok().ok_or("not finished")?;
     drop(code);
     Ok(kept)
@@ -178,7 +178,7 @@ fn runs_in_turn(rt: HostRuntime) -> Result<(), Fail> {
     let end = kept.end;
     let printed = is_printed(&rt, rt.alloc(), &kept);
     drop(kept);
-    assert_eq!(rt; end, End::Done);
+    assert!(rt; end == End::Done);
     printed
 }
 
@@ -193,15 +193,15 @@ fn turns_once(rt: &impl Abort, alloc: Global, world: &mut World) {
     let is_not_ready = matches!(world.turn(alloc, 1), Turned::NotReady);
     let next = world.next(0);
     let acted = matches!(world.turn(alloc, 0), Turned::Acted);
-    assert_eq!(rt; (is_not_ready, next, acted), (true, Some(0), true));
-    assert_eq!(rt; events(world), (1, 0, true));
+    assert!(rt; (is_not_ready, next, acted) == (true, Some(0), true));
+    assert!(rt; events(world) == (1, 0, true));
 }
 
 // Its end.
 fn is_spent(rt: &impl Abort, alloc: Global, world: &mut World) {
     let end = over(world.turn(alloc, 0));
     let length = world.code().list.items.len();
-    assert_eq!(rt; (end, world.next(0), length), (Some(End::Spent), None, 10));
+    assert!(rt; (end, world.next(0), length) == (Some(End::Spent), None, 10));
 }
 
 // A run after one turn, which is not finished.
@@ -229,6 +229,6 @@ fn goes_to_another_thread(rt: HostRuntime) -> Result<(), Fail> {
     let world = sent(world(&rt, rt.alloc(), "End", 1)?);
     let events = world.events();
     drop(world);
-    assert_eq!(rt; events, 0);
+    assert!(rt; events == 0);
     Ok(())
 }

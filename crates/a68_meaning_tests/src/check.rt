@@ -21,6 +21,6 @@ fn a_tag_without_a_definition(rt: HostRuntime) -> Result<(), Fail> {
         place: 12,
     };
     let stop = annotate(rt.alloc(), tree).err();
-    assert_eq!(rt; stop, Some(Stop::Refused(refusal)));
+    assert!(rt; stop == Some(Stop::Refused(refusal)));
     Ok(())
 }

@@ -102,7 +102,7 @@ fn are_same_modes(rt: &impl Abort, modes: &Modes, classes: &Classes)
 {
     let a_and_b = same_modes(rt, modes, classes, 13, 16);
     let a_and_int = same_modes(rt, modes, classes, 13, 1);
-    assert_eq!(rt; (a_and_b, a_and_int), (true, false));
+    assert!(rt; (a_and_b, a_and_int) == (true, false));
 }
 
 fn are_equivalent(rt: &impl Abort, alloc: Global, modes: &Modes) -> Result<(), Fail> {
@@ -164,7 +164,7 @@ fn are_formed(rt: &impl Abort, alloc: Global, modes: &Modes) -> Result<(), Fail>
     for line in FORMED.lines() {
         let (mode, want) = cut(line, " ")?;
         let place = faulty(rt, alloc, modes, mode)?;
-        assert_eq!(rt; place, want.parse().ok(), "{mode}");
+        assert!(rt; place == want.parse().ok(), "{mode}");
     }
     Ok(())
 }
@@ -178,7 +178,7 @@ fn first_fault(rt: &impl Abort, alloc: Global, modes: &Modes) -> Result<Option<u
 fn are_as_formed(rt: &impl Abort, alloc: Global, modes: &Modes) -> Result<(), Fail> {
     let fault = first_fault(rt, alloc, modes)?;
     let all = all_well_formed(alloc, modes)?;
-    assert_eq!(rt; (fault, all), (Some(2), false));
+    assert!(rt; (fault, all) == (Some(2), false));
     are_formed(rt, alloc, modes)
 }
 
@@ -366,7 +366,7 @@ fn intern_twice(
 {
     intern_all(rt, alloc, modes, classes)?;
     intern_all(rt, alloc, modes, classes)?;
-    assert_eq!(rt; modes.len(), 26);
+    assert!(rt; modes.len() == 26);
     are_as_told(rt, modes, classes, THEN_EQUIVALENT)
 }
 

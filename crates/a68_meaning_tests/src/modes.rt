@@ -38,14 +38,14 @@ fn has_parts(
 fn are_plain_and_void(rt: &impl Abort, modes: &Modes) {
     let plain = (modes.is_plain(9), modes.is_plain(12), modes.is_plain(0));
     let void = (modes.is_void(9), modes.is_void(12), modes.is_void(0));
-    assert_eq!(rt; plain, (true, false, false));
-    assert_eq!(rt; void, (false, false, true));
+    assert!(rt; plain == (true, false, false));
+    assert!(rt; void == (false, false, true));
 }
 
 fn are_copied(rt: &impl Abort, alloc: Global, copy: &Modes) -> Result<(), Fail> {
     let has_parts = has_parts(rt, alloc, copy, 8, &[1, 2, 3, 4, 7, 6])?;
     let are = (refers(rt, copy, 10, 12), stands_for(rt, copy, 14, 13));
-    assert_eq!(rt; (copy.len(), are, has_parts), (15, (true, true), true));
+    assert!(rt; (copy.len(), are, has_parts) == (15, (true, true), true));
     are_plain_and_void(rt, copy);
     Ok(())
 }
@@ -54,7 +54,7 @@ fn are_added(rt: &impl Abort, alloc: Global, modes: &mut Modes) -> Result<(), Fa
     let length = modes.len();
     let id = add(rt, alloc, modes, Shape::Ref(12))?;
     let full = modes.add(Shape::Int) == Err(ModeStop::Full);
-    assert_eq!(rt; (length, id, full), (13, 13, false));
+    assert!(rt; (length, id, full) == (13, 13, false));
     Ok(())
 }
 

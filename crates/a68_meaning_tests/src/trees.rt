@@ -3,7 +3,7 @@ ghost use Rattle.std.specs.Prelude.{◌≡◌, ◌<◌, ℕ, IsTrue, Some, lengt
 ghost use Rattle.a68_tree.specs.Trees.{AllBetween, IsSound};
 ghost use Rattle.a68_tree.specs.declared.node.Node.{Node};
 
-use a68_base::{NoMemory, Span, Text};
+use a68_base::{NoMemory, Span, Text, find};
 use a68_tree::{Node, NodeKind, Parts, Tree};
 use std::alloc::Global;
 use std::process::Abort;
@@ -22,12 +22,7 @@ const KINDS: &[(&str, NodeKind)] = &[
 ];
 
 fn kind(word: &str) -> Result<NodeKind, Fail> {
-    for (name, kind) in KINDS {
-        if *name == word {
-            return Ok(*kind);
-        }
-    }
-    Err("no kind".into())
+    Ok(find(KINDS, word.as_bytes()).ok_or("no kind")?)
 }
 
 fn number(words: &mut SplitWhitespace<'_>) -> Result<u32, Fail> {

@@ -13,7 +13,7 @@ pub enum Sort {
 }
 
 /// One change of the mode of a value.
-#[derive(Clone, Copy, Debug, PartialEq, Eq)]
+#[derive(Clone, Copy, PartialEq, Eq)]
 pub enum Coercion {
     /// A procedure without parameters is called (6.3).
     Deproc,
@@ -32,7 +32,7 @@ pub enum Coercion {
 }
 
 /// The coercions of a unit, from the first to the last.
-#[derive(Debug, Drop)]
+#[derive(Drop)]
 pub struct Path {
     pub items: Vec<Coercion>,
 }

@@ -1,33 +1,36 @@
 //! The operands and the signs of a formula.
-ghost use Rattle.std.specs.Prelude.{◌≡◌, ◌+◌, ◌*◌, ◌<◌, ◌^◌, length, IfOk, IfSome, IfNone};
+ghost use Rattle.std.specs.Prelude.{◌≡◌, ◌+◌, ◌*◌, ◌<◌, ◌^◌, length, map, IfOk, IfSome, IfNone};
 ghost use Rattle.a68_op_ident.specs.Formulas as formulas;
 ghost use Rattle.a68_op_ident.specs.Formulas.{AreOperands, AreSigns, LacksOperand, LacksSign};
-ghost use Rattle.a68_op_ident.specs.Priorities.{priority_of};
+ghost use Rattle.a68_op_ident.specs.Priorities as standard;
 
 use crate::{Operand, Operator};
-use a68_base::{NoMemory, Text};
+use a68_base::{NoMemory, Text, find};
 use a68_tree::{Node, NodeId, NodeKind};
 use std::alloc::Global;
 
+// The signs that run, with their priorities between two operands.
+fn priorities() -> &'static [(&'static str, u8)]
+    ensures { map (λ row. (row.0.now, row.1)) result.now ≡ standard.priorities }
+{
+    &[
+        ("=", 4),
+        ("/=", 4),
+        ("<", 5),
+        ("<=", 5),
+        (">", 5),
+        (">=", 5),
+        ("+", 6),
+        ("-", 6),
+        ("*", 7),
+    ]
+}
+
 // The priority of a sign between two operands.
 fn priority(sign: &[u8]) -> Option<u8>
-    ensures { result ≡ priority_of sign.now }
+    ensures { result ≡ standard.priority_of sign.now }
 {
-    if sign == b"=".as_slice() || sign == b"/=".as_slice() {
-        Some(4)
-    } else if sign == b"<".as_slice()
-        || sign == b"<=".as_slice()
-        || sign == b">".as_slice()
-        || sign == b">=".as_slice()
-    {
-        Some(5)
-    } else if sign == b"+".as_slice() || sign == b"-".as_slice() {
-        Some(6)
-    } else if sign == b"*".as_slice() {
-        Some(7)
-    } else {
-        None
-    }
+    find(priorities(), sign)
 }
 
 // An operand, where it stands behind a node.

@@ -14,7 +14,7 @@ pub trait Gate: Sync {
 }
 
 /// A gate that holds nobody up.
-#[derive(Clone, Copy, Debug)]
+#[derive(Clone, Copy)]
 pub struct FreeGate;
 
 impl Gate for FreeGate {

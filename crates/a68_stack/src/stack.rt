@@ -6,7 +6,7 @@ ghost use Rattle.a68_stack.specs.Values.{plain_in, pop_values, top_counter, top_
 
 use a68_acts::Counter;
 use a68_base::NoMemory;
-use a68_values::{Node, Parts, Plain, Value};
+use a68_values::{Parts, Plain, Value};
 use std::alloc::Global;
 use std::marker::Model;
 
@@ -42,10 +42,7 @@ fn plain_in(item: &Item) -> Option<Plain>
     ensures { result ≡ plain_in item.now }
 {
     match item {
-        Item::Value(value) => match &value.node {
-            Node::Plain(held) => Some(*held),
-            _ => None,
-        },
+        Item::Value(value) => value.plain(),
         Item::Counter(_) => None,
     }
 }

@@ -2,7 +2,7 @@
 use Rattle.std.specs.Prelude.{◌≡◌, ◌<◌, ℕ, List, None, Some, map, slice_get, length}
 use Rattle.std.specs.Option.{option_and_then}
 use Rattle.std.specs.declared.option.Option.{Option}
-use Rattle.a68_values.specs.Content.{Content, plain}
+use Rattle.a68_values.specs.Content.{Content, as_plain}
 use Rattle.a68_values.specs.declared.held.Held.{Held}
 use Rattle.a68_values.specs.declared.held.Held.TheVariants as held
 use Rattle.a68_values.specs.declared.plain.Plain.{Plain}
@@ -30,7 +30,7 @@ slot_in in_store f slot = option_and_then (λ (frame : store.Frame). slice_get f
 
 -- the plain value to which a slot is bound
 abbrev pub plain_bound : Option (Option Content) → Option Plain
-plain_bound (Some (Some (plain p))) = Some p
+plain_bound (Some (Some v)) = as_plain v
 plain_bound _ = None
 
 -- the plain value that a cell holds

@@ -13,7 +13,7 @@ use crate::weight::{slot_weight, weight};
 use a68_acts::{Reply, Want};
 use a68_base::{NoMemory, Span, Text};
 use a68_layout::Plan;
-use a68_values::{Act, Cells, Chain, Environ, FaultKind, Held, Node, Plain, Slots, Value};
+use a68_values::{Act, Cells, Chain, Environ, FaultKind, Held, Plain, Slots, Value};
 use std::alloc::Global;
 use std::marker::Model;
 
@@ -64,10 +64,7 @@ fn plain_value(slot: &Option<Value>) -> Option<Plain>
 {
     match slot {
         None => None,
-        Some(value) => match &value.node {
-            Node::Plain(held) => Some(*held),
-            _ => None,
-        },
+        Some(value) => value.plain(),
     }
 }
 

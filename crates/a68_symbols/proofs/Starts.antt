@@ -97,6 +97,9 @@ no_mark a (b ∷ c ∷ []) colon bar sign lone = rw (colon, sign) refl
 no_mark a (b ∷ c ∷ d ∷ []) colon bar sign lone = rw (colon, sign) refl
 no_mark a (b ∷ c ∷ d ∷ e ∷ more) colon bar sign lone = refl
 
+other : (a b : ℕ) → nat_eq a b ≡ false → nat_eq b a ≡ false
+other a b e = grind (arith, nat_tests)
+
 mark_begins : (a : ℕ) (more : List ℕ) → is_mark (a ∷ more) ≡ true → begins_mark a ≡ true
 mark_begins a more e = by (begins_mark a) refl
   where
@@ -104,10 +107,9 @@ mark_begins a more e = by (begins_mark a) refl
     by true v = v
     by false v =
         let split = or_false (is_lone a) (begins_operator a) v in
-        let at = or_false _ (nat_eq a 64) split.0 in
-        let bar = or_false _ (nat_eq a 124) at.0 in
-        let colon = or_false _ (nat_eq a 58) bar.0 in
-        let none = no_mark a more colon.1 bar.1 split.1 split.0 in
+        let colon = or_false (nat_eq 58 a) _ split.0 in
+        let bar = or_false (nat_eq 124 a) _ colon.1 in
+        let none = no_mark a more (other 58 a colon.0) (other 124 a bar.0) split.1 split.0 in
         absurd (true≢false (is_mark (a ∷ more)) e none)
 
 mark_first : (text : List ℕ) (n : ℕ) → is_mark (take n text) ≡ true → begins_mark (slice_index text 0) ≡ true

@@ -1,18 +1,19 @@
 -- Marks: brackets, separators and signs.
-use Rattle.std.specs.Prelude.{ℕ, Bool, false, ◌||◌, ◌&&◌, nat_eq, List, [], ◌∷◌}
+use Rattle.std.specs.Prelude.{ℕ, Bool, false, ◌||◌, ◌&&◌, codes, nat_eq, List, [], ◌∷◌}
+use Rattle.std.specs.List.{list_any}
 
--- ( ) [ ] , ; : | @
+abbrev pub is_one_of : List ℕ → ℕ → Bool
+is_one_of bytes b = list_any (λ byte. nat_eq byte b) bytes
+
+-- brackets and separators
 abbrev pub is_lone : ℕ → Bool
-is_lone b =
-    nat_eq b 40 || nat_eq b 41 || nat_eq b 91 || nat_eq b 93 || nat_eq b 44 || nat_eq b 59 || nat_eq b 58 || nat_eq b 124 || nat_eq b 64
+is_lone b = is_one_of (codes ":|()[],;@") b
 
--- + - & % ^ ! ?
 abbrev pub is_monad : ℕ → Bool
-is_monad b = nat_eq b 43 || nat_eq b 45 || nat_eq b 38 || nat_eq b 37 || nat_eq b 94 || nat_eq b 33 || nat_eq b 63
+is_monad b = is_one_of (codes "+-&%^!?") b
 
--- < > / = *
 abbrev pub is_nomad : ℕ → Bool
-is_nomad b = nat_eq b 60 || nat_eq b 62 || nat_eq b 47 || nat_eq b 61 || nat_eq b 42
+is_nomad b = is_one_of (codes "<>/=*") b
 
 -- an operator begins with a monad mark or a nomad mark
 abbrev pub begins_operator : ℕ → Bool

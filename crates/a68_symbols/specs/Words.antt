@@ -1,14 +1,19 @@
 -- Words that give no symbol.
-use Rattle.std.specs.Prelude.{ℕ, Bool, ◌||◌, List, codes}
-use Rattle.std.specs.Str.{bytes_eq}
+use Rattle.std.specs.Prelude.{ℕ, Bool, List, [], ◌∷◌, codes}
+use Rattle.a68_base.specs.Tables.{is_listed}
 
 -- the words that begin and end comments and pragmats
+abbrev pub openers : List (List ℕ)
+openers = codes "CO" ∷ codes "COMMENT" ∷ codes "PR" ∷ codes "PRAGMAT" ∷ []
+
 abbrev pub is_opener : List ℕ → Bool
-is_opener s = bytes_eq s (codes "CO") || bytes_eq s (codes "COMMENT") || bytes_eq s (codes "PR") || bytes_eq s (codes "PRAGMAT")
+is_opener word = is_listed openers word
 
 -- the words of the parts of the language that are left out
+abbrev pub left_out : List (List ℕ)
+left_out =
+    codes "REAL" ∷ codes "COMPL" ∷ codes "BYTES" ∷ codes "FORMAT" ∷ codes "SHORT" ∷ codes "EMPTY" ∷ codes "LONG" ∷ codes "GO" ∷
+    codes "GOTO" ∷ codes "EXIT" ∷ []
+
 abbrev pub is_left_out : List ℕ → Bool
-is_left_out s =
-    bytes_eq s (codes "REAL") || bytes_eq s (codes "COMPL") || bytes_eq s (codes "BYTES") || bytes_eq s (codes "FORMAT")
-    || bytes_eq s (codes "SHORT") || bytes_eq s (codes "EMPTY") || bytes_eq s (codes "LONG") || bytes_eq s (codes "GO")
-    || bytes_eq s (codes "GOTO") || bytes_eq s (codes "EXIT")
+is_left_out word = is_listed left_out word

@@ -1,10 +1,11 @@
 //! Comments and pragmats, and where they end.
-ghost use Rattle.std.specs.Prelude.{◌≡◌, length, MatchOption};
+ghost use Rattle.std.specs.Prelude.{◌≡◌, length, map, MatchOption};
 ghost use Rattle.a68_symbols.specs.Forms.{IsWholeWord};
 ghost use Rattle.a68_symbols.specs.Runs.{NoSharp, IsNextSharp, IsFirstAgain, NeverAgain};
 ghost use Rattle.a68_symbols.specs.Words as words;
 
 use crate::runs::run_end;
+use a68_base::is_listed;
 
 /// The place of the first `#` behind the first byte.
 pub fn next_sharp(text: &[u8]) -> Option<usize>
@@ -37,12 +38,16 @@ pub fn first_again(text: &[u8], width: usize) -> Option<usize>
     None
 }
 
+// The words that begin and end comments and pragmats.
+fn openers() -> &'static [&'static str]
+    ensures { map (λ word. word.now) result.now ≡ words.openers }
+{
+    &["CO", "COMMENT", "PR", "PRAGMAT"]
+}
+
 /// Does the word begin a comment or a pragmat?
 pub fn is_opener(word: &[u8]) -> bool
     ensures { result ≡ words.is_opener word.now }
 {
-    word == b"CO".as_slice()
-        || word == b"COMMENT".as_slice()
-        || word == b"PR".as_slice()
-        || word == b"PRAGMAT".as_slice()
+    is_listed(openers(), word)
 }

@@ -1,5 +1,5 @@
 //! What a stretch gives.
-ghost use Rattle.std.specs.Prelude.{◌≡◌, IfOk};
+ghost use Rattle.std.specs.Prelude.{◌≡◌, map, IfOk};
 ghost use Rattle.a68_symbols.specs.Gives as specs;
 ghost use Rattle.a68_symbols.specs.Words as words;
 
@@ -7,24 +7,17 @@ use crate::SymbolKind;
 use crate::bytes::without_layout;
 use crate::comments::is_opener;
 use crate::form::{Form, Given};
-use a68_base::{NoMemory, Rule};
+use a68_base::{NoMemory, Rule, is_listed};
 use a68_denote::{bits_of, int_of};
 use std::alloc::Global;
 
-// Is the word one of a part of the language that is left out?
-fn is_left_out(word: &[u8]) -> bool
-    ensures { result ≡ words.is_left_out word.now }
+// The words of the parts of the language that are left out.
+fn left_out() -> &'static [&'static str]
+    ensures { map (λ word. word.now) result.now ≡ words.left_out }
 {
-    word == b"REAL".as_slice()
-        || word == b"COMPL".as_slice()
-        || word == b"BYTES".as_slice()
-        || word == b"FORMAT".as_slice()
-        || word == b"SHORT".as_slice()
-        || word == b"EMPTY".as_slice()
-        || word == b"LONG".as_slice()
-        || word == b"GO".as_slice()
-        || word == b"GOTO".as_slice()
-        || word == b"EXIT".as_slice()
+    &[
+        "REAL", "COMPL", "BYTES", "FORMAT", "SHORT", "EMPTY", "LONG", "GO", "GOTO", "EXIT",
+    ]
 }
 
 // What a word gives. An opener that is a word by itself has no end.
@@ -33,7 +26,7 @@ fn judge_word(word: &[u8]) -> Given
 {
     if is_opener(word) {
         Given::Broken(Rule::S1)
-    } else if is_left_out(word) {
+    } else if is_listed(left_out(), word) {
         Given::Broken(Rule::S3)
     } else {
         Given::Symbol(SymbolKind::Word)

@@ -40,7 +40,7 @@ const BITS: &str = "\
 fn numbers_have_values(rt: HostRuntime) -> Result<(), Fail> {
     for line in INTS.lines() {
         let (text, value) = cut(line, " = ")?;
-        assert_eq!(rt; int_of(text.as_bytes()), value.parse().ok(), "{text}");
+        assert!(rt; int_of(text.as_bytes()) == value.parse().ok(), "{text}");
     }
     Ok(())
 }
@@ -49,7 +49,7 @@ fn numbers_have_values(rt: HostRuntime) -> Result<(), Fail> {
 fn bits_have_values(rt: HostRuntime) -> Result<(), Fail> {
     for line in BITS.lines() {
         let (text, value) = cut(line, " = ")?;
-        assert_eq!(rt; bits_of(text.as_bytes()), value.parse().ok(), "{text}");
+        assert!(rt; bits_of(text.as_bytes()) == value.parse().ok(), "{text}");
     }
     Ok(())
 }
@@ -64,7 +64,7 @@ fn empty(alloc: Global) -> Result<Text, NoMemory> {
 
 #[test]
 fn strings_have_bytes(rt: HostRuntime) -> Result<(), Fail> {
-    assert_eq!(rt; with_a_quote(rt.alloc())?.as_slice(), b"a\"b".as_slice());
-    assert_eq!(rt; empty(rt.alloc())?.as_slice(), b"".as_slice());
+    assert!(rt; with_a_quote(rt.alloc())?.as_slice() == b"a\"b".as_slice());
+    assert!(rt; empty(rt.alloc())?.as_slice() == b"".as_slice());
     Ok(())
 }

@@ -1,6 +1,6 @@
 //! Calls as a parser makes them, and the nodes by hand.
 use crate::table::{agrees, cut};
-use a68_base::NoMemory;
+use a68_base::{NoMemory, find};
 use a68_draft::{Draft, Drafting};
 use a68_tree::{NodeKind, Sym, Token};
 use std::alloc::{AllocError, Global};
@@ -73,15 +73,6 @@ const KINDS: &[(&str, NodeKind)] = &[
     ("Heap", NodeKind::Heap),
 ];
 
-fn kind(word: &str) -> Option<NodeKind> {
-    for (name, kind) in KINDS {
-        if *name == word {
-            return Some(*kind);
-        }
-    }
-    None
-}
-
 /// As many symbols as a text has at most.
 const TEXT: &[Sym] = &[Sym::Is(Token::Tag); 9];
 
@@ -126,10 +117,10 @@ fn call<'a>(
 
 fn node(alloc: Global, drafting: &mut Drafting, word: &str, rest: &[Sym]) -> Result<(), NoMemory> {
     if let Some(name) = word.strip_prefix('@') {
-        if let Some(kind) = kind(name) {
+        if let Some(kind) = find(KINDS, name.as_bytes()) {
             drafting.set_aside(alloc, kind, rest)?;
         }
-    } else if let Some(kind) = kind(word) {
+    } else if let Some(kind) = find(KINDS, word.as_bytes()) {
         drafting.wrap(alloc, kind, rest)?;
     }
     Ok(())
@@ -147,7 +138,7 @@ fn call_all(
     for word in words.split(' ') {
         rest = call(alloc, drafting, word, rest)?;
     }
-    assert_eq!(rt; rest.len(), 0);
+    assert!(rt; rest.len() == 0);
     Ok(())
 }
 

@@ -196,7 +196,7 @@ fn texts_are_refused(rt: HostRuntime) {
             rule: *rule,
             place: *place,
         };
-        assert_eq!(rt; stop(rt.alloc(), text), Some(Stop::Refused(refusal)));
+        assert!(rt; stop(rt.alloc(), text) == Some(Stop::Refused(refusal)));
     }
 }
 
@@ -204,9 +204,9 @@ fn texts_are_refused(rt: HostRuntime) {
 fn is_most(rt: &impl Abort, alloc: Global, byte: u8, most: u32, rule: Rule) -> Result<(), Fail> {
     let refusal = Refusal { rule, place: most };
     let mut text = vec![in alloc; byte; most as usize]?;
-    assert_eq!(rt; stop(alloc, &text), None);
+    assert!(rt; stop(alloc, &text) == None);
     text.push(byte)?;
-    assert_eq!(rt; stop(alloc, &text), Some(Stop::Refused(refusal)));
+    assert!(rt; stop(alloc, &text) == Some(Stop::Refused(refusal)));
     Ok(())
 }
 

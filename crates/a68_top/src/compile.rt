@@ -32,6 +32,25 @@ fn parsed(alloc: Global, text: &[u8], found: &Symbols, classes: &Classed) -> Res
     parse(alloc, found, classes, text.len() as u32)
 }
 
+// The tree of a text that has these symbols.
+fn tree_of_symbols(alloc: Global, text: &[u8], found: &Symbols) -> Result<Tree, Stop>
+    requires length { length text.now < 2 ^ 32 }
+    requires symbols { SymbolsAre text.now (map piece_of found.now.symbols) }
+    ensures ok { IfOk result (λ tree. IsTreeOf text.now tree) }
+    ensures refused { IfErr result (λ why. StopsBy (RefusedAs text.now) why) }
+{
+    if found.len() == 0 {
+        return Err(Stop::Refused(Refusal {
+            rule: Rule::S6,
+            place: text.len() as u32,
+        }));
+    }
+    match words(alloc, found) {
+        Ok(classes) => parsed(alloc, text, found, &classes),
+        Err(stop) => Err(stop),
+    }
+}
+
 // The tree of a text, its formulas flat.
 fn tree_of(alloc: Global, text: &[u8]) -> Result<Tree, Stop>
     requires { length text.now < 2 ^ 32 }
@@ -39,17 +58,9 @@ fn tree_of(alloc: Global, text: &[u8]) -> Result<Tree, Stop>
     ensures refused { IfErr result (λ why. StopsBy (RefusedAs text.now) why) }
 {
     let found = symbols(alloc, text)?;
-    let end = text.len() as u32;
-    if found.len() == 0 {
-        return Err(Stop::Refused(Refusal {
-            rule: Rule::S6,
-            place: end,
-        }));
-    }
-    match words(alloc, &found) {
-        Ok(classes) => parsed(alloc, text, &found, &classes),
-        Err(stop) => Err(stop),
-    }
+    let tree = tree_of_symbols(alloc, text, &found);
+    drop(found);
+    tree
 }
 
 // The program of a text.

@@ -3,6 +3,8 @@ ghost use Rattle.std.specs.Prelude.{◌≡◌, ◌≤◌, ◌<◌, ◌^◌, [], 
 ghost use Rattle.a68_outside.specs.Cause.{Rose};
 ghost use Rattle.a68_top.specs.Words.{MayAskFor, run, task_in, files_of};
 ghost use Rattle.a68_code.specs.Valid.{IsValid};
+ghost use Rattle.a68_strand.specs.Cyclic.{Cyclic};
+ghost use Rattle.a68_strand.specs.RunOf.{RunOf};
 ghost use Rattle.a68_top.specs.Commands.{task_of, HasFuel};
 ghost use Rattle.a68_top.specs.Lines.{end_line};
 ghost use Rattle.a68_top.specs.Answer.{IsRefusal, HasRun, IsRunOf, IsUsage, read_of};
@@ -19,7 +21,7 @@ use a68_base::{NoMemory, Refusal, Status, Stop, Text};
 use a68_code::Code;
 use a68_outside::{ReadStop, Shelf, read_at_most};
 use a68_sim::permitted_law;
-use a68_values::Kept;
+use a68_values::{End, Kept};
 use a68_world::run;
 use std::alloc::Global;
 
@@ -93,14 +95,37 @@ fn refused(alloc: Global, refusal: Refusal) -> Result<Due, NoMemory>
     })
 }
 
-// What a run writes to out, and its line on notes.
-fn told(alloc: Global, kept: &Kept) -> Result<(Text, Text), NoMemory>
-    ensures out { IfOk result (λ texts. texts.0 ≡ kept.now.journal.text) }
-    ensures notes { IfOk result (λ texts. texts.1 ≡ end_line kept.now.end) }
+// What a run that printed this and ended so writes to out, and its line on notes.
+fn told(alloc: Global, printed: &Text, end: End) -> Result<(Text, Text), NoMemory>
+    ensures out { IfOk result (λ texts. texts.0 ≡ printed.now) }
+    ensures notes { IfOk result (λ texts. texts.1 ≡ end_line end) }
 {
-    let out = Text::from_slice(alloc, kept.journal.text.as_slice())?;
-    let notes = end_line_of(alloc, kept.end)?;
+    let out = Text::from_slice(alloc, printed.as_slice())?;
+    let notes = end_line_of(alloc, end)?;
     Ok((out, notes))
+}
+
+// A code that was run, what its run keeps, and what that writes.
+fn finished(alloc: Global, code: Code, fuel: u32) -> Result<(Code, Kept, (Text, Text)), NoMemory>
+    requires valid { IsValid code }
+    requires short { length code.list < 2 ^ 32 }
+    requires some_fuel { 1 ≤ fuel }
+    requires little_fuel { fuel ≤ most_fuel }
+    ensures code { IfOk result (λ done. done.0 ≡ code) }
+    ensures runs { IfOk result (λ done. RunOf code fuel done.1) }
+    ensures cyclic { IfOk result (λ done. Cyclic code done.1) }
+    ensures out { IfOk result (λ done. done.2.0 ≡ done.1.journal.text) }
+    ensures notes { IfOk result (λ done. done.2.1 ≡ end_line done.1.end) }
+{
+    let (code, kept) = run(alloc, code, fuel)?;
+    match told(alloc, &kept.journal.text, kept.end) {
+        Ok(texts) => Ok((code, kept, texts)),
+        Err(error) => {
+            drop(code);
+            drop(kept);
+            Err(error)
+        }
+    }
 }
 
 // What the run of a program owes.
@@ -112,9 +137,8 @@ fn ran(alloc: Global, program: Annotated, code: Code, fuel: u32) -> Result<Due, 
     ensures status { IfOk result (λ due. IsAnswer due.finish.status) }
     ensures answer { IfOk result (λ due. HasRun (record { program = program; code = code }) fuel due.finish due.out due.notes) }
 {
-    let (code, kept) = run(alloc, code, fuel)?;
-    match told(alloc, &kept) {
-        Ok((out, notes)) => Ok(Due {
+    match finished(alloc, code, fuel) {
+        Ok((code, kept, (out, notes))) => Ok(Due {
             finish: Finish {
                 status: status_of(kept.end),
                 refusal: None,
@@ -124,7 +148,10 @@ fn ran(alloc: Global, program: Annotated, code: Code, fuel: u32) -> Result<Due, 
             out,
             notes,
         }),
-        Err(error) => Err(error),
+        Err(error) => {
+            drop(program);
+            Err(error)
+        }
     }
 }
 

@@ -135,12 +135,12 @@ fn call<R: Threads + Wait + Sync>(
 
 // Whether a call ends with this status, and prints this.
 fn prints(rt: &impl Abort, left: &Left, status: u8, out: &[u8]) {
-    assert_eq!(rt; left.status, status);
-    assert_eq!(rt; left.out.taken(), out);
+    assert!(rt; left.status == status);
+    assert!(rt; left.out.taken() == out);
 }
 
 fn notes_down(rt: &impl Abort, left: &Left, notes: &[u8]) {
-    assert_eq!(rt; left.notes.taken(), notes);
+    assert!(rt; left.notes.taken() == notes);
 }
 
 // Whether a call ends with this status, and prints and notes this. How many events there were.
@@ -325,7 +325,7 @@ fn programs_run_within_their_fuel(rt: HostRuntime) -> Result<(), Fail> {
         let words = ["run", "f", "--fuel", fuel];
         let given = of_words(&words, text);
         let found = answers(&rt, rt.alloc(), given, *status, *texts)?;
-        assert_eq!(rt; found, *events);
+        assert!(rt; found == *events);
     }
     Ok(())
 }

@@ -1,7 +1,7 @@
 -- The symbol of the grammar that a symbol of a text is (9.4; what is told apart is own). Until words have classes, each word
 -- that is not reserved is one that no rule takes.
 use Rattle.std.specs.Prelude.{ℕ, Bool, false, List, [], ◌∷◌, Option, Some, None, map, slice_get, codes, nat_le, ◌&&◌, if◌then◌else◌}
-use Rattle.std.specs.Str.{bytes_eq}
+use Rattle.a68_base.specs.Tables.{find}
 use Rattle.a68_symbols.specs.declared.symbol.Symbol.{Symbol}
 use Rattle.a68_symbols.specs.declared.symbol.SymbolKind.{SymbolKind}
 use Rattle.a68_symbols.specs.declared.symbol.SymbolKind.TheVariants.{Word, Tag, Number, BitsNumber, Quoted, Mark}
@@ -89,11 +89,6 @@ marks =
     (codes ">", Is t.Greater) ∷
     (codes ">=", Is t.AtLeast) ∷
     []
-
--- what stands beside a spelling
-abbrev pub find : List (List ℕ × Sym) → List ℕ → Option Sym
-find [] s = None
-find (row ∷ more) s = if bytes_eq s row.0 then Some row.1 else find more s
 
 -- what is there, or else the other
 abbrev pub or_else : Option Sym → Sym → Sym

@@ -4,7 +4,7 @@ ghost use Rattle.a68_symbols.specs.Marks as nomads;
 ghost use Rattle.a68_tree.specs.Spellings as spellings;
 
 use crate::{Bracket, Sym, Token};
-use a68_base::NoMemory;
+use a68_base::{NoMemory, find};
 use a68_symbols::{SymbolKind, Symbols};
 use std::alloc::Global;
 
@@ -91,18 +91,6 @@ fn marks() -> &'static [(&'static str, Sym)]
     ]
 }
 
-// What stands beside this spelling.
-fn find(rows: &[(&str, Sym)], s: &[u8]) -> Option<Sym>
-    ensures { result ≡ spellings.find (map (λ row. (row.0.now, row.1)) rows.now) s.now }
-{
-    for (spelling, sym) in rows {
-        if s == spelling.as_bytes() {
-            return Some(*sym);
-        }
-    }
-    None
-}
-
 fn word_sym(s: &[u8]) -> Sym
     ensures { result ≡ spellings.word_sym s.now }
 {
@@ -115,7 +103,7 @@ fn word_sym(s: &[u8]) -> Sym
 fn is_monad(byte: u8) -> bool
     ensures { result ≡ nomads.is_monad byte }
 {
-    matches!(byte, b'+' | b'-' | b'&' | b'%' | b'^' | b'!' | b'?')
+    b"+-&%^!?".contains(&byte)
 }
 
 fn other_sign(s: &[u8]) -> Sym

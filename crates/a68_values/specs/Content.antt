@@ -1,5 +1,6 @@
 -- Values as contracts see them: trees of contents.
-use Rattle.std.specs.Prelude.{ℕ, ℤ, ◌+◌, ◌≤◌, max, List, [], ◌∷◌}
+use Rattle.std.specs.Prelude.{ℕ, ℤ, ◌+◌, ◌≤◌, max, List, [], ◌∷◌, None, Some}
+use Rattle.std.specs.declared.option.Option.{Option}
 use Rattle.std.proofs.Common.{arith}
 use denote.Param.Weighed.{most}
 use Rattle.a68_values.specs.declared.plain.Plain.{Plain}
@@ -19,6 +20,11 @@ mutual
   pub data Contents : Type 0 where
     no_parts : Contents
     ◌and_part◌ : Content → Contents → Contents
+
+-- the value that is not made of others, where it is one
+abbrev pub as_plain : Content → Option Plain
+as_plain (plain p) = Some p
+as_plain _ = None
 
 infixr 50 ◌and_part◌
 abbrev pub contents_of : List Content → Contents

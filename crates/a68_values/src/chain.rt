@@ -2,7 +2,7 @@
 use std::marker::Model;
 
 /// A frame and its scope. A frame is where a range keeps what it declares; the Report's environ (2.1.1.1).
-#[derive(Clone, Copy, Debug, PartialEq, Eq)]
+#[derive(Clone, Copy, PartialEq, Eq)]
 pub struct Environ {
     pub frame: u32,
     pub scope: u32,

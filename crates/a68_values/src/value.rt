@@ -1,6 +1,6 @@
 //! Values of any mode.
-ghost use Rattle.std.specs.Prelude.{◌≡◌, IfOk};
-ghost use Rattle.a68_values.specs.Content.{plain, scope_of, newest_scope};
+ghost use Rattle.std.specs.Prelude.{◌≡◌, None, IfOk, MatchOption};
+ghost use Rattle.a68_values.specs.Content.{as_plain, plain, scope_of, newest_scope};
 
 use crate::{Layout, Plain};
 use a68_base::NoMemory;
@@ -107,6 +107,17 @@ impl Value {
     {
         Value {
             node: Node::Plain(held),
+        }
+    }
+
+    /// The plain value that it is; none where it is another.
+    #[inline(always)]
+    pub fn plain(&self) -> Option<Plain>
+        ensures { MatchOption result (as_plain self.now ≡ None) (λ held. self.now ≡ plain held) }
+    {
+        match &self.node {
+            Node::Plain(held) => Some(*held),
+            _ => None,
         }
     }
 

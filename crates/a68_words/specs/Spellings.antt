@@ -1,7 +1,7 @@
 -- The reserved words, the standard operator words, and the marks that open, close and separate (9.4; which words there are
 -- is own).
 use Rattle.std.specs.Prelude.{ℕ, List, [], ◌∷◌, codes, map, slice_get, Option, Some, None, if◌then◌else◌}
-use Rattle.std.specs.Str.{bytes_eq}
+use Rattle.a68_base.specs.Tables.{find}
 use Rattle.a68_symbols.specs.declared.symbol.Symbol.{Symbol}
 use Rattle.a68_symbols.specs.declared.symbol.SymbolKind.{SymbolKind}
 use Rattle.a68_symbols.specs.declared.symbol.SymbolKind.TheVariants as kinds
@@ -109,11 +109,6 @@ marks =
     (codes "|:", Separator) ∷
     (codes "=", Equals) ∷
     []
-
--- what stands beside a spelling
-abbrev pub find : List (List ℕ × Role) → List ℕ → Option Role
-find [] s = None
-find (row ∷ more) s = if bytes_eq s row.0 then Some row.1 else find more s
 
 -- what is there, or else the other
 abbrev pub or_else : Option Role → Role → Role

@@ -5,7 +5,7 @@ ghost use Rattle.a68_words.specs.declared.class.Class.{Class};
 use std::marker::Model;
 
 /// What a bold word is (Report, 9.4).
-#[derive(Clone, Copy, Debug, PartialEq, Eq)]
+#[derive(Clone, Copy, PartialEq, Eq)]
 pub enum Class {
     /// A word of the language itself.
     Reserved,

@@ -3,7 +3,7 @@ ghost use Rattle.std.specs.Prelude.{◌≡◌, map, ◌<◌, ◌^◌, length, If
 ghost use Rattle.a68_words.specs.Spellings as spellings;
 
 use crate::role::Role;
-use a68_base::NoMemory;
+use a68_base::{NoMemory, find};
 use a68_symbols::{SymbolKind, Symbols};
 use std::alloc::Global;
 
@@ -113,18 +113,6 @@ fn marks() -> &'static [(&'static str, Role)]
         ("|:", Role::Separator),
         ("=", Role::Equals),
     ]
-}
-
-// What stands beside this spelling.
-fn find(rows: &[(&str, Role)], s: &[u8]) -> Option<Role>
-    ensures { result ≡ spellings.find (map (λ row. (row.0.now, row.1)) rows.now) s.now }
-{
-    for (spelling, role) in rows {
-        if s == spelling.as_bytes() {
-            return Some(*role);
-        }
-    }
-    None
 }
 
 fn word_role(s: &[u8]) -> Role

@@ -68,17 +68,24 @@ impl World {
         requires little_fuel { fuel ≤ most_fuel }
         ensures { IfOk result (Begins code fuel) }
     {
-        let (journal, store, strand) = parts(alloc, &code, fuel)?;
-        let end = end_shown(strand.ask());
-        Ok(World {
-            code,
-            fuel,
-            journal,
-            store,
-            strand,
-            lost: false,
-            end,
-        })
+        match parts(alloc, &code, fuel) {
+            Ok((journal, store, strand)) => {
+                let end = end_shown(strand.ask());
+                Ok(World {
+                    code,
+                    fuel,
+                    journal,
+                    store,
+                    strand,
+                    lost: false,
+                    end,
+                })
+            }
+            Err(error) => {
+                drop(code);
+                Err(error)
+            }
+        }
     }
 
     /// A turn of a strand: its next act, or the end of the run. Where it finds no memory, or none was found before, the
@@ -202,6 +209,7 @@ impl World {
         let done = match act(alloc, &mut self.store, want, &mut reply) {
             Ok(done) => done,
             Err(StoreStop::Fault(kind)) => {
+                drop(reply);
                 let place = self.strand.place();
                 let strand = 0;
                 return self.end_with(End::Fault {
@@ -210,7 +218,10 @@ impl World {
                     strand,
                 });
             }
-            Err(StoreStop::NoMemory) => return self.lose(),
+            Err(StoreStop::NoMemory) => {
+                drop(reply);
+                return self.lose();
+            }
         };
         // The journal has room for the whole fuel.
         let _ = self.journal.push(Entry {

@@ -1,5 +1,5 @@
 //! Runs in which the strands take turns.
-ghost use Rattle.std.specs.Prelude.{◌≡◌, ◌<◌, ◌≤◌, ◌^◌, length, IfOk};
+ghost use Rattle.std.specs.Prelude.{◌≡◌, ◌<◌, ◌≤◌, ◌^◌, length, IfOk, OnOk};
 ghost use Rattle.a68_code.specs.Valid.{IsValid};
 ghost use Rattle.a68_strand.specs.Cyclic.{Cyclic};
 ghost use Rattle.a68_strand.specs.RunOf.{RunOf};
@@ -42,6 +42,22 @@ fn done(world: World) -> (Code, Kept)
     }
 }
 
+// Turns of a run that is yet to begin, up to its end.
+fn turn_all(alloc: Global, world: &mut World) -> Result<(), NoMemory>
+    requires { InTurn world.old 0 }
+    ensures code { world.new.code ≡ world.old.code }
+    ensures fuel { world.new.fuel ≡ world.old.fuel }
+    ensures ended { OnOk result (EndedInTurn world.new) }
+{
+    let mut strand = 0;
+    loop {
+        match step(alloc, world, strand)? {
+            Some(next) => strand = next,
+            None => return Ok(()),
+        }
+    }
+}
+
 /// Runs a code to its end. Each strand that can go on has its turn, in a circle (own).
 pub fn run(alloc: Global, code: Code, fuel: u32) -> Result<(Code, Kept), NoMemory>
     requires valid { IsValid code }
@@ -53,11 +69,11 @@ pub fn run(alloc: Global, code: Code, fuel: u32) -> Result<(Code, Kept), NoMemor
     ensures cyclic { IfOk result (λ done. Cyclic code done.1) }
 {
     let mut world = World::start(alloc, code, fuel)?;
-    let mut strand = 0;
-    loop {
-        match step(alloc, &mut world, strand)? {
-            Some(next) => strand = next,
-            None => return Ok(done(world)),
+    match turn_all(alloc, &mut world) {
+        Ok(()) => Ok(done(world)),
+        Err(error) => {
+            drop(world);
+            Err(error)
         }
     }
 }

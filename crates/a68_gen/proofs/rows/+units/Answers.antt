@@ -1,4 +1,4 @@
-use Rattle.std.proofs.Common.{◌+◌, ◌++◌, [], ◌∷◌, length, refl, ap, drop, get_or, arith}
+use Rattle.std.proofs.Common.{rules, ◌+◌, ◌++◌, [], ◌∷◌, length, refl, ap, drop, get_or, arith}
 use Rattle.std.specs.Option.{option_map_or}
 use Rattle.a68_code.specs.declared.does.Does.TheVariants as does
 use Rattle.a68_elab.proofs.Nodes.{tree_of_nodes}
@@ -138,3 +138,6 @@ repeat-returns t c =
     (tree_at c.args.program.now (get_or c.args.parts.now 0 0)) (tree_at c.args.program.now (get_or c.args.parts.now 1 0))
     (ap (λ n. n + 4) c.len-step.ensures) c.loop_head.ensures c.unit.ensures c.len-unless.ensures c.emit.ensures c.unit-2.ensures (ap (λ n. n + 2) c.len-end.ensures) c.patch.ensures.list c.patch.ensures.stop c.patch-2.ensures.list c.patch-2.ensures.stop c.emit-2.ensures c.emit-3.ensures c.emit-4.ensures in
     rw two all
+
+pub construct-returns-in-Dyadic : goal.construct-returns-in-Dyadic
+construct-returns-in-Dyadic c = search rules

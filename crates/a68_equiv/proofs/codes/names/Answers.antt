@@ -1,0 +1,12 @@
+use Rattle.std.proofs.Common.{◌<◌, ◌++◌, ◌∷◌, [], ℕ, List, length, ap, ◌∙◌, arith, sym, take, get_or}
+use Rattle.std.specs.Prelude.{map}
+use Rattle.std.proofs.lemmas.List.{take_more, map-append}
+use Rattle.a68_equiv.proofs.codes.names.Goals as goal
+
+pub loop-field-preserved : goal.loop-field-preserved
+loop-field-preserved c =
+    let xs = c.deref-field-items.result.now in
+    let i = c.loop-field.field-index in
+    let lt : i < length xs = omega arith in
+    c.in_ok-push.ensures.items ∙ ap (λ (ys : List ℕ). ys ++ (get_or xs i (0, 0)).0 ∷ []) c.loop-field.invariant
+    ∙ sym (ap (λ (ys : List (ℕ × ℕ)). 9 ∷ map (λ field. field.0) ys) (take_more xs i (0, 0) lt) ∙ ap (λ (ys : List ℕ). 9 ∷ ys) (map-append (λ (field : ℕ × ℕ). field.0) (take i xs) _))

@@ -1,8 +1,0 @@
-use Rattle.std.proofs.Common.{◌≡◌, map, drop}
-use Rattle.a68_tree.specs.Spellings as spellings
-use Rattle.a68_tree.proofs.spelling.find.Given as goal
-
-abbrev pub invariant-loop-spelling : goal.invariant-loop-spelling
-invariant-loop-spelling l =
-    spellings.find (map (λ row. (row.0.now, row.1)) (drop l.spelling-index l.rows)) l.s
-    ≡ spellings.find (map (λ row. (row.0.now, row.1)) l.rows) l.s
