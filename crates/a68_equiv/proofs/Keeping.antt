@@ -17,7 +17,9 @@ use Rattle.a68_refine.specs.Rows.{row_at}
 use Rattle.a68_equiv.specs.Graph.{number_of, mode_of, AreBehind, IsShapeRow, IsRowOf, IsGraphOf}
 use Rattle.a68_refine.specs.Rounds.{at_key, Shares, ByFirst, SoFar, IsNumbered}
 use Rattle.a68_equiv.specs.ModeKeys.{IsKeyOf, IsModeKey, HasModeKey, IsNewKey}
-use Rattle.a68_equiv.specs.Classes.{class_of, AreExact, AreKept, IsAlready, IsOldNode}
+use Rattle.a68_equiv.specs.Classes.{class_of, AreExact, AreKept, Classified, IsAlready, IsOldNode}
+use Rattle.a68_equiv.specs.declared.interning.NewKeys.{NewKeys}
+use Rattle.a68_equiv.specs.NewNodes.{AreNewKeys, IsJoined}
 use Rattle.a68_equiv.proofs.Growing.{part_below, longer, old_unfolded, new_unfolded, inside, grows, shrinks, row_in, new_row}
 use Rattle.a68_equiv.proofs.Graphing.{stands_at}
 use Rattle.a68_refine.proofs.Numbering.{more, complete}
@@ -226,6 +228,22 @@ module _ (nodes : List Shape) (s : Shape) (holds : HoldsNodes nodes) (formed : A
           (so_far_on (λ m key. IsModeKey nodes classes (as_it_stands m) key) (λ m key. IsModeKey (nodes ++ s ∷ []) classes (as_it_stands m) key) nodes0 firsts (length nodes) (λ j key h k. old_key (as_it_stands j) key h k) nodes_so)
           (new_key false again.items has_again) num.here num.others (at_key nodes0 again.items) refl num.number));
     }
+
+-- a node that joins keeps the tables, told by lists that are equal to those of before
+pub joined_kept : (nodes : List Shape) (s : Shape) (holds : HoldsNodes nodes) (formed : AreWellFormed nodes) (within : IsWithin (length nodes) s)
+    (t : Classified) → AreKept nodes t → (keys : NewKeys) → AreNewKeys nodes t.of s keys
+    → (id : ℕ) (items after : List ℕ) (keys0 keys1 nodes0 nodes1 : List (Vec ℕ Global × ℕ))
+    → id ≡ length nodes → items ≡ t.of → keys0 ≡ t.by_key → nodes0 ≡ t.nodes_by_key → IsJoined keys id items after keys0 keys1 nodes0 nodes1
+    → AreKept (nodes ++ s ∷ []) (record { of = after; by_key = keys1; nodes_by_key = nodes1 })
+joined_kept nodes s holds formed within t kept keys new id items after keys0 keys1 nodes0 nodes1 e f g h is =
+    let one = subst (λ (n : ℕ). IsJoined keys n items after keys0 keys1 nodes0 nodes1) e is in
+    let two = subst (λ (xs : List ℕ). IsJoined keys (length nodes) xs after keys0 keys1 nodes0 nodes1) f one in
+    let three = subst (λ (xs : List (Vec ℕ Global × ℕ)). IsJoined keys (length nodes) t.of after xs keys1 nodes0 nodes1) g two in
+    let joined : IsJoined keys (length nodes) t.of after t.by_key keys1 t.nodes_by_key nodes1 = subst (λ (xs : List (Vec ℕ Global × ℕ)). IsJoined keys (length nodes) t.of after t.by_key keys1 xs nodes1) h three in
+    let has_again = subst (λ (xs : List ℕ). IsNewKey nodes t.of s false xs) (sym new.again) new.key in
+    let grown = grown_kept nodes s holds formed within t.of kept.exact t.by_key joined.between keys1 t.nodes_by_key nodes1 kept.firsts joined.class joined.without_flex joined.node keys.key keys.fixed keys.again
+    kept.classes_found kept.nodes_found new.key new.fixed has_again joined.one joined.other joined.found in
+    subst (λ (xs : List ℕ). AreKept (nodes ++ s ∷ []) (record { of = xs; by_key = keys1; nodes_by_key = nodes1 })) (sym joined.added) grown
 
 -- classes that are exact, each the number of its first mode, are found at the keys of their modes
 module _ (nodes : List Shape) (holds : HoldsNodes nodes) (classes : List ℕ) (is : AreExact nodes classes)

@@ -1,6 +1,7 @@
 pub mod Classes
 pub mod Graph
 pub mod ModeKeys
+pub mod NewNodes
 pub mod Reached
 pub mod Related
 pub mod Spread

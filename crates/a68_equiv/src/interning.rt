@@ -2,11 +2,11 @@
 ghost use Rattle.std.specs.Prelude.{◌≡◌, ◌≢◌, ◌<◌, ◌≤◌, ◌+◌, ◌*◌, ◌↔◌, ◌++◌, ◌∷◌, [], ℕ, List, Vec, true, IfOk, OnOk, OnErr, Err, length, vec_len, vec_capacity};
 ghost use Rattle.std.specs.Global.{Global};
 ghost use Rattle.indexmap.specs.IndexMap.{spare};
-ghost use Rattle.a68_modes.specs.Nodes.{IsWithin};
+ghost use Rattle.a68_modes.specs.Nodes.{IsWithin, HoldsNodes};
 ghost use Rattle.a68_modes.specs.declared.modes.ModeStop.TheVariants.{Full, NoMemory as no_memory};
-ghost use Rattle.a68_equiv.specs.Classes.{AreKept, IsAlready, IsNodeOf};
+ghost use Rattle.a68_equiv.specs.Classes.{AreKept, IsAlready, IsNodeOf, IsNewNode};
+ghost use Rattle.a68_equiv.specs.NewNodes.{AreNewKeys, IsFound, IsJoined};
 ghost use Rattle.a68_refine.specs.Rounds.{IsNumbered};
-ghost use Rattle.a68_equiv.specs.ModeKeys.{IsNewKey};
 ghost use Rattle.a68_equiv.specs.Ways.{AreWellFormed};
 
 use crate::classes::Classes;
@@ -35,39 +35,103 @@ pub fn intern(
     ensures modes_stay { OnErr result (modes.new ≡ modes.old) }
     ensures classes_stay { OnErr result (classes.new ≡ classes.old) }
 {
-    let key = shape_key(alloc, modes, &classes.items, &shape, false)?;
-    if let Some(old) = classes.nodes.get(&key) {
-        return Ok(*old);
+    match looked_up(alloc, modes, classes, &shape) {
+        Ok(Found::Old(id)) => {
+            drop(shape);
+            Ok(id)
+        }
+        Ok(Found::New(keys)) => add(modes, classes, shape, keys),
+        Err(NoMemory) => {
+            drop(shape);
+            Err(ModeStop::NoMemory)
+        }
     }
-    make_room(&mut classes.items, &mut classes.keys, &mut classes.nodes)?;
-    let (again, fixed) = more_keys(alloc, modes, &classes.items, &shape, &key)?;
-    let id = match modes.add(shape) {
-        Ok(id) => id,
-        Err(stop) => return Err(stop),
-    };
-    numbered_in_room(&mut classes.nodes, again, id);
-    let class = numbered_in_room(&mut classes.keys, key, 2 * id);
-    let without_flex = numbered_in_room(&mut classes.keys, fixed, 2 * id + 1);
-    push_two(&mut classes.items, class, without_flex);
+}
+
+/// The keys of a new node: as it stands, once more for the table of nodes, and without its FLEX.
+#[derive(Drop)]
+pub struct NewKeys {
+    key: Vec<u32>,
+    again: Vec<u32>,
+    fixed: Vec<u32>,
+}
+
+/// The node of a shape that is there, or the keys of a new one.
+#[derive(Drop)]
+pub enum Found {
+    Old(ModeId),
+    New(NewKeys),
+}
+
+/// What is found of a shape.
+fn looked_up(
+    alloc: Global,
+    modes: &Modes,
+    classes: &Classes,
+    shape: &Shape,
+) -> Result<Found, NoMemory>
+    requires within { IsWithin (length modes.now) shape.now }
+    requires formed { AreWellFormed modes.now }
+    requires kept { AreKept modes.now classes.now }
+    ensures nodes { OnOk result (HoldsNodes modes.now) }
+    ensures found { IfOk result (λ found. IsFound modes.now classes.now.of shape.now found) }
+{
+    let key = shape_key(alloc, modes, &classes.items, shape, false)?;
+    if let Some(old) = classes.nodes.get(&key) {
+        return Ok(Found::Old(*old));
+    }
+    let again = Vec::from_slice(alloc, &key)?;
+    let fixed = shape_key(alloc, modes, &classes.items, shape, true)?;
+    Ok(Found::New(NewKeys { key, again, fixed }))
+}
+
+/// Adds a node of this shape and of these keys.
+fn add(
+    modes: &mut Modes,
+    classes: &mut Classes,
+    shape: Shape,
+    keys: NewKeys,
+) -> Result<ModeId, ModeStop>
+    requires within { IsWithin (length modes.old) shape }
+    requires formed { AreWellFormed modes.old }
+    requires kept { AreKept modes.old classes.old }
+    requires nodes { HoldsNodes modes.old }
+    requires keys { AreNewKeys modes.old classes.old.of shape keys }
+    ensures node { IfOk result (λ id. IsNewNode modes.old modes.new shape id) }
+    ensures formed { AreWellFormed modes.new }
+    ensures kept { AreKept modes.new classes.new }
+    ensures full { result ≢ Err no_memory → (result ≡ Err Full) ↔ (length modes.old ≡ 16777216) }
+    ensures modes_stay { OnErr result (modes.new ≡ modes.old) }
+    ensures classes_stay { OnErr result (classes.new ≡ classes.old) }
+{
+    if make_room(&mut classes.items, &mut classes.keys, &mut classes.nodes).is_err() {
+        drop(shape);
+        return Err(ModeStop::NoMemory);
+    }
+    let id = modes.add(shape)?;
+    join(
+        &mut classes.items,
+        &mut classes.keys,
+        &mut classes.nodes,
+        keys,
+        id,
+    );
     Ok(id)
 }
 
-/// The key of a new node once more, and its key without its FLEX.
-fn more_keys(
-    alloc: Global,
-    modes: &Modes,
-    classes: &[u32],
-    shape: &Shape,
-    key: &[u32],
-) -> Result<(Vec<u32>, Vec<u32>), NoMemory>
-    requires within { IsWithin (length modes.now) shape.now }
-    requires long { length classes.now ≡ 2 * length modes.now }
-    ensures again { IfOk result (λ two. two.0.items ≡ key.now) }
-    ensures fixed { IfOk result (λ two. IsNewKey modes.now classes.now shape.now true two.1.items) }
+/// A node of these keys joins the classes and the tables.
+fn join(classes: &mut Vec<u32>, by_key: &mut Table, nodes: &mut Table, keys: NewKeys, id: ModeId)
+    requires few { id < 16777216 }
+    requires room { vec_len classes.old + 2 ≤ vec_capacity classes.old }
+    requires keys_room { 2 ≤ spare by_key.old }
+    requires nodes_room { 1 ≤ spare nodes.old }
+    ensures { IsJoined keys id classes.old.items classes.new.items by_key.old.entries by_key.new.entries nodes.old.entries nodes.new.entries }
 {
-    let again = Vec::from_slice(alloc, key)?;
-    let fixed = shape_key(alloc, modes, classes, shape, true)?;
-    Ok((again, fixed))
+    let NewKeys { key, again, fixed } = keys;
+    numbered_in_room(nodes, again, id);
+    let class = numbered_in_room(by_key, key, 2 * id);
+    let without_flex = numbered_in_room(by_key, fixed, 2 * id + 1);
+    push_two(classes, class, without_flex);
 }
 
 /// Makes room for one node more.

@@ -11,6 +11,7 @@ use a68_base::{Refusal, Rule, Stop};
 use a68_code::{Does, Instr};
 use a68_values::{Plain, Value};
 use std::alloc::Global;
+use std::mem;
 
 /// The most instructions that a program may have.
 const MOST: usize = 1_048_576;
@@ -39,16 +40,14 @@ impl Writer {
         ensures { Wrote self.old self.new (instr place does ∷ []) }
     {
         if self.stop.is_some() {
-            return;
-        }
-        if self.list.len() == MOST {
+            drop(does);
+        } else if self.list.len() == MOST {
+            drop(does);
             self.stop = Some(Stop::Refused(Refusal {
                 rule: Rule::L7,
                 place,
             }));
-            return;
-        }
-        if self.list.push(Instr { place, does }).is_err() {
+        } else if self.list.push(Instr { place, does }).is_err() {
             self.stop = Some(Stop::NoMemory);
         }
     }
@@ -59,7 +58,10 @@ impl Writer {
         ensures stop { self.new.stop ≡ self.old.stop }
     {
         if (at as usize) < self.list.len() {
-            self.list[at as usize] = Instr { place, does };
+            let old = mem::replace(&mut self.list[at as usize], Instr { place, does });
+            drop(old);
+        } else {
+            drop(does);
         }
     }
 }

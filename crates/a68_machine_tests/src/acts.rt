@@ -2,8 +2,9 @@
 use crate::table::{agrees, cut};
 use a68_acts::printed_int;
 use std::alloc::Global;
+use std::panic::Expect;
+use std::process::Abort;
 use std::string::String;
-use std::test::Fail;
 
 const INTS: &str = "\
 0:                  +0
@@ -13,18 +14,21 @@ const INTS: &str = "\
 -9223372036854775808:-9223372036854775808
 ";
 
-fn shown(alloc: Global, value: &str) -> Result<String, Fail> {
-    let text = printed_int(alloc, value.parse()?)?;
-    let shown = String::from_utf8_lossy(alloc, &text.items)?;
-    Ok(shown)
+fn shown(rt: &impl Abort, alloc: Global, value: &str) -> String {
+    let number = value.parse().expect(rt, "a number");
+    let text = printed_int(alloc, number).expect(rt, "memory");
+    let shown = String::from_utf8_lossy(alloc, &text.items).expect(rt, "memory");
+    drop(text);
+    shown
 }
 
 #[test]
-fn ints(rt: HostRuntime) -> Result<(), Fail> {
+fn ints(rt: HostRuntime) {
+    let alloc = rt.alloc();
     for line in INTS.lines() {
-        let (value, printed) = cut(line, ":")?;
-        let text = shown(rt.alloc(), value)?;
+        let (value, printed) = cut(&rt, line, ":");
+        let text = shown(&rt, alloc, value);
         agrees(&rt, &text, printed, value);
+        drop(text);
     }
-    Ok(())
 }

@@ -1,9 +1,9 @@
 //! Which codes the machine runs.
 use crate::codes::code_of;
 use crate::table::{agrees, cut};
-use a68_code::Code;
 use std::alloc::Global;
-use std::test::Fail;
+use std::panic::Expect;
+use std::process::Abort;
 
 /// Codes: + where the machine runs it, what is to be seen in it, and its instructions. Push pushes an INT. The modes
 /// are the standard ones: 0 VOID, 1 INT, 6 layout, 7 `[] CHAR`, 8 a union, 9 REF INT; there are 13.
@@ -65,26 +65,22 @@ const CASES: &str = "\
 + nothing is printed | Print 0, End
 ";
 
-fn copy_is_valid(alloc: Global, code: &Code) -> Result<bool, Fail> {
-    let copy = code.copy(alloc)?;
-    let valid = copy.valid(alloc);
+// The sign of the code of these instructions: + where a copy of it is valid.
+fn sign_of(rt: &impl Abort, alloc: Global, ops: &str) -> &'static str {
+    let code = code_of(rt, alloc, ops);
+    let copy = code.copy(alloc).expect(rt, "memory");
+    let valid = copy.valid(alloc).expect(rt, "memory");
     drop(copy);
-    Ok(valid?)
-}
-
-fn is_valid(alloc: Global, ops: &str) -> Result<bool, Fail> {
-    let code = code_of(alloc, ops)?;
-    let valid = copy_is_valid(alloc, &code);
     drop(code);
-    valid
+    if valid { "+" } else { "-" }
 }
 
 #[test]
-fn valid_codes_and_others(rt: HostRuntime) -> Result<(), Fail> {
-    for case in CASES.lines() {
-        let (what, ops) = cut(case, "|")?;
-        let valid = if is_valid(rt.alloc(), ops)? { "+" } else { "-" };
-        agrees(&rt, valid, what.get(..1).unwrap_or(""), what);
+fn valid_codes_and_others(rt: HostRuntime) {
+    let alloc = rt.alloc();
+    for line in CASES.lines() {
+        let (sign, case) = cut(&rt, line, " ");
+        let (what, ops) = cut(&rt, case, "|");
+        agrees(&rt, sign_of(&rt, alloc, ops), sign, what);
     }
-    Ok(())
 }

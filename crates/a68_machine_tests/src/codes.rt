@@ -4,11 +4,13 @@ use a68_code::{Code, Does, Instr, Instrs, Routines};
 use a68_modes::Modes;
 use a68_values::{Plain, Value};
 use std::alloc::Global;
-use std::test::Fail;
+use std::panic::Expect;
+use std::process::Abort;
 
-// The instructions that take one number, or none, and those that take two.
+// The names of instructions.
 #[derive(Clone, Copy)]
 enum Form {
+    Push,
     Skip,
     Tag,
     Enter,
@@ -31,6 +33,7 @@ enum Form {
 }
 
 const FORMS: &[(&str, Form)] = &[
+    ("Push", Form::Push),
     ("Skip", Form::Skip),
     ("Tag", Form::Tag),
     ("Enter", Form::Enter),
@@ -52,12 +55,9 @@ const FORMS: &[(&str, Form)] = &[
     ("End", Form::End),
 ];
 
-fn form_of(word: &str) -> Result<Form, Fail> {
-    Ok(find(FORMS, word.as_bytes()).ok_or("no instruction")?)
-}
-
 fn instruction(form: Form, one: u32, two: u32) -> Does {
     match form {
+        Form::Push => Does::Push(Value::of(Plain::Int(one as i64))),
         Form::Skip => Does::Skip(one),
         Form::Tag => Does::Tag {
             hops: one,
@@ -86,45 +86,46 @@ fn instruction(form: Form, one: u32, two: u32) -> Does {
     }
 }
 
-fn push(number: &str) -> Result<Does, Fail> {
-    let pushed = number.parse()?;
-    Ok(Does::Push(Value::of(Plain::Int(pushed))))
+// A word and what stands behind it; the default where nothing does.
+fn apart<'a>(text: &'a str, default: &'a str) -> (&'a str, &'a str) {
+    text.split_once(' ').unwrap_or((text, default))
+}
+
+fn number(rt: &impl Abort, word: &str) -> u32 {
+    word.parse().expect(rt, "a number")
 }
 
 // Push alone pushes 5, and a number that is left out is 0.
-fn does(op: &str) -> Result<Does, Fail> {
-    let mut words = op.split_whitespace();
-    let name = words.next().ok_or("no name")?;
-    if name == "Push" {
-        return push(words.next().unwrap_or("5"));
-    }
-    let form = form_of(name)?;
-    let one = words.next().unwrap_or("0").parse()?;
-    let two = words.next().unwrap_or("0").parse()?;
-    Ok(instruction(form, one, two))
+fn does(rt: &impl Abort, op: &str) -> Does {
+    let default = if op == "Push" { "5" } else { "0" };
+    let (name, numbers) = apart(op, default);
+    let (one, two) = apart(numbers, "0");
+    let form = find(FORMS, name.as_bytes()).expect(rt, "an instruction");
+    instruction(form, number(rt, one), number(rt, two))
 }
 
-fn instructions(alloc: Global, ops: &str) -> Result<Instrs, Fail> {
+fn instructions(rt: &impl Abort, alloc: Global, ops: &str) -> Instrs {
     let mut items = Vec::new(alloc);
     let mut place = 0u32;
     for op in ops.split(',') {
-        if !op.trim().is_empty() {
-            let does = does(op)?;
-            items.push(Instr { place, does })?;
+        let op = op.trim();
+        if !op.is_empty() {
+            let does = does(rt, op);
+            items.push(Instr { place, does }).ok().expect(rt, "memory");
             place = place.saturating_add(1);
         }
     }
-    Ok(Instrs { items })
+    Instrs { items }
 }
 
 /// The code of these instructions over the standard modes. The number of an instruction is its place.
-pub fn code_of(alloc: Global, ops: &str) -> Result<Code, Fail> {
-    let modes = Modes::new(alloc)?;
-    let list = instructions(alloc, ops)?;
+pub fn code_of(rt: &impl Abort, alloc: Global, ops: &str) -> Code {
+    let modes = Modes::new(alloc).expect(rt, "memory");
+    let list = instructions(rt, alloc, ops);
     let texts = Vec::new(alloc);
-    Ok(Code {
+    Code {
         list,
         texts: Routines { items: texts },
         modes,
-    })
+    }
 }

@@ -1,12 +1,10 @@
 //! Widths and plans of modes that run.
-ghost use Rattle.std.specs.Prelude.{◌<◌, length};
-
 use crate::shown::plain_in;
+use crate::table::holds;
 use a68_layout::{LayoutStop, cells_of, plan};
 use a68_modes::Modes;
 use a68_values::{FaultKind, Plain};
-use std::alloc::Global;
-use std::test::Fail;
+use std::panic::Expect;
 
 // Standard modes by their numbers.
 const VOID: u32 = 0;
@@ -16,40 +14,34 @@ const INT: u32 = 1;
 const REF_INT: u32 = 9;
 
 #[test]
-fn widths(rt: HostRuntime) -> Result<(), Fail> {
-    let modes = Modes::new(rt.alloc())?;
+fn widths(rt: HostRuntime) {
+    let modes = Modes::new(rt.alloc()).expect(&rt, "memory");
     let (int, name) = (cells_of(&modes, INT), cells_of(&modes, REF_INT));
     drop(modes);
-    assert!(rt; (int?, name?) == (1, 1));
-    Ok(())
+    holds(&rt, (int, name) == (Ok(1), Ok(1)), "widths");
 }
 
-// How many cells a mode gets, what is in the first of them, and whether they are shifted.
-fn planned(
-    alloc: Global,
-    modes: &Modes,
-    mode: u32,
-    bounds: &[i64],
-) -> Result<(usize, Option<Plain>, bool), LayoutStop>
-    requires { mode < length modes.now }
-{
-    let plan = plan(alloc, modes, mode, bounds)?;
-    let (length, shifted) = (plan.cells.items.len(), plan.shifted);
-    let first = plan.cells.items.first().and_then(plain_in);
-    drop(plan);
-    Ok((length, first, shifted))
-}
+const KIND: Option<LayoutStop> = Some(LayoutStop::Fault(FaultKind::Kind));
 
 #[test]
-fn plans(rt: HostRuntime) -> Result<(), Fail> {
+fn plans(rt: HostRuntime) {
     let alloc = rt.alloc();
-    let modes = Modes::new(alloc)?;
-    let kind = LayoutStop::Fault(FaultKind::Kind);
-    let one = (1, Some(Plain::Unset), false);
-    let int = planned(alloc, &modes, INT, &[]);
-    let void = planned(alloc, &modes, VOID, &[]);
-    let bounded = planned(alloc, &modes, INT, &[1, 3]);
+    let modes = Modes::new(alloc).expect(&rt, "memory");
+    let int = plan(alloc, &modes, INT, &[]).expect(&rt, "a plan");
+    let first = int.cells.items.first().and_then(plain_in);
+    let planned = (int.cells.items.len(), first, int.shifted);
+    drop(int);
+    let void = plan(alloc, &modes, VOID, &[]).err();
+    let bounded = plan(alloc, &modes, INT, &[1, 3]).err();
     drop(modes);
-    assert!(rt; (int, void, bounded) == (Ok(one), Err(kind), Err(kind)));
-    Ok(())
+    holds(
+        &rt,
+        planned == (1, Some(Plain::Unset), false),
+        "the plan of INT",
+    );
+    holds(
+        &rt,
+        (void, bounded) == (KIND, KIND),
+        "no plan of VOID or with bounds",
+    );
 }

@@ -1,14 +1,14 @@
 //! Operations on the values of their parts, by hand.
 use crate::shown;
-use crate::table::{agrees, cut};
+use crate::table::{agrees, cut, holds};
 use a68_acts::{Doing, Next, Reply};
-use a68_base::NoMemory;
 use a68_modes::Modes;
 use a68_operations::*;
 use a68_values::{Chain, Environ, Node, Parts, Plain, Value};
-use std::alloc::{AllocError, Global};
+use std::alloc::Global;
+use std::panic::Expect;
+use std::process::Abort;
 use std::string::String;
-use std::test::Fail;
 
 /// Rows of the table of operators on two INT, with the left and the right operand, and what comes of it.
 const OPERATORS: &str = "\
@@ -38,88 +38,72 @@ const OPERATORS: &str = "\
 17 9223372036854775807 -1 = Int(-9223372036854775807)
 ";
 
-fn int(value: i64) -> Value {
-    Value::of(Plain::Int(value))
+fn int(rt: &impl Abort, value: &str) -> Value {
+    Value::of(Plain::Int(value.parse().expect(rt, "a number")))
 }
 
 // What comes of an operator and its operands.
-fn operated(alloc: Global, row: u32, left: i64, right: i64) -> Result<String, AllocError> {
-    let (left, right) = (int(left), int(right));
+fn outcome(rt: &impl Abort, alloc: Global, operation: &str) -> String {
+    let (row, operands) = cut(rt, operation, " ");
+    let (left, right) = cut(rt, operands, " ");
+    let row = row.parse().expect(rt, "a row");
+    let (left, right) = (int(rt, left), int(rt, right));
     let doing = applied(row, &left, &right);
     drop(left);
     drop(right);
-    shown::doing(alloc, doing)
-}
-
-fn outcome(alloc: Global, operation: &str) -> Result<String, Fail> {
-    let (row, operands) = cut(operation, " ")?;
-    let (left, right) = cut(operands, " ")?;
-    let outcome = operated(alloc, row.parse()?, left.parse()?, right.parse()?)?;
-    Ok(outcome)
+    shown::doing(rt, alloc, doing)
 }
 
 #[test]
-fn operators(rt: HostRuntime) -> Result<(), Fail> {
+fn operators(rt: HostRuntime) {
+    let alloc = rt.alloc();
     for line in OPERATORS.lines() {
-        let (operation, expected) = cut(line, " = ")?;
-        let outcome = outcome(rt.alloc(), operation)?;
+        let (operation, expected) = cut(&rt, line, " = ");
+        let outcome = outcome(&rt, alloc, operation);
         agrees(&rt, &outcome, expected, operation);
+        drop(outcome);
     }
-    Ok(())
 }
 
-// What is asked for a new INT, where the newest frame is of scope 3.
-fn asked(alloc: Global, modes: &Modes) -> Result<String, Fail> {
-    let items = vec![in alloc; Environ { frame: 0, scope: 3 }]?;
-    let chain = Chain { items };
-    let asked = made(alloc, modes, 1, &chain);
-    drop(chain);
-    Ok(shown::done(alloc, asked)?)
-}
-
-// What comes of it where the first cell is 7.
-fn named(alloc: Global) -> Result<String, AllocError> {
-    let named = resumed(alloc, Next::Made { scope: 3 }, Reply::Base(7));
-    shown::done(alloc, named)
-}
-
+// A new INT is asked for where the newest frame is of scope 3, and then the first cell is 7.
 #[test]
-fn a_name_is_made(rt: HostRuntime) -> Result<(), Fail> {
-    let modes = Modes::new(rt.alloc())?;
-    let asked = asked(rt.alloc(), &modes);
+fn a_name_is_made(rt: HostRuntime) {
+    let alloc = rt.alloc();
+    let modes = Modes::new(alloc).expect(&rt, "memory");
+    let items = vec![in alloc; Environ { frame: 0, scope: 3 }].expect(&rt, "memory");
+    let chain = Chain { items };
+    let asked = made(alloc, &modes, 1, &chain).expect(&rt, "memory");
+    drop(chain);
     drop(modes);
-    agrees(&rt, &asked?, "Make 1 of scope 3", "asked");
-    let named = named(rt.alloc())?;
-    agrees(&rt, &named, "Name(Name { cell: 7, scope: 3 })", "named");
-    Ok(())
+    is_shown(&rt, alloc, asked, "Make 1 of scope 3");
+    let named = resumed(alloc, Next::Made { scope: 3 }, Reply::Base(7)).expect(&rt, "memory");
+    is_shown(&rt, alloc, named, "Name(Name { cell: 7, scope: 3 })");
 }
 
-// What comes of printing these values.
-fn printed(alloc: Global, items: Vec<Value>) -> Result<String, AllocError> {
-    shown::done(alloc, print_next(alloc, Parts { items }))
+// Whether what comes of an operation is told so.
+fn is_shown(rt: &impl Abort, alloc: Global, doing: Doing, told: &str) {
+    let shown = shown::doing(rt, alloc, doing);
+    agrees(rt, &shown, told, told);
+    drop(shown);
 }
 
-fn is_void(doing: &Result<Doing, NoMemory>) -> bool {
+fn is_void(doing: &Doing) -> bool {
     match doing {
-        Ok(Doing::Yields(value)) => matches!(value.node, Node::Void),
+        Doing::Yields(value) => matches!(value.node, Node::Void),
         _ => false,
     }
 }
 
-// Whether nothing comes of printing where nothing is left.
-fn all_is_printed(alloc: Global) -> bool {
-    let items = Vec::new(alloc);
-    let doing = resumed(alloc, Next::Printing(Parts { items }), Reply::Go);
-    let is_void = is_void(&doing);
-    drop(doing);
-    is_void
-}
-
+// 3 is printed, and where nothing is left nothing comes of it.
 #[test]
-fn values_are_printed(rt: HostRuntime) -> Result<(), Fail> {
+fn values_are_printed(rt: HostRuntime) {
     let alloc = rt.alloc();
-    let printed = printed(alloc, vec![in alloc; int(3)]?)?;
-    agrees(&rt, &printed, "Print \"                  +3\"", "printed");
-    assert!(rt; all_is_printed(alloc));
-    Ok(())
+    let items = vec![in alloc; int(&rt, "3")].expect(&rt, "memory");
+    let printed = print_next(alloc, Parts { items }).expect(&rt, "memory");
+    is_shown(&rt, alloc, printed, "Print \"                  +3\"");
+    let items = Vec::new(alloc);
+    let next = Next::Printing(Parts { items });
+    let doing = resumed(alloc, next, Reply::Go).expect(&rt, "memory");
+    holds(&rt, is_void(&doing), "all is printed");
+    drop(doing);
 }

@@ -1,11 +1,12 @@
 //! What is put on a stack and taken off it.
 use crate::shown::plain;
+use crate::table::holds;
 use a68_acts::Counter;
 use a68_stack::{Item, Stack};
-use a68_values::{Parts, Plain, Value};
+use a68_values::{Plain, Value};
 use std::alloc::Global;
+use std::panic::Expect;
 use std::process::Abort;
-use std::test::Fail;
 
 const COUNTER: Counter = Counter {
     at: 1,
@@ -14,82 +15,75 @@ const COUNTER: Counter = Counter {
 };
 
 // A counter above a value.
-fn counts(rt: &impl Abort, stack: &mut Stack) -> Result<(), Fail> {
-    stack.push_plain(Plain::Int(1))?;
-    stack.push(Item::Counter(COUNTER))?;
-    let plain = stack.take_plain();
-    assert!(rt; (plain, stack.counter()) == (None, Some(COUNTER)));
-    Ok(())
-}
-
-fn counts_no_more(rt: &impl Abort, stack: &mut Stack) {
+fn counts(rt: &impl Abort, stack: &mut Stack) {
+    stack.push_plain(Plain::Int(1)).expect(rt, "memory");
+    stack.push(Item::Counter(COUNTER)).expect(rt, "memory");
+    let (plain, counter) = (stack.take_plain(), stack.counter());
     let (first, second) = (stack.take_counter(), stack.take_counter());
-    let taken = (first, second, stack.top_scope());
-    assert!(rt; taken == (Some(COUNTER), None, Some(0)));
+    let counters = (counter, first, second);
+    holds(
+        rt,
+        (plain, counters) == (None, (Some(COUNTER), Some(COUNTER), None)),
+        "a counter is no value",
+    );
 }
 
-fn gives_two(rt: &impl Abort, stack: &mut Stack) -> Result<(), Fail> {
-    stack.push_plain(Plain::Int(2))?;
+#[test]
+fn values_and_counters(rt: HostRuntime) {
+    let mut stack = Stack::new(rt.alloc());
+    counts(&rt, &mut stack);
+    let scope = stack.top_scope();
+    stack.push_plain(Plain::Int(2)).expect(&rt, "memory");
     let (first, second) = (stack.take_two(), stack.take_two());
     let two = (Plain::Int(1), Plain::Int(2));
-    assert!(rt; (first, second) == (Some(two), None));
-    Ok(())
-}
-
-fn counts_and_gives(rt: &impl Abort, stack: &mut Stack) -> Result<(), Fail> {
-    counts(rt, stack)?;
-    counts_no_more(rt, stack);
-    gives_two(rt, stack)
-}
-
-#[test]
-fn values_and_counters(rt: HostRuntime) -> Result<(), Fail> {
-    let mut stack = Stack::new(rt.alloc());
-    let done = counts_and_gives(&rt, &mut stack);
+    holds(
+        &rt,
+        (scope, first, second) == (Some(0), Some(two), None),
+        "two values",
+    );
     drop(stack);
-    done
 }
 
-fn push_all(stack: &mut Stack) -> Result<(), Fail> {
+fn push_all(rt: &impl Abort, stack: &mut Stack) {
     for value in 1..5 {
-        stack.push(Item::Value(Value::of(Plain::Int(value))))?;
+        stack
+            .push(Item::Value(Value::of(Plain::Int(value))))
+            .expect(rt, "memory");
     }
-    Ok(())
 }
 
-fn two_of_many(alloc: Global, stack: &mut Stack) -> Result<Parts, Fail> {
-    let many = stack.pop_many(alloc, 2)?;
-    Ok(many.ok_or("two values")?)
-}
-
-// How many values are taken off, and the first of them.
-fn many(alloc: Global, stack: &mut Stack) -> Result<(usize, Option<Plain>), Fail> {
-    let many = two_of_many(alloc, stack)?;
-    let (count, first) = (many.items.len(), many.items.first().map(plain));
+// The topmost two, of which 4 is the first.
+fn gives_many(rt: &impl Abort, alloc: Global, stack: &mut Stack) {
+    let many = stack
+        .pop_many(alloc, 2)
+        .expect(rt, "memory")
+        .expect(rt, "two values");
+    let given = (many.items.len(), many.items.first().map(plain));
     drop(many);
-    Ok((count, first))
+    holds(rt, given == (2, Some(Plain::Int(4))), "the topmost two");
 }
 
-fn two(stack: &mut Stack) -> Option<(Plain, Plain)> {
-    let two = stack.pop_two()?;
-    let plain = (plain(&two.0), plain(&two.1));
+// The other two, and no more.
+fn gives_two(rt: &impl Abort, stack: &mut Stack) {
+    let two = stack.pop_two().expect(rt, "two values");
+    let given = (plain(&two.0), plain(&two.1));
     drop(two);
-    Some(plain)
-}
-
-fn gives_all(rt: &impl Abort, alloc: Global, stack: &mut Stack) -> Result<(), Fail> {
-    push_all(stack)?;
-    let many = many(alloc, stack)?;
-    let given = (many, two(stack), stack.pop().is_none());
-    let two = (Plain::Int(1), Plain::Int(2));
-    assert!(rt; given == ((2, Some(Plain::Int(4))), Some(two), true));
-    Ok(())
+    let more = stack.pop();
+    let no_more = more.is_none();
+    drop(more);
+    holds(
+        rt,
+        (given, no_more) == ((Plain::Int(1), Plain::Int(2)), true),
+        "the other two",
+    );
 }
 
 #[test]
-fn values_together(rt: HostRuntime) -> Result<(), Fail> {
-    let mut stack = Stack::new(rt.alloc());
-    let done = gives_all(&rt, rt.alloc(), &mut stack);
+fn values_together(rt: HostRuntime) {
+    let alloc = rt.alloc();
+    let mut stack = Stack::new(alloc);
+    push_all(&rt, &mut stack);
+    gives_many(&rt, alloc, &mut stack);
+    gives_two(&rt, &mut stack);
     drop(stack);
-    done
 }

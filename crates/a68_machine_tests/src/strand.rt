@@ -1,46 +1,40 @@
 //! Strands of small codes, told their replies by hand.
-ghost use Rattle.std.specs.Prelude.{◌≡◌, IsTrue, IfOk};
+ghost use Rattle.std.specs.Prelude.{◌≡◌, IsTrue};
 ghost use Rattle.a68_strand.specs.Room.{has_room, brings_room};
 ghost use Rattle.a68_strand.specs.Strands.{wants};
 
 use crate::codes::code_of;
 use crate::shown;
-use crate::table::{agrees, cut};
+use crate::table::{agrees, cut, holds};
 use a68_acts::Reply;
 use a68_code::Code;
 use a68_strand::{Ask, PlainReply, Strand};
 use a68_values::{Chain, Environ, Held, Name, Plain};
 use std::alloc::Global;
+use std::panic::Expect;
 use std::process::Abort;
 use std::string::String;
-use std::test::Fail;
 
 // The outermost frame.
 const STANDARD: Environ = Environ { frame: 0, scope: 0 };
 
-fn chain(alloc: Global) -> Result<Chain, Fail>
-    ensures { IfOk result (λ chain. IsTrue (has_room chain)) }
-{
-    let items = vec![in alloc; STANDARD]?;
-    Ok(Chain { items })
-}
-
 // A strand at the beginning of a code.
-fn begun(rt: &impl Abort, alloc: Global, code: &Code) -> Result<Strand, Fail> {
-    assert!(rt; code.list.items.len() < 100);
-    let strand = Strand::begin(alloc, code, 0, 0, chain(alloc)?)?;
-    Ok(strand)
+fn begun(rt: &impl Abort, alloc: Global, code: &Code) -> Strand {
+    holds(rt, code.list.items.len() < 100, "a short code");
+    let items = vec![in alloc; STANDARD].expect(rt, "memory");
+    Strand::begin(alloc, code, 0, 0, Chain { items }).expect(rt, "memory")
 }
 
 // What a strand asks.
-fn asked(alloc: Global, strand: &Strand) -> Result<String, Fail> {
-    let asked = match strand.ask() {
-        Ask::Want(want) => shown::act(alloc, want),
-        Ask::Fault { kind, place } => format!(in alloc; "{kind:?} at {place}"),
-        Ask::Ended => format!(in alloc; "End"),
-        _ => format!(in alloc; "another"),
-    };
-    Ok(asked?)
+fn asked(rt: &impl Abort, alloc: Global, strand: &Strand) -> String {
+    match strand.ask() {
+        Ask::Want(want) => shown::act(rt, alloc, want),
+        Ask::Fault { kind, place } => {
+            format!(in alloc; "{kind:?} at {place}").expect(rt, "memory")
+        }
+        Ask::Ended => String::from_str(alloc, "End").expect(rt, "memory"),
+        _ => String::from_str(alloc, "another").expect(rt, "memory"),
+    }
 }
 
 fn wants_a_reply(strand: &Strand) -> bool
@@ -52,114 +46,77 @@ fn wants_a_reply(strand: &Strand) -> bool
 const NAME: Name = Name { cell: 7, scope: 1 };
 
 // The frames behind a new one.
-fn frames(alloc: Global) -> Result<Chain, Fail>
-    ensures { IfOk result (λ chain. IsTrue (has_room chain)) }
+fn frames(rt: &impl Abort, alloc: Global) -> Chain
+    ensures { IsTrue (has_room result) }
 {
-    let items = vec![in alloc; Environ { frame: 1, scope: 1 }, STANDARD]?;
-    Ok(Chain { items })
+    let items = vec![in alloc; Environ { frame: 1, scope: 1 }, STANDARD].expect(rt, "memory");
+    Chain { items }
 }
 
-fn reply(alloc: Global, told: &str) -> Result<Reply, Fail>
-    ensures { IfOk result (λ reply. IsTrue (brings_room reply)) }
+fn reply(rt: &impl Abort, alloc: Global, told: &str) -> Reply
+    ensures { IsTrue (brings_room result) }
 {
-    if told == "Frame" {
-        return Ok(Reply::Frame(frames(alloc)?));
-    }
     match told {
-        "Base" => Ok(Reply::Base(7)),
-        "Held" => Ok(Reply::Held(Held::Plain(Plain::Int(5)))),
-        _ => Ok(Reply::Go),
+        "Frame" => Reply::Frame(frames(rt, alloc)),
+        "Base" => Reply::Base(7),
+        "Held" => Reply::Held(Held::Plain(Plain::Int(5))),
+        _ => Reply::Go,
     }
 }
 
-// The reply, where it is told as a plain one.
-fn plain_reply(told: &str) -> Option<PlainReply> {
-    match told {
-        "Name" => Some(PlainReply::Value(Plain::Name(NAME))),
-        "Done" => Some(PlainReply::Go),
-        _ => None,
-    }
-}
-
-fn tell(
-    rt: &impl Abort,
-    alloc: Global,
-    code: &Code,
-    strand: &mut Strand,
-    told: &str,
-) -> Result<(), Fail> {
-    assert!(rt; code.list.items.len() < 100);
-    assert!(rt; wants_a_reply(strand));
-    let done = match plain_reply(told) {
-        Some(short) => strand.told_plain(alloc, code, short),
-        None => strand.told(alloc, code, reply(alloc, told)?),
+// Tells a strand a reply, some as plain ones.
+fn tell(rt: &impl Abort, alloc: Global, code: &Code, strand: &mut Strand, told: &str) {
+    holds(rt, code.list.items.len() < 100, "a short code");
+    holds(rt, wants_a_reply(strand), "a strand that wants a reply");
+    let done = match told {
+        "Name" => strand.told_plain(alloc, code, PlainReply::Value(Plain::Name(NAME))),
+        "Done" => strand.told_plain(alloc, code, PlainReply::Go),
+        _ => strand.told(alloc, code, reply(rt, alloc, told)),
     };
-    Ok(done?)
+    done.expect(rt, "memory");
 }
 
 // Whether a strand asks for each act, and what it asks when it was told the reply to each.
-fn goes_on(
-    rt: &impl Abort,
-    alloc: Global,
-    code: &Code,
-    strand: &mut Strand,
-    acts: &str,
-) -> Result<String, Fail> {
+fn goes_on(rt: &impl Abort, alloc: Global, code: &Code, strand: &mut Strand, acts: &str) -> String {
     for line in acts.lines() {
-        let (act, told) = cut(line, " = ")?;
-        agrees(rt, &asked(alloc, strand)?, act, act);
-        tell(rt, alloc, code, strand, told)?;
+        let (act, told) = cut(rt, line, " = ");
+        let asked = asked(rt, alloc, strand);
+        agrees(rt, &asked, act, act);
+        drop(asked);
+        tell(rt, alloc, code, strand, told);
     }
-    asked(alloc, strand)
+    asked(rt, alloc, strand)
 }
 
 // The same for a strand at the beginning of a code.
-fn run(rt: &impl Abort, alloc: Global, code: &Code, acts: &str) -> Result<String, Fail> {
-    let mut strand = begun(rt, alloc, code)?;
-    let end = goes_on(rt, alloc, code, &mut strand, acts);
+fn run(rt: &impl Abort, alloc: Global, ops: &str, acts: &str) -> String {
+    let code = code_of(rt, alloc, ops);
+    let mut strand = begun(rt, alloc, &code);
+    let end = goes_on(rt, alloc, &code, &mut strand, acts);
     drop(strand);
-    end
-}
-
-fn run_of(rt: &impl Abort, alloc: Global, ops: &str, acts: &str) -> Result<String, Fail> {
-    let code = code_of(alloc, ops)?;
-    let end = run(rt, alloc, &code, acts);
     drop(code);
     end
-}
-
-fn is_at_its_end(rt: &impl Abort, strand: &Strand) {
-    assert!(rt; !strand.spent());
-    assert!(rt; strand.chain().items.as_slice() == [STANDARD].as_slice());
-}
-
-fn prints_three(
-    rt: &impl Abort,
-    alloc: Global,
-    code: &Code,
-    strand: &mut Strand,
-) -> Result<(), Fail> {
-    assert!(rt; (strand.number(), strand.place()) == (0, 1));
-    let acts = "Print \"                  +3\" = Go";
-    let end = goes_on(rt, alloc, code, strand, acts)?;
-    agrees(rt, &end, "End", acts);
-    is_at_its_end(rt, strand);
-    Ok(())
-}
-
-fn all_prints(rt: &impl Abort, alloc: Global, code: &Code) -> Result<(), Fail> {
-    let mut strand = begun(rt, alloc, code)?;
-    let done = prints_three(rt, alloc, code, &mut strand);
-    drop(strand);
-    done
 }
 
 #[test]
-fn prints(rt: HostRuntime) -> Result<(), Fail> {
-    let code = code_of(rt.alloc(), "Push 3, Print 1, End")?;
-    let done = all_prints(&rt, rt.alloc(), &code);
+fn prints(rt: HostRuntime) {
+    let alloc = rt.alloc();
+    let code = code_of(&rt, alloc, "Push 3, Print 1, End");
+    let mut strand = begun(&rt, alloc, &code);
+    let begun = (strand.number(), strand.place());
+    let acts = "Print \"                  +3\" = Go";
+    let end = goes_on(&rt, alloc, &code, &mut strand, acts);
+    agrees(&rt, &end, "End", acts);
+    drop(end);
+    let has_one = strand.chain().items.as_slice() == [STANDARD].as_slice();
+    let ended = (strand.spent(), has_one);
+    drop(strand);
     drop(code);
-    done
+    holds(
+        &rt,
+        (begun, ended) == ((0, 1), (false, true)),
+        "where it begins and ends",
+    );
 }
 
 /// BEGIN INT x := 5; print(x) END
@@ -178,16 +135,14 @@ Print \"                  +5\" = Done
 ";
 
 #[test]
-fn goes_on_with_replies(rt: HostRuntime) -> Result<(), Fail> {
-    let end = run_of(&rt, rt.alloc(), PRINTING, ACTS)?;
+fn goes_on_with_replies(rt: HostRuntime) {
+    let end = run(&rt, rt.alloc(), PRINTING, ACTS);
     agrees(&rt, &end, "End", PRINTING);
-    Ok(())
 }
 
 // A reply of another kind than the one that is waited for.
 #[test]
-fn meets_kind(rt: HostRuntime) -> Result<(), Fail> {
-    let end = run_of(&rt, rt.alloc(), "Skip 0, Tag 0 0, End", "Look 0 0 = Go")?;
+fn meets_kind(rt: HostRuntime) {
+    let end = run(&rt, rt.alloc(), "Skip 0, Tag 0 0, End", "Look 0 0 = Go");
     agrees(&rt, &end, "Kind at 1", "a reply of another kind");
-    Ok(())
 }

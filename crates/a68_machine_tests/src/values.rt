@@ -1,8 +1,10 @@
 //! Copies and scopes.
 use crate::shown::plain;
+use crate::table::holds;
 use a68_values::{Bounds, Name, Node, Parts, Plain, Routine, Value};
 use std::alloc::Global;
-use std::test::Fail;
+use std::panic::Expect;
+use std::process::Abort;
 
 const NAME: Name = Name { cell: 7, scope: 3 };
 
@@ -13,50 +15,50 @@ const ROUTINE: Routine = Routine {
 };
 
 // The structure (1, 2, a name of scope 3).
-fn structure(alloc: Global) -> Result<Value, Fail> {
-    let mut items = Vec::new(alloc);
-    for plain in [Plain::Int(1), Plain::Int(2), Plain::Name(NAME)] {
-        items.push(Value::of(plain))?;
-    }
-    Ok(Value {
+fn structure(rt: &impl Abort, alloc: Global) -> Value {
+    let name = Value::of(Plain::Name(NAME));
+    let items = vec![in alloc; Value::of(Plain::Int(1)), Value::of(Plain::Int(2)), name];
+    let items = items.expect(rt, "memory");
+    Value {
         node: Node::Structure(Parts { items }),
-    })
-}
-
-// How many fields a structure has, and the first two of them.
-fn fields(structure: &Value) -> Option<(usize, (Option<Plain>, Option<Plain>))> {
-    match &structure.node {
-        Node::Structure(parts) => Some((parts.items.len(), first_two(&parts.items))),
-        _ => None,
     }
 }
 
-fn first_two(values: &[Value]) -> (Option<Plain>, Option<Plain>) {
-    (values.get(0).map(plain), values.get(1).map(plain))
+// The fields of a structure.
+fn fields(structure: &Value) -> &[Value] {
+    match &structure.node {
+        Node::Structure(parts) => &parts.items,
+        _ => &[],
+    }
 }
 
 #[test]
-fn copies(rt: HostRuntime) -> Result<(), Fail> {
-    let value = structure(rt.alloc())?;
-    let copy = value.copy(rt.alloc());
+fn copies(rt: HostRuntime) {
+    let alloc = rt.alloc();
+    let value = structure(&rt, alloc);
+    let copy = value.copy(alloc).expect(&rt, "memory");
     drop(value);
-    let copy = copy?;
     let fields = fields(&copy);
+    let two = (fields.get(0).map(plain), fields.get(1).map(plain));
+    let found = (fields.len(), two);
     drop(copy);
-    let two = (Some(Plain::Int(1)), Some(Plain::Int(2)));
-    assert!(rt; fields == Some((3, two)));
-    Ok(())
+    holds(
+        &rt,
+        found == (3, (Some(Plain::Int(1)), Some(Plain::Int(2)))),
+        "the fields of a copy",
+    );
 }
 
-fn row(alloc: Global) -> Result<Value, Fail> {
-    let items = vec![in alloc; structure(alloc)?]?;
+// A row of one such structure.
+fn row(rt: &impl Abort, alloc: Global) -> Value {
+    let items = vec![in alloc; structure(rt, alloc)].expect(rt, "memory");
     let bounds = Vec::new(alloc);
-    Ok(Value {
+    Value {
         node: Node::Row {
             bounds: Bounds { items: bounds },
             parts: Parts { items },
         },
-    })
+    }
 }
 
 fn scope(value: Value) -> u32 {
@@ -66,11 +68,15 @@ fn scope(value: Value) -> u32 {
 }
 
 #[test]
-fn scopes(rt: HostRuntime) -> Result<(), Fail> {
-    let structure = scope(structure(rt.alloc())?);
+fn scopes(rt: HostRuntime) {
+    let alloc = rt.alloc();
+    let structure = scope(structure(&rt, alloc));
     let nil = scope(Value::of(Plain::Nil));
     let routine = Plain::Routine(ROUTINE).scope();
-    let row = scope(row(rt.alloc())?);
-    assert!(rt; (structure, nil, routine, row) == (3, 0, 2, 3));
-    Ok(())
+    let row = scope(row(&rt, alloc));
+    holds(
+        &rt,
+        (structure, nil, routine, row) == (3, 0, 2, 3),
+        "scopes",
+    );
 }

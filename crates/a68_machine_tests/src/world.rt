@@ -1,17 +1,17 @@
 //! Runs of small codes, with journals and ends found by hand.
-ghost use Rattle.std.specs.Prelude.{◌<◌, ◌^◌, length, IfOk, OnOk};
+ghost use Rattle.std.specs.Prelude.{◌<◌, ◌^◌, length};
 ghost use Rattle.a68_code.specs.Valid.{IsValid};
 
 use crate::codes::code_of;
 use crate::shown::plain_in;
-use crate::table::{agrees, cut};
-use a68_base::NoMemory;
+use crate::table::{agrees, cut, holds};
 use a68_code::Code;
 use a68_values::{End, Entry, Kept, Plain};
 use a68_world::{Turned, World, run};
 use std::alloc::Global;
+use std::panic::Expect;
 use std::process::Abort;
-use std::test::Fail;
+use std::string::String;
 
 /// Runs: the instructions, the fuel, how many events there are, and the end. The number of an instruction is its place.
 const RUNS: &str = "\
@@ -44,31 +44,23 @@ Print { from: 0, to: 20 }
 /// ( DO SKIP OD )
 const ENDLESS: &str = "Push, Push, Skip 1, Counter, Step 8, Turn, Skip 0, Advance 4, Forget, End";
 
-fn check(rt: &impl Abort, alloc: Global, code: &Code) -> Result<(), NoMemory>
-    ensures valid { OnOk result (IsValid code.now) }
-    ensures short { OnOk result (length code.now.list < 2 ^ 32) }
+// The code of these instructions, which is valid.
+fn valid_code(rt: &impl Abort, alloc: Global, ops: &str) -> Code
+    ensures valid { IsValid result }
+    ensures short { length result.list < 2 ^ 32 }
 {
-    let valid = code.valid(alloc)?;
-    assert!(rt; valid);
-    assert!(rt; code.list.items.len() < 100);
-    Ok(())
+    let code = code_of(rt, alloc, ops);
+    let valid = code.valid(alloc).expect(rt, "memory");
+    holds(rt, valid, "a valid code");
+    holds(rt, code.list.items.len() < 100, "a short code");
+    code
 }
 
-fn valid_code(rt: &impl Abort, alloc: Global, ops: &str) -> Result<Code, Fail>
-    ensures valid { IfOk result (λ code. IsValid code) }
-    ensures short { IfOk result (λ code. length code.list < 2 ^ 32) }
-{
-    let code = code_of(alloc, ops)?;
-    check(rt, alloc, &code)?;
-    Ok(code)
-}
-
-fn world(rt: &impl Abort, alloc: Global, ops: &str, fuel: u32) -> Result<World, Fail> {
-    assert!(rt; 1 <= fuel);
-    assert!(rt; fuel <= 100);
-    let code = valid_code(rt, alloc, ops)?;
-    let world = World::start(alloc, code, fuel)?;
-    Ok(world)
+fn world(rt: &impl Abort, alloc: Global, ops: &str, fuel: u32) -> World {
+    holds(rt, 1 <= fuel, "some fuel");
+    holds(rt, fuel <= 100, "little fuel");
+    let code = valid_code(rt, alloc, ops);
+    World::start(alloc, code, fuel).expect(rt, "memory")
 }
 
 // The end to which a turn comes.
@@ -91,132 +83,108 @@ fn turn_on(alloc: Global, world: &mut World) -> Option<End> {
 }
 
 // How many events such a run has, and its end.
-fn outcome(
-    rt: &impl Abort,
-    alloc: Global,
-    ops: &str,
-    fuel: u32,
-) -> Result<(u64, Option<End>), Fail> {
-    let mut world = world(rt, alloc, ops, fuel)?;
-    let end = turn_on(alloc, &mut world);
+fn outcome(rt: &impl Abort, alloc: Global, ops: &str, fuel: &str) -> String {
+    let fuel = fuel.parse().expect(rt, "a number");
+    let mut world = world(rt, alloc, ops, fuel);
+    let end = turn_on(alloc, &mut world).expect(rt, "an end");
     let events = world.events();
     drop(world);
-    Ok((events, end))
-}
-
-// The same in words.
-fn shown(rt: &impl Abort, alloc: Global, ops: &str, fuel: &str) -> Result<String, Fail> {
-    let (events, end) = outcome(rt, alloc, ops, fuel.parse()?)?;
-    let end = end.ok_or("no end")?;
-    Ok(format!(in alloc; "{events} | {end:?}")?)
+    format!(in alloc; "{events} | {end:?}").expect(rt, "memory")
 }
 
 #[test]
-fn runs(rt: HostRuntime) -> Result<(), Fail> {
+fn runs(rt: HostRuntime) {
+    let alloc = rt.alloc();
     for line in RUNS.lines() {
-        let (ops, rest) = cut(line, " | ")?;
-        let (fuel, expected) = cut(rest, " | ")?;
-        let came = shown(&rt, rt.alloc(), ops, fuel)?;
+        let (ops, rest) = cut(&rt, line, " | ");
+        let (fuel, expected) = cut(&rt, rest, " | ");
+        let came = outcome(&rt, alloc, ops, fuel);
         agrees(&rt, &came, expected, ops);
+        drop(came);
     }
-    Ok(())
 }
 
-fn is_journal(rt: &impl Abort, alloc: Global, entries: &[Entry]) -> Result<(), Fail> {
+fn is_journal(rt: &impl Abort, alloc: Global, entries: &[Entry]) {
     let mut journal = String::new(alloc);
     for entry in entries {
-        journal.push_str(&format!(in alloc; "{:?}\n", entry.act)?)?;
+        let line = format!(in alloc; "{:?}\n", entry.act).expect(rt, "memory");
+        journal.push_str(&line).expect(rt, "memory");
     }
     agrees(rt, &journal, JOURNAL, "journal");
-    Ok(())
 }
 
-// Whether 5 is left in the only cell and slot.
-fn has_five(rt: &impl Abort, kept: &Kept) {
+// Whether this is what a run of PRINTING keeps: 5 is left in the only cell and slot.
+fn is_printed(rt: &impl Abort, alloc: Global, kept: &Kept) {
+    let text = kept.journal.text.items.as_slice();
+    holds(rt, text == b"                  +5".as_slice(), "the text");
     let cells = kept.cells.items.as_slice();
     let five = cells.first().and_then(plain_in);
     let left = (cells.len(), kept.outer.items.len(), five);
-    assert!(rt; left == (1, 1, Some(Plain::Int(5))));
+    holds(rt, left == (1, 1, Some(Plain::Int(5))), "what is left");
+    is_journal(rt, alloc, &kept.journal.entries.items);
 }
 
-// Whether this is what a run of PRINTING keeps.
-fn is_printed(rt: &impl Abort, alloc: Global, kept: &Kept) -> Result<(), Fail> {
-    let text = kept.journal.text.items.as_slice();
-    assert!(rt; text == b"                  +5".as_slice());
-    has_five(rt, kept);
-    is_journal(rt, alloc, &kept.journal.entries.items)
-}
-
-// What is kept of a run of PRINTING that is turned by hand.
-fn kept(rt: &impl Abort, alloc: Global) -> Result<Kept, Fail> {
-    let mut world = world(rt, alloc, PRINTING, 7)?;
-    assert!(rt; turn_on(alloc, &mut world) == Some(End::Done));
-    let (code, kept) = world.finish().ok().ok_or("not finished")?;
+// A run of PRINTING that is turned by hand.
+#[test]
+fn keeps(rt: HostRuntime) {
+    let alloc = rt.alloc();
+    let mut world = world(&rt, alloc, PRINTING, 7);
+    holds(
+        &rt,
+        turn_on(alloc, &mut world) == Some(End::Done),
+        "the end",
+    );
+    let (code, kept) = world.finish().ok().expect(&rt, "an end");
     drop(code);
-    Ok(kept)
+    is_printed(&rt, alloc, &kept);
+    drop(kept);
 }
 
 #[test]
-fn keeps(rt: HostRuntime) -> Result<(), Fail> {
-    let kept = kept(&rt, rt.alloc())?;
-    let printed = is_printed(&rt, rt.alloc(), &kept);
-    drop(kept);
-    printed
-}
-
-// What is kept of a run of PRINTING.
-fn kept_in_turn(rt: &impl Abort, alloc: Global) -> Result<Kept, Fail> {
-    let code = valid_code(rt, alloc, PRINTING)?;
-    let (code, kept) = run(alloc, code, 7)?;
+fn runs_in_turn(rt: HostRuntime) {
+    let alloc = rt.alloc();
+    let code = valid_code(&rt, alloc, PRINTING);
+    let (code, kept) = run(alloc, code, 7).expect(&rt, "memory");
     drop(code);
-    Ok(kept)
-}
-
-#[test]
-fn runs_in_turn(rt: HostRuntime) -> Result<(), Fail> {
-    let kept = kept_in_turn(&rt, rt.alloc())?;
-    let end = kept.end;
-    let printed = is_printed(&rt, rt.alloc(), &kept);
+    holds(&rt, kept.end == End::Done, "the end");
+    is_printed(&rt, alloc, &kept);
     drop(kept);
-    assert!(rt; end == End::Done);
-    printed
 }
 
-// How many events there were, the strand of the last one, and whether the run goes on with all it needs.
-fn events(world: &World) -> (u64, u32, bool) {
-    let goes_on = world.end().is_none() && !world.lost();
-    (world.events(), world.last(), goes_on)
-}
-
-// One turn of a run that has fuel for one.
+// One turn of a run that has fuel for one. Then there is one event, of strand 0, and the run goes on with all it needs.
 fn turns_once(rt: &impl Abort, alloc: Global, world: &mut World) {
     let is_not_ready = matches!(world.turn(alloc, 1), Turned::NotReady);
     let next = world.next(0);
     let acted = matches!(world.turn(alloc, 0), Turned::Acted);
-    assert!(rt; (is_not_ready, next, acted) == (true, Some(0), true));
-    assert!(rt; events(world) == (1, 0, true));
+    let events = (world.events(), world.last(), world.end(), world.lost());
+    holds(
+        rt,
+        (is_not_ready, next, acted) == (true, Some(0), true),
+        "one turn",
+    );
+    holds(rt, events == (1, 0, None, false), "after one turn");
 }
 
 // Its end.
 fn is_spent(rt: &impl Abort, alloc: Global, world: &mut World) {
     let end = over(world.turn(alloc, 0));
     let length = world.code().list.items.len();
-    assert!(rt; (end, world.next(0), length) == (Some(End::Spent), None, 10));
+    holds(
+        rt,
+        (end, world.next(0), length) == (Some(End::Spent), None, 10),
+        "its end",
+    );
 }
 
-// A run after one turn, which is not finished.
-fn turned(rt: &impl Abort, alloc: Global) -> Result<World, Fail> {
-    let mut world = world(rt, alloc, ENDLESS, 1)?;
-    turns_once(rt, alloc, &mut world);
-    Ok(world.finish().err().ok_or("finished")?)
-}
-
+// After one turn a run is not finished.
 #[test]
-fn turns(rt: HostRuntime) -> Result<(), Fail> {
-    let mut world = turned(&rt, rt.alloc())?;
-    is_spent(&rt, rt.alloc(), &mut world);
+fn turns(rt: HostRuntime) {
+    let alloc = rt.alloc();
+    let mut world = world(&rt, alloc, ENDLESS, 1);
+    turns_once(&rt, alloc, &mut world);
+    let mut world = world.finish().err().expect(&rt, "a run that goes on");
+    is_spent(&rt, alloc, &mut world);
     drop(world);
-    Ok(())
 }
 
 // Takes what may go to another thread.
@@ -225,10 +193,8 @@ fn sent<T: Send>(value: T) -> T {
 }
 
 #[test]
-fn goes_to_another_thread(rt: HostRuntime) -> Result<(), Fail> {
-    let world = sent(world(&rt, rt.alloc(), "End", 1)?);
-    let events = world.events();
+fn goes_to_another_thread(rt: HostRuntime) {
+    let world = sent(world(&rt, rt.alloc(), "End", 1));
+    holds(&rt, world.events() == 0, "no events");
     drop(world);
-    assert!(rt; events == 0);
-    Ok(())
 }

@@ -1,8 +1,9 @@
 //! The rule that a small tree breaks, by hand from the text (Report, 7.2).
+use crate::table::holds;
 use crate::trees::tree_of;
 use a68_base::{Refusal, Rule, Stop};
 use a68_check::annotate;
-use std::test::Fail;
+use std::panic::Expect;
 
 /// The nodes of BEGIN print(x) END.
 const UNDEFINED: &str = "\
@@ -14,13 +15,12 @@ Tag 12 13 2
 ";
 
 #[test]
-fn a_tag_without_a_definition(rt: HostRuntime) -> Result<(), Fail> {
-    let tree = tree_of(&rt, rt.alloc(), UNDEFINED, "BEGIN print x")?;
+fn a_tag_without_a_definition(rt: HostRuntime) {
+    let tree = tree_of(&rt, rt.alloc(), UNDEFINED, "BEGIN print x");
     let refusal = Refusal {
         rule: Rule::N1,
         place: 12,
     };
-    let stop = annotate(rt.alloc(), tree).err();
-    assert!(rt; stop == Some(Stop::Refused(refusal)));
-    Ok(())
+    let stop = annotate(rt.alloc(), tree).err().expect(&rt, "a refusal");
+    holds(&rt, stop == Stop::Refused(refusal), "N1 at x");
 }

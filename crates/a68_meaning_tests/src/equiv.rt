@@ -1,32 +1,15 @@
 //! Modes as programs declare them: which are equivalent, well formed and related.
-ghost use Rattle.std.specs.Prelude.{◌≡◌, ◌<◌, ◌*◌, IfOk, IsTrue, length};
+ghost use Rattle.std.specs.Prelude.{◌≡◌, ◌<◌, ◌*◌, length};
 ghost use Rattle.a68_equiv.specs.Classes.{AreKept};
 ghost use Rattle.a68_equiv.specs.Ways.{AreWellFormed};
 
-use crate::nodes::{is_within, modes_of, shape};
-use crate::table::{agrees, cut};
-use a68_base::NoMemory;
+use crate::nodes::{mode_there, modes_of, parts_are_there, shape};
+use crate::table::{agrees, cut, holds, number};
 use a68_equiv::{Classes, Mode, all_well_formed, ill_formed, intern, related, settle};
-use a68_modes::{ModeId, Modes, Shape};
+use a68_modes::{ModeId, Modes};
 use std::alloc::Global;
+use std::panic::Expect;
 use std::process::Abort;
-use std::test::Fail;
-
-fn are_same(rt: &impl Abort, modes: &Modes, classes: &Classes, a: Mode, b: Mode) -> bool
-    requires { length classes.now.of ≡ 2 * length modes.now }
-{
-    assert!(rt; a.id < modes.len());
-    assert!(rt; b.id < modes.len());
-    classes.are_same(a, b)
-}
-
-fn same_modes(rt: &impl Abort, modes: &Modes, classes: &Classes, a: ModeId, b: ModeId) -> bool
-    requires { length classes.now.of ≡ 2 * length modes.now }
-{
-    assert!(rt; a < modes.len());
-    assert!(rt; b < modes.len());
-    classes.same(a, b)
-}
 
 /// MODE A = STRUCT (INT v, REF A n); MODE B = STRUCT (INT v, REF STRUCT (INT v, REF B n) n);
 /// 21 STRUCT (INT n), 22 STRUCT (INT v); 23 UNION (BOOL, CHAR), 24 UNION (INT, 23), 25 UNION (CHAR, BOOL, INT);
@@ -66,10 +49,13 @@ f10 26: no
 7 11: no
 ";
 
-fn mode(word: &str) -> Result<Mode, Fail> {
+// The mode that a word names, which is there.
+fn mode(rt: &impl Abort, modes: &Modes, word: &str) -> Mode
+    ensures { result.id < length modes.now }
+{
     match word.strip_prefix("f") {
-        Some(id) => Ok(Mode::without_flex(id.parse()?)),
-        None => Ok(Mode::as_it_stands(word.parse()?)),
+        Some(id) => Mode::without_flex(mode_there(rt, modes, id)),
+        None => Mode::as_it_stands(mode_there(rt, modes, word)),
     }
 }
 
@@ -77,48 +63,36 @@ fn yes_or_no(is: bool) -> &'static str {
     if is { "yes" } else { "no" }
 }
 
-fn pair_is_same(rt: &impl Abort, modes: &Modes, classes: &Classes, pair: &str) -> Result<bool, Fail>
-    requires { length classes.now.of ≡ 2 * length modes.now }
-{
-    let (one, other) = cut(pair, " ")?;
-    let are = are_same(rt, modes, classes, mode(one)?, mode(other)?);
-    Ok(are)
-}
-
 // Whether the modes of each line are equivalent as it says.
-fn are_as_told(rt: &impl Abort, modes: &Modes, classes: &Classes, table: &str) -> Result<(), Fail>
+fn are_as_told(rt: &impl Abort, modes: &Modes, classes: &Classes, table: &str)
     requires { length classes.now.of ≡ 2 * length modes.now }
 {
     for line in table.lines() {
-        let (pair, want) = cut(line, ": ")?;
-        let are = pair_is_same(rt, modes, classes, pair)?;
+        let (pair, want) = cut(rt, line, ": ");
+        let (one, other) = cut(rt, pair, " ");
+        let are = classes.are_same(mode(rt, modes, one), mode(rt, modes, other));
         agrees(rt, yes_or_no(are), want, pair);
     }
-    Ok(())
 }
 
+// A and B are one mode, and A is not INT.
 fn are_same_modes(rt: &impl Abort, modes: &Modes, classes: &Classes)
     requires { length classes.now.of ≡ 2 * length modes.now }
 {
-    let a_and_b = same_modes(rt, modes, classes, 13, 16);
-    let a_and_int = same_modes(rt, modes, classes, 13, 1);
-    assert!(rt; (a_and_b, a_and_int) == (true, false));
-}
-
-fn are_equivalent(rt: &impl Abort, alloc: Global, modes: &Modes) -> Result<(), Fail> {
-    let classes = settle(alloc, modes)?;
-    are_same_modes(rt, modes, &classes);
-    let done = are_as_told(rt, modes, &classes, EQUIVALENT);
-    drop(classes);
-    done
+    holds(rt, modes.len() > 16, "A and B");
+    holds(rt, classes.same(13, 16), "A is B");
+    holds(rt, !classes.same(13, 1), "A is not INT");
 }
 
 #[test]
-fn equivalent_modes(rt: HostRuntime) -> Result<(), Fail> {
-    let modes = modes_of(&rt, rt.alloc(), DECLARED)?;
-    let done = are_equivalent(&rt, rt.alloc(), &modes);
+fn equivalent_modes(rt: HostRuntime) {
+    let (rt, alloc) = (&rt, rt.alloc());
+    let modes = modes_of(rt, alloc, DECLARED);
+    let classes = settle(alloc, &modes).expect(rt, "memory");
+    are_same_modes(rt, &modes, &classes);
+    are_as_told(rt, &modes, &classes, EQUIVALENT);
+    drop(classes);
     drop(modes);
-    done
 }
 
 /// MODE A = PROC (A) A, B = PROC B, C = REF C, D = STRUCT (D v), E = STRUCT (INT v, REF STRUCT (INT v, REF E n) n)
@@ -152,42 +126,41 @@ const FORMED: &str = "\
 21 none
 ";
 
-// The place of that mode in a list of it alone, where it is not well formed.
-fn faulty(rt: &impl Abort, alloc: Global, modes: &Modes, mode: &str) -> Result<Option<u32>, Fail> {
-    let mode: ModeId = mode.parse()?;
-    assert!(rt; mode < modes.len());
-    let place = ill_formed(alloc, modes, &[mode])?;
-    Ok(place)
-}
-
-fn are_formed(rt: &impl Abort, alloc: Global, modes: &Modes) -> Result<(), Fail> {
-    for line in FORMED.lines() {
-        let (mode, want) = cut(line, " ")?;
-        let place = faulty(rt, alloc, modes, mode)?;
-        assert!(rt; place == want.parse().ok(), "{mode}");
+// A place in words.
+fn place_name(place: Option<u32>) -> &'static str {
+    match place {
+        None => "none",
+        Some(0) => "0",
+        Some(_) => "another",
     }
-    Ok(())
 }
 
-fn first_fault(rt: &impl Abort, alloc: Global, modes: &Modes) -> Result<Option<u32>, NoMemory> {
-    assert!(rt; modes.len() == 26);
-    let place = ill_formed(alloc, modes, &[1, 13, 17])?;
-    Ok(place)
+// The place of each mode in a list of it alone, where it is not well formed.
+fn are_formed(rt: &impl Abort, alloc: Global, modes: &Modes) {
+    for line in FORMED.lines() {
+        let (mode, want) = cut(rt, line, " ");
+        let list = [mode_there(rt, modes, mode)];
+        let place = ill_formed(alloc, modes, &list).expect(rt, "memory");
+        agrees(rt, place_name(place), want, mode);
+    }
 }
 
-fn are_as_formed(rt: &impl Abort, alloc: Global, modes: &Modes) -> Result<(), Fail> {
-    let fault = first_fault(rt, alloc, modes)?;
-    let all = all_well_formed(alloc, modes)?;
-    assert!(rt; (fault, all) == (Some(2), false));
-    are_formed(rt, alloc, modes)
+// The third of INT, A and C is not well formed.
+fn are_not_all_formed(rt: &impl Abort, alloc: Global, modes: &Modes) {
+    holds(rt, modes.len() == 26, "26 modes");
+    let fault = ill_formed(alloc, modes, &[1, 13, 17]).expect(rt, "memory");
+    holds(rt, fault == Some(2), "C is not well formed");
+    let all = all_well_formed(alloc, modes).expect(rt, "memory");
+    holds(rt, !all, "not all are well formed");
 }
 
 #[test]
-fn formed_modes(rt: HostRuntime) -> Result<(), Fail> {
-    let modes = modes_of(&rt, rt.alloc(), RECURSIVE)?;
-    let done = are_as_formed(&rt, rt.alloc(), &modes);
+fn formed_modes(rt: HostRuntime) {
+    let (rt, alloc) = (&rt, rt.alloc());
+    let modes = modes_of(rt, alloc, RECURSIVE);
+    are_not_all_formed(rt, alloc, &modes);
+    are_formed(rt, alloc, &modes);
     drop(modes);
-    done
 }
 
 /// 13 PROC INT, 14 UNION (INT, BOOL), 15 UNION (SEMA, REF INT), 16 PROC (INT) INT, 17 UNION (SEMA, UNION (INT, BOOL))
@@ -216,63 +189,39 @@ const RELATED: &str = "\
 17 3: no
 ";
 
-fn pair_is_related(
-    rt: &impl Abort,
-    alloc: Global,
-    modes: &Modes,
-    classes: &Classes,
-    pair: &str,
-) -> Result<bool, Fail>
-    requires formed { AreWellFormed modes.now }
-    requires kept { AreKept modes.now classes.now }
-{
-    let (one, other) = cut(pair, " ")?;
-    let one: ModeId = one.parse()?;
-    let other: ModeId = other.parse()?;
-    assert!(rt; one < modes.len());
-    assert!(rt; other < modes.len());
-    let are = related(alloc, modes, classes, one, other)?;
-    Ok(are)
-}
-
 // Whether the modes of each line are related as it says.
-fn are_related(rt: &impl Abort, alloc: Global, modes: &Modes, classes: &Classes) -> Result<(), Fail>
+fn are_related(rt: &impl Abort, alloc: Global, modes: &Modes, classes: &Classes)
     requires formed { AreWellFormed modes.now }
     requires kept { AreKept modes.now classes.now }
 {
     for line in RELATED.lines() {
-        let (pair, want) = cut(line, ": ")?;
-        let are = pair_is_related(rt, alloc, modes, classes, pair)?;
+        let (pair, want) = cut(rt, line, ": ");
+        let (one, other) = cut(rt, pair, " ");
+        let one = mode_there(rt, modes, one);
+        let other = mode_there(rt, modes, other);
+        let are = related(alloc, modes, classes, one, other).expect(rt, "memory");
         agrees(rt, yes_or_no(are), want, pair);
     }
-    Ok(())
 }
 
 // The modes of this text, which are well formed.
-fn formed(rt: &impl Abort, alloc: Global, text: &str) -> Result<Modes, Fail>
-    ensures { IfOk result (λ modes. AreWellFormed modes) }
+fn formed(rt: &impl Abort, alloc: Global, text: &str) -> Modes
+    ensures { AreWellFormed result }
 {
-    let modes = modes_of(rt, alloc, text)?;
-    let formed = all_well_formed(alloc, &modes)?;
-    assert!(rt; formed);
-    Ok(modes)
-}
-
-fn are_told_related(rt: &impl Abort, alloc: Global, modes: &Modes) -> Result<(), Fail>
-    requires { AreWellFormed modes.now }
-{
-    let classes = settle(alloc, modes)?;
-    let done = are_related(rt, alloc, modes, &classes);
-    drop(classes);
-    done
+    let modes = modes_of(rt, alloc, text);
+    let formed = all_well_formed(alloc, &modes).expect(rt, "memory");
+    holds(rt, formed, "all are well formed");
+    modes
 }
 
 #[test]
-fn related_modes(rt: HostRuntime) -> Result<(), Fail> {
-    let modes = formed(&rt, rt.alloc(), BESIDE)?;
-    let done = are_told_related(&rt, rt.alloc(), &modes);
+fn related_modes(rt: HostRuntime) {
+    let (rt, alloc) = (&rt, rt.alloc());
+    let modes = formed(rt, alloc, BESIDE);
+    let classes = settle(alloc, &modes).expect(rt, "memory");
+    are_related(rt, alloc, &modes, &classes);
+    drop(classes);
     drop(modes);
-    done
 }
 
 // The node of the shape of a line.
@@ -282,17 +231,15 @@ fn interned(
     modes: &mut Modes,
     classes: &mut Classes,
     line: &str,
-) -> Result<ModeId, Fail>
+) -> ModeId
     requires formed { AreWellFormed modes.old }
     requires kept { AreKept modes.old classes.old }
     ensures formed { AreWellFormed modes.new }
     ensures kept { AreKept modes.new classes.new }
 {
-    let shape = shape(alloc, line)?;
-    let within = is_within(alloc, modes, &shape)?;
-    assert!(rt; within);
-    let id = intern(alloc, modes, classes, shape)?;
-    Ok(id)
+    let shape = shape(rt, alloc, line);
+    parts_are_there(rt, alloc, modes, &shape);
+    intern(alloc, modes, classes, shape).expect(rt, "a node")
 }
 
 /// 13 is A, by MODE A = STRUCT (INT v, REF A n); 14 REF A, 15 the structure; 16 is P, by MODE P = PROC (P) P; 17 the PROC
@@ -335,54 +282,29 @@ f19 20: yes
 ";
 
 // Whether each shape gets its node.
-fn intern_all(
-    rt: &impl Abort,
-    alloc: Global,
-    modes: &mut Modes,
-    classes: &mut Classes,
-) -> Result<(), Fail>
+fn intern_all(rt: &impl Abort, alloc: Global, modes: &mut Modes, classes: &mut Classes)
     requires formed { AreWellFormed modes.old }
     requires kept { AreKept modes.old classes.old }
     ensures formed { AreWellFormed modes.new }
     ensures kept { AreKept modes.new classes.new }
 {
     'rows: for line in INTERNED.lines() {
-        let (made, want) = cut(line, " = ")?;
-        let id = interned(rt, alloc, modes, classes, made)?;
-        assert!(rt; want.parse() == Ok(id), "{made}");
+        let (made, want) = cut(rt, line, " = ");
+        let id = interned(rt, alloc, modes, classes, made);
+        holds(rt, id == number(rt, want), made);
     }
-    Ok(())
 }
 
 // The same shapes once more get the same nodes.
-fn intern_twice(
-    rt: &impl Abort,
-    alloc: Global,
-    modes: &mut Modes,
-    classes: &mut Classes,
-) -> Result<(), Fail>
-    requires formed { AreWellFormed modes.old }
-    requires kept { AreKept modes.old classes.old }
-{
-    intern_all(rt, alloc, modes, classes)?;
-    intern_all(rt, alloc, modes, classes)?;
-    assert!(rt; modes.len() == 26);
-    are_as_told(rt, modes, classes, THEN_EQUIVALENT)
-}
-
-fn are_interned(rt: &impl Abort, alloc: Global, modes: &mut Modes) -> Result<(), Fail>
-    requires { AreWellFormed modes.old }
-{
-    let mut classes = settle(alloc, modes)?;
-    let done = intern_twice(rt, alloc, modes, &mut classes);
-    drop(classes);
-    done
-}
-
 #[test]
-fn interned_modes(rt: HostRuntime) -> Result<(), Fail> {
-    let mut modes = formed(&rt, rt.alloc(), FIRST)?;
-    let done = are_interned(&rt, rt.alloc(), &mut modes);
+fn interned_modes(rt: HostRuntime) {
+    let (rt, alloc) = (&rt, rt.alloc());
+    let mut modes = formed(rt, alloc, FIRST);
+    let mut classes = settle(alloc, &modes).expect(rt, "memory");
+    intern_all(rt, alloc, &mut modes, &mut classes);
+    intern_all(rt, alloc, &mut modes, &mut classes);
+    holds(rt, modes.len() == 26, "26 modes");
+    are_as_told(rt, &modes, &classes, THEN_EQUIVALENT);
+    drop(classes);
     drop(modes);
-    done
 }

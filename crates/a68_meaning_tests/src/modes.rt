@@ -1,9 +1,10 @@
 //! The standard modes, and nodes more.
 use crate::nodes::{add, modes_of};
-use a68_modes::{ModeStop, Modes, Shape};
+use crate::table::holds;
+use a68_modes::{Modes, Shape};
 use std::alloc::Global;
+use std::panic::Expect;
 use std::process::Abort;
-use std::test::Fail;
 
 /// Node 13 is REF STRING, and 14 a mode word that stands for it.
 const MORE: &str = "\
@@ -12,68 +13,53 @@ WORD
 14 IS 13
 ";
 
-fn refers(rt: &impl Abort, modes: &Modes, id: u32, to: u32) -> bool {
-    assert!(rt; id < modes.len());
-    matches!(modes.shape(id), Shape::Ref(of) if *of == to)
-}
-
-fn stands_for(rt: &impl Abort, modes: &Modes, id: u32, mode: u32) -> bool {
-    assert!(rt; id < modes.len());
-    matches!(modes.shape(id), Shape::Same(of) if *of == mode)
-}
-
-fn has_parts(
-    rt: &impl Abort,
-    alloc: Global,
-    modes: &Modes,
-    id: u32,
-    parts: &[u32],
-) -> Result<bool, Fail> {
-    assert!(rt; id < modes.len());
-    let found = modes.shape(id).parts(alloc)?;
-    Ok(found.items.as_slice() == parts)
-}
-
 // REF INT is plain, STRING and VOID are not; VOID alone is VOID.
 fn are_plain_and_void(rt: &impl Abort, modes: &Modes) {
-    let plain = (modes.is_plain(9), modes.is_plain(12), modes.is_plain(0));
-    let void = (modes.is_void(9), modes.is_void(12), modes.is_void(0));
-    assert!(rt; plain == (true, false, false));
-    assert!(rt; void == (false, false, true));
+    holds(rt, modes.is_plain(9), "REF INT is plain");
+    holds(rt, !modes.is_plain(12), "STRING is not plain");
+    holds(rt, !modes.is_plain(0), "VOID is not plain");
+    holds(rt, !modes.is_void(9), "REF INT is not VOID");
+    holds(rt, !modes.is_void(12), "STRING is not VOID");
+    holds(rt, modes.is_void(0), "VOID is VOID");
 }
 
-fn are_copied(rt: &impl Abort, alloc: Global, copy: &Modes) -> Result<(), Fail> {
-    let has_parts = has_parts(rt, alloc, copy, 8, &[1, 2, 3, 4, 7, 6])?;
-    let are = (refers(rt, copy, 10, 12), stands_for(rt, copy, 14, 13));
-    assert!(rt; (copy.len(), are, has_parts) == (15, (true, true), true));
-    are_plain_and_void(rt, copy);
-    Ok(())
+// The shape is the union of what can be printed.
+fn is_what_prints(rt: &impl Abort, alloc: Global, shape: &Shape) {
+    let parts = shape.parts(alloc).expect(rt, "memory");
+    let members = [1, 2, 3, 4, 7, 6];
+    holds(
+        rt,
+        parts.items.as_slice() == members.as_slice(),
+        "the union",
+    );
 }
 
-fn are_added(rt: &impl Abort, alloc: Global, modes: &mut Modes) -> Result<(), Fail> {
-    let length = modes.len();
-    let id = add(rt, alloc, modes, Shape::Ref(12))?;
-    let full = modes.add(Shape::Int) == Err(ModeStop::Full);
-    assert!(rt; (length, id, full) == (13, 13, false));
-    Ok(())
+// The printed modes, REF STRING and the mode word are as they were.
+fn are_copied(rt: &impl Abort, alloc: Global, copy: &Modes) {
+    holds(rt, copy.len() == 15, "15 modes");
+    holds(rt, matches!(copy.shape(10), Shape::Ref(12)), "REF STRING");
+    holds(rt, matches!(copy.shape(14), Shape::Same(13)), "the word");
+    is_what_prints(rt, alloc, copy.shape(8));
 }
 
 #[test]
-fn nodes(rt: HostRuntime) -> Result<(), Fail> {
+fn nodes(rt: HostRuntime) {
     let alloc = rt.alloc();
-    let modes = modes_of(&rt, alloc, MORE)?;
-    let copy = modes.copy(alloc);
+    let modes = modes_of(&rt, alloc, MORE);
+    let copy = modes.copy(alloc).expect(&rt, "memory");
     drop(modes);
-    let copy = copy?;
-    let done = are_copied(&rt, alloc, &copy);
+    are_copied(&rt, alloc, &copy);
+    are_plain_and_void(&rt, &copy);
     drop(copy);
-    done
 }
 
 #[test]
-fn numbers(rt: HostRuntime) -> Result<(), Fail> {
-    let mut modes = Modes::new(rt.alloc())?;
-    let done = are_added(&rt, rt.alloc(), &mut modes);
+fn numbers(rt: HostRuntime) {
+    let alloc = rt.alloc();
+    let mut modes = Modes::new(alloc).expect(&rt, "memory");
+    holds(&rt, modes.len() == 13, "13 standard modes");
+    let id = add(&rt, alloc, &mut modes, Shape::Ref(12));
+    holds(&rt, id == 13, "a new mode");
+    add(&rt, alloc, &mut modes, Shape::Int);
     drop(modes);
-    done
 }

@@ -1,40 +1,38 @@
 //! Modes from lines of text.
-ghost use Rattle.std.specs.Prelude.{◌≡◌, ◌<◌, IfOk, IsTrue, length};
+ghost use Rattle.std.specs.Prelude.{◌≡◌, ◌<◌, IsTrue, length};
 ghost use Rattle.a68_modes.specs.Nodes.{IsWithin, shape_at};
 ghost use Rattle.a68_modes.specs.declared.shape.Shape.TheVariants.{Blank};
 
+use crate::table::{holds, number};
 use crate::trees::numbers;
-use a68_base::NoMemory;
 use a68_modes::{Fields, Members, ModeId, Modes, Shape};
 use std::alloc::Global;
+use std::panic::Expect;
 use std::process::Abort;
-use std::test::Fail;
 
-// Is each mode within the shape there?
-pub fn is_within(alloc: Global, modes: &Modes, shape: &Shape) -> Result<bool, NoMemory>
-    ensures { IfOk result (λ within. IsTrue within → IsWithin (length modes.now) shape.now) }
+/// The mode of this number, which is there.
+pub fn mode_there(rt: &impl Abort, modes: &Modes, word: &str) -> ModeId
+    ensures { result < length modes.now }
 {
-    let parts = shape.parts(alloc)?;
-    let there = modes.len();
+    let mode = number(rt, word);
+    holds(rt, mode < modes.len(), word);
+    mode
+}
+
+/// Each mode within the shape is there.
+pub fn parts_are_there(rt: &impl Abort, alloc: Global, modes: &Modes, shape: &Shape)
+    ensures { IsWithin (length modes.now) shape.now }
+{
+    let parts = shape.parts(alloc).expect(rt, "memory");
     for part in &parts.items {
-        if *part >= there {
-            return Ok(false);
-        }
+        holds(rt, *part < modes.len(), "a mode that is there");
     }
-    Ok(true)
 }
 
 /// A node behind the others.
-pub fn add(
-    rt: &impl Abort,
-    alloc: Global,
-    modes: &mut Modes,
-    shape: Shape,
-) -> Result<ModeId, Fail> {
-    let within = is_within(alloc, modes, &shape)?;
-    assert!(rt; within);
-    let id = modes.add(shape)?;
-    Ok(id)
+pub fn add(rt: &impl Abort, alloc: Global, modes: &mut Modes, shape: Shape) -> ModeId {
+    parts_are_there(rt, alloc, modes, &shape);
+    modes.add(shape).expect(rt, "a node")
 }
 
 fn is_blank(shape: &Shape) -> bool
@@ -44,37 +42,33 @@ fn is_blank(shape: &Shape) -> bool
 }
 
 // A mode word gets its mode.
-fn define(rt: &impl Abort, modes: &mut Modes, word: &str, mode: &str) -> Result<(), Fail> {
-    let word: ModeId = word.parse()?;
-    let mode: ModeId = mode.parse()?;
-    assert!(rt; word < modes.len());
-    assert!(rt; mode < modes.len());
-    assert!(rt; is_blank(modes.shape(word)));
+fn define(rt: &impl Abort, modes: &mut Modes, word: &str, mode: &str) {
+    let word = mode_there(rt, modes, word);
+    let mode = mode_there(rt, modes, mode);
+    holds(rt, is_blank(modes.shape(word)), "a mode word");
     modes.set(word, Shape::Same(mode));
-    Ok(())
 }
 
 // Tags and modes, one behind the other.
-fn structure(alloc: Global, numbers: &[u32]) -> Result<Shape, NoMemory> {
+fn structure(rt: &impl Abort, alloc: Global, numbers: &[u32]) -> Shape {
     let mut items = Vec::new(alloc);
     for i in 0..numbers.len() / 2 {
-        items.push((numbers[2 * i], numbers[2 * i + 1]))?;
+        let field = (numbers[2 * i], numbers[2 * i + 1]);
+        items.push(field).expect(rt, "memory");
     }
-    Ok(Shape::Struct(Fields { items }))
+    Shape::Struct(Fields { items })
 }
 
-fn union_of(alloc: Global, members: &[ModeId]) -> Result<Shape, NoMemory> {
-    Ok(Shape::Union(Members::from_slice(alloc, members)?))
+fn members(rt: &impl Abort, alloc: Global, modes: &[ModeId]) -> Members {
+    Members::from_slice(alloc, modes).expect(rt, "memory")
 }
 
 // The parameters, and what it yields.
-fn procedure(alloc: Global, numbers: &[ModeId]) -> Result<Shape, NoMemory> {
-    match numbers.split_last() {
-        None => Ok(Shape::Blank),
-        Some((yields, params)) => Ok(Shape::Proc {
-            params: Members::from_slice(alloc, params)?,
-            result: *yields,
-        }),
+fn procedure(rt: &impl Abort, alloc: Global, numbers: &[ModeId]) -> Shape {
+    let (result, params) = numbers.split_last().expect(rt, "a result");
+    Shape::Proc {
+        params: members(rt, alloc, params),
+        result: *result,
     }
 }
 
@@ -96,48 +90,43 @@ fn last(numbers: &[u32]) -> u32 {
 }
 
 // A shape by its constructor and numbers; a mode word that is not defined yet, where it is no other.
-fn shape_of(alloc: Global, name: &str, numbers: &[u32]) -> Result<Shape, NoMemory> {
+fn shape_of(rt: &impl Abort, alloc: Global, name: &str, numbers: &[u32]) -> Shape {
     match name {
-        "REF" => Ok(Shape::Ref(last(numbers))),
-        "SAME" => Ok(Shape::Same(last(numbers))),
-        "ROW" => Ok(row_of(false, numbers)),
-        "FLEX" => Ok(row_of(true, numbers)),
-        "STRUCT" => structure(alloc, numbers),
-        "UNION" => union_of(alloc, numbers),
-        "PROC" => procedure(alloc, numbers),
-        _ => Ok(Shape::Blank),
+        "REF" => Shape::Ref(last(numbers)),
+        "SAME" => Shape::Same(last(numbers)),
+        "ROW" => row_of(false, numbers),
+        "FLEX" => row_of(true, numbers),
+        "STRUCT" => structure(rt, alloc, numbers),
+        "UNION" => Shape::Union(members(rt, alloc, numbers)),
+        "PROC" => procedure(rt, alloc, numbers),
+        _ => Shape::Blank,
     }
 }
 
 /// The shape of a line.
-pub fn shape(alloc: Global, line: &str) -> Result<Shape, Fail> {
+pub fn shape(rt: &impl Abort, alloc: Global, line: &str) -> Shape {
     let mut words = line.split_whitespace();
-    let name = words.next().ok_or("no constructor")?;
-    let numbers = numbers(alloc, words)?;
-    let shape = shape_of(alloc, name, &numbers)?;
-    Ok(shape)
+    let name = words.next().expect(rt, "a constructor");
+    let numbers = numbers(rt, alloc, words);
+    shape_of(rt, alloc, name, &numbers)
 }
 
-fn add_line(rt: &impl Abort, alloc: Global, modes: &mut Modes, line: &str) -> Result<(), Fail> {
-    let shape = shape(alloc, line)?;
-    add(rt, alloc, modes, shape)?;
-    Ok(())
-}
-
-// A mode for each line, behind the others; or a mode word IS a mode.
-fn add_all(rt: &impl Abort, alloc: Global, modes: &mut Modes, text: &str) -> Result<(), Fail> {
-    for line in text.lines() {
-        match line.split_once(" IS ") {
-            Some((word, mode)) => define(rt, modes, word, mode)?,
-            None => add_line(rt, alloc, modes, line)?,
+// A mode for a line, behind the others; or a mode word IS a mode.
+fn add_line(rt: &impl Abort, alloc: Global, modes: &mut Modes, line: &str) {
+    match line.split_once(" IS ") {
+        Some((word, mode)) => define(rt, modes, word, mode),
+        None => {
+            let shape = shape(rt, alloc, line);
+            add(rt, alloc, modes, shape);
         }
     }
-    Ok(())
 }
 
 /// The standard modes, and behind them, from 13 on, a mode for each line; or a mode word IS a mode.
-pub fn modes_of(rt: &impl Abort, alloc: Global, text: &str) -> Result<Modes, Fail> {
-    let mut modes = Modes::new(alloc)?;
-    add_all(rt, alloc, &mut modes, text)?;
-    Ok(modes)
+pub fn modes_of(rt: &impl Abort, alloc: Global, text: &str) -> Modes {
+    let mut modes = Modes::new(alloc).expect(rt, "memory");
+    for line in text.lines() {
+        add_line(rt, alloc, &mut modes, line);
+    }
+    modes
 }

@@ -1,14 +1,13 @@
 //! Formulas of three operands: which sign stands over which, by hand from the priorities (Report, 5.4.2, 10.2.3.0).
-ghost use Rattle.std.specs.Prelude.{◌≡◌, IfOk, length};
+ghost use Rattle.std.specs.Prelude.{◌≡◌, length};
 
-use crate::table::{agrees, cut};
-use crate::trees::tree_of;
+use crate::table::{cut, holds, number};
+use crate::trees::{numbers, tree_of};
 use a68_op_ident::shape;
 use a68_tree::{Node, NodeKind, Tree};
 use std::alloc::Global;
+use std::panic::Expect;
 use std::process::Abort;
-use std::string::String;
-use std::test::Fail;
 
 /// The signs of a formula; and for each node of its signs, from the upper one on, which of the signs it has, and over
 /// which nodes it stands. The signs are 0 and 1, and the operands nodes 3, 4 and 5.
@@ -32,49 +31,40 @@ Tag 4 5 2
 ";
 
 // That formula with these two signs, shaped.
-fn shaped(rt: &impl Abort, alloc: Global, signs: &str) -> Result<Tree, Fail>
-    ensures { IfOk result (λ tree. length tree.nodes ≡ 6) }
+fn shaped(rt: &impl Abort, alloc: Global, signs: &str) -> Tree
+    ensures { length result.nodes ≡ 6 }
 {
-    let names = format!(in alloc; "{signs} a")?;
-    let tree = shape(alloc, tree_of(rt, alloc, FLAT, &names)?)?;
-    assert!(rt; tree.len() == 6);
-    Ok(tree)
+    let names = format!(in alloc; "{signs} a").expect(rt, "memory");
+    let flat = tree_of(rt, alloc, FLAT, &names);
+    let tree = shape(alloc, flat).expect(rt, "memory");
+    holds(rt, tree.len() == 6, "six nodes");
+    tree
 }
 
-// The sign of a node, and the nodes over which it stands.
-fn shown(alloc: Global, node: &Node) -> Result<String, Fail> {
-    let parts = node.parts.items.as_slice();
-    if node.kind != NodeKind::Dyadic || parts.len() != 2 {
-        return Err("no formula of two operands".into());
-    }
-    let (name, left, right) = (node.name, parts[0], parts[1]);
-    Ok(format!(in alloc; "{name}: {left} {right}")?)
+// It is a formula with the sign that is told, over the nodes that are told.
+fn is_as_told(rt: &impl Abort, alloc: Global, node: &Node, told: &str, case: &str) {
+    let (name, parts) = cut(rt, told, ": ");
+    let parts = numbers(rt, alloc, parts.split_whitespace());
+    holds(rt, node.kind == NodeKind::Dyadic, case);
+    holds(rt, node.name == number(rt, name), case);
+    holds(rt, node.parts.items.as_slice() == parts.as_slice(), case);
 }
 
-// The two upper nodes.
-fn both(alloc: Global, tree: &Tree) -> Result<String, Fail>
-    requires { length tree.now.nodes ≡ 6 }
-{
-    let upper = shown(alloc, tree.node(0))?;
-    let lower = shown(alloc, tree.node(1))?;
-    Ok(format!(in alloc; "{upper} | {lower}")?)
-}
-
-fn nodes(rt: &impl Abort, alloc: Global, signs: &str) -> Result<String, Fail> {
-    let tree = shaped(rt, alloc, signs)?;
-    let nodes = both(alloc, &tree);
+// The two upper nodes of a formula are as its line says.
+fn signs_are_as_told(rt: &impl Abort, alloc: Global, case: &str) {
+    let (signs, told) = cut(rt, case, " | ");
+    let (upper, lower) = cut(rt, told, " | ");
+    let tree = shaped(rt, alloc, signs);
+    is_as_told(rt, alloc, tree.node(0), upper, case);
+    is_as_told(rt, alloc, tree.node(1), lower, case);
     drop(tree);
-    nodes
 }
 
 #[test]
-fn signs_over_signs(rt: HostRuntime) -> Result<(), Fail> {
+fn signs_over_signs(rt: HostRuntime) {
     for case in CASES.lines() {
-        let (signs, wanted) = cut(case, " | ")?;
-        let nodes = nodes(&rt, rt.alloc(), signs)?;
-        agrees(&rt, &nodes, wanted, signs);
+        signs_are_as_told(&rt, rt.alloc(), case);
     }
-    Ok(())
 }
 
 fn is_flat(node: &Node) -> bool {
@@ -83,10 +73,8 @@ fn is_flat(node: &Node) -> bool {
 }
 
 #[test]
-fn an_unknown_sign(rt: HostRuntime) -> Result<(), Fail> {
-    let tree = shaped(&rt, rt.alloc(), "+ %")?;
-    let is_flat = is_flat(tree.node(0));
+fn an_unknown_sign(rt: HostRuntime) {
+    let tree = shaped(&rt, rt.alloc(), "+ %");
+    holds(&rt, is_flat(tree.node(0)), "no formula of two operands");
     drop(tree);
-    assert!(rt; is_flat);
-    Ok(())
 }

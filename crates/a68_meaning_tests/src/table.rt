@@ -1,14 +1,29 @@
 //! Lines of tables.
+ghost use Rattle.std.specs.Prelude.{IsTrue};
+
+use std::panic::Expect;
 use std::process::Abort;
-use std::test::Fail;
 
 /// What stands before and behind a mark in a line.
-pub fn cut<'a>(line: &'a str, mark: &str) -> Result<(&'a str, &'a str), Fail> {
-    let two = line.split_once(mark).ok_or("no mark")?;
-    Ok(two)
+pub fn cut<'a>(rt: &impl Abort, line: &'a str, mark: &str) -> (&'a str, &'a str) {
+    line.split_once(mark).expect(rt, "a mark")
 }
 
-/// Whether what was found is what a line says of this case.
+/// The number that a word is.
+pub fn number(rt: &impl Abort, word: &str) -> u32 {
+    word.parse().expect(rt, "a number")
+}
+
+/// What a case says holds, or the test fails and names the case.
+pub fn holds(rt: &impl Abort, holds: bool, case: &str)
+    ensures { IsTrue holds }
+{
+    if !holds {
+        rt.panic(case)
+    }
+}
+
+/// What was found is what a line says of this case.
 pub fn agrees(rt: &impl Abort, found: &str, told: &str, case: &str) {
-    assert_eq!(rt; found, told, "{case}");
+    holds(rt, found == told, case);
 }

@@ -1,14 +1,12 @@
 //! The instructions of a small program, by hand from the definition of the listing.
-use crate::table::agrees;
+use crate::table::{agrees, cut, holds, number};
 use crate::trees::tree_of;
 use a68_check::{annotate, annotated_trees_fit};
-use a68_code::{Code, Does, Instr};
+use a68_code::{Does, Instr};
 use a68_gen::generate;
 use a68_values::{Node, Plain, Value};
-use std::alloc::Global;
+use std::panic::Expect;
 use std::process::Abort;
-use std::string::String;
-use std::test::Fail;
 
 /// The nodes of BEGIN print(1) END.
 const PRINTING: &str = "\
@@ -18,15 +16,6 @@ Call 6 14 0 3 4
 Tag 6 11 0
 Denotation 12 13 1
 ";
-
-fn code(rt: &impl Abort, alloc: Global) -> Result<Code, Fail> {
-    let tree = tree_of(rt, alloc, PRINTING, "print 1")?;
-    let program = annotate(alloc, tree)?;
-    annotated_trees_fit();
-    let code = generate(alloc, &program);
-    drop(program);
-    Ok(code?)
-}
 
 fn is_one(value: &Value) -> bool {
     matches!(value.node, Node::Plain(Plain::Int(1)))
@@ -42,25 +31,29 @@ fn name(does: &Does) -> &'static str {
     }
 }
 
-fn listing(alloc: Global, list: &[Instr]) -> Result<String, Fail> {
-    let mut listing = String::new(alloc);
-    for instr in list {
-        let name = name(&instr.does);
-        listing.push_str(&format!(in alloc; "{} {name}\n", instr.place)?)?;
-    }
-    Ok(listing)
+// The instruction stands for the place, and does what the words say, that are told.
+fn is_as_told(rt: &impl Abort, instr: &Instr, told: &str) {
+    let (place, words) = cut(rt, told, " ");
+    holds(rt, instr.place == number(rt, place), told);
+    agrees(rt, name(&instr.does), words, told);
 }
 
-fn listed(rt: &impl Abort, alloc: Global) -> Result<String, Fail> {
-    let code = code(rt, alloc)?;
-    let listing = listing(alloc, &code.list.items);
-    drop(code);
-    listing
+// The listing of the program.
+fn are_as_told(rt: &impl Abort, list: &[Instr]) {
+    holds(rt, list.len() == 3, "three instructions");
+    is_as_told(rt, &list[0], "12 push 1");
+    is_as_told(rt, &list[1], "6 print 1");
+    is_as_told(rt, &list[2], "0 end");
 }
 
 #[test]
-fn print_of_a_number(rt: HostRuntime) -> Result<(), Fail> {
-    let listing = listed(&rt, rt.alloc())?;
-    agrees(&rt, &listing, "12 push 1\n6 print 1\n0 end\n", PRINTING);
-    Ok(())
+fn print_of_a_number(rt: HostRuntime) {
+    let alloc = rt.alloc();
+    let tree = tree_of(&rt, alloc, PRINTING, "print 1");
+    let program = annotate(alloc, tree).expect(&rt, "a program");
+    annotated_trees_fit();
+    let code = generate(alloc, &program).expect(&rt, "code");
+    drop(program);
+    are_as_told(&rt, &code.list.items);
+    drop(code);
 }

@@ -3,12 +3,13 @@ ghost use Rattle.std.specs.Prelude.{◌≡◌, ◌<◌, ℕ, IsTrue, Some, lengt
 ghost use Rattle.a68_tree.specs.Trees.{AllBetween, IsSound};
 ghost use Rattle.a68_tree.specs.declared.node.Node.{Node};
 
-use a68_base::{NoMemory, Span, Text, find};
+use crate::table::{holds, number};
+use a68_base::{Span, Text, find};
 use a68_tree::{Node, NodeKind, Parts, Tree};
 use std::alloc::Global;
+use std::panic::Expect;
 use std::process::Abort;
 use std::str::SplitWhitespace;
-use std::test::Fail;
 
 const KINDS: &[(&str, NodeKind)] = &[
     ("Call", NodeKind::Call),
@@ -21,54 +22,51 @@ const KINDS: &[(&str, NodeKind)] = &[
     ("Tag", NodeKind::Tag),
 ];
 
-fn kind(word: &str) -> Result<NodeKind, Fail> {
-    Ok(find(KINDS, word.as_bytes()).ok_or("no kind")?)
-}
-
-fn number(words: &mut SplitWhitespace<'_>) -> Result<u32, Fail> {
-    let number = words.next().ok_or("no number")?.parse()?;
-    Ok(number)
+fn next_number(rt: &impl Abort, words: &mut SplitWhitespace<'_>) -> u32 {
+    number(rt, words.next().expect(rt, "a number"))
 }
 
 /// The numbers that these words are.
-pub fn numbers(alloc: Global, words: SplitWhitespace<'_>) -> Result<Vec<u32>, Fail> {
+pub fn numbers(rt: &impl Abort, alloc: Global, words: SplitWhitespace<'_>) -> Vec<u32> {
     let mut numbers = Vec::new(alloc);
     for word in words {
-        numbers.push(word.parse()?)?;
+        numbers.push(number(rt, word)).expect(rt, "memory");
     }
-    Ok(numbers)
+    numbers
 }
 
 // The node of a line: its kind, from where and to where it stands, its name and its parts.
-fn node(alloc: Global, line: &str) -> Result<Node, Fail> {
+fn node(rt: &impl Abort, alloc: Global, line: &str) -> Node {
     let mut words = line.split_whitespace();
-    let kind = kind(words.next().ok_or("no kind")?)?;
-    let from = number(&mut words)?;
-    let to = number(&mut words)?;
-    let name = number(&mut words)?;
-    let items = numbers(alloc, words)?;
-    Ok(Node {
+    let kind = words.next().expect(rt, "a word");
+    let kind = find(KINDS, kind.as_bytes()).expect(rt, "a kind");
+    let from = next_number(rt, &mut words);
+    let to = next_number(rt, &mut words);
+    let name = next_number(rt, &mut words);
+    let items = numbers(rt, alloc, words);
+    Node {
         kind,
         span: Span { from, to },
         name,
         parts: Parts { items },
-    })
+    }
 }
 
-fn nodes(alloc: Global, lines: &str) -> Result<Vec<Node>, Fail> {
+fn nodes(rt: &impl Abort, alloc: Global, lines: &str) -> Vec<Node> {
     let mut nodes = Vec::new(alloc);
     for line in lines.lines() {
-        nodes.push(node(alloc, line)?)?;
+        nodes.push(node(rt, alloc, line)).expect(rt, "memory");
     }
-    Ok(nodes)
+    nodes
 }
 
-fn spellings(alloc: Global, names: &str) -> Result<Vec<Text>, NoMemory> {
+fn spellings(rt: &impl Abort, alloc: Global, names: &str) -> Vec<Text> {
     let mut spellings = Vec::new(alloc);
-    for name in names.split(' ') {
-        spellings.push(Text::from_slice(alloc, name.as_bytes())?)?;
+    for name in names.split_whitespace() {
+        let text = Text::from_slice(alloc, name.as_bytes()).expect(rt, "memory");
+        spellings.push(text).expect(rt, "memory");
     }
-    Ok(spellings)
+    spellings
 }
 
 // Do the parts stand behind place i, and before the end?
@@ -84,25 +82,24 @@ fn are_between(i: usize, count: usize, parts: &[u32]) -> bool
     }
 }
 
-// Do all nodes have parts that stand behind them, and names that are there?
-fn are_sound(nodes: &[Node], names: usize) -> bool
-    ensures behind { IsTrue result → (i : ℕ) (n : Node) → slice_get nodes.now i ≡ Some n → AllBetween i (length nodes.now) n.parts }
-    ensures named { IsTrue result → (i : ℕ) (n : Node) → slice_get nodes.now i ≡ Some n → n.name < names }
+// All nodes have parts that stand behind them, and names that are there.
+fn are_sound(rt: &impl Abort, nodes: &[Node], names: usize)
+    ensures behind { (i : ℕ) (n : Node) → slice_get nodes.now i ≡ Some n → AllBetween i (length nodes.now) n.parts }
+    ensures named { (i : ℕ) (n : Node) → slice_get nodes.now i ≡ Some n → n.name < names }
 {
     for (i, node) in nodes.iter().enumerate() {
-        if !are_between(i, nodes.len(), &node.parts.items) || node.name as usize >= names {
-            return false;
-        }
+        let behind = are_between(i, nodes.len(), &node.parts.items);
+        holds(rt, behind, "parts behind their node");
+        holds(rt, (node.name as usize) < names, "a name that is there");
     }
-    true
 }
 
 /// The tree of these nodes, a line each, and of these spellings.
-pub fn tree_of(rt: &impl Abort, alloc: Global, lines: &str, names: &str) -> Result<Tree, Fail> {
-    let spellings = spellings(alloc, names)?;
-    let nodes = nodes(alloc, lines)?;
-    assert!(rt; nodes.len() > 0);
-    assert!(rt; nodes.len() < 1000);
-    assert!(rt; are_sound(&nodes, spellings.len()));
-    Ok(Tree::new(nodes, spellings))
+pub fn tree_of(rt: &impl Abort, alloc: Global, lines: &str, names: &str) -> Tree {
+    let spellings = spellings(rt, alloc, names);
+    let nodes = nodes(rt, alloc, lines);
+    holds(rt, nodes.len() > 0, "a node");
+    holds(rt, nodes.len() < 1000, "few nodes");
+    are_sound(rt, &nodes, spellings.len());
+    Tree::new(nodes, spellings)
 }

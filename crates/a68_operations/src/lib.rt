@@ -4,5 +4,5 @@
 mod operations;
 
 pub use operations::{
-    advanced, applied, assigned, counter_of, has_turn, made, on_ints, print_next, resumed, skipped,
+    advanced, applied, assigned, counter_of, has_turn, made, on_plain, print_next, resumed, skipped,
 };

@@ -164,9 +164,9 @@ fn truth(holds: bool) -> Result<Plain, FaultKind>
     Ok(Plain::Bool(holds))
 }
 
-/// An operator on two integers.
+// An operator on two integers.
 #[inline(always)]
-pub fn on_ints(row: u32, left: i64, right: i64) -> Result<Plain, FaultKind>
+fn on_ints(row: u32, left: i64, right: i64) -> Result<Plain, FaultKind>
     ensures { doing_of result ≡ operations.on_ints row left right }
 {
     match row {
@@ -179,6 +179,18 @@ pub fn on_ints(row: u32, left: i64, right: i64) -> Result<Plain, FaultKind>
         15 => sum(left, right),
         16 => difference(left, right),
         17 => product(left, right),
+        _ => Err(FaultKind::Kind),
+    }
+}
+
+/// An operator on two values that fit one cell each.
+#[inline(always)]
+pub fn on_plain(row: u32, left: Plain, right: Plain) -> Result<Plain, FaultKind>
+    ensures { doing_of result ≡ operations.applied row (plain left) (plain right) }
+{
+    match (left, right) {
+        (Plain::Int(left), Plain::Int(right)) => on_ints(row, left, right),
+        (Plain::Unset, _) | (_, Plain::Unset) => Err(FaultKind::Unset),
         _ => Err(FaultKind::Kind),
     }
 }

@@ -16,6 +16,7 @@ use a68_layout::Plan;
 use a68_values::{Act, Cells, Chain, Environ, FaultKind, Held, Plain, Slots, Value};
 use std::alloc::Global;
 use std::marker::Model;
+use std::mem;
 
 // The most that a store counts: cells, slots, and the values within those that slots are bound to.
 const MOST_COUNTED: u32 = 4_194_304;
@@ -54,7 +55,8 @@ fn set_slot(frame: &mut Frame, slot: u32, value: Value)
     requires { slot < vec_len frame.old.slots }
     ensures { frame_of frame.new ≡ record (frame_of frame.old) { slots = slice_set frame.old.slots.items slot (Some value) } }
 {
-    frame.slots[slot as usize] = Some(value);
+    let old = mem::replace(&mut frame.slots[slot as usize], Some(value));
+    drop(old);
 }
 
 // The plain value to which a slot is bound; none where it is bound to none.
@@ -194,6 +196,7 @@ impl Store {
         let added = weight(&value).saturating_add(1);
         let replaced = slot_weight(&self.frames[frame as usize].slots[slot as usize]);
         if added > u64::from(MOST_COUNTED - self.counted) + replaced {
+            drop(value);
             return Err(StoreStop::Fault(FaultKind::Cells));
         }
         set_slot(&mut self.frames[frame as usize], slot, value);
@@ -265,7 +268,8 @@ impl Store {
         requires { cell < length self.old.cells }
         ensures { does (Want.Assign cell held) self.old ≡ did (Act.Assign cell) Reply.Go self.new }
     {
-        self.cells[cell as usize] = held;
+        let old = mem::replace(&mut self.cells[cell as usize], held);
+        drop(old);
     }
 
     /// Prints bytes behind those printed before. Which they are comes back.

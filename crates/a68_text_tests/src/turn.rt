@@ -1,13 +1,13 @@
 //! The symbol at which a number of symbols from the end begins.
+use crate::table::holds;
 use a68_symbols::symbols;
 use a68_turn::place;
-use std::test::Fail;
+use std::panic::Expect;
 
 #[test]
-fn places(rt: HostRuntime) -> Result<(), Fail> {
-    let found = symbols(rt.alloc(), b"a  IS b").ok().ok_or("symbols")?;
+fn places(rt: HostRuntime) {
+    let found = symbols(rt.alloc(), b"a  IS b").expect(&rt, "symbols");
     let places = (place(&found, 2, 7), place(&found, 0, 7));
     drop(found);
-    assert!(rt; places == (3, 7));
-    Ok(())
+    holds(&rt, places == (3, 7), "places");
 }

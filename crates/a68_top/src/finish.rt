@@ -1,10 +1,11 @@
 //! What a call of the program gives back.
-ghost use Rattle.std.specs.Prelude.{◌≡◌};
+ghost use Rattle.std.specs.Prelude.{◌≡◌, OnOk, OnErr};
 ghost use Rattle.a68_top.specs.Answer.{bare, status_of};
 
 use a68_annot::Annotated;
 use a68_base::{Refusal, Status, Text};
 use a68_code::Code;
+use a68_outside::Failed;
 use a68_values::{End, Kept};
 
 /// A program that can run: its tree with what is known of each node, and its code.
@@ -44,6 +45,20 @@ pub fn bare(status: Status) -> Finish
         refusal: None,
         made: None,
         ran: None,
+    }
+}
+
+/// What is owed, once it was delivered or a write has failed.
+pub fn delivered(done: Result<(), Failed>, finish: Finish) -> Finish
+    ensures ok { OnOk done (result ≡ finish) }
+    ensures err { OnErr done (result ≡ record finish { status = Status.WriteFault }) }
+{
+    match done {
+        Ok(()) => finish,
+        Err(_) => Finish {
+            status: Status::WriteFault,
+            ..finish
+        },
     }
 }
 

@@ -4,7 +4,7 @@ ghost use Rattle.a68_top.specs.Words.{MayAskFor, task_in, files_of};
 ghost use Rattle.a68_top.specs.Outcome.{Outcome, sunk};
 
 use crate::deliver::deliver;
-use crate::finish::{Finish, bare};
+use crate::finish::{Finish, bare, delivered};
 use crate::lines::READ_FAULT;
 use crate::prepare::{Early, prepare};
 use a68_base::Status;
@@ -50,12 +50,9 @@ pub fn a68<R: Threads + Wait + Sync, F: Shelf, K: Sink, N: Sink, G: Gate>(
             let _ = write_whole(notes, READ_FAULT.as_bytes());
             bare(Status::ReadFault)
         }
-        Ok(due) => match deliver(&due.out, &due.notes, out, notes) {
-            Ok(()) => due.finish,
-            Err(_) => Finish {
-                status: Status::WriteFault,
-                ..due.finish
-            },
-        },
+        Ok(due) => {
+            let done = deliver(&due.out, &due.notes, out, notes);
+            delivered(done, due.finish)
+        }
     }
 }

@@ -8,5 +8,5 @@ loop-field-preserved c =
     let xs = c.deref-field-items.result.now in
     let i = c.loop-field.field-index in
     let lt : i < length xs = omega arith in
-    c.in_ok-push.ensures.items ∙ ap (λ (ys : List ℕ). ys ++ (get_or xs i (0, 0)).0 ∷ []) c.loop-field.invariant
-    ∙ sym (ap (λ (ys : List (ℕ × ℕ)). 9 ∷ map (λ field. field.0) ys) (take_more xs i (0, 0) lt) ∙ ap (λ (ys : List ℕ). 9 ∷ ys) (map-append (λ (field : ℕ × ℕ). field.0) (take i xs) _))
+    ◌∙◌ {A = List ℕ} c.in_ok-push.ensures.items (◌∙◌ {A = List ℕ} (ap (λ (ys : List ℕ). ys ++ (get_or xs i (0, 0)).0 ∷ []) c.loop-field.invariant)
+    (sym (◌∙◌ {A = List ℕ} (ap (λ (ys : List (ℕ × ℕ)). 9 ∷ map (λ field. field.0) ys) (take_more xs i (0, 0) lt)) (ap (λ (ys : List ℕ). 9 ∷ ys) (map-append (λ (field : ℕ × ℕ). field.0) (take i xs) _)))))

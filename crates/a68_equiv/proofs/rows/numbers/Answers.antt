@@ -9,4 +9,6 @@ loop-id-preserved c =
     let xs = c.deref-id-items.result.now in
     let lt : c.loop-id.id-index < length xs = omega arith in
     let f = λ (m : ℕ). number_of (record { id = m; fixed = c.args.fixed }) in
-    c.in_ok-push.ensures.items ∙ ap (λ (n : ℕ). c.loop-id.items.items ++ n ∷ []) c.number.ensures ∙ ap (λ (ys : List ℕ). ys ++ f (get_or xs c.loop-id.id-index 0) ∷ []) c.loop-id.invariant ∙ sym (ap (λ (ys : List ℕ). map f ys) (take_more xs c.loop-id.id-index 0 lt) ∙ map-append f (take c.loop-id.id-index xs) _)
+    let at = get_or xs c.loop-id.id-index 0 in
+    let pushed = ◌∙◌ {A = List ℕ} c.in_ok-push.ensures.items (◌∙◌ {A = List ℕ} (ap (λ (n : ℕ). c.loop-id.items.items ++ n ∷ []) c.number.ensures) (ap (λ (ys : List ℕ). ys ++ f at ∷ []) c.loop-id.invariant)) in
+    ◌∙◌ {A = List ℕ} pushed (sym (◌∙◌ {A = List ℕ} (ap (λ (ys : List ℕ). map f ys) (take_more xs c.loop-id.id-index 0 lt)) (map-append f (take c.loop-id.id-index xs) (at ∷ []))))

@@ -3,7 +3,7 @@ use Rattle.a68_denote.specs.Strings.{nothing, byte, quote}
 use Rattle.a68_text_tests.proofs.denote.with_a_quote.Goals as goal
 
 pub string_of-requires : goal.string_of-requires
-string_of-requires c = (
+string_of-requires c _ = (
   97 ∷ 34 ∷ 98 ∷ [],
   record {
     items = 97 ∷ 34 ∷ 34 ∷ 98 ∷ [];
