@@ -7,6 +7,7 @@ ghost use Rattle.a68_symbols.specs.Steps.{Keeps};
 ghost use Rattle.a68_symbols.specs.Symbols.{Answers, HasSymbols, IsRefused, Piece};
 
 use crate::Symbols;
+use crate::collector::Collector;
 use crate::form::{Form, Given};
 use crate::judge::judge;
 use crate::stretch::longest;
@@ -28,7 +29,7 @@ fn refused(rule: Rule, place: u32) -> Stop
 // Takes in what a stretch of that form gives.
 fn keep(
     alloc: Global,
-    found: &mut Symbols,
+    found: &mut Collector,
     form: Form,
     stretch: &[u8],
     span: Span,
@@ -60,7 +61,7 @@ pub fn symbols(alloc: Global, bytes: &[u8]) -> Result<Symbols, Stop>
     if bytes.len() > MOST_BYTES {
         return Err(refused(Rule::L1, MOST_BYTES as u32));
     }
-    let mut found = Symbols::new(alloc);
+    let mut found = Collector::new(alloc);
     let mut rest = bytes;
     let mut at = 0;
     while !rest.is_empty() {
@@ -73,7 +74,7 @@ pub fn symbols(alloc: Global, bytes: &[u8]) -> Result<Symbols, Stop>
         rest = behind;
         at = to;
     }
-    Ok(found)
+    Ok(found.finish(alloc)?)
 }
 
 /// A law: a text has one list of symbols at most; it breaks one rule first, at one place, at most; and where it breaks

@@ -2,6 +2,7 @@
 #![tactic(auto)]
 
 mod bytes;
+mod collector;
 mod comments;
 mod cut;
 mod form;

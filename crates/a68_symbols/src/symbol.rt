@@ -1,13 +1,8 @@
 //! Symbols and lists of them.
-ghost use Rattle.std.specs.Prelude.{◌≡◌, ◌<◌, length, slice_get, IfOk, OnOk, []};
+ghost use Rattle.std.specs.Prelude.{◌≡◌, ◌<◌, length, slice_get};
 ghost use Rattle.std.specs.Option.{option_map};
-ghost use Rattle.a68_symbols.specs.Limits.{most_symbols};
-ghost use Rattle.a68_symbols.specs.Names.{Adds, spelling_of};
 
-use crate::bytes::without_layout;
-use a68_base::{NoMemory, Span};
-use indexmap::IndexSet;
-use std::alloc::Global;
+use a68_base::Span;
 use std::marker::Model;
 
 /// The kinds of symbols (Report, 9.4).
@@ -45,8 +40,8 @@ pub struct Spelling {
 /// The symbols of a text in order, and their spellings, numbered from 0 as they are first seen.
 #[derive(Drop)]
 pub struct Symbols {
-    items: Vec<Symbol>,
-    names: IndexSet<Spelling>,
+    pub(crate) items: Vec<Symbol>,
+    pub(crate) names: Vec<Spelling>,
 }
 
 impl Model for Symbols {
@@ -55,33 +50,12 @@ impl Model for Symbols {
 
     ghost Value = { Named };
 
-    ghost view = { λ s. record { symbols = s.items.items; spellings = map spelled_of s.names.keys } };
+    ghost view = { λ s. record { symbols = s.items.items; spellings = map spelled_of s.names.items } };
 
-    ghost invariant = { λ s. IsSound s.items.items s.names.keys };
-}
-
-// What spells a stretch: all of a string, and of any other symbol what is no layout.
-fn spell(alloc: Global, kind: SymbolKind, stretch: &[u8]) -> Result<Vec<u8>, NoMemory>
-    ensures { IfOk result (λ bytes. bytes.items ≡ spelling_of kind stretch.now) }
-{
-    match kind {
-        SymbolKind::Quoted => Ok(Vec::from_slice(alloc, stretch)?),
-        _ => without_layout(alloc, stretch),
-    }
+    ghost invariant = { λ s. IsSound s.items.items s.names.items };
 }
 
 impl Symbols {
-    /// No symbols.
-    pub(crate) fn new(alloc: Global) -> Symbols
-        ensures symbols { result.symbols ≡ [] }
-        ensures spellings { result.spellings ≡ [] }
-    {
-        Symbols {
-            items: Vec::new(alloc),
-            names: IndexSet::new(alloc),
-        }
-    }
-
     /// How many symbols there are.
     pub fn len(&self) -> u32
         ensures { result ≡ length self.now.symbols }
@@ -103,31 +77,9 @@ impl Symbols {
         requires { name < length self.now.spellings }
         ensures { option_map (λ s. s.bytes) (slice_get self.now.spellings name) ≡ Some result.now }
     {
-        match self.names.get_index(name as usize) {
+        match self.names.get(name as usize) {
             Some(spelling) => &spelling.bytes,
             None => &[],
         }
-    }
-
-    /// Adds a symbol behind the others.
-    pub(crate) fn push(
-        &mut self,
-        alloc: Global,
-        kind: SymbolKind,
-        stretch: &[u8],
-        span: Span,
-    ) -> Result<(), NoMemory>
-        requires { length self.old.symbols < most_symbols }
-        ensures { OnOk result (Adds self.old self.new kind span (record { kind = kind; bytes = spelling_of kind stretch.now })) }
-    {
-        self.items.reserve(1)?;
-        let bytes = spell(alloc, kind, stretch)?;
-        let (index, _) = self.names.insert_full(Spelling { kind, bytes })?;
-        self.items.push(Symbol {
-            kind,
-            span,
-            name: index as u32,
-        })?;
-        Ok(())
     }
 }

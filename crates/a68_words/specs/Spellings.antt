@@ -1,6 +1,6 @@
 -- The reserved words, the standard operator words, and the marks that open, close and separate (9.4; which words there are
 -- is own).
-use Rattle.std.specs.Prelude.{ℕ, List, [], ◌∷◌, codes, map, slice_get, Option, Some, None, if◌then◌else◌}
+use Rattle.std.specs.Prelude.{ℕ, List, [], ◌∷◌, codes, map, slice_get, Option, Some, None}
 use Rattle.a68_base.specs.Tables.{find}
 use Rattle.a68_symbols.specs.declared.symbol.Symbol.{Symbol}
 use Rattle.a68_symbols.specs.declared.symbol.SymbolKind.{SymbolKind}

@@ -35,7 +35,7 @@ loop-rest-preserved c =
 
 pub returns-clause-answer : goal.returns-clause-answer
 returns-clause-answer c =
-    all_cut _ _ _ _ c.loop-rest.invariant.cut (nil_from_length _ (eqb-true _ 0 (sym c.loop-rest-test.ensures)))
+    rw c.in_ok-finish.ensures (all_cut _ _ _ _ c.loop-rest.invariant.cut (nil_from_length _ (eqb-true _ 0 (sym c.loop-rest-test.ensures))))
 
 pub returns-clause-names : goal.returns-clause-names
-returns-clause-names c = all_named _ _ c.loop-rest.invariant.named
+returns-clause-names c = rw c.in_ok-finish.ensures (all_named _ _ c.loop-rest.invariant.named)

@@ -1,5 +1,3 @@
-use Rattle.std.proofs.Common.{ap}
-use Rattle.a68_world.specs.Run.{Run}
 use Rattle.a68_world.proofs.Circling.{begins_in_turn}
 use Rattle.a68_world.proofs.circle.run.Goals as goal
 

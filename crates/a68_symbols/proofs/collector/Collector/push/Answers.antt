@@ -1,6 +1,6 @@
 use Rattle.std.proofs.Common.{◌++◌, ◌∷◌, [], arith, ap, ◌∙◌}
 use Rattle.a68_symbols.proofs.Naming.{put, sound_more}
-use Rattle.a68_symbols.proofs.symbol.Symbols.push.Goals as goal
+use Rattle.a68_symbols.proofs.collector.Collector.push.Goals as goal
 
 pub invariant_of-self-in_err-push : goal.invariant_of-self-in_err-push
 invariant_of-self-in_err-push c = absurd (omega (arith, c.in_err-push.ensures.full, c.in_ok-reserve.ensures.ok, c.in_ok-reserve.ensures.len))
