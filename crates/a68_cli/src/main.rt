@@ -37,5 +37,7 @@ fn main(rt: HostRuntime) -> ExitCode {
         &mut notes,
         &FreeGate,
     );
-    ExitCode::from(finish.status.number())
+    let status = finish.status;
+    drop(finish);
+    ExitCode::from(status.number())
 }

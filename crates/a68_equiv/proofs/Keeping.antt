@@ -17,7 +17,7 @@ use Rattle.a68_refine.specs.Rows.{row_at}
 use Rattle.a68_equiv.specs.Graph.{number_of, mode_of, AreBehind, IsShapeRow, IsRowOf, IsGraphOf}
 use Rattle.a68_refine.specs.Rounds.{at_key, Shares, ByFirst, SoFar, IsNumbered}
 use Rattle.a68_equiv.specs.ModeKeys.{IsKeyOf, IsModeKey, HasModeKey, IsNewKey}
-use Rattle.a68_equiv.specs.Classes.{class_of, AreExact, AreKept, Classified, IsAlready, IsOldNode}
+use Rattle.a68_equiv.specs.Classes.{class_of, AreExact, AreKept, AreSame, FindsSame, Classified, IsAlready, IsOldNode}
 use Rattle.a68_equiv.specs.declared.interning.NewKeys.{NewKeys}
 use Rattle.a68_equiv.specs.NewNodes.{AreNewKeys, IsJoined}
 use Rattle.a68_equiv.proofs.Growing.{part_below, longer, old_unfolded, new_unfolded, inside, grows, shrinks, row_in, new_row}
@@ -229,17 +229,37 @@ module _ (nodes : List Shape) (s : Shape) (holds : HoldsNodes nodes) (formed : A
           (new_key false again.items has_again) num.here num.others (at_key nodes0 again.items) refl num.number));
     }
 
--- a node that joins keeps the tables, told by lists that are equal to those of before
+-- tables in which the same is found are tables of the same numbers
+same_so_far : (H : ℕ → List ℕ → Type 0) (one other : List (Vec ℕ Global × ℕ)) (next : List ℕ) (i : ℕ) → FindsSame one other → SoFar H other next i → SoFar H one next i
+same_so_far H one other next i same so = record {
+  built = so.built;
+  known = λ j h. let w = so.known j h in (w.0, w.1, same w.0 ∙ w.2);
+  found = λ key n e. so.found key n (sym (same key) ∙ e);
+  first = so.first;
+}
+
+pub same_kept : (nodes : List Shape) (one other : Classified) → AreSame one other → AreKept nodes other → AreKept nodes one
+same_kept nodes one other same kept = record {
+  exact = rw same.of kept.exact;
+  classes_found = rw same.of (same_so_far (HasModeKey nodes other.of) one.by_key other.by_key other.of (2 * length nodes) same.by_key kept.classes_found);
+  firsts = kept.firsts;
+  nodes_found = rw same.of (same_so_far (λ m key. IsModeKey nodes other.of (as_it_stands m) key) one.nodes_by_key other.nodes_by_key kept.firsts (length nodes) same.nodes_by_key kept.nodes_found);
+}
+
+-- tables for which room was made, as a caller sees them
+pub room_same : (old : Classified) (items was_items : List ℕ) (keys was_keys nodes was_nodes : List (Vec ℕ Global × ℕ))
+    → items ≡ was_items → FindsSame keys was_keys → FindsSame nodes was_nodes → record { of = was_items; by_key = was_keys; nodes_by_key = was_nodes } ≡ old
+    → AreSame (record { of = items; by_key = keys; nodes_by_key = nodes }) old
+room_same old items was_items keys was_keys nodes was_nodes e f g is =
+    subst (λ (t : Classified). AreSame (record { of = items; by_key = keys; nodes_by_key = nodes }) t) is (record { of = e; by_key = f; nodes_by_key = g })
+
+-- a node that joins keeps the tables
 pub joined_kept : (nodes : List Shape) (s : Shape) (holds : HoldsNodes nodes) (formed : AreWellFormed nodes) (within : IsWithin (length nodes) s)
     (t : Classified) → AreKept nodes t → (keys : NewKeys) → AreNewKeys nodes t.of s keys
-    → (id : ℕ) (items after : List ℕ) (keys0 keys1 nodes0 nodes1 : List (Vec ℕ Global × ℕ))
-    → id ≡ length nodes → items ≡ t.of → keys0 ≡ t.by_key → nodes0 ≡ t.nodes_by_key → IsJoined keys id items after keys0 keys1 nodes0 nodes1
+    → (id : ℕ) (after : List ℕ) (keys1 nodes1 : List (Vec ℕ Global × ℕ)) → id ≡ length nodes → IsJoined keys id t.of after t.by_key keys1 t.nodes_by_key nodes1
     → AreKept (nodes ++ s ∷ []) (record { of = after; by_key = keys1; nodes_by_key = nodes1 })
-joined_kept nodes s holds formed within t kept keys new id items after keys0 keys1 nodes0 nodes1 e f g h is =
-    let one = subst (λ (n : ℕ). IsJoined keys n items after keys0 keys1 nodes0 nodes1) e is in
-    let two = subst (λ (xs : List ℕ). IsJoined keys (length nodes) xs after keys0 keys1 nodes0 nodes1) f one in
-    let three = subst (λ (xs : List (Vec ℕ Global × ℕ)). IsJoined keys (length nodes) t.of after xs keys1 nodes0 nodes1) g two in
-    let joined : IsJoined keys (length nodes) t.of after t.by_key keys1 t.nodes_by_key nodes1 = subst (λ (xs : List (Vec ℕ Global × ℕ)). IsJoined keys (length nodes) t.of after t.by_key keys1 xs nodes1) h three in
+joined_kept nodes s holds formed within t kept keys new id after keys1 nodes1 e is =
+    let joined = subst (λ (n : ℕ). IsJoined keys n t.of after t.by_key keys1 t.nodes_by_key nodes1) e is in
     let has_again = subst (λ (xs : List ℕ). IsNewKey nodes t.of s false xs) (sym new.again) new.key in
     let grown = grown_kept nodes s holds formed within t.of kept.exact t.by_key joined.between keys1 t.nodes_by_key nodes1 kept.firsts joined.class joined.without_flex joined.node keys.key keys.fixed keys.again
     kept.classes_found kept.nodes_found new.key new.fixed has_again joined.one joined.other joined.found in

@@ -1,5 +1,5 @@
 -- What mode words and unions lead to.
-use Rattle.std.proofs.Common.{◌≡◌, ◌<◌, ◌≤◌, ◌+◌, ◌++◌, ℕ, zero, suc, ap, List, [], ◌∷◌, Bool, true, false, nat_eq, length, get_or, refl, sym, ◌∙◌, arith, subst, inl, inr, ⊎_elim, below_more, length-append}
+use Rattle.std.proofs.Common.{◌≡◌, ◌<◌, ◌≤◌, ◌+◌, ◌++◌, ℕ, zero, suc, ap, List, [], ◌∷◌, Bool, true, false, cond, ◌||◌, nat_eq, length, get_or, refl, sym, ◌∙◌, arith, subst, inl, inr, ⊎_elim, below_more, length-append}
 use Rattle.std.specs.Prelude.{◌↔◌, map}
 use Rattle.std.specs.List.{All, Contains, IsDistinct, list_any}
 use Rattle.std.proofs.Math.ListN.{get_or-append}
@@ -7,15 +7,16 @@ use Rattle.std.proofs.lemmas.List.{get_or_default}
 use Rattle.std.proofs.lemmas.List.Elements.{Contains-push_cases, Contains-push, Contains-append_left, All-contains, All-from_get_or, Contains-get_or}
 use Rattle.std.proofs.lemmas.Bool.{false≢true}
 use Rattle.std.proofs.lemmas.Map.Steps.{length-le_from_distinct_below}
-use Rattle.std.proofs.lemmas.Map.Views.{exact_unsigned_eq}
-use Rattle.indexmap.specs.IndexSet.{insert_key}
-use Rattle.indexmap.proofs.CallerLemmas.{Contains-list_any, Contains-insert_key}
+use Rattle.std.proofs.lemmas.Cmp.{nat_eq_equiv}
+use Rattle.std.proofs.lemmas.List.Folds.{list_any-append}
+use Rattle.std.proofs.lemmas.Map.Keys.{IsDistinct-push}
+use Rattle.std.proofs.lemmas.Map.Views.{Contains-from_any, exact_unsigned_eq}
 use Rattle.a68_modes.specs.declared.shape.Shape.{Shape}
 use Rattle.a68_modes.specs.declared.shape.Shape.TheVariants.{Same, Union}
 use Rattle.a68_modes.specs.Nodes.{shape_at, IsWithin, HoldsNodes}
 use Rattle.a68_equiv.specs.declared.steps.Steps.TheVariants.{WithinUnions}
 use Rattle.a68_equiv.specs.Graph.{ArePlain}
-use Rattle.a68_equiv.specs.Spread.{AreLast, IsLed, IsSpread, Notes}
+use Rattle.a68_equiv.specs.Spread.{AreLast, IsLed, IsSpread, AreKnown, Notes}
 use Rattle.a68_equiv.specs.Unfolding.{leads_within, is_union, IsMember, behind, word_or}
 use Rattle.a68_equiv.specs.Ways.{steps_of, row, Way, IsClosed}
 use Rattle.a68_equiv.specs.Ways.Way.{last_step, more_steps}
@@ -23,37 +24,54 @@ use Rattle.a68_equiv.proofs.Reach.{step_on}
 use Rattle.a68_equiv.proofs.Rowing.{no_steps, none_from}
 use Rattle.a68_equiv.proofs.Stepping.{row_of_map}
 
-pub none_noted : (old : List ℕ) → IsDistinct nat_eq old → Notes [] old old
-none_noted old d = record {
+pub none_known : AreKnown [] []
+unfolding IsDistinct
+none_known = record { distinct = tt; same = λ x. refl }
+
+pub none_noted : (old : List ℕ) → Notes [] old old
+none_noted old = record {
   longer = omega arith;
   kept = λ k h. refl;
   all = λ x i. let h = i.1 in absurd (omega arith);
   only = λ x i. inl i;
-  distinct = d;
+}
+
+-- one that is there is noted again
+pub noted_again : (modes old new : List ℕ) (m : ℕ) → Notes modes old new → list_any (nat_eq m) new ≡ true → Notes (modes ++ m ∷ []) old new
+noted_again modes old new m so e = record {
+  longer = so.longer;
+  kept = so.kept;
+  all = λ x i. ⊎_elim (λ j. so.all x j) (λ f. subst (Contains new) f (Contains-from_any exact_unsigned_eq m new e)) (Contains-push_cases modes m x i);
+  only = λ x i. ⊎_elim inl (λ j. inr (Contains-append_left modes (m ∷ []) x j)) (so.only x i);
 }
 
 -- one more is noted
-pub one_noted : (modes old new : List ℕ) (m : ℕ) → Notes modes old new → IsDistinct nat_eq (insert_key nat_eq new m) → Notes (modes ++ m ∷ []) old (insert_key nat_eq new m)
-one_noted modes old new m so d = go (list_any (nat_eq m) new) refl d
-  where
-    here : Contains (insert_key nat_eq new m) m
-    here = Contains-insert_key nat_eq (λ x y e. exact_unsigned_eq x y e) new m
+pub noted_new : (modes old new : List ℕ) (m : ℕ) → Notes modes old new → Notes (modes ++ m ∷ []) old (new ++ m ∷ [])
+noted_new modes old new m so = record {
+  longer = let l = so.longer in omega (arith, length-append new (m ∷ []));
+  kept = λ k h. let l = so.longer in get_or-append new (m ∷ []) 0 k (omega arith) ∙ so.kept k h;
+  all = λ x i. ⊎_elim (λ j. Contains-append_left new (m ∷ []) x (so.all x j)) (λ f. subst (Contains (new ++ m ∷ [])) f (Contains-push new m)) (Contains-push_cases modes m x i);
+  only = λ x i. ⊎_elim (λ j. ⊎_elim inl (λ k. inr (Contains-append_left modes (m ∷ []) x k)) (so.only x j)) (λ f. inr (subst (Contains (modes ++ m ∷ [])) f (Contains-push modes m))) (Contains-push_cases new m x i);
+}
 
-    go : (b : Bool) → list_any (nat_eq m) new ≡ b → IsDistinct nat_eq (insert_key nat_eq new m) → Notes (modes ++ m ∷ []) old (insert_key nat_eq new m)
-    go true e d = rw e record {
-      longer = so.longer;
-      kept = so.kept;
-      all = λ x i. ⊎_elim (λ j. so.all x j) (λ f. subst (Contains new) f (Contains-list_any nat_eq (λ x y e. exact_unsigned_eq x y e) new m e)) (Contains-push_cases modes m x i);
-      only = λ x i. ⊎_elim inl (λ j. inr (Contains-append_left modes (m ∷ []) x j)) (so.only x i);
-      distinct = rw e at d;
-    }
-    go false e d = rw e record {
-      longer = let l = so.longer in omega (arith, length-append new (m ∷ []));
-      kept = λ k h. let l = so.longer in get_or-append new (m ∷ []) 0 k (omega arith) ∙ so.kept k h;
-      all = λ x i. ⊎_elim (λ j. Contains-append_left new (m ∷ []) x (so.all x j)) (λ f. subst (Contains (new ++ m ∷ [])) f (Contains-push new m)) (Contains-push_cases modes m x i);
-      only = λ x i. ⊎_elim (λ j. ⊎_elim inl (λ k. inr (Contains-append_left modes (m ∷ []) x k)) (so.only x j)) (λ f. inr (subst (Contains (modes ++ m ∷ [])) f (Contains-push modes m))) (Contains-push_cases new m x i);
-      distinct = rw e at d;
-    }
+-- and known
+pub known_new : (list set now : List ℕ) (m : ℕ) → AreKnown list set → list_any (nat_eq m) set ≡ false → ((x : ℕ) → list_any (nat_eq x) now ≡ cond (nat_eq m x) true (list_any (nat_eq x) set)) → AreKnown (list ++ m ∷ []) now
+known_new list set now m known none updates = record {
+  distinct = IsDistinct-push nat_eq_equiv list m known.distinct (sym (known.same m) ∙ none);
+  same = λ x. updates x ∙ go x (nat_eq m x) (nat_eq_equiv.symm x m) ∙ sym (list_any-append (nat_eq x) list (m ∷ []));
+}
+  where
+    or_true : (b : Bool) → true ≡ (b || true)
+    or_true true = refl
+    or_true false = refl
+
+    or_false : (b : Bool) → b ≡ (b || false)
+    or_false true = refl
+    or_false false = refl
+
+    go : (x : ℕ) (b : Bool) → nat_eq x m ≡ b → cond b true (list_any (nat_eq x) set) ≡ (list_any (nat_eq x) list || list_any (nat_eq x) (m ∷ []))
+    go x true e = rw e (or_true (list_any (nat_eq x) list))
+    go x false e = rw (e, known.same x) (or_false (list_any (nat_eq x) list))
 
 -- a walk that has taken the steps from the first i of what it found
 pub record Walked (nodes : List Shape) (start found : List ℕ) (i : ℕ) : Type 0 where
@@ -66,9 +84,9 @@ pub record Walked (nodes : List Shape) (start found : List ℕ) (i : ℕ) : Type
 none_in : (x : ℕ) → Contains [] x → ⊥
 none_in x i = let h = i.1 in omega arith
 
-pub walk_begun : (nodes : List Shape) (start found : List ℕ) → All (λ m. m < length nodes) start → Notes start [] found → Walked nodes start found 0
-walk_begun nodes start found below so = record {
-  distinct = so.distinct;
+pub walk_begun : (nodes : List Shape) (start found : List ℕ) → All (λ m. m < length nodes) start → IsDistinct nat_eq found → Notes start [] found → Walked nodes start found 0
+walk_begun nodes start found below distinct so = record {
+  distinct = distinct;
   below = λ x i. ⊎_elim (λ j. absurd (none_in x j)) (λ j. All-contains (λ m. m < length nodes) start x below j) (so.only x i);
   begun = so.all;
   sound = λ x i. ⊎_elim (λ j. absurd (none_in x j)) (λ j. record { from = x; begun = j; way = inl refl }) (so.only x i);
@@ -82,9 +100,9 @@ led_on nodes start a p led i = ⊎_elim
     led.way
 
 pub walk_on : (nodes : List Shape) (start found new steps : List ℕ) (i : ℕ) → IsClosed (map (steps_of WithinUnions) nodes) → length (map (steps_of WithinUnions) nodes) ≡ length nodes → i < length found
-    → steps ≡ row (map (steps_of WithinUnions) nodes) (get_or found i 0) → Walked nodes start found i → Notes steps found new → Walked nodes start new (i + 1)
-walk_on nodes start found new steps i parts long lt e w so = record {
-  distinct = so.distinct;
+    → steps ≡ row (map (steps_of WithinUnions) nodes) (get_or found i 0) → Walked nodes start found i → IsDistinct nat_eq new → Notes steps found new → Walked nodes start new (i + 1)
+walk_on nodes start found new steps i parts long lt e w distinct so = record {
+  distinct = distinct;
   below = λ x j. ⊎_elim (λ k. w.below x k) (λ k. rw long at (All-contains (λ m. m < length (map (steps_of WithinUnions) nodes)) (row (map (steps_of WithinUnions) nodes) at) x (parts at (rw long (w.below at here))) (subst (λ (s : List ℕ). Contains s x) e k))) (so.only x j);
   begun = λ x j. there x (w.begun x j);
   sound = λ x j. ⊎_elim (λ k. w.sound x k) (λ k. led_on nodes start at x (w.sound at here) (subst (λ (s : List ℕ). Contains s x) e k)) (so.only x j);
@@ -103,7 +121,7 @@ walk_on nodes start found new steps i parts long lt e w so = record {
     there x j = (j.0, (let l = so.longer in let h = j.1 in omega arith), get_or_default new j.0 x 0 (let l = so.longer in let h = j.1 in omega arith) ∙ so.kept j.0 j.1 ∙ get_or_default found j.0 0 x j.1 ∙ j.2)
 
 pub few : (nodes : List Shape) (start found : List ℕ) (i : ℕ) → Walked nodes start found i → length found ≤ length nodes
-few nodes start found i w = length-le_from_distinct_below found (length nodes) w.distinct (λ q t. w.below q (Contains-list_any nat_eq (λ x y e. exact_unsigned_eq x y e) found q t))
+few nodes start found i w = length-le_from_distinct_below found (length nodes) w.distinct (λ q t. w.below q (Contains-from_any exact_unsigned_eq q found t))
 
 pub walk_whole : (nodes : List Shape) (start found : List ℕ) (i : ℕ) → length found ≤ i → Walked nodes start found i → (x : ℕ) → Contains found x ↔ IsLed nodes start x
 walk_whole nodes start found i le w x = (w.sound x, λ led. ⊎_elim (λ e. subst (Contains found) e (w.begun led.from led.begun)) (λ v. on led.from x (w.begun led.from led.begun) v) led.way)

@@ -7,7 +7,7 @@ use Rattle.a68_equiv.specs.Unfolding.{Alike, Equivalent}
 use Rattle.a68_equiv.specs.Graph.{number_of}
 use Rattle.a68_equiv.specs.ModeKeys.{IsModeKey, HasModeKey}
 use Rattle.a68_equiv.specs.Related.{as_it_stands}
-use Rattle.a68_refine.specs.Rounds.{SoFar}
+use Rattle.a68_refine.specs.Rounds.{at_key, SoFar}
 
 -- the class of a mode
 abbrev pub class_of : List ℕ → Mode → ℕ
@@ -34,6 +34,16 @@ pub record AreKept (nodes : List Shape) (classes : Classified) : Type 0 where
   pub classes_found : SoFar (HasModeKey nodes classes.of) classes.by_key classes.of (2 * length nodes)
   pub firsts : List ℕ
   pub nodes_found : SoFar (λ m key. IsModeKey nodes classes.of (as_it_stands m) key) classes.nodes_by_key firsts (length nodes)
+
+-- two tables in which the same is found at each key; in what order they hold their entries does not matter
+abbrev pub FindsSame : List (Vec ℕ Global × ℕ) → List (Vec ℕ Global × ℕ) → Type 0
+FindsSame one other = (key : Vec ℕ Global) → at_key one key.items ≡ at_key other key.items
+
+-- the same classes, found at the same keys
+pub record AreSame (one other : Classified) : Type 0 where
+  pub of : one.of ≡ other.of
+  pub by_key : FindsSame one.by_key other.by_key
+  pub nodes_by_key : FindsSame one.nodes_by_key other.nodes_by_key
 
 -- an old node is equivalent to a new one of this shape
 abbrev pub IsAlready : List Shape → Shape → ℕ → Type 0

@@ -1,6 +1,6 @@
 -- What mode words and unions lead to.
 use Rattle.std.specs.Prelude.{◌≡◌, ◌<◌, ◌≤◌, ◌⊎◌, ◌↔◌, ℕ, List, length, map, slice_index, false, nat_eq}
-use Rattle.std.specs.List.{Contains, IsDistinct}
+use Rattle.std.specs.List.{Contains, IsDistinct, list_any}
 use Rattle.a68_modes.specs.declared.shape.Shape.{Shape}
 use Rattle.a68_modes.specs.Nodes.{shape_at}
 use Rattle.a68_equiv.specs.declared.steps.Steps.TheVariants.{WithinUnions}
@@ -22,10 +22,14 @@ pub record IsSpread (nodes : List Shape) (start : List ℕ) (x : ℕ) : Type 0 w
 abbrev pub AreLast : List Shape → List ℕ → List ℕ → Type 0
 AreLast nodes found items = (x : ℕ) → Contains items x ↔ (Contains found x × (leads_within (shape_at nodes x) ≡ false))
 
+-- a list that names each mode once, and a set of the same modes
+pub record AreKnown (list set : List ℕ) : Type 0 where
+  pub distinct : IsDistinct nat_eq list
+  pub same : (x : ℕ) → list_any (nat_eq x) set ≡ list_any (nat_eq x) list
+
 -- behind the old modes stand those of these that were not among them
 pub record Notes (modes old new : List ℕ) : Type 0 where
   pub longer : length old ≤ length new
   pub kept : (k : ℕ) → k < length old → slice_index new k ≡ slice_index old k
   pub all : (x : ℕ) → Contains modes x → Contains new x
   pub only : (x : ℕ) → Contains new x → Contains old x ⊎ Contains modes x
-  pub distinct : IsDistinct nat_eq new

@@ -11,8 +11,8 @@ use crate::steps::{Steps, row};
 use a68_base::NoMemory;
 use a68_modes::{ModeId, Modes, Shape};
 use a68_refine::{Row, Table, numbered};
-use indexmap::IndexMap;
 use std::alloc::Global;
+use std::collections::HashMap;
 
 /// The node behind the mode words of each node.
 pub fn behind_words(alloc: Global, modes: &Modes) -> Result<Vec<ModeId>, NoMemory>
@@ -56,7 +56,7 @@ fn constructors(alloc: Global, modes: &Modes, behind: &[ModeId]) -> Result<Vec<u
     requires { AreBehind modes.now behind.now }
     ensures { IfOk result (λ heads. ByFirst (2 * length modes.now) (HasCode modes.now) heads.items) }
 {
-    let mut table: Table = IndexMap::new(alloc);
+    let mut table: Table = HashMap::new(alloc);
     let mut heads = Vec::new(alloc);
     number_constructors(alloc, modes, behind, &mut table, &mut heads)?;
     Ok(heads)

@@ -1,10 +1,10 @@
 //! The node of a shape over nodes that are there.
 ghost use Rattle.std.specs.Prelude.{◌≡◌, ◌≢◌, ◌<◌, ◌≤◌, ◌+◌, ◌*◌, ◌↔◌, ◌++◌, ◌∷◌, [], ℕ, List, Vec, true, IfOk, OnOk, OnErr, Err, length, vec_len, vec_capacity};
 ghost use Rattle.std.specs.Global.{Global};
-ghost use Rattle.indexmap.specs.IndexMap.{spare};
+ghost use Rattle.std.specs.HashMap.{spare};
 ghost use Rattle.a68_modes.specs.Nodes.{IsWithin, HoldsNodes};
 ghost use Rattle.a68_modes.specs.declared.modes.ModeStop.TheVariants.{Full, NoMemory as no_memory};
-ghost use Rattle.a68_equiv.specs.Classes.{AreKept, IsAlready, IsNodeOf, IsNewNode};
+ghost use Rattle.a68_equiv.specs.Classes.{AreKept, AreSame, FindsSame, IsAlready, IsNodeOf, IsNewNode};
 ghost use Rattle.a68_equiv.specs.NewNodes.{AreNewKeys, IsFound, IsJoined};
 ghost use Rattle.a68_refine.specs.Rounds.{IsNumbered};
 ghost use Rattle.a68_equiv.specs.Ways.{AreWellFormed};
@@ -17,8 +17,8 @@ use a68_refine::{Table, numbered};
 use std::alloc::Global;
 
 /// The node of a shape over nodes that are there: the first that is equivalent, or a new one behind the others where
-/// none is. The classes stay those of the modes. Full where a new node is one too many; an error leaves both as they
-/// were.
+/// none is. The classes stay those of the modes. Full where a new node is one too many; an error leaves the modes as they
+/// were, and the same classes at the same keys.
 pub fn intern(
     alloc: Global,
     modes: &mut Modes,
@@ -33,7 +33,7 @@ pub fn intern(
     ensures kept { AreKept modes.new classes.new }
     ensures full { result ≢ Err no_memory → (result ≡ Err Full) ↔ ((length modes.old ≡ 16777216) × ((a : ℕ) → a < length modes.old → IsAlready modes.old shape a → ⊥)) }
     ensures modes_stay { OnErr result (modes.new ≡ modes.old) }
-    ensures classes_stay { OnErr result (classes.new ≡ classes.old) }
+    ensures classes_stay { OnErr result (AreSame classes.new classes.old) }
 {
     match looked_up(alloc, modes, classes, &shape) {
         Ok(Found::Old(id)) => {
@@ -102,7 +102,7 @@ fn add(
     ensures kept { AreKept modes.new classes.new }
     ensures full { result ≢ Err no_memory → (result ≡ Err Full) ↔ (length modes.old ≡ 16777216) }
     ensures modes_stay { OnErr result (modes.new ≡ modes.old) }
-    ensures classes_stay { OnErr result (classes.new ≡ classes.old) }
+    ensures classes_stay { OnErr result (AreSame classes.new classes.old) }
 {
     if make_room(&mut classes.items, &mut classes.keys, &mut classes.nodes).is_err() {
         drop(shape);
@@ -137,8 +137,8 @@ fn join(classes: &mut Vec<u32>, by_key: &mut Table, nodes: &mut Table, keys: New
 /// Makes room for one node more.
 fn make_room(items: &mut Vec<u32>, keys: &mut Table, nodes: &mut Table) -> Result<(), NoMemory>
     ensures items { items.new.items ≡ items.old.items }
-    ensures keys { keys.new.entries ≡ keys.old.entries }
-    ensures nodes { nodes.new.entries ≡ nodes.old.entries }
+    ensures keys { FindsSame keys.new.entries keys.old.entries }
+    ensures nodes { FindsSame nodes.new.entries nodes.old.entries }
     ensures items_room { OnOk result (vec_len items.new + 2 ≤ vec_capacity items.new) }
     ensures keys_room { OnOk result (2 ≤ spare keys.new) }
     ensures nodes_room { OnOk result (1 ≤ spare nodes.new) }

@@ -16,8 +16,8 @@ use crate::steps::{Steps, row};
 use a68_base::NoMemory;
 use a68_modes::{Modes, Shape};
 use a68_refine::{Row, Table, numbered, row_key};
-use indexmap::IndexMap;
 use std::alloc::Global;
+use std::collections::HashMap;
 
 /// The key of a mode of this shape, which is behind all mode words, with this row.
 fn key_of(
@@ -84,7 +84,7 @@ pub fn classes_by_key(
     requires own { (v : ℕ) → v < 2 * length modes.now → slice_index classes.now (slice_index classes.now v) ≡ slice_index classes.now v }
     ensures { IfOk result (λ table. SoFar (HasModeKey modes.now classes.now) table.entries classes.now (2 * length modes.now)) }
 {
-    let mut table: Table = IndexMap::new(alloc);
+    let mut table: Table = HashMap::new(alloc);
     for i in 0..2 * modes.len() {
         let key = mode_key(alloc, modes, graph, classes, i)?;
         numbered(&mut table, key, i)?;
@@ -104,7 +104,7 @@ pub fn nodes_by_key(
     requires long { length classes.now ≡ 2 * length modes.now }
     ensures { IfOk result (λ table. (firsts : List ℕ) × SoFar (λ m key. IsModeKey modes.now classes.now (as_it_stands m) key) table.entries firsts (length modes.now)) }
 {
-    let mut table: Table = IndexMap::new(alloc);
+    let mut table: Table = HashMap::new(alloc);
     for id in 0..modes.len() {
         let key = mode_key(alloc, modes, graph, classes, number(Mode::as_it_stands(id)))?;
         numbered(&mut table, key, id)?;

@@ -1,15 +1,15 @@
 //! What mode words and unions lead to.
-ghost use Rattle.std.specs.Prelude.{◌≡◌, ◌<◌, ◌↔◌, ℕ, [], IfOk, OnOk, IsTrue, length, nat_eq};
-ghost use Rattle.std.specs.List.{All, Contains, IsDistinct};
+ghost use Rattle.std.specs.Prelude.{◌≡◌, ◌<◌, ◌↔◌, ℕ, [], IfOk, OnOk, IsTrue, length};
+ghost use Rattle.std.specs.List.{All, Contains};
 ghost use Rattle.a68_equiv.specs.Graph.{ArePlain};
-ghost use Rattle.a68_equiv.specs.Spread.{AreLast, IsLed, IsSpread, Notes};
+ghost use Rattle.a68_equiv.specs.Spread.{AreLast, IsLed, IsSpread, AreKnown, Notes};
 ghost use Rattle.a68_equiv.specs.Unfolding.{leads_within, is_union as is_union_lem};
 
 use crate::steps::{Steps, row};
 use a68_base::NoMemory;
 use a68_modes::{Members, ModeId, Modes, Shape};
-use indexmap::IndexSet;
 use std::alloc::Global;
+use std::collections::HashSet;
 
 /// What these modes are where the members of a union stand in its place, and the mode of a mode word in the place of
 /// that; each mode at least once.
@@ -23,7 +23,7 @@ pub fn spread(alloc: Global, modes: &Modes, start: &[ModeId]) -> Result<Members,
         return Ok(plain);
     }
     let found = led(alloc, modes, start)?;
-    let members = last_of(alloc, modes, found.as_slice())?;
+    let members = last_of(alloc, modes, &found)?;
     Ok(members)
 }
 
@@ -43,47 +43,56 @@ fn last_of(alloc: Global, modes: &Modes, found: &[ModeId]) -> Result<Members, No
 }
 
 /// These modes, and those to which they lead by mode words and unions, each once.
-fn led(alloc: Global, modes: &Modes, start: &[ModeId]) -> Result<IndexSet<ModeId>, NoMemory>
+fn led(alloc: Global, modes: &Modes, start: &[ModeId]) -> Result<Vec<ModeId>, NoMemory>
     requires { All (λ m. m < length modes.now) start.now }
-    ensures led { IfOk result (λ found. (x : ℕ) → Contains found.keys x ↔ IsLed modes.now start.now x) }
-    ensures below { IfOk result (λ found. All (λ m. m < length modes.now) found.keys) }
+    ensures led { IfOk result (λ found. (x : ℕ) → Contains found.items x ↔ IsLed modes.now start.now x) }
+    ensures below { IfOk result (λ found. All (λ m. m < length modes.now) found.items) }
 {
-    let mut found = IndexSet::new(alloc);
-    lead(alloc, modes, start, &mut found)?;
+    let mut found = Vec::new(alloc);
+    let mut known = HashSet::new(alloc);
+    lead(alloc, modes, start, &mut found, &mut known)?;
     Ok(found)
 }
 
-/// Notes in a set that is empty these modes, and those to which they lead by mode words and unions.
+/// Notes in a list that is empty these modes, and those to which they lead by mode words and unions.
 fn lead(
     alloc: Global,
     modes: &Modes,
     start: &[ModeId],
-    found: &mut IndexSet<ModeId>,
+    found: &mut Vec<ModeId>,
+    known: &mut HashSet<ModeId>,
 ) -> Result<(), NoMemory>
     requires start { All (λ m. m < length modes.now) start.now }
-    requires empty { found.old.keys ≡ [] }
-    requires distinct { IsDistinct nat_eq found.old.keys }
-    ensures led { OnOk result ((x : ℕ) → Contains found.new.keys x ↔ IsLed modes.now start.now x) }
-    ensures below { OnOk result (All (λ m. m < length modes.now) found.new.keys) }
+    requires empty { found.old.items ≡ [] }
+    requires known { AreKnown found.old.items known.old.keys }
+    ensures led { OnOk result ((x : ℕ) → Contains found.new.items x ↔ IsLed modes.now start.now x) }
+    ensures below { OnOk result (All (λ m. m < length modes.now) found.new.items) }
 {
-    note(found, start)?;
+    note(found, known, start)?;
     let mut i = 0;
     while i < found.len() {
         let at = found[i];
         let steps = row(alloc, Steps::WithinUnions, modes.shape(at))?;
-        note(found, &steps.items)?;
+        note(found, known, &steps.items)?;
         i += 1;
     }
     Ok(())
 }
 
 /// Notes these modes behind the others, each once.
-fn note(found: &mut IndexSet<ModeId>, modes: &[ModeId]) -> Result<(), NoMemory>
-    requires { IsDistinct nat_eq found.old.keys }
-    ensures { OnOk result (Notes modes.now found.old.keys found.new.keys) }
+fn note(
+    found: &mut Vec<ModeId>,
+    known: &mut HashSet<ModeId>,
+    modes: &[ModeId],
+) -> Result<(), NoMemory>
+    requires { AreKnown found.old.items known.old.keys }
+    ensures notes { OnOk result (Notes modes.now found.old.items found.new.items) }
+    ensures known { OnOk result (AreKnown found.new.items known.new.keys) }
 {
     for mode in modes {
-        found.insert(*mode)?;
+        if known.insert(*mode)? {
+            found.push(*mode)?;
+        }
     }
     Ok(())
 }

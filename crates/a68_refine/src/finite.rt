@@ -9,8 +9,8 @@ ghost use Rattle.a68_refine.specs.Rounds.{IsWired, IsCoarse};
 use crate::rounds::{Table, numbered, row_key};
 use crate::row::Row;
 use a68_base::NoMemory;
-use indexmap::IndexMap;
 use std::alloc::Global;
+use std::collections::HashMap;
 
 /// The class of a number that has none.
 pub const NONE: u32 = u32::MAX;
@@ -38,7 +38,7 @@ fn ended(alloc: Global, heads: &[u32], rows: &[Row]) -> Result<Vec<u32>, NoMemor
     ensures { IfOk result (λ classes. (table : List (Vec ℕ Global × ℕ)) × Ended heads.now rows.now table classes.items) }
 {
     let mut classes: Vec<u32> = vec![in alloc; NONE; rows.len()]?;
-    let mut table: Table = IndexMap::new(alloc);
+    let mut table: Table = HashMap::new(alloc);
     walk_all(alloc, heads, rows, &mut table, &mut classes)?;
     Ok(classes)
 }

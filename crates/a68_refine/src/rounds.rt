@@ -1,6 +1,6 @@
 //! Classes by refinement, round by round.
 ghost use Rattle.std.specs.Prelude.{◌≡◌, ◌≢◌, ◌<◌, ◌≤◌, ◌+◌, ◌∷◌, ◌^◌, ℕ, Vec, IfOk, IsOk, OnOk, Some, length, map, slice_index, unwrap_or};
-ghost use Rattle.indexmap.specs.IndexMap.{spare};
+ghost use Rattle.std.specs.HashMap.{spare};
 ghost use Rattle.std.specs.Global.{Global};
 ghost use Rattle.std.specs.List.{All};
 ghost use Rattle.a68_refine.specs.Rounds.{at_key, ByFirst, IsSetOf, IsRowKey, HasRowKey, IsWired, IsRefined, SoFar};
@@ -9,11 +9,11 @@ ghost use Rattle.a68_refine.specs.Rows.{row_at};
 use crate::row::Row;
 use crate::split::start;
 use a68_base::NoMemory;
-use indexmap::IndexMap;
 use std::alloc::Global;
+use std::collections::HashMap;
 
 /// The numbers of keys.
-pub type Table = IndexMap<Vec<u32>, u32>;
+pub type Table = HashMap<Vec<u32>, u32>;
 
 /// The class of each number of a graph: one class exactly where the unfoldings are equal at every depth.
 pub fn refine(alloc: Global, heads: &[u32], rows: &[Row]) -> Result<Vec<u32>, NoMemory>
@@ -38,7 +38,7 @@ fn round(alloc: Global, rows: &[Row], classes: &[u32]) -> Result<Vec<u32>, NoMem
     requires closed { (v : ℕ) → v < length rows.now → All (λ w. w < length rows.now) (row_at rows.now v).1 }
     ensures { IfOk result (λ next. ByFirst (length rows.now) (HasRowKey rows.now classes.now) next.items) }
 {
-    let mut table: Table = IndexMap::new(alloc);
+    let mut table: Table = HashMap::new(alloc);
     let mut next = Vec::new(alloc);
     number_rows(alloc, rows, classes, &mut table, &mut next)?;
     Ok(next)

@@ -8,8 +8,8 @@ use crate::finite::{NONE, finite};
 use crate::rounds::{Table, numbered};
 use crate::row::Row;
 use a68_base::NoMemory;
-use indexmap::IndexMap;
 use std::alloc::Global;
+use std::collections::HashMap;
 
 /// Up to so many numbers the rounds begin with classes that are split already, where some unfoldings do not end.
 const SMALL: usize = 20_000;
@@ -40,7 +40,7 @@ fn joined(alloc: Global, heads: &[u32], classes: &[u32]) -> Result<Vec<u32>, NoM
     requires long { length classes.now ≡ length heads.now }
     ensures { IfOk result (λ next. ByFirst (length heads.now) (λ v key. key ≡ slice_index heads.now v ∷ slice_index classes.now v ∷ []) next.items) }
 {
-    let mut table: Table = IndexMap::new(alloc);
+    let mut table: Table = HashMap::new(alloc);
     let mut next = Vec::new(alloc);
     number_pairs(alloc, heads, classes, &mut table, &mut next)?;
     Ok(next)

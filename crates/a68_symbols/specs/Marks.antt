@@ -2,6 +2,7 @@
 use Rattle.std.specs.Prelude.{ℕ, Bool, false, ◌||◌, ◌&&◌, codes, nat_eq, List, [], ◌∷◌}
 use Rattle.std.specs.List.{list_any}
 
+-- the byte is one of these
 abbrev pub is_one_of : List ℕ → ℕ → Bool
 is_one_of bytes b = list_any (λ byte. nat_eq byte b) bytes
 
@@ -9,9 +10,11 @@ is_one_of bytes b = list_any (λ byte. nat_eq byte b) bytes
 abbrev pub is_lone : ℕ → Bool
 is_lone b = is_one_of (codes ":|()[],;@") b
 
+-- the marks that are called monads (Report, 9.4.2.1)
 abbrev pub is_monad : ℕ → Bool
 is_monad b = is_one_of (codes "+-&%^!?") b
 
+-- and those that are called nomads
 abbrev pub is_nomad : ℕ → Bool
 is_nomad b = is_one_of (codes "<>/=*") b
 

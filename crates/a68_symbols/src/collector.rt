@@ -15,7 +15,7 @@ use std::marker::Model;
 #[derive(Drop)]
 pub struct Collector {
     items: Vec<Symbol>,
-    names: IndexSet<Spelling>,
+    spellings: IndexSet<Spelling>,
 }
 
 impl Model for Collector {
@@ -24,9 +24,9 @@ impl Model for Collector {
 
     ghost Value = { Named };
 
-    ghost view = { λ s. record { symbols = s.items.items; spellings = map spelled_of s.names.keys } };
+    ghost view = { λ s. record { symbols = s.items.items; spellings = map spelled_of s.spellings.keys } };
 
-    ghost invariant = { λ s. IsSound s.items.items s.names.keys };
+    ghost invariant = { λ s. IsSound s.items.items s.spellings.keys };
 }
 
 // What spells a stretch: all of a string, and of any other symbol what is no layout.
@@ -47,7 +47,7 @@ impl Collector {
     {
         Collector {
             items: Vec::new(alloc),
-            names: IndexSet::new(alloc),
+            spellings: IndexSet::new(alloc),
         }
     }
 
@@ -71,7 +71,7 @@ impl Collector {
     {
         self.items.reserve(1)?;
         let bytes = spell(alloc, kind, stretch)?;
-        let (index, _) = self.names.insert_full(Spelling { kind, bytes })?;
+        let (index, _) = self.spellings.insert_full(Spelling { kind, bytes })?;
         self.items.push(Symbol {
             kind,
             span,
@@ -84,8 +84,8 @@ impl Collector {
     pub fn finish(self, alloc: Global) -> Result<Symbols, NoMemory>
         ensures { IfOk result (λ found. found ≡ self) }
     {
-        let Collector { items, names } = self;
-        let names = names.into_iter().collect(alloc)?;
-        Ok(Symbols { items, names })
+        let Collector { items, spellings } = self;
+        let spellings = spellings.into_iter().collect(alloc)?;
+        Ok(Symbols { items, spellings })
     }
 }

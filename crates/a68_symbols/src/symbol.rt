@@ -41,7 +41,7 @@ pub struct Spelling {
 #[derive(Drop)]
 pub struct Symbols {
     pub(crate) items: Vec<Symbol>,
-    pub(crate) names: Vec<Spelling>,
+    pub(crate) spellings: Vec<Spelling>,
 }
 
 impl Model for Symbols {
@@ -50,9 +50,9 @@ impl Model for Symbols {
 
     ghost Value = { Named };
 
-    ghost view = { λ s. record { symbols = s.items.items; spellings = map spelled_of s.names.items } };
+    ghost view = { λ s. record { symbols = s.items.items; spellings = map spelled_of s.spellings.items } };
 
-    ghost invariant = { λ s. IsSound s.items.items s.names.items };
+    ghost invariant = { λ s. IsSound s.items.items s.spellings.items };
 }
 
 impl Symbols {
@@ -77,7 +77,7 @@ impl Symbols {
         requires { name < length self.now.spellings }
         ensures { option_map (λ s. s.bytes) (slice_get self.now.spellings name) ≡ Some result.now }
     {
-        match self.names.get(name as usize) {
+        match self.spellings.get(name as usize) {
             Some(spelling) => &spelling.bytes,
             None => &[],
         }

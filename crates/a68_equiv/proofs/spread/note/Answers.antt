@@ -1,12 +1,34 @@
-use Rattle.std.proofs.Common.{◌<◌, length, arith}
+use Rattle.std.proofs.Common.{◌≡◌, ◌<◌, ◌∙◌, Bool, true, false, not, length, refl, sym, arith}
 use Rattle.std.proofs.lemmas.List.{take_more}
-use Rattle.a68_equiv.proofs.Spreading.{none_noted, one_noted}
+use Rattle.a68_equiv.proofs.Spreading.{none_noted, noted_again, noted_new, known_new}
 use Rattle.a68_equiv.proofs.spread.note.Goals as goal
+use Rattle.a68_equiv.proofs.spread.note.Goals.{then-branch+in_ok-push, else-branch}
+
+was_out : (added was : Bool) → added ≡ not was → added ≡ true → was ≡ false
+was_out added true e is = let f : true ≡ false = sym is ∙ e in cc
+was_out added false e is = refl
+
+was_in : (added was : Bool) → added ≡ not was → added ≡ false → was ≡ true
+was_in added true e is = refl
+was_in added false e is = let f : false ≡ true = sym is ∙ e in cc
 
 pub loop-mode-init : goal.loop-mode-init
-loop-mode-init c = none_noted c.args.found.now.keys c.requires
+loop-mode-init c = record { notes = none_noted c.args.found.now.items; known = c.requires }
 
 pub loop-mode-preserved : goal.loop-mode-preserved
 loop-mode-preserved c =
     let lt : c.loop-mode.mode-index < length c.args.modes.now = omega arith in
-    rw (take_more c.args.modes.now c.loop-mode.mode-index 0 lt, c.in_ok-insert.ensures.keys) (one_noted _ _ _ _ c.loop-mode.invariant (rw c.in_ok-insert.ensures.keys at c.in_ok-insert.ensures.unique))
+    let more = take_more c.args.modes.now c.loop-mode.mode-index 0 lt in
+    let known = c.loop-mode.invariant.known in
+    elim c.if-branch.branch [
+      | then-branch+in_ok-push w ↦ record {
+        notes = rw (more, w.found-is, w.in_ok-push.ensures.items) (noted_new _ _ _ _ c.loop-mode.invariant.notes);
+        known = rw (w.found-is, w.in_ok-push.ensures.items) (known_new _ _ _ _ known (was_out _ _ c.in_ok-insert.ensures.added w.if-branch.true) c.in_ok-insert.ensures.updates.0);
+      }
+      | else-branch w ↦
+          let same : c.insert.new.self.keys ≡ c.loop-mode.known.keys = rw w.if-branch.false at c.in_ok-insert.ensures.unchanged in
+          record {
+            notes = rw (more, w.found-is) (noted_again _ _ _ _ c.loop-mode.invariant.notes (sym (known.same _) ∙ was_in _ _ c.in_ok-insert.ensures.added w.if-branch.false));
+            known = rw (w.found-is, same) known;
+          }
+    ]

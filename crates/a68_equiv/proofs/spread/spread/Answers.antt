@@ -9,11 +9,11 @@ returns-then-are_plain-clause-members c = rw c.in_ok-plain.ensures (plain_spread
 pub returns-clause-members : goal.returns-clause-members
 returns-clause-members c =
     let nodes = c.args.modes.now in
-    let last = subst (λ (xs : List ℕ). AreLast nodes xs c.in_ok-members.members) c.as_slice.ensures.keys c.in_ok-members.ensures in
-    spread_whole nodes c.args.start.now c.in_ok-found.found.keys c.in_ok-members.members c.in_ok-found.ensures.led last
+    let last = subst (λ (xs : List ℕ). AreLast nodes xs c.in_ok-members.members) c.deref.ensures.value c.in_ok-members.ensures in
+    spread_whole nodes c.args.start.now c.in_ok-found.found.items c.in_ok-members.members c.in_ok-found.ensures.led last
 
 pub returns-clause-below : goal.returns-clause-below
 returns-clause-below c =
     let nodes = c.args.modes.now in
-    let last = subst (λ (xs : List ℕ). AreLast nodes xs c.in_ok-members.members) c.as_slice.ensures.keys c.in_ok-members.ensures in
-    spread_below nodes c.in_ok-found.found.keys c.in_ok-members.members last c.in_ok-found.ensures.below
+    let last = subst (λ (xs : List ℕ). AreLast nodes xs c.in_ok-members.members) c.deref.ensures.value c.in_ok-members.ensures in
+    spread_below nodes c.in_ok-found.found.items c.in_ok-members.members last c.in_ok-found.ensures.below
