@@ -8,7 +8,7 @@ use std::process::Abort;
 /// Codes: + where the machine runs it, what is to be seen in it, and its instructions. Push pushes an INT. The modes
 /// are the standard ones: 0 VOID, 1 INT, 6 layout, 7 `[] CHAR`, 8 a union, 9 REF INT; there are 13.
 const CASES: &str = "\
-+ BEGIN INT x := 5; print(x) END | Enter 1, Make 1 0, Push, Store 1, Bind 0, Tag 0 0, Deref 1, Print 1, Leave 0, End
++ BEGIN INT x := 5; print(x) END | Enter 1, Make 1 0, Push 5, Store 1, Bind 0, Tag 0 0, Deref 1, Print 1, Leave 0, End
 - nothing |
 + SKIP | End
 - a landing outside | Jump 2, End

@@ -86,20 +86,19 @@ fn instruction(form: Form, one: u32, two: u32) -> Does {
     }
 }
 
-// A word and what stands behind it; the default where nothing does.
-fn apart<'a>(text: &'a str, default: &'a str) -> (&'a str, &'a str) {
-    text.split_once(' ').unwrap_or((text, default))
+// A word and what stands behind it, 0 where nothing does.
+fn apart(text: &str) -> (&str, &str) {
+    text.split_once(' ').unwrap_or((text, "0"))
 }
 
 fn number(rt: &impl Abort, word: &str) -> u32 {
     word.parse().expect(rt, "a number")
 }
 
-// Push alone pushes 5, and a number that is left out is 0.
+// A number that is left out is 0.
 fn does(rt: &impl Abort, op: &str) -> Does {
-    let default = if op == "Push" { "5" } else { "0" };
-    let (name, numbers) = apart(op, default);
-    let (one, two) = apart(numbers, "0");
+    let (name, numbers) = apart(op);
+    let (one, two) = apart(numbers);
     let form = find(FORMS, name.as_bytes()).expect(rt, "an instruction");
     instruction(form, number(rt, one), number(rt, two))
 }
@@ -111,7 +110,7 @@ fn instructions(rt: &impl Abort, alloc: Global, ops: &str) -> Instrs {
         let op = op.trim();
         if !op.is_empty() {
             let does = does(rt, op);
-            items.push(Instr { place, does }).ok().expect(rt, "memory");
+            items.push(Instr { place, does }).expect(rt, "memory");
             place = place.saturating_add(1);
         }
     }
@@ -122,10 +121,8 @@ fn instructions(rt: &impl Abort, alloc: Global, ops: &str) -> Instrs {
 pub fn code_of(rt: &impl Abort, alloc: Global, ops: &str) -> Code {
     let modes = Modes::new(alloc).expect(rt, "memory");
     let list = instructions(rt, alloc, ops);
-    let texts = Vec::new(alloc);
-    Code {
-        list,
-        texts: Routines { items: texts },
-        modes,
-    }
+    let texts = Routines {
+        items: Vec::new(alloc),
+    };
+    Code { list, texts, modes }
 }

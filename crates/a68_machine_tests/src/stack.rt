@@ -65,8 +65,9 @@ fn gives_many(rt: &impl Abort, alloc: Global, stack: &mut Stack) {
 
 // The other two, and no more.
 fn gives_two(rt: &impl Abort, stack: &mut Stack) {
-    let two = stack.pop_two().expect(rt, "two values");
-    let given = (plain(&two.0), plain(&two.1));
+    let (one, two) = stack.pop_two().expect(rt, "two values");
+    let given = (plain(&one), plain(&two));
+    drop(one);
     drop(two);
     let more = stack.pop();
     let no_more = more.is_none();

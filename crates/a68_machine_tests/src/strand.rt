@@ -25,16 +25,18 @@ fn begun(rt: &impl Abort, alloc: Global, code: &Code) -> Strand {
     Strand::begin(alloc, code, 0, 0, Chain { items }).expect(rt, "memory")
 }
 
-// What a strand asks.
-fn asked(rt: &impl Abort, alloc: Global, strand: &Strand) -> String {
-    match strand.ask() {
+// Whether a strand asks what is told.
+fn asks(rt: &impl Abort, alloc: Global, strand: &Strand, told: &str) {
+    let asked = match strand.ask() {
         Ask::Want(want) => shown::act(rt, alloc, want),
         Ask::Fault { kind, place } => {
             format!(in alloc; "{kind:?} at {place}").expect(rt, "memory")
         }
         Ask::Ended => String::from_str(alloc, "End").expect(rt, "memory"),
         _ => String::from_str(alloc, "another").expect(rt, "memory"),
-    }
+    };
+    agrees(rt, &asked, told, told);
+    drop(asked);
 }
 
 fn wants_a_reply(strand: &Strand) -> bool
@@ -76,26 +78,30 @@ fn tell(rt: &impl Abort, alloc: Global, code: &Code, strand: &mut Strand, told: 
     done.expect(rt, "memory");
 }
 
-// Whether a strand asks for each act, and what it asks when it was told the reply to each.
-fn goes_on(rt: &impl Abort, alloc: Global, code: &Code, strand: &mut Strand, acts: &str) -> String {
+// Whether a strand asks for each act, and comes to this end when it was told the reply to each.
+fn goes_on(
+    rt: &impl Abort,
+    alloc: Global,
+    code: &Code,
+    strand: &mut Strand,
+    acts: &str,
+    end: &str,
+) {
     for line in acts.lines() {
         let (act, told) = cut(rt, line, " = ");
-        let asked = asked(rt, alloc, strand);
-        agrees(rt, &asked, act, act);
-        drop(asked);
+        asks(rt, alloc, strand, act);
         tell(rt, alloc, code, strand, told);
     }
-    asked(rt, alloc, strand)
+    asks(rt, alloc, strand, end);
 }
 
 // The same for a strand at the beginning of a code.
-fn run(rt: &impl Abort, alloc: Global, ops: &str, acts: &str) -> String {
+fn run(rt: &impl Abort, alloc: Global, ops: &str, acts: &str, end: &str) {
     let code = code_of(rt, alloc, ops);
     let mut strand = begun(rt, alloc, &code);
-    let end = goes_on(rt, alloc, &code, &mut strand, acts);
+    goes_on(rt, alloc, &code, &mut strand, acts, end);
     drop(strand);
     drop(code);
-    end
 }
 
 #[test]
@@ -105,9 +111,7 @@ fn prints(rt: HostRuntime) {
     let mut strand = begun(&rt, alloc, &code);
     let begun = (strand.number(), strand.place());
     let acts = "Print \"                  +3\" = Go";
-    let end = goes_on(&rt, alloc, &code, &mut strand, acts);
-    agrees(&rt, &end, "End", acts);
-    drop(end);
+    goes_on(&rt, alloc, &code, &mut strand, acts, "End");
     let has_one = strand.chain().items.as_slice() == [STANDARD].as_slice();
     let ended = (strand.spent(), has_one);
     drop(strand);
@@ -136,13 +140,12 @@ Print \"                  +5\" = Done
 
 #[test]
 fn goes_on_with_replies(rt: HostRuntime) {
-    let end = run(&rt, rt.alloc(), PRINTING, ACTS);
-    agrees(&rt, &end, "End", PRINTING);
+    run(&rt, rt.alloc(), PRINTING, ACTS, "End");
 }
 
 // A reply of another kind than the one that is waited for.
 #[test]
 fn meets_kind(rt: HostRuntime) {
-    let end = run(&rt, rt.alloc(), "Skip 0, Tag 0 0, End", "Look 0 0 = Go");
-    agrees(&rt, &end, "Kind at 1", "a reply of another kind");
+    let ops = "Skip 0, Tag 0 0, End";
+    run(&rt, rt.alloc(), ops, "Look 0 0 = Go", "Kind at 1");
 }

@@ -4,31 +4,18 @@ ghost use Rattle.a68_code.specs.Valid.{IsValid};
 
 use crate::codes::code_of;
 use crate::shown::plain_in;
-use crate::table::{agrees, cut, holds};
+use crate::table::{agrees, holds};
 use a68_code::Code;
-use a68_values::{End, Entry, Kept, Plain};
+use a68_values::{End, Entry, FaultKind, Kept, Plain};
 use a68_world::{Turned, World, run};
 use std::alloc::Global;
 use std::panic::Expect;
 use std::process::Abort;
 use std::string::String;
 
-/// Runs: the instructions, the fuel, how many events there are, and the end. The number of an instruction is its place.
-const RUNS: &str = "\
-End | 1 | 0 | Done
-Enter 1, Make 1 0, Push, Store 1, Bind 0, Tag 0 0, Deref 1, Print 1, Leave 0, End | 7 | 7 | Done
-Enter 1, Make 1 0, Push, Store 1, Bind 0, Tag 0 0, Deref 1, Print 1, Leave 0, End | 6 | 6 | Spent
-Enter 1, Make 1 0, Bind 0, Tag 0 0, Deref 1, Print 1, Leave 0, End | 9 | 5 | Fault { kind: Unset, place: 5, strand: 0 }
-Enter 1, Make 1 0, Bind 0, Tag 0 0, Deref 1, Print 1, Leave 0, End | 5 | 5 | Fault { kind: Unset, place: 5, strand: 0 }
-Enter 1, Tag 0 0, Drop, Leave 0, End | 1 | 1 | Fault { kind: Unset, place: 1, strand: 0 }
-Enter 1, Tag 0 1, Drop, Leave 0, End | 9 | 1 | Fault { kind: Kind, place: 1, strand: 0 }
-Enter 4194304, Enter 1, Leave 0, Leave 0, End | 9 | 1 | Fault { kind: Cells, place: 1, strand: 0 }
-Push, Push, Skip 1, Counter, Step 8, Turn, Skip 0, Advance 4, Forget, End | 3 | 3 | Spent
-";
-
 /// BEGIN INT x := 5; print(x) END
 const PRINTING: &str =
-    "Enter 1, Make 1 0, Push, Store 1, Bind 0, Tag 0 0, Deref 1, Print 1, Leave 0, End";
+    "Enter 1, Make 1 0, Push 5, Store 1, Bind 0, Tag 0 0, Deref 1, Print 1, Leave 0, End";
 
 /// Its journal.
 const JOURNAL: &str = "\
@@ -41,8 +28,54 @@ Fetch { cell: 0 }
 Print { from: 0, to: 20 }
 ";
 
+/// BEGIN INT x; print(x) END
+const UNSET: &str = "Enter 1, Make 1 0, Bind 0, Tag 0 0, Deref 1, Print 1, Leave 0, End";
+
 /// ( DO SKIP OD )
-const ENDLESS: &str = "Push, Push, Skip 1, Counter, Step 8, Turn, Skip 0, Advance 4, Forget, End";
+const ENDLESS: &str =
+    "Push 5, Push 5, Skip 1, Counter, Step 8, Turn, Skip 0, Advance 4, Forget, End";
+
+const UNSET_AT_5: End = End::Fault {
+    kind: FaultKind::Unset,
+    place: 5,
+    strand: 0,
+};
+
+const UNSET_AT_1: End = End::Fault {
+    kind: FaultKind::Unset,
+    place: 1,
+    strand: 0,
+};
+
+const KIND_AT_1: End = End::Fault {
+    kind: FaultKind::Kind,
+    place: 1,
+    strand: 0,
+};
+
+const CELLS_AT_1: End = End::Fault {
+    kind: FaultKind::Cells,
+    place: 1,
+    strand: 0,
+};
+
+/// Runs: the instructions, the fuel, how many events there are, and the end. The number of an instruction is its place.
+const RUNS: &[(&str, u32, u64, End)] = &[
+    ("End", 1, 0, End::Done),
+    (PRINTING, 7, 7, End::Done),
+    (PRINTING, 6, 6, End::Spent),
+    (UNSET, 9, 5, UNSET_AT_5),
+    (UNSET, 5, 5, UNSET_AT_5),
+    ("Enter 1, Tag 0 0, Drop, Leave 0, End", 1, 1, UNSET_AT_1),
+    ("Enter 1, Tag 0 1, Drop, Leave 0, End", 9, 1, KIND_AT_1),
+    (
+        "Enter 4194304, Enter 1, Leave 0, Leave 0, End",
+        9,
+        1,
+        CELLS_AT_1,
+    ),
+    (ENDLESS, 3, 3, End::Spent),
+];
 
 // The code of these instructions, which is valid.
 fn valid_code(rt: &impl Abort, alloc: Global, ops: &str) -> Code
@@ -82,33 +115,21 @@ fn turn_on(alloc: Global, world: &mut World) -> Option<End> {
     None
 }
 
-// How many events such a run has, and its end.
-fn outcome(rt: &impl Abort, alloc: Global, ops: &str, fuel: &str) -> String {
-    let fuel = fuel.parse().expect(rt, "a number");
-    let mut world = world(rt, alloc, ops, fuel);
-    let end = turn_on(alloc, &mut world).expect(rt, "an end");
-    let events = world.events();
-    drop(world);
-    format!(in alloc; "{events} | {end:?}").expect(rt, "memory")
-}
-
 #[test]
 fn runs(rt: HostRuntime) {
     let alloc = rt.alloc();
-    for line in RUNS.lines() {
-        let (ops, rest) = cut(&rt, line, " | ");
-        let (fuel, expected) = cut(&rt, rest, " | ");
-        let came = outcome(&rt, alloc, ops, fuel);
-        agrees(&rt, &came, expected, ops);
-        drop(came);
+    for (ops, fuel, events, end) in RUNS {
+        let mut world = world(&rt, alloc, ops, *fuel);
+        holds(&rt, turn_on(alloc, &mut world) == Some(*end), ops);
+        holds(&rt, world.events() == *events, ops);
+        drop(world);
     }
 }
 
 fn is_journal(rt: &impl Abort, alloc: Global, entries: &[Entry]) {
     let mut journal = String::new(alloc);
     for entry in entries {
-        let line = format!(in alloc; "{:?}\n", entry.act).expect(rt, "memory");
-        journal.push_str(&line).expect(rt, "memory");
+        write!(journal, "{:?}\n", entry.act).expect(rt, "memory");
     }
     agrees(rt, &journal, JOURNAL, "journal");
 }

@@ -117,31 +117,20 @@ STRUCT 0 1 1 24
 21 IS 25
 ";
 
-/// Modes, and 0 for each that is not well formed.
-const FORMED: &str = "\
-13 none
-15 0
-17 0
-19 0
-21 none
-";
+/// Modes, and the place of each in a list of it alone, where it is not well formed.
+const FORMED: &[(&str, Option<u32>)] = &[
+    ("13", None),
+    ("15", Some(0)),
+    ("17", Some(0)),
+    ("19", Some(0)),
+    ("21", None),
+];
 
-// A place in words.
-fn place_name(place: Option<u32>) -> &'static str {
-    match place {
-        None => "none",
-        Some(0) => "0",
-        Some(_) => "another",
-    }
-}
-
-// The place of each mode in a list of it alone, where it is not well formed.
 fn are_formed(rt: &impl Abort, alloc: Global, modes: &Modes) {
-    for line in FORMED.lines() {
-        let (mode, want) = cut(rt, line, " ");
+    for (mode, place) in FORMED {
         let list = [mode_there(rt, modes, mode)];
-        let place = ill_formed(alloc, modes, &list).expect(rt, "memory");
-        agrees(rt, place_name(place), want, mode);
+        let found = ill_formed(alloc, modes, &list).expect(rt, "memory");
+        holds(rt, found == *place, mode);
     }
 }
 

@@ -1,4 +1,4 @@
-//! Tests of modes, of shaped and annotated trees and of their code, by hand.
+//! Tests of what a text means, of its modes, trees and code, and of the whole call over memory, by hand.
 #![tactic(auto)]
 
 #[cfg(test)]
@@ -15,6 +15,8 @@ mod nodes;
 mod op_ident;
 #[cfg(test)]
 mod table;
+#[cfg(test)]
+mod top;
 #[cfg(test)]
 mod translation;
 #[cfg(test)]

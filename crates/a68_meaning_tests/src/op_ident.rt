@@ -9,15 +9,15 @@ use std::alloc::Global;
 use std::panic::Expect;
 use std::process::Abort;
 
-/// The signs of a formula; and for each node of its signs, from the upper one on, which of the signs it has, and over
-/// which nodes it stands. The signs are 0 and 1, and the operands nodes 3, 4 and 5.
+/// The signs and the operand of a formula; and for each node of its signs, from the upper one on, which of the signs it
+/// has, and over which nodes it stands. The signs are 0 and 1, and the operands nodes 3, 4 and 5.
 const CASES: &str = "\
-- - | 1: 1 5 | 0: 3 4
-- + | 1: 1 5 | 0: 3 4
-+ * | 0: 3 1 | 1: 4 5
-* + | 1: 1 5 | 0: 3 4
-< + | 0: 3 1 | 1: 4 5
-= < | 0: 3 1 | 1: 4 5
+- - a | 1: 1 5 | 0: 3 4
+- + a | 1: 1 5 | 0: 3 4
++ * a | 0: 3 1 | 1: 4 5
+* + a | 1: 1 5 | 0: 3 4
+< + a | 0: 3 1 | 1: 4 5
+= < a | 0: 3 1 | 1: 4 5
 ";
 
 /// The nodes of a formula of three operands, as the grammar gives it.
@@ -30,12 +30,11 @@ Tag 2 3 2
 Tag 4 5 2
 ";
 
-// That formula with these two signs, shaped.
-fn shaped(rt: &impl Abort, alloc: Global, signs: &str) -> Tree
+// That formula with these two signs and this operand, shaped.
+fn shaped(rt: &impl Abort, alloc: Global, names: &str) -> Tree
     ensures { length result.nodes ≡ 6 }
 {
-    let names = format!(in alloc; "{signs} a").expect(rt, "memory");
-    let flat = tree_of(rt, alloc, FLAT, &names);
+    let flat = tree_of(rt, alloc, FLAT, names);
     let tree = shape(alloc, flat).expect(rt, "memory");
     holds(rt, tree.len() == 6, "six nodes");
     tree
@@ -52,9 +51,9 @@ fn is_as_told(rt: &impl Abort, alloc: Global, node: &Node, told: &str, case: &st
 
 // The two upper nodes of a formula are as its line says.
 fn signs_are_as_told(rt: &impl Abort, alloc: Global, case: &str) {
-    let (signs, told) = cut(rt, case, " | ");
+    let (names, told) = cut(rt, case, " | ");
     let (upper, lower) = cut(rt, told, " | ");
-    let tree = shaped(rt, alloc, signs);
+    let tree = shaped(rt, alloc, names);
     is_as_told(rt, alloc, tree.node(0), upper, case);
     is_as_told(rt, alloc, tree.node(1), lower, case);
     drop(tree);
@@ -74,7 +73,7 @@ fn is_flat(node: &Node) -> bool {
 
 #[test]
 fn an_unknown_sign(rt: HostRuntime) {
-    let tree = shaped(&rt, rt.alloc(), "+ %");
+    let tree = shaped(&rt, rt.alloc(), "+ % a");
     holds(&rt, is_flat(tree.node(0)), "no formula of two operands");
     drop(tree);
 }

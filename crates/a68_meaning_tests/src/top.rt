@@ -1,4 +1,5 @@
-//! The worked rows, over memory.
+//! The worked rows of the top call, over shelves and sinks in memory.
+use crate::table::holds;
 use a68_outside::{FreeGate, MemoryShelf, MemorySink};
 use a68_top::{Finish, a68};
 use std::alloc::Global;
@@ -108,13 +109,6 @@ fn call<R: Threads + Wait + Sync + Abort>(rt: &R, alloc: Global, given: Given<'_
         events,
         out,
         notes,
-    }
-}
-
-// What a case says holds, or the test fails and names the case.
-fn holds(rt: &impl Abort, holds: bool, case: &str) {
-    if !holds {
-        rt.panic(case)
     }
 }
 
@@ -267,20 +261,23 @@ fn texts_are_refused_and_faults_met(rt: HostRuntime) {
     }
 }
 
-// A call of `run f` for these bytes.
-fn of_bytes(text: &[u8]) -> Given<'_> {
-    Given { text, ..run_f("") }
-}
+/// How many blanks a text has, and what is noted.
+const BLANKS: &[(usize, &str)] = &[
+    (1_048_576, "a68: refused S6 at byte 1048576\n"),
+    (1_048_577, "a68: refused L1 at byte 1048576\n"),
+];
 
 #[test]
 fn long_texts_are_refused(rt: HostRuntime) {
-    let mut blanks = vec![in rt.alloc(); b' '; 1_048_576].expect(&rt, "memory");
-    let most = "a68: refused S6 at byte 1048576\n";
-    answers(&rt, rt.alloc(), of_bytes(&blanks), 1, ("", most));
-    blanks.push(b' ').expect(&rt, "memory");
-    let too_many = "a68: refused L1 at byte 1048576\n";
-    answers(&rt, rt.alloc(), of_bytes(&blanks), 1, ("", too_many));
-    drop(blanks);
+    for (length, notes) in BLANKS {
+        let blanks = vec![in rt.alloc(); b' '; *length].expect(&rt, "memory");
+        let given = Given {
+            text: &blanks,
+            ..run_f("")
+        };
+        answers(&rt, rt.alloc(), given, 1, ("", notes));
+        drop(blanks);
+    }
 }
 
 /// Texts, their fuel, the status, what is printed and noted, and how many events there are.
@@ -342,9 +339,12 @@ fn failed_reads_are_answered(rt: HostRuntime) {
     }
 }
 
+/// Names of files that are not there.
+const ABSENT: &[&str] = &["-", "h"];
+
 #[test]
 fn files_that_are_not_there_are_answered(rt: HostRuntime) {
-    for name in ["-", "h"] {
+    for name in ABSENT {
         let given = Given {
             words: &["run", name],
             notes_room: 3,
@@ -354,26 +354,21 @@ fn files_that_are_not_there_are_answered(rt: HostRuntime) {
     }
 }
 
-#[test]
-fn failed_writes_are_answered(rt: HostRuntime) {
-    let little_room = Given {
-        room: 10,
-        ..run_f(FORMULA)
-    };
-    let left = call(&rt, rt.alloc(), little_room);
-    prints(&rt, &left, 7, "          ");
-    drop(left);
-}
+/// Room for what is printed, the writes that fail, and what is printed of SEVEN then.
+const WRITES: &[(u32, &[u64], &str)] = &[(10, &[], "          "), (100, &[3], "        ")];
 
 #[test]
-fn a_failed_write_is_answered(rt: HostRuntime) {
-    let third_fails = Given {
-        writes_fail: &[3],
-        ..run_f(FORMULA)
-    };
-    let left = call(&rt, rt.alloc(), third_fails);
-    prints(&rt, &left, 7, "        ");
-    drop(left);
+fn failed_writes_are_answered(rt: HostRuntime) {
+    for (room, writes_fail, out) in WRITES {
+        let given = Given {
+            room: *room,
+            writes_fail,
+            ..run_f(FORMULA)
+        };
+        let left = call(&rt, rt.alloc(), given);
+        prints(&rt, &left, 7, out);
+        drop(left);
+    }
 }
 
 #[test]
