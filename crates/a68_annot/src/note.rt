@@ -4,7 +4,6 @@ use a68_tree::{FrameStep, NodeId};
 use std::marker::Model;
 
 /// What is known of a node. A field that says nothing of its kind of node holds 0, or nothing.
-#[derive(Drop)]
 pub struct Note {
     /// The mode of a unit before its coercions, or of a declarer or a definition; VOID where there is none.
     pub mode: ModeId,
@@ -23,10 +22,29 @@ pub struct Note {
     pub need: Option<u32>,
 }
 
+impl Drop for Note {
+    fn drop(self) {
+        let Note {
+            mode: _,
+            path: _,
+            op: _,
+            definition: _,
+            step: _,
+            slots: _,
+            need: _,
+        } = self;
+    }
+}
+
 /// A note for each node of a tree, in the order of the nodes.
-#[derive(Drop)]
 pub struct Notes {
     pub items: Vec<Note>,
+}
+
+impl Drop for Notes {
+    fn drop(self) {
+        let Notes { items: _ } = self;
+    }
 }
 
 impl Model for Notes {

@@ -6,9 +6,14 @@ use std::alloc::Global;
 use std::marker::Model;
 
 /// A list of bytes.
-#[derive(Drop)]
 pub struct Text {
     pub items: Vec<u8>,
+}
+
+impl Drop for Text {
+    fn drop(self) {
+        let Text { items: _ } = self;
+    }
 }
 
 impl Model for Text {

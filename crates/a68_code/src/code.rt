@@ -8,10 +8,15 @@ use std::alloc::Global;
 use std::marker::Model;
 
 /// An instruction, and the byte of the text at which the construct begins from which it was translated.
-#[derive(Drop)]
 pub struct Instr {
     pub place: u32,
     pub does: Does,
+}
+
+impl Drop for Instr {
+    fn drop(self) {
+        let Instr { place: _, does: _ } = self;
+    }
 }
 
 /// Instructions by their numbers.
@@ -91,11 +96,20 @@ impl Routines {
 }
 
 /// The code of a program. The program begins at the first instruction.
-#[derive(Drop)]
 pub struct Code {
     pub list: Instrs,
     pub texts: Routines,
     pub modes: Modes,
+}
+
+impl Drop for Code {
+    fn drop(self) {
+        let Code {
+            list: _,
+            texts: _,
+            modes: _,
+        } = self;
+    }
 }
 
 impl Code {

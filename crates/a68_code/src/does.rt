@@ -33,7 +33,6 @@ use std::alloc::Global;
 /// | End | | | | | the program has come to its end |
 ///
 /// A place is the number of an instruction in the list, from 0.
-#[derive(Drop)]
 pub enum Does {
     Push(Value),
     Skip(u32),
@@ -55,6 +54,33 @@ pub enum Does {
     Advance(u32),
     Forget,
     End,
+}
+
+impl Drop for Does {
+    fn drop(self) {
+        match self {
+            Does::Push(_)
+            | Does::Skip(_)
+            | Does::Tag { hops: _, slot: _ }
+            | Does::Enter(_)
+            | Does::Leave(_)
+            | Does::Bind(_)
+            | Does::Make { mode: _, bounds: _ }
+            | Does::Deref(_)
+            | Does::Store(_)
+            | Does::Apply(_)
+            | Does::Drop
+            | Does::Print(_)
+            | Does::Jump(_)
+            | Does::Unless(_)
+            | Does::Counter
+            | Does::Step(_)
+            | Does::Turn
+            | Does::Advance(_)
+            | Does::Forget
+            | Does::End => {}
+        }
+    }
 }
 
 impl Does {

@@ -32,9 +32,14 @@ pub enum Coercion {
 }
 
 /// The coercions of a unit, from the first to the last.
-#[derive(Drop)]
 pub struct Path {
     pub items: Vec<Coercion>,
+}
+
+impl Drop for Path {
+    fn drop(self) {
+        let Path { items: _ } = self;
+    }
 }
 
 impl Model for Path {

@@ -37,9 +37,14 @@ impl Fields {
 }
 
 /// A list of modes, in declared order: the members of a union, or the parameters of a procedure.
-#[derive(Drop)]
 pub struct Members {
     pub items: Vec<ModeId>,
+}
+
+impl Drop for Members {
+    fn drop(self) {
+        let Members { items: _ } = self;
+    }
 }
 
 impl Model for Members {

@@ -35,9 +35,14 @@ impl From<NoMemory> for ModeStop {
 /// of what can be printed, 9 REF INT, 10 REF STRING, 11 `[] BOOL` and 12 STRING, which is `FLEX [] CHAR` (10.2.2).
 ///
 /// Contracts see the list of the shapes.
-#[derive(Drop)]
 pub struct Modes {
     items: Vec<Shape>,
+}
+
+impl Drop for Modes {
+    fn drop(self) {
+        let Modes { items: _ } = self;
+    }
 }
 
 impl Model for Modes {

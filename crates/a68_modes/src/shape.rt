@@ -10,7 +10,6 @@ use std::alloc::Global;
 pub type ModeId = u32;
 
 /// What a node is: a plain mode, a mode made of others, a mode word, or nothing yet.
-#[derive(Drop)]
 pub enum Shape {
     /// VOID.
     Void,
@@ -40,6 +39,34 @@ pub enum Shape {
     Same(ModeId),
     /// A node whose mode is not known yet.
     Blank,
+}
+
+impl Drop for Shape {
+    fn drop(self) {
+        match self {
+            Shape::Void
+            | Shape::Int
+            | Shape::Bool
+            | Shape::Char
+            | Shape::Bits
+            | Shape::Sema
+            | Shape::Layout
+            | Shape::Ref(_)
+            | Shape::Rows {
+                dims: _,
+                flex: _,
+                of: _,
+            }
+            | Shape::Struct(_)
+            | Shape::Union(_)
+            | Shape::Proc {
+                params: _,
+                result: _,
+            }
+            | Shape::Same(_)
+            | Shape::Blank => {}
+        }
+    }
 }
 
 impl Shape {

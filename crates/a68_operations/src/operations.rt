@@ -88,17 +88,16 @@ fn printed_item(alloc: Global, item: &Value) -> Result<Result<Text, FaultKind>, 
 }
 
 /// The items that are left printed, the next one last.
-pub fn print_next(alloc: Global, left: Parts) -> Result<Doing, NoMemory>
+pub fn print_next(alloc: Global, mut left: Parts) -> Result<Doing, NoMemory>
     ensures { IfOk result (λ doing. doing ≡ operations.print_next (reverse left)) }
 {
-    let mut items = left.items;
-    let Some(item) = items.pop() else {
+    let Some(item) = left.items.pop() else {
         return Ok(Doing::Yields(Value { node: Node::Void }));
     };
     let printed = printed_item(alloc, &item);
     drop(item);
     match printed? {
-        Ok(text) => Ok(Doing::Asks(Want::Print(text), Next::Printing(Parts { items }))),
+        Ok(text) => Ok(Doing::Asks(Want::Print(text), Next::Printing(left))),
         Err(kind) => Ok(Doing::Meets(kind)),
     }
 }

@@ -18,9 +18,14 @@ pub enum Item {
 }
 
 /// A stack. Contracts see the list of its items, the topmost first.
-#[derive(Drop)]
 pub struct Stack {
     items: Vec<Item>,
+}
+
+impl Drop for Stack {
+    fn drop(self) {
+        let Stack { items: _ } = self;
+    }
 }
 
 impl Model for Stack {

@@ -26,13 +26,23 @@ const MOST_PRINTED: usize = 16_777_216;
 
 /// The store of a run. Cells, frames and printed bytes are numbered from 0 in the order made, the slots of a frame
 /// from 0. Frame 0 is that of the standard environ and has no slots.
-#[derive(Drop)]
 pub struct Store {
     cells: Vec<Held>,
     frames: Vec<Frame>,
     text: Vec<u8>,
     // What the store counts.
     counted: u32,
+}
+
+impl Drop for Store {
+    fn drop(self) {
+        let Store {
+            cells: _,
+            frames: _,
+            text: _,
+            counted: _,
+        } = self;
+    }
 }
 
 impl Model for Store {
@@ -391,7 +401,7 @@ impl Store {
             cells,
             mut frames,
             text,
-            ..
+            counted: _,
         } = self;
         let slots = if frames.len() > 1 {
             frames.swap_remove(1).slots

@@ -5,11 +5,21 @@ ghost use Rattle.a68_strand.specs.Bodies.{may_go_on};
 use crate::body::{About, Body};
 
 /// A strand that has run its silent instructions, and shows what it asks.
-#[derive(Drop)]
 pub struct Strand {
     pub(crate) number: u32,
     pub(crate) place: u32,
     pub(crate) body: Body,
     pub(crate) about: About,
     ghost may: { IsTrue (may_go_on about.ask body.at) },
+}
+
+impl Drop for Strand {
+    fn drop(self) {
+        let Strand {
+            number: _,
+            place: _,
+            body: _,
+            about: _,
+        } = self;
+    }
 }

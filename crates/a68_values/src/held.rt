@@ -30,10 +30,15 @@ impl Model for Dims {
 }
 
 /// A row in the store: the cell of its first element, and its dimensions (Report, 2.1.3.4).
-#[derive(Drop)]
 pub struct Descriptor {
     pub base: u32,
     pub dims: Dims,
+}
+
+impl Drop for Descriptor {
+    fn drop(self) {
+        let Descriptor { base: _, dims: _ } = self;
+    }
 }
 
 /// What a cell holds.
@@ -47,9 +52,14 @@ pub enum Held {
 }
 
 /// What the cells hold, by their numbers.
-#[derive(Drop)]
 pub struct Cells {
     pub items: Vec<Held>,
+}
+
+impl Drop for Cells {
+    fn drop(self) {
+        let Cells { items: _ } = self;
+    }
 }
 
 impl Model for Cells {
@@ -62,9 +72,14 @@ impl Model for Cells {
 }
 
 /// What the slots of a frame are bound to, by their numbers; none where a slot is not bound yet.
-#[derive(Drop)]
 pub struct Slots {
     pub items: Vec<Option<Value>>,
+}
+
+impl Drop for Slots {
+    fn drop(self) {
+        let Slots { items: _ } = self;
+    }
 }
 
 impl Model for Slots {

@@ -28,10 +28,20 @@ pub enum End {
 
 /// What a run keeps: its journal, and at its end what the cells hold, what the slots of the outermost frame of the
 /// program are bound to, and how it ended. Where the program makes no frame there are no slots.
-#[derive(Drop)]
 pub struct Kept {
     pub journal: Journal,
     pub cells: Cells,
     pub outer: Slots,
     pub end: End,
+}
+
+impl Drop for Kept {
+    fn drop(self) {
+        let Kept {
+            journal: _,
+            cells: _,
+            outer: _,
+            end: _,
+        } = self;
+    }
 }

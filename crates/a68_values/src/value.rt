@@ -1,4 +1,7 @@
 //! Values of any mode.
+//!
+//! Drops that are written by hand are proved once, in their crate; a derived one is proved anew in each crate that lets
+//! such a value go.
 ghost use Rattle.std.specs.Prelude.{◌≡◌, None, IfOk, MatchOption};
 ghost use Rattle.a68_values.specs.Content.{as_plain, plain, scope_of, newest_scope};
 
@@ -8,9 +11,14 @@ use std::alloc::Global;
 use std::marker::Model;
 
 /// A lower and an upper bound for each dimension of a row.
-#[derive(Drop)]
 pub struct Bounds {
     pub items: Vec<(i64, i64)>,
+}
+
+impl Drop for Bounds {
+    fn drop(self) {
+        let Bounds { items: _ } = self;
+    }
 }
 
 impl Model for Bounds {
@@ -23,14 +31,19 @@ impl Model for Bounds {
 
 /// A value. Contracts see it as a tree of contents.
 #[cycle(value)]
-#[derive(Drop)]
 pub struct Value {
     pub node: Node,
 }
 
+impl Drop for Value {
+    #[cycle(value)]
+    fn drop(self) {
+        let Value { node: _ } = self;
+    }
+}
+
 /// What a value is made of.
 #[cycle(value)]
-#[derive(Drop)]
 pub enum Node {
     /// The value of a construct that yields none (Report, 2.1.3.1).
     Void,
@@ -44,11 +57,34 @@ pub enum Node {
     United { mode: u32, value: Box<Value> },
 }
 
+impl Drop for Node {
+    #[cycle(value)]
+    fn drop(self) {
+        match self {
+            Node::Void
+            | Node::Plain(_)
+            | Node::Layout(_)
+            | Node::Structure(_)
+            | Node::Row {
+                bounds: _,
+                parts: _,
+            }
+            | Node::United { mode: _, value: _ } => {}
+        }
+    }
+}
+
 /// The fields of a structure or the elements of a row, in order.
 #[cycle(value)]
-#[derive(Drop)]
 pub struct Parts {
     pub items: Vec<Value>,
+}
+
+impl Drop for Parts {
+    #[cycle(value)]
+    fn drop(self) {
+        let Parts { items: _ } = self;
+    }
 }
 
 impl Model for Value {
