@@ -1,4 +1,4 @@
-use Rattle.std.proofs.Common.{◌+◌, ◌*◌, ◌≤◌, arith, map}
+use Rattle.std.proofs.Common.{◌≡◌, ◌+◌, ◌*◌, ◌≤◌, arith, length, map}
 use Rattle.a68_words.specs.declared.class.Class.TheVariants.{ModeWord, OperatorWord}
 use Rattle.a68_words.specs.Definitions.{Defines}
 use Rattle.a68_words.specs.Levels.{IsTooDeep, depth}
@@ -36,3 +36,9 @@ loop-i-preserved c =
       deep = rw c.first-too_deep.ensures (first_more (IsTooDeep roles) i c.loop-i.too_deep c.is_over.result c.loop-i.invariant.deep
           (over roles i role levels c.is_over.result c.role_at-role.ensures at c.is_over.ensures));
     }
+
+pub returns : goal.returns
+returns c =
+    let all : c.loop-i.i ≡ length c.args.roles.now = omega arith in
+    let read = c.loop-i.invariant in
+    record { modes = rw all at read.modes; operators = rw all at read.operators; deep = rw all at read.deep }

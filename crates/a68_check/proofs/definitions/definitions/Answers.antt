@@ -1,0 +1,7 @@
+use Rattle.std.proofs.Common.{◌≡◌, length, arith}
+use Rattle.a68_check.proofs.definitions.definitions.Goals as goal
+
+pub returns : goal.returns
+returns c =
+    let all : c.loop-n.n ≡ length c.args.tree.now.nodes = omega arith in
+    (rw all at c.loop-n.invariant.tells, rw all at c.loop-n.invariant.new)
