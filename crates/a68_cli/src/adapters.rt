@@ -1,6 +1,6 @@
 //! Real files and streams as a shelf and sinks. They tell no bytes: what a file holds and what a stream shows is
 //! trusted.
-ghost use Rattle.std.specs.Prelude.{None};
+ghost use Rattle.std.specs.Prelude.{None, IfSome, ◌≤◌, length};
 
 use a68_outside::{Failed, Shelf, Sink};
 use std::io::{ErrorKind, Read, Write};
@@ -25,6 +25,20 @@ impl<'a, R: rt::Files> FileShelf<'a, R> {
     }
 }
 
+// A read that a signal interrupts is done again.
+fn read_again(file: &mut impl Read, buf: &mut [u8]) -> Option<usize>
+    ensures { IfSome result (λ n. n ≤ length buf.new) }
+{
+    for _ in 0..u64::MAX {
+        match file.read(buf) {
+            Ok(count) => return Some(count),
+            Err(error) if error.kind() == ErrorKind::Interrupted => {}
+            Err(_) => return None,
+        }
+    }
+    None
+}
+
 impl<R: rt::Files> Shelf for FileShelf<'_, R> {
     ghost may_ask = { λ name. Unit {0} };
 
@@ -43,20 +57,15 @@ impl<R: rt::Files> Shelf for FileShelf<'_, R> {
         Ok(())
     }
 
-    // A read that a signal interrupts is done again.
     fn read(&mut self, buf: &mut [u8]) -> Result<usize, Failed> {
         let Some(file) = &mut self.begun else {
             return Ok(0);
         };
-        for _ in 0..u64::MAX {
-            match file.read(buf) {
-                Ok(count) => return Ok(count),
-                Err(error) if error.kind() == ErrorKind::Interrupted => {}
-                Err(_) => break,
-            }
-        }
-        self.faults = self.faults.saturating_add(1);
-        Err(Failed)
+        let Some(count) = read_again(file, buf) else {
+            self.faults = self.faults.saturating_add(1);
+            return Err(Failed);
+        };
+        Ok(count)
     }
 }
 

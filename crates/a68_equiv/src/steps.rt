@@ -37,7 +37,8 @@ fn are_taken(steps: Steps, shape: &Shape) -> bool
 pub fn row(alloc: Global, steps: Steps, shape: &Shape) -> Result<Members, NoMemory>
     ensures { IfOk result (λ row. row ≡ steps_of steps shape.now) }
 {
-    if are_taken(steps, shape) {
+    let taken = are_taken(steps, shape);
+    if taken {
         shape.parts(alloc)
     } else {
         Members::from_slice(alloc, &[])

@@ -18,7 +18,8 @@ fn widths(rt: HostRuntime) {
     let modes = Modes::new(rt.alloc()).expect(&rt, "memory");
     let (int, name) = (cells_of(&modes, INT), cells_of(&modes, REF_INT));
     drop(modes);
-    holds(&rt, (int, name) == (Ok(1), Ok(1)), "widths");
+    holds(&rt, int == Ok(1), "the width of INT");
+    holds(&rt, name == Ok(1), "the width of REF INT");
 }
 
 const KIND: Option<LayoutStop> = Some(LayoutStop::Fault(FaultKind::Kind));

@@ -8,7 +8,6 @@ use a68_values::{Chain, Environ, Node, Parts, Plain, Value};
 use std::alloc::Global;
 use std::panic::Expect;
 use std::process::Abort;
-use std::string::String;
 
 /// Rows of the table of operators on two INT, with the left and the right operand, and what comes of it.
 const OPERATORS: &str = "\
@@ -43,7 +42,7 @@ fn int(rt: &impl Abort, value: &str) -> Value {
 }
 
 // What comes of an operator and its operands.
-fn outcome(rt: &impl Abort, alloc: Global, operation: &str) -> String {
+fn outcome(rt: &impl Abort, operation: &str) -> Doing {
     let (row, operands) = cut(rt, operation, " ");
     let (left, right) = cut(rt, operands, " ");
     let row = row.parse().expect(rt, "a row");
@@ -51,17 +50,15 @@ fn outcome(rt: &impl Abort, alloc: Global, operation: &str) -> String {
     let doing = applied(row, &left, &right);
     drop(left);
     drop(right);
-    shown::doing(rt, alloc, doing)
+    doing
 }
 
 #[test]
 fn operators(rt: HostRuntime) {
-    let alloc = rt.alloc();
     for line in OPERATORS.lines() {
         let (operation, expected) = cut(&rt, line, " = ");
-        let outcome = outcome(&rt, alloc, operation);
-        agrees(&rt, &outcome, expected, operation);
-        drop(outcome);
+        let outcome = outcome(&rt, operation);
+        is_shown(&rt, rt.alloc(), outcome, expected, operation);
     }
 }
 
@@ -75,15 +72,16 @@ fn a_name_is_made(rt: HostRuntime) {
     let asked = made(alloc, &modes, 1, &chain).expect(&rt, "memory");
     drop(chain);
     drop(modes);
-    is_shown(&rt, alloc, asked, "Make 1 of scope 3");
+    is_shown(&rt, alloc, asked, "Make 1 of scope 3", "a new INT");
     let named = resumed(alloc, Next::Made { scope: 3 }, Reply::Base(7)).expect(&rt, "memory");
-    is_shown(&rt, alloc, named, "Name(Name { cell: 7, scope: 3 })");
+    let name = "Name(Name { cell: 7, scope: 3 })";
+    is_shown(&rt, alloc, named, name, "its name");
 }
 
 // Whether what comes of an operation is told so.
-fn is_shown(rt: &impl Abort, alloc: Global, doing: Doing, told: &str) {
+fn is_shown(rt: &impl Abort, alloc: Global, doing: Doing, told: &str, case: &str) {
     let shown = shown::doing(rt, alloc, doing);
-    agrees(rt, &shown, told, told);
+    agrees(rt, &shown, told, case);
     drop(shown);
 }
 
@@ -94,13 +92,19 @@ fn is_void(doing: &Doing) -> bool {
     }
 }
 
-// 3 is printed, and where nothing is left nothing comes of it.
+// 3 is printed.
 #[test]
 fn values_are_printed(rt: HostRuntime) {
     let alloc = rt.alloc();
     let items = vec![in alloc; int(&rt, "3")].expect(&rt, "memory");
     let printed = print_next(alloc, Parts { items }).expect(&rt, "memory");
-    is_shown(&rt, alloc, printed, "Print \"                  +3\"");
+    is_shown(&rt, alloc, printed, "Print \"                  +3\"", "3");
+}
+
+// Where nothing is left nothing comes of it.
+#[test]
+fn all_is_printed(rt: HostRuntime) {
+    let alloc = rt.alloc();
     let items = Vec::new(alloc);
     let next = Next::Printing(Parts { items });
     let doing = resumed(alloc, next, Reply::Go).expect(&rt, "memory");

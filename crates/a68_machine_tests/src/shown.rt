@@ -20,47 +20,72 @@ pub fn plain_in(held: &Held) -> Option<Plain> {
     }
 }
 
-// A text and a part behind it.
-fn behind(rt: &impl Abort, alloc: Global, text: &str, part: &impl Debug) -> String {
-    format!(in alloc; "{text} {part:?}").expect(rt, "memory")
-}
+// An act that prints nothing: its name, its numbers, and the value that it is given.
+type Told = (
+    &'static str,
+    Option<usize>,
+    Option<u32>,
+    Option<u32>,
+    Option<Plain>,
+);
 
-/// An act by its name, its numbers, and what it is given.
-pub fn act(rt: &impl Abort, alloc: Global, want: &Want) -> String {
+fn parts(want: &Want) -> Told {
     match want {
         Want::Enter {
             outer,
             scope,
             slots,
-        } => {
-            let within = behind(rt, alloc, "Enter", outer);
-            let frame = behind(rt, alloc, &within, scope);
-            behind(rt, alloc, &frame, slots)
-        }
+        } => (
+            "Enter",
+            Some(*outer as usize),
+            Some(*scope),
+            Some(*slots),
+            None,
+        ),
         Want::Bind { frame, slot, value } => {
-            let within = behind(rt, alloc, "Bind", frame);
-            let place = behind(rt, alloc, &within, slot);
-            behind(rt, alloc, &place, &plain(value))
+            let value = Some(plain(value));
+            ("Bind", Some(*frame as usize), Some(*slot), None, value)
         }
-        Want::Look { frame, slot } => {
-            let within = behind(rt, alloc, "Look", frame);
-            behind(rt, alloc, &within, slot)
-        }
-        Want::Make(plan) => behind(rt, alloc, "Make", &plan.cells.items.len()),
-        Want::Fetch { cell } => behind(rt, alloc, "Fetch", cell),
+        Want::Look { frame, slot } => ("Look", Some(*frame as usize), Some(*slot), None, None),
+        Want::Make(plan) => ("Make", Some(plan.cells.items.len()), None, None, None),
+        Want::Fetch { cell } => ("Fetch", Some(*cell as usize), None, None, None),
         Want::Assign { cell, held } => {
-            let place = behind(rt, alloc, "Assign", cell);
-            behind(rt, alloc, &place, &plain_in(held).unwrap_or(Plain::Unset))
+            let value = plain_in(held).unwrap_or(Plain::Unset);
+            ("Assign", Some(*cell as usize), None, None, Some(value))
         }
-        Want::Print(text) => printing(rt, alloc, &text.items),
-        _ => String::from_str(alloc, "another").expect(rt, "memory"),
+        _ => ("another", None, None, None, None),
     }
+}
+
+// A text grows by a part, where there is one.
+fn add(rt: &impl Abort, text: &mut String, part: &Option<impl Debug>) {
+    if let Some(part) = part {
+        write!(text, " {part:?}").expect(rt, "memory");
+    }
+}
+
+fn in_words(rt: &impl Abort, alloc: Global, told: &Told) -> String {
+    let (name, one, two, three, value) = told;
+    let mut text = String::from_str(alloc, name).expect(rt, "memory");
+    add(rt, &mut text, one);
+    add(rt, &mut text, two);
+    add(rt, &mut text, three);
+    add(rt, &mut text, value);
+    text
 }
 
 // A text in quotes.
 fn printing(rt: &impl Abort, alloc: Global, bytes: &[u8]) -> String {
     let text = String::from_utf8_lossy(alloc, bytes).expect(rt, "memory");
-    behind(rt, alloc, "Print", &text)
+    format!(in alloc; "Print {text:?}").expect(rt, "memory")
+}
+
+/// An act by its name, its numbers, and what it is given.
+pub fn act(rt: &impl Abort, alloc: Global, want: &Want) -> String {
+    match want {
+        Want::Print(text) => printing(rt, alloc, &text.items),
+        _ => in_words(rt, alloc, &parts(want)),
+    }
 }
 
 fn asking(rt: &impl Abort, alloc: Global, want: &Want, next: &Next) -> String {

@@ -18,14 +18,10 @@ const COUNTER: Counter = Counter {
 fn counts(rt: &impl Abort, stack: &mut Stack) {
     stack.push_plain(Plain::Int(1)).expect(rt, "memory");
     stack.push(Item::Counter(COUNTER)).expect(rt, "memory");
-    let (plain, counter) = (stack.take_plain(), stack.counter());
-    let (first, second) = (stack.take_counter(), stack.take_counter());
-    let counters = (counter, first, second);
-    holds(
-        rt,
-        (plain, counters) == (None, (Some(COUNTER), Some(COUNTER), None)),
-        "a counter is no value",
-    );
+    holds(rt, stack.take_plain() == None, "a counter is no value");
+    holds(rt, stack.counter() == Some(COUNTER), "a counter");
+    holds(rt, stack.take_counter() == Some(COUNTER), "a counter");
+    holds(rt, stack.take_counter() == None, "one counter");
 }
 
 #[test]
@@ -58,25 +54,22 @@ fn gives_many(rt: &impl Abort, alloc: Global, stack: &mut Stack) {
         .pop_many(alloc, 2)
         .expect(rt, "memory")
         .expect(rt, "two values");
-    let given = (many.items.len(), many.items.first().map(plain));
+    holds(rt, many.items.len() == 2, "two values");
+    let first = many.items.first().map(plain);
+    holds(rt, first == Some(Plain::Int(4)), "the topmost first");
     drop(many);
-    holds(rt, given == (2, Some(Plain::Int(4))), "the topmost two");
 }
 
 // The other two, and no more.
 fn gives_two(rt: &impl Abort, stack: &mut Stack) {
     let (one, two) = stack.pop_two().expect(rt, "two values");
-    let given = (plain(&one), plain(&two));
+    holds(rt, plain(&one) == Plain::Int(1), "the first");
+    holds(rt, plain(&two) == Plain::Int(2), "the second");
     drop(one);
     drop(two);
     let more = stack.pop();
-    let no_more = more.is_none();
+    holds(rt, more.is_none(), "no more");
     drop(more);
-    holds(
-        rt,
-        (given, no_more) == ((Plain::Int(1), Plain::Int(2)), true),
-        "the other two",
-    );
 }
 
 #[test]

@@ -28,16 +28,14 @@ fn enters(rt: &impl Abort, alloc: Global, store: &mut Store)
     requires { store.old ≡ opening_store }
     ensures { store.new ≡ entered }
 {
-    let counts = (store.frames(), store.slots(0));
+    holds(rt, store.frames() == 1, "one frame");
+    holds(rt, store.slots(0) == 0, "no slots");
     let chain = store.enter(alloc, 0, 1, 2).ok().expect(rt, "a frame");
     let has_both = chain.items.as_slice() == FRAMES.as_slice();
+    holds(rt, has_both, "a new frame");
     drop(chain);
     let unset = store.look(alloc, 1, 0).err();
-    holds(
-        rt,
-        (counts, has_both, unset) == ((1, 0), true, Some(UNSET)),
-        "a new frame",
-    );
+    holds(rt, unset == Some(UNSET), "an unset slot");
 }
 
 // Its first slot is bound to 5.
@@ -77,8 +75,8 @@ fn slots(rt: HostRuntime) {
     );
 }
 
-// The number of a new cell.
-fn make(rt: &impl Abort, alloc: Global, store: &mut Store) -> u32
+// A new cell is the first.
+fn make(rt: &impl Abort, alloc: Global, store: &mut Store)
     requires { store.old.frames ≡ standard_frame ∷ [] }
     ensures { store.new.frames ≡ standard_frame ∷ [] }
 {
@@ -87,18 +85,17 @@ fn make(rt: &impl Abort, alloc: Global, store: &mut Store) -> u32
         cells: Cells { items },
         shifted: false,
     };
-    let made = store.make(alloc, &plan).ok().expect(rt, "a cell");
+    let made = store.make(alloc, &plan).ok();
     drop(plan);
-    made
+    holds(rt, made == Some(0), "a cell");
 }
 
-// What the only cell holds.
-fn fetch(rt: &impl Abort, alloc: Global, store: &Store) -> Option<Plain> {
+// The only cell holds this.
+fn fetches(rt: &impl Abort, alloc: Global, store: &Store, wanted: Plain) {
     holds(rt, store.cells() == 1, "one cell");
     let held = store.fetch(alloc, 0).expect(rt, "memory");
-    let plain = plain_in(&held);
+    holds(rt, plain_in(&held) == Some(wanted), "what the cell holds");
     drop(held);
-    plain
 }
 
 fn assigns(rt: &impl Abort, store: &mut Store)
@@ -119,39 +116,33 @@ fn is_full(rt: &impl Abort, alloc: Global, store: &mut Store)
     requires { store.old.frames ≡ standard_frame ∷ [] }
 {
     let stop = store.enter(alloc, 0, 1, 4_194_304).err();
-    holds(
-        rt,
-        (stop, store.cells()) == (Some(FULL), 1),
-        "the store is full",
-    );
+    holds(rt, stop == Some(FULL), "the store is full");
+    holds(rt, store.cells() == 1, "one cell");
 }
 
 #[test]
 fn cells(rt: HostRuntime) {
     let alloc = rt.alloc();
     let mut store = Store::new(alloc).expect(&rt, "memory");
-    let made = make(&rt, alloc, &mut store);
-    let unset = fetch(&rt, alloc, &store);
+    make(&rt, alloc, &mut store);
+    fetches(&rt, alloc, &store, Plain::Unset);
     assigns(&rt, &mut store);
-    let seven = fetch(&rt, alloc, &store);
+    fetches(&rt, alloc, &store, Plain::Int(7));
     is_full(&rt, alloc, &mut store);
     drop(store);
-    holds(
-        &rt,
-        (made, unset, seven) == (0, Some(Plain::Unset), Some(Plain::Int(7))),
-        "what the cell holds",
-    );
 }
 
-fn print(rt: &impl Abort, store: &mut Store, piece: &[u8]) -> (u32, u32) {
+// A piece that is printed stands from one byte to another.
+fn prints(rt: &impl Abort, store: &mut Store, piece: &[u8], from: u32, to: u32) {
     let printed = store.print(piece).ok().expect(rt, "a span");
-    (printed.from, printed.to)
+    holds(rt, printed.from == from, "where it begins");
+    holds(rt, printed.to == to, "where it ends");
 }
 
 #[test]
 fn text(rt: HostRuntime) {
     let mut store = Store::new(rt.alloc()).expect(&rt, "memory");
-    let spans = (print(&rt, &mut store, b"a"), print(&rt, &mut store, b"bc"));
+    prints(&rt, &mut store, b"a", 0, 1);
+    prints(&rt, &mut store, b"bc", 1, 3);
     drop(store);
-    holds(&rt, spans == ((0, 1), (1, 3)), "the printed bytes");
 }

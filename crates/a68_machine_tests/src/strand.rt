@@ -7,6 +7,7 @@ use crate::codes::code_of;
 use crate::shown;
 use crate::table::{agrees, cut, holds};
 use a68_acts::Reply;
+use a68_base::find;
 use a68_code::Code;
 use a68_strand::{Ask, PlainReply, Strand};
 use a68_values::{Chain, Environ, Held, Name, Plain};
@@ -55,13 +56,33 @@ fn frames(rt: &impl Abort, alloc: Global) -> Chain
     Chain { items }
 }
 
-fn reply(rt: &impl Abort, alloc: Global, told: &str) -> Reply
+// The words for replies.
+#[derive(Clone, Copy)]
+enum Told {
+    Name,
+    Done,
+    Frame,
+    Base,
+    Held,
+    Go,
+}
+
+const TOLD: &[(&str, Told)] = &[
+    ("Name", Told::Name),
+    ("Done", Told::Done),
+    ("Frame", Told::Frame),
+    ("Base", Told::Base),
+    ("Held", Told::Held),
+    ("Go", Told::Go),
+];
+
+fn reply(rt: &impl Abort, alloc: Global, told: Told) -> Reply
     ensures { IsTrue (brings_room result) }
 {
     match told {
-        "Frame" => Reply::Frame(frames(rt, alloc)),
-        "Base" => Reply::Base(7),
-        "Held" => Reply::Held(Held::Plain(Plain::Int(5))),
+        Told::Frame => Reply::Frame(frames(rt, alloc)),
+        Told::Base => Reply::Base(7),
+        Told::Held => Reply::Held(Held::Plain(Plain::Int(5))),
         _ => Reply::Go,
     }
 }
@@ -70,9 +91,10 @@ fn reply(rt: &impl Abort, alloc: Global, told: &str) -> Reply
 fn tell(rt: &impl Abort, alloc: Global, code: &Code, strand: &mut Strand, told: &str) {
     holds(rt, code.list.items.len() < 100, "a short code");
     holds(rt, wants_a_reply(strand), "a strand that wants a reply");
+    let told = find(TOLD, told.as_bytes()).expect(rt, "a reply");
     let done = match told {
-        "Name" => strand.told_plain(alloc, code, PlainReply::Value(Plain::Name(NAME))),
-        "Done" => strand.told_plain(alloc, code, PlainReply::Go),
+        Told::Name => strand.told_plain(alloc, code, PlainReply::Value(Plain::Name(NAME))),
+        Told::Done => strand.told_plain(alloc, code, PlainReply::Go),
         _ => strand.told(alloc, code, reply(rt, alloc, told)),
     };
     done.expect(rt, "memory");
@@ -109,18 +131,15 @@ fn prints(rt: HostRuntime) {
     let alloc = rt.alloc();
     let code = code_of(&rt, alloc, "Push 3, Print 1, End");
     let mut strand = begun(&rt, alloc, &code);
-    let begun = (strand.number(), strand.place());
+    holds(&rt, strand.number() == 0, "the first strand");
+    holds(&rt, strand.place() == 1, "where it begins");
     let acts = "Print \"                  +3\" = Go";
     goes_on(&rt, alloc, &code, &mut strand, acts, "End");
     let has_one = strand.chain().items.as_slice() == [STANDARD].as_slice();
-    let ended = (strand.spent(), has_one);
+    holds(&rt, has_one, "the frame where it ends");
+    holds(&rt, !strand.spent(), "memory");
     drop(strand);
     drop(code);
-    holds(
-        &rt,
-        (begun, ended) == ((0, 1), (false, true)),
-        "where it begins and ends",
-    );
 }
 
 /// BEGIN INT x := 5; print(x) END

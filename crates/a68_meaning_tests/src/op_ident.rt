@@ -43,10 +43,11 @@ fn shaped(rt: &impl Abort, alloc: Global, names: &str) -> Tree
 // It is a formula with the sign that is told, over the nodes that are told.
 fn is_as_told(rt: &impl Abort, alloc: Global, node: &Node, told: &str, case: &str) {
     let (name, parts) = cut(rt, told, ": ");
-    let parts = numbers(rt, alloc, parts.split_whitespace());
     holds(rt, node.kind == NodeKind::Dyadic, case);
     holds(rt, node.name == number(rt, name), case);
+    let parts = numbers(rt, alloc, parts.split_whitespace());
     holds(rt, node.parts.items.as_slice() == parts.as_slice(), case);
+    drop(parts);
 }
 
 // The two upper nodes of a formula are as its line says.

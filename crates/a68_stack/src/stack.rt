@@ -1,7 +1,8 @@
 //! The stack of a strand.
-ghost use Rattle.std.specs.Prelude.{◌≡◌, [], ◌∷◌, ◌++◌, None, Some, reverse, OnOk, OnErr, IfOk, IfSome, MatchOption, MatchBool};
+ghost use Rattle.std.specs.Prelude.{◌≡◌, [], ◌∷◌, ◌++◌, None, Some, List, reverse, OnOk, OnErr, IfOk, IfSome, MatchOption, MatchBool};
 ghost use Rattle.std.specs.Option.{option_map};
 ghost use Rattle.a68_values.specs.Content.{Content, plain, scope_of};
+ghost use Rattle.a68_stack.specs.declared.stack.Item.{Item};
 ghost use Rattle.a68_stack.specs.Values.{plain_in, pop_values, top_counter, top_plain, top_two, top_value};
 
 use a68_acts::Counter;
@@ -98,6 +99,7 @@ impl Stack {
     }
 
     /// Takes the topmost item off.
+    #[inline(always)]
     pub fn pop(&mut self) -> Option<Item>
         ensures { MatchOption result ((self.old ≡ []) × (self.new ≡ [])) (λ item. self.old ≡ item ∷ self.new) }
     {
@@ -114,17 +116,29 @@ impl Stack {
         Some(held)
     }
 
+    // The two topmost items, the lower one first; none where they are not both plain values.
+    #[inline(always)]
+    fn two_plain(&self) -> Option<(Plain, Plain)>
+        ensures { MatchOption result (top_two self.now ≡ None) (λ two. (rest : List Item) × (self.now ≡ Item.Value (plain two.1) ∷ Item.Value (plain two.0) ∷ rest)) }
+    {
+        let [.., below, topmost] = self.items.as_slice() else {
+            return None;
+        };
+        match (plain_in(below), plain_in(topmost)) {
+            (Some(left), Some(right)) => Some((left, right)),
+            _ => None,
+        }
+    }
+
     /// Takes the two topmost items off where they are plain values, the lower one first; elsewhere the stack stays.
     #[inline(always)]
     pub fn take_two(&mut self) -> Option<(Plain, Plain)>
         ensures { MatchOption result ((top_two self.old ≡ None) × (self.new ≡ self.old)) (λ two. self.old ≡ Item.Value (plain two.1) ∷ Item.Value (plain two.0) ∷ self.new) }
     {
-        let (topmost, below) = self.items.split_last()?;
-        let right = plain_in(topmost)?;
-        let left = plain_in(below.last()?)?;
-        drop(self.items.pop());
-        drop(self.items.pop());
-        Some((left, right))
+        let two = self.two_plain()?;
+        drop(self.pop());
+        drop(self.pop());
+        Some(two)
     }
 
     /// Takes the topmost item off where it is a counter; elsewhere the stack stays.
@@ -133,7 +147,7 @@ impl Stack {
         ensures { MatchOption result ((top_counter self.old ≡ None) × (self.new ≡ self.old)) (λ counter. self.old ≡ Item.Counter counter ∷ self.new) }
     {
         let counter = self.counter()?;
-        drop(self.items.pop());
+        drop(self.pop());
         Some(counter)
     }
 
@@ -142,7 +156,7 @@ impl Stack {
     pub fn drop_value(&mut self) -> bool
         ensures { MatchBool result ((value : Content) × (self.old ≡ Item.Value value ∷ self.new)) (pop_values 1 self.old [] ≡ None) }
     {
-        let popped = self.items.pop();
+        let popped = self.pop();
         let is_value = match &popped {
             Some(Item::Value(_)) => true,
             _ => false,

@@ -7,7 +7,7 @@ use Rattle.a68_symbols.specs.declared.form.Given.{Given}
 use Rattle.a68_symbols.specs.declared.form.Given.TheVariants.{Nothing, Symbol, Broken}
 use Rattle.a68_symbols.specs.Names.{Named, stretch_of}
 use Rattle.a68_symbols.specs.Steps.{Keeps}
-use Rattle.a68_symbols.specs.Symbols.{Front, stop_broken, stop_full, Answers}
+use Rattle.a68_symbols.specs.Symbols.{Front, stop_broken, stop_full, Collects}
 use Rattle.a68_symbols.proofs.Cutting.{SoFar, goes_past, takes, refused_at}
 use Rattle.a68_symbols.proofs.Numbered.{SoNamed, one_more}
 
@@ -30,7 +30,7 @@ module _ (bytes rest rest' s : List ℕ) (at n : ℕ) (old new : Named) (d : Don
       }
   goes_on (Broken rule) f k = absurd k
 
-  pub ends_with : (g : Given) (stop : Stop) → Front rest g n → Keeps old new g s (record { from = at; to = at + n }) (Err stop) → Answers bytes (Err stop)
+  pub ends_with : (g : Given) (stop : Stop) → Front rest g n → Keeps old new g s (record { from = at; to = at + n }) (Err stop) → Collects bytes new (Err stop)
   ends_with g NoMemory f k = tt
   ends_with Nothing (Refused refusal) f k = absurd k
   ends_with (Symbol kind) (Refused refusal) f k = rw k.1 (refused_at bytes L2 at d.cut.short (d.cut.stops L2 at (stop_full f k.0)))

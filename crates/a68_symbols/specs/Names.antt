@@ -18,6 +18,9 @@ pub record Named : Type 0 where
   pub symbols : List Symbol
   pub spellings : List Spelled
 
+abbrev pub no_symbols : Named
+no_symbols = record { symbols = []; spellings = [] }
+
 -- each symbol's number is that of one of so many spellings
 abbrev pub HaveNames : List Symbol → ℕ → Type 0
 HaveNames symbols count = (i : ℕ) (s : Symbol) → slice_get symbols i ≡ Some s → s.name < count

@@ -13,7 +13,7 @@ use Rattle.a68_symbols.specs.declared.symbol.Symbol.{Symbol}
 use Rattle.a68_symbols.specs.Forms.{Longest, NoForm}
 use Rattle.a68_symbols.specs.Gives.{gives}
 use Rattle.a68_symbols.specs.Limits.{most_bytes, most_symbols}
-use Rattle.a68_symbols.specs.Names.{Named}
+use Rattle.a68_symbols.specs.Names.{Named, AreNamed}
 
 -- a symbol without its name: its kind, and its stretch of the text
 pub record Piece : Type 0 where
@@ -77,3 +77,9 @@ abbrev pub Answers : List ℕ → Result Named Stop → Type 0
 Answers text (Ok found) = SymbolsAre text (map piece_of found.symbols)
 Answers text (Err (Refused refusal)) = RefusalIs text refusal.rule refusal.place
 Answers text (Err NoMemory) = Unit {0}
+
+-- what is taken in of a text: its symbols with their names; or its refusal
+abbrev pub Collects : List ℕ → Named → Result (Unit {0}) Stop → Type 0
+Collects text found (Ok done) = SymbolsAre text (map piece_of found.symbols) × AreNamed text found
+Collects text found (Err (Refused refusal)) = RefusalIs text refusal.rule refusal.place
+Collects text found (Err NoMemory) = Unit {0}

@@ -1,10 +1,11 @@
 //! A text cut into its symbols.
-ghost use Rattle.std.specs.Prelude.{◌≡◌, ℕ, List, IfOk};
+ghost use Rattle.std.specs.Prelude.{◌≡◌, ◌≤◌, ℕ, List, length, IfOk};
 ghost use Rattle.a68_base.specs.declared.refusal.Rule.{Rule};
 ghost use Rattle.a68_symbols.specs.Gives as specs;
-ghost use Rattle.a68_symbols.specs.Names.{AreNamed};
+ghost use Rattle.a68_symbols.specs.Limits.{most_bytes};
+ghost use Rattle.a68_symbols.specs.Names.{AreNamed, no_symbols};
 ghost use Rattle.a68_symbols.specs.Steps.{Keeps};
-ghost use Rattle.a68_symbols.specs.Symbols.{Answers, HasSymbols, IsRefused, Piece};
+ghost use Rattle.a68_symbols.specs.Symbols.{Answers, Collects, HasSymbols, IsRefused, Piece};
 
 use crate::Symbols;
 use crate::collector::Collector;
@@ -49,6 +50,27 @@ fn keep(
     }
 }
 
+// Takes in the symbols of a text, where there are none yet.
+fn collect(alloc: Global, bytes: &[u8], found: &mut Collector) -> Result<(), Stop>
+    requires short { length bytes.now ≤ most_bytes }
+    requires none { found.old ≡ no_symbols }
+    ensures { Collects bytes.now found.new result }
+{
+    let mut rest = bytes;
+    let mut at = 0;
+    while !rest.is_empty() {
+        let Some((form, n)) = longest(rest) else {
+            return Err(refused(Rule::S2, at));
+        };
+        let (stretch, behind) = rest.split_at(n);
+        let to = at + n as u32;
+        keep(alloc, found, form, stretch, Span { from: at, to })?;
+        rest = behind;
+        at = to;
+    }
+    Ok(())
+}
+
 /// The symbols of a text, each the longest that begins at its byte; or the refusal of the text by the first rule of
 /// symbols that it breaks: L1 at byte 1,048,576 of a longer text, else the first byte at which no list of symbols can
 /// go on, with S2 where no symbol begins, S1 where a string, comment or pragmat has no end, S3 at a word of a part of
@@ -62,17 +84,10 @@ pub fn symbols(alloc: Global, bytes: &[u8]) -> Result<Symbols, Stop>
         return Err(refused(Rule::L1, MOST_BYTES as u32));
     }
     let mut found = Collector::new(alloc);
-    let mut rest = bytes;
-    let mut at = 0;
-    while !rest.is_empty() {
-        let Some((form, n)) = longest(rest) else {
-            return Err(refused(Rule::S2, at));
-        };
-        let (stretch, behind) = rest.split_at(n);
-        let to = at + n as u32;
-        keep(alloc, &mut found, form, stretch, Span { from: at, to })?;
-        rest = behind;
-        at = to;
+    let done = collect(alloc, bytes, &mut found);
+    if let Err(stop) = done {
+        drop(found);
+        return Err(stop);
     }
     Ok(found.finish(alloc)?)
 }

@@ -108,26 +108,54 @@ const KINDS: &[(&str, NodeKind)] = &[
 /// As many symbols as a text has at most.
 const TEXT: &[Sym] = &[Sym::Is(Token::Tag); 9];
 
-fn call(
-    rt: &impl Abort,
+// What a word calls.
+#[derive(Clone, Copy)]
+enum Call {
+    Read,
+    Sign,
+    Bracket,
+    Unbracket,
+    Open,
+    Leave,
+    Share,
+    Forget,
+    Identity,
+}
+
+const WORDS: &[(&str, Call)] = &[
+    (".", Call::Read),
+    ("+", Call::Sign),
+    ("(", Call::Bracket),
+    (")", Call::Unbracket),
+    ("open", Call::Open),
+    ("leave", Call::Leave),
+    ("share", Call::Share),
+    ("forget", Call::Forget),
+    ("IS", Call::Identity),
+];
+
+fn make_call(
     alloc: Global,
     drafting: &mut Drafting,
-    word: &str,
+    call: Call,
     rest: &[Sym],
 ) -> Result<(), NoMemory> {
-    match word {
-        "." => {}
-        "+" => return drafting.sign(rest),
-        "(" => return drafting.bracket(rest),
-        ")" => drafting.unbracket(),
-        "open" => return drafting.open(rest),
-        "leave" => drafting.leave(),
-        "share" => return drafting.share(),
-        "forget" => drafting.forget(),
-        "IS" => return drafting.wrap_identity(alloc, rest),
-        _ => return node(rt, alloc, drafting, word, rest),
+    match call {
+        Call::Read => {}
+        Call::Sign => return drafting.sign(rest),
+        Call::Bracket => return drafting.bracket(rest),
+        Call::Unbracket => drafting.unbracket(),
+        Call::Open => return drafting.open(rest),
+        Call::Leave => drafting.leave(),
+        Call::Share => return drafting.share(),
+        Call::Forget => drafting.forget(),
+        Call::Identity => return drafting.wrap_identity(alloc, rest),
     }
     Ok(())
+}
+
+fn kind(rt: &impl Abort, name: &str) -> NodeKind {
+    find(KINDS, name.as_bytes()).expect(rt, "a kind")
 }
 
 fn node(
@@ -137,15 +165,9 @@ fn node(
     word: &str,
     rest: &[Sym],
 ) -> Result<(), NoMemory> {
-    let (name, is_aside) = match word.strip_prefix('@') {
-        Some(name) => (name, true),
-        None => (word, false),
-    };
-    let kind = find(KINDS, name.as_bytes()).expect(rt, "a kind");
-    if is_aside {
-        drafting.set_aside(alloc, kind, rest)
-    } else {
-        drafting.wrap(alloc, kind, rest)
+    match word.strip_prefix('@') {
+        Some(name) => drafting.set_aside(alloc, kind(rt, name), rest),
+        None => drafting.wrap(alloc, kind(rt, word), rest),
     }
 }
 
@@ -161,27 +183,41 @@ fn read<'a>(
     if word.len() == 1 {
         rest = text.get(1..).expect(rt, "a symbol");
     }
-    call(rt, alloc, drafting, word, rest).expect(rt, "memory");
+    let done = match find(WORDS, word.as_bytes()) {
+        Some(call) => make_call(alloc, drafting, call, rest),
+        None => node(rt, alloc, drafting, word, rest),
+    };
+    done.expect(rt, "memory");
     rest
+}
+
+// Reads all of a text by these calls.
+fn read_all(rt: &impl Abort, alloc: Global, drafting: &mut Drafting, words: &str, text: &[Sym]) {
+    let mut rest = text;
+    for word in words.split(' ') {
+        rest = read(rt, alloc, drafting, word, rest);
+    }
+    holds(rt, rest.len() == 0, words);
 }
 
 // What a text gives that is read by these calls.
 fn drafted(rt: &impl Abort, alloc: Global, words: &str, text: &[Sym]) -> Vec<Draft> {
     let mut drafting = Drafting::new(alloc, text).expect(rt, "memory");
-    let mut rest = text;
-    for word in words.split(' ') {
-        rest = read(rt, alloc, &mut drafting, word, rest);
-    }
-    holds(rt, rest.len() == 0, words);
+    read_all(rt, alloc, &mut drafting, words, text);
     drafting.finish()
+}
+
+// The line of a node.
+fn add_line(rt: &impl Abort, lines: &mut String, draft: &Draft) {
+    let places = [draft.before, draft.after, draft.named];
+    let parts = &draft.parts;
+    write!(lines, "{:?} {places:?} {parts:?}\n", draft.kind).expect(rt, "memory");
 }
 
 fn shown(rt: &impl Abort, alloc: Global, drafts: &[Draft]) -> String {
     let mut lines = String::new(alloc);
     for draft in drafts {
-        let places = [draft.before, draft.after, draft.named];
-        let parts = &draft.parts;
-        write!(lines, "{:?} {places:?} {parts:?}\n", draft.kind).expect(rt, "memory");
+        add_line(rt, &mut lines, draft);
     }
     lines
 }

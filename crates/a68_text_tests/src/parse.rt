@@ -230,9 +230,13 @@ fn has_no_tree(rt: &impl Abort, alloc: Global, text: &str, place: u32) {
     holds(rt, stop == Some(Stop::Refused(refusal)), text);
 }
 
+fn have_no_tree(rt: &impl Abort, alloc: Global, rows: &[(&str, u32)]) {
+    for (text, place) in rows {
+        has_no_tree(rt, alloc, text, *place);
+    }
+}
+
 #[test]
 fn texts_without_a_tree(rt: HostRuntime) {
-    for (text, place) in BROKEN {
-        has_no_tree(&rt, rt.alloc(), text, *place);
-    }
+    have_no_tree(&rt, rt.alloc(), BROKEN);
 }

@@ -1,7 +1,7 @@
 //! The symbols of texts, and their refusals, by hand from the table of symbols.
 use crate::table::{agrees, holds};
 use a68_base::{Refusal, Rule, Stop};
-use a68_symbols::{Symbols, symbols};
+use a68_symbols::{Symbol, Symbols, symbols};
 use std::alloc::Global;
 use std::panic::Expect;
 use std::process::Abort;
@@ -150,13 +150,18 @@ const REFUSALS: &[(&str, Rule, u32)] = &[
     ("16rffffffffffffffff 1 0", Rule::S5, 0),
 ];
 
+// The line of a symbol.
+fn add_line(rt: &impl Abort, lines: &mut String, symbol: Symbol, spelling: &[u8]) {
+    let spelling = from_utf8(spelling).expect(rt, "a text");
+    let places = [symbol.span.from, symbol.span.to, symbol.name];
+    write!(lines, "{:?} {spelling} {places:?}\n", symbol.kind).expect(rt, "memory");
+}
+
 fn shown(rt: &impl Abort, alloc: Global, found: &Symbols) -> String {
     let mut lines = String::new(alloc);
     for i in 0..found.len() {
         let symbol = found.at(i);
-        let spelling = from_utf8(found.spelling(symbol.name)).expect(rt, "a text");
-        let places = [symbol.span.from, symbol.span.to, symbol.name];
-        write!(lines, "{:?} {spelling} {places:?}\n", symbol.kind).expect(rt, "memory");
+        add_line(rt, &mut lines, symbol, found.spelling(symbol.name));
     }
     lines
 }
@@ -181,11 +186,15 @@ fn is_refused(rt: &impl Abort, alloc: Global, text: &[u8], rule: Rule, place: u3
     holds(rt, stop == Some(Stop::Refused(refusal)), rule.name());
 }
 
+fn are_refused(rt: &impl Abort, alloc: Global, rows: &[(&str, Rule, u32)]) {
+    for (text, rule, place) in rows {
+        is_refused(rt, alloc, text.as_bytes(), *rule, *place);
+    }
+}
+
 #[test]
 fn texts_are_refused(rt: HostRuntime) {
-    for (text, rule, place) in REFUSALS {
-        is_refused(&rt, rt.alloc(), text.as_bytes(), *rule, *place);
-    }
+    are_refused(&rt, rt.alloc(), REFUSALS);
     is_refused(&rt, rt.alloc(), b"\xff", Rule::S2, 0);
 }
 

@@ -1,5 +1,5 @@
 //! The symbols of a text as the grammar tells them apart.
-ghost use Rattle.std.specs.Prelude.{◌≡◌, map, IfOk};
+ghost use Rattle.std.specs.Prelude.{◌≡◌, ◌&&◌, nat_le, map, IfOk};
 ghost use Rattle.a68_symbols.specs.Marks as nomads;
 ghost use Rattle.a68_tree.specs.Spellings as spellings;
 
@@ -124,11 +124,17 @@ fn mark_sym(s: &[u8]) -> Sym
     }
 }
 
+fn is_priority(digit: u8) -> bool
+    ensures { result ≡ (nat_le 49 digit && nat_le digit 57) }
+{
+    (b'1'..=b'9').contains(&digit)
+}
+
 fn number_sym(s: &[u8]) -> Sym
     ensures { result ≡ spellings.number_sym s.now }
 {
     match s {
-        [b'1'..=b'9'] => Sym::Is(Token::Digit),
+        [digit] if is_priority(*digit) => Sym::Is(Token::Digit),
         _ => Sym::Is(Token::Number),
     }
 }

@@ -1,7 +1,8 @@
 use Rattle.std.proofs.Common.{Some, arith, sym, ◌∙◌, ap}
+use Rattle.std.proofs.lemmas.Grind.{elements}
+use Rattle.std.proofs.lemmas.Option.{slice_get_read}
 use Rattle.std.specs.Vec.{vec_len}
 use Rattle.std.specs.declared.option.Option.{Option}
-use Rattle.std.proofs.lemmas.Option.{slice_get_read}
 use Rattle.a68_check.specs.Definitions.{defines}
 use Rattle.a68_check.specs.declared.form.Form.{Form}
 use Rattle.a68_check.proofs.Defining.{tells_node, no_repeat, is_none_of}
@@ -27,3 +28,9 @@ returns-clause-new c =
     let read = slice_get_read table.items (vec_len table) n.name c.index.result.now (omega (arith, table.ok)) (omega (arith, table.ok)) c.index.ensures in
     let free = read ∙ ap (λ (o : Option Definition). Some o) (is_none_of c.index.result.now c.if-is_some.ensures) in
     no_repeat c.args.tree.now c.args.n c.in_text-id.result n table.items c.in_text-id.ensures.is c.node.ensures.is named c.requires.tells free
+
+pub returns-then-is_some-clause-none : goal.returns-then-is_some-clause-none
+returns-then-is_some-clause-none c = grind (arith, elements)
+
+pub returns-clause-count : goal.returns-clause-count
+returns-clause-count c = grind (arith, elements)

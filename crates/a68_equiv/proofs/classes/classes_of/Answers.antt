@@ -1,4 +1,4 @@
-use Rattle.std.proofs.Common.{◌≡◌, ◌*◌, ◌∙◌, refl, subst, ap, sym, ℕ, List, Bool, length}
+use Rattle.std.proofs.Common.{◌≡◌, ◌*◌, ◌∙◌, refl, subst, ap, sym, ℕ, List, Bool, length, arith}
 use Rattle.a68_modes.specs.declared.shape.Shape.{Shape}
 use Rattle.a68_equiv.specs.Graph.{IsGraphOf}
 use Rattle.a68_refine.specs.Rounds.{IsRefined, SoFar}
@@ -32,3 +32,16 @@ returns c =
       firsts = found.0;
       nodes_found = found.1;
     }
+
+pub classes_by_key-requires-clause-low : goal.classes_by_key-requires-clause-low
+classes_by_key-requires-clause-low c =
+    let long : length c.deref-2.result.now ≡ 2 * length c.args.modes.now = ap length c.deref-2.ensures.value ∙ c.requires.graph.rows_long in
+    λ v h. rw c.deref-3.ensures.value (c.in_ok-items.ensures.low v (omega arith))
+
+pub classes_by_key-requires-clause-own : goal.classes_by_key-requires-clause-own
+classes_by_key-requires-clause-own c =
+    let long : length c.deref-2.result.now ≡ 2 * length c.args.modes.now = ap length c.deref-2.ensures.value ∙ c.requires.graph.rows_long in
+    λ v h. rw c.deref-3.ensures.value (c.in_ok-items.ensures.own v (omega arith))
+
+pub refine-requires : goal.refine-requires
+refine-requires c = rw (c.deref.ensures.value, c.deref-2.ensures.value) record { few = c.requires.few; wired = c.requires.wired }

@@ -1,4 +1,5 @@
 use Rattle.std.proofs.Common.{◌∙◌, sym, ap, true, false, subst}
+use Rattle.std.proofs.lemmas.Bool.{false≢true}
 use Rattle.std.specs.Prelude.{◌↔◌, IsTrue}
 use Rattle.a68_equiv.specs.declared.mode.Mode.{Mode}
 use Rattle.a68_equiv.specs.Related.{as_it_stands, LeadsMeekly}
@@ -17,7 +18,7 @@ returns-in_default c =
     let nodes = c.args.modes.now in
     subst (λ (g : Mode). IsTrue false ↔ LeadsMeekly nodes (as_it_stands c.args.from) g) c.as_it_stands-goal.ensures
     (lost nodes c.meekly.at (as_it_stands c.args.from) c.as_it_stands-goal.result c.meekly.invariant.same (sym c.meek.ensures.step ∙ c.in_default.is)
-    (λ e. let t = (c.are_same.ensures.equivalent nodes c.requires.exact).1 e in let f = c.if-are_same.false in cc))
+    (λ e. false≢true (sym c.if-are_same.false ∙ (c.are_same.ensures.equivalent nodes c.requires.exact).1 e)))
 
 pub meekly-smaller : goal.meekly-smaller
 meekly-smaller c = shorter c.args.modes.now c.meek.ensures.nodes c.requires.formed c.meekly.at.id c.in-Some.next.id c.meekly.invariant.there (ap id_of (sym c.meek.ensures.step ∙ c.in-Some.is))
@@ -28,5 +29,5 @@ meekly-preserved c =
     record {
       there = c.in-Some.ensures.there;
       same = goes nodes c.meekly.at (as_it_stands c.args.from) c.as_it_stands-goal.result c.meekly.invariant.same c.in-Some.next (sym c.meek.ensures.step ∙ c.in-Some.is)
-          (λ e. let t = (c.are_same.ensures.equivalent nodes c.requires.exact).1 e in let f = c.if-are_same.false in cc);
+          (λ e. false≢true (sym c.if-are_same.false ∙ (c.are_same.ensures.equivalent nodes c.requires.exact).1 e));
     }

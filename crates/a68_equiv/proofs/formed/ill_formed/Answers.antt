@@ -1,8 +1,9 @@
-use Rattle.std.proofs.Common.{◌≡◌, ◌↔◌, ◌∙◌, ℕ, List, Bool, true, false, get_or, sym, subst, arith, below_more}
+use Rattle.std.proofs.Common.{◌≡◌, ◌↔◌, ◌∙◌, ℕ, List, Bool, true, false, ◌<◌, length, get_or, sym, subst, arith, below_more}
 use Rattle.std.specs.Prelude.{map, IsTrue}
 use Rattle.a68_modes.specs.declared.shape.Shape.{Shape}
 use Rattle.a68_equiv.specs.declared.steps.Steps.TheVariants.{BesidesNames, BesidesStructures}
 use Rattle.a68_equiv.specs.Ways.{steps_of, Way, IsWellFormed}
+use Rattle.std.proofs.lemmas.List.{length-map}
 use Rattle.a68_equiv.proofs.formed.ill_formed.Goals as goal
 use Rattle.a68_equiv.proofs.formed.ill_formed.Goals.{then-by_names-via-then-by_names, then-by_names-via-else-by_names+then-by_structures}
 
@@ -43,3 +44,22 @@ returns-then-by_names c =
       elim c.then-by_names.branch [ then-by_names-via-then-by_names w ↦ back w.if-by_names.true | then-by_names-via-else-by_names+then-by_structures w ↦ again w.if-by_structures.true ],
       c.loop-place.invariant,
     )
+
+pub comes_back-requires-clause-there : goal.comes_back-requires-clause-there
+comes_back-requires-clause-there c =
+    let lt : c.loop-place.place < length c.args.roots.now = omega arith in
+    rw (c.deref.ensures.value, c.in_ok-besides_names.ensures.rows, length-map c.args.modes.now) (c.requires.roots c.loop-place.place 0 lt)
+
+pub comes_back-requires-in-loop-place-clause-there : goal.comes_back-requires-in-loop-place-clause-there
+comes_back-requires-in-loop-place-clause-there c =
+    let lt : c.loop-place.place < length c.args.roots.now = omega arith in
+    rw (c.deref-in-loop-place.ensures.value, c.in_ok-besides_structures.ensures.rows, length-map c.args.modes.now) (c.requires.roots c.loop-place.place 0 lt)
+
+pub comes_back-requires-clause-closed : goal.comes_back-requires-clause-closed
+comes_back-requires-clause-closed c = rw c.deref.ensures.value c.in_ok-besides_names.ensures.closed
+
+pub comes_back-requires-in-loop-place-clause-closed : goal.comes_back-requires-in-loop-place-clause-closed
+comes_back-requires-in-loop-place-clause-closed c = rw c.deref-in-loop-place.ensures.value c.in_ok-besides_structures.ensures.closed
+
+pub overflow_cast-result : goal.overflow_cast-result
+overflow_cast-result c = omega arith

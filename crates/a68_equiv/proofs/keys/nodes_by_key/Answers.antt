@@ -1,4 +1,4 @@
-use Rattle.std.proofs.Common.{◌≡◌, ◌∙◌, ◌++◌, ◌∷◌, [], length, refl, ap, arith, subst}
+use Rattle.std.proofs.Common.{ℕ, List, ◌≡◌, ◌∙◌, ◌++◌, ◌∷◌, [], length, refl, ap, arith, subst}
 use Rattle.a68_equiv.specs.Graph.{number_of, mode_of}
 use Rattle.a68_equiv.specs.ModeKeys.{IsModeKey}
 use Rattle.a68_equiv.specs.Related.{as_it_stands}
@@ -7,6 +7,9 @@ use Rattle.a68_equiv.specs.declared.mode.Mode.{Mode}
 use Rattle.a68_refine.proofs.Numbering.{more}
 use Rattle.a68_equiv.proofs.Numbers.{mode_number}
 use Rattle.a68_equiv.proofs.keys.nodes_by_key.Goals as goal
+
+none_numbered : (HasKey : ℕ → List ℕ → Type 0) → SoFar HasKey [] [] 0
+none_numbered HasKey = record { built = refl; known = λ j h. absurd (omega arith); found = λ key f e. absurd (cc); first = λ j h. absurd (omega arith) }
 
 pub loop-id-preserved : goal.loop-id-preserved
 loop-id-preserved c =
@@ -25,3 +28,12 @@ pub returns : goal.returns
 returns c =
     let all : c.loop-id.id ≡ length c.args.modes.now = omega arith in
     (c.loop-id.invariant.0, subst (SoFar (λ m key. IsModeKey c.args.modes.now c.args.classes.now (as_it_stands m) key) c.loop-id.table.entries c.loop-id.invariant.0) all c.loop-id.invariant.1)
+
+pub number-requires : goal.number-requires
+number-requires c = rw c.as_it_stands.ensures (omega (arith, c.len-id-end.ensures.nodes.few))
+
+pub mode_key-requires-clause-there : goal.mode_key-requires-clause-there
+mode_key-requires-clause-there c = rw (c.number.ensures, c.as_it_stands.ensures) (omega arith)
+
+pub loop-id-init : goal.loop-id-init
+loop-id-init c = rw c.new-table.ensures.empty ([], none_numbered (λ m key. IsModeKey c.args.modes.now c.args.classes.now (as_it_stands m) key))

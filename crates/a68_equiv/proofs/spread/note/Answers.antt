@@ -1,6 +1,7 @@
 use Rattle.std.proofs.Common.{◌≡◌, ◌<◌, ◌∙◌, Bool, true, false, not, length, refl, sym, arith}
 use Rattle.std.proofs.lemmas.List.{take_more}
 use Rattle.a68_equiv.proofs.Spreading.{none_noted, noted_again, noted_new, known_new}
+use Rattle.std.proofs.Math.Seq.{take-length}
 use Rattle.a68_equiv.proofs.spread.note.Goals as goal
 use Rattle.a68_equiv.proofs.spread.note.Goals.{then-branch+in_ok-push, else-branch}
 
@@ -32,3 +33,8 @@ loop-mode-preserved c =
             known = rw (w.found-is, same) known;
           }
     ]
+
+pub returns : goal.returns
+returns c =
+    let all : c.loop-mode.mode-index ≡ length c.args.modes.now = omega arith in
+    rw (all, take-length) at c.loop-mode.invariant

@@ -17,3 +17,9 @@ returns-clause-below c =
     let nodes = c.args.modes.now in
     let last = subst (λ (xs : List ℕ). AreLast nodes xs c.in_ok-members.members) c.deref.ensures.value c.in_ok-members.ensures in
     spread_below nodes c.in_ok-found.found.items c.in_ok-members.members last c.in_ok-found.ensures.below
+
+pub returns-then-are_plain-clause-below : goal.returns-then-are_plain-clause-below
+returns-then-are_plain-clause-below c = rw c.in_ok-plain.ensures c.requires
+
+pub last_of-requires : goal.last_of-requires
+last_of-requires c = rw c.deref.ensures.value c.in_ok-found.ensures.below

@@ -1,5 +1,6 @@
-use Rattle.std.proofs.Common.{rules, ◌+◌, ◌++◌, [], ◌∷◌, length, refl, ap, drop, get_or, arith}
+use Rattle.std.proofs.Common.{rules, ◌≡◌, ◌+◌, ◌++◌, [], ◌∷◌, length, refl, ap, drop, get_or, arith}
 use Rattle.std.specs.Option.{option_map_or}
+use Rattle.std.proofs.lemmas.List.{drop_all, nil_from_length}
 use Rattle.a68_code.specs.declared.does.Does.TheVariants as does
 use Rattle.a68_elab.proofs.Nodes.{tree_of_nodes}
 use Rattle.a68_elab.specs.Made as made
@@ -8,9 +9,9 @@ use Rattle.a68_elab.specs.Made.{tree_at, trees_at, behind_ref}
 use Rattle.a68_gen.specs.Coercing.{coercions}
 use Rattle.a68_gen.specs.Listing.{instr, stretch, stretches}
 use Rattle.a68_gen.specs.Writing.{Writes}
-use Rattle.a68_gen.proofs.Constructs.{coerced_list, part-cons, between-each, two_parts, some_parts, call_whole, plain_serial, framed_serial, variable_none, variable_set, only_none, call_none, loop_none, choice_none}
+use Rattle.a68_gen.proofs.Constructs.{coerced_list, part-cons, between-each, one_part, two_parts, three_parts, some_parts, call_whole, plain_serial, framed_serial, variable_none, variable_set, only_none, call_none, loop_none, choice_none}
 use Rattle.a68_gen.proofs.Jumping.{choice_all, loop_all}
-use Rattle.a68_gen.proofs.Writing.{and_behind, writes-as}
+use Rattle.a68_gen.proofs.Writing.{and_behind, nothing-written, writes-as}
 use Rattle.a68_gen.proofs.rows.+units.Goals as goal
 use Rattle.std.specs.Prelude.{not, if◌then◌else◌}
 use Rattle.a68_modes.specs.Nodes.{shape_at, is_void}
@@ -40,6 +41,46 @@ all-loop-part-preserved t c =
     let step = part-cons f at i c.args.parts.now c.loop-part-test.true in
     λ s end w. c.loop-part.invariant s end (rw step
     (and_behind c.loop-part.out.stop c.unit.new.out.stop s c.loop-part.out.list.items c.unit.new.out.list.items end (stretch (f one) at) (λ n. stretches (trees_at f (drop (i + 1) c.args.parts.now)) n) c.unit.ensures w))
+
+pub call-unit-requires : goal.call-unit-requires
+call-unit-requires t c =
+    let b = between-each c.args.id (length c.args.program.now.tree.nodes) 1 c.args.parts.now c.requires (omega arith) in
+    let below = b.0 in
+    let within = b.1 in
+    (omega arith, b.1)
+
+pub variable-unit-requires : goal.variable-unit-requires
+variable-unit-requires t c =
+    let b = between-each c.args.id (length c.args.program.now.tree.nodes) 1 c.args.parts.now c.requires (omega arith) in
+    let below = b.0 in
+    let within = b.1 in
+    (omega arith, b.1)
+
+pub only-unit-requires : goal.only-unit-requires
+only-unit-requires t c =
+    let b = between-each c.args.id (length c.args.program.now.tree.nodes) 0 c.args.parts.now c.requires (omega arith) in
+    let below = b.0 in
+    let within = b.1 in
+    (omega arith, b.1)
+
+pub repeat-unit-requires : goal.repeat-unit-requires
+repeat-unit-requires t c =
+    let b = between-each c.args.id (length c.args.program.now.tree.nodes) 0 c.args.parts.now c.requires (omega arith) in
+    let below = b.0 in
+    let within = b.1 in
+    (omega arith, b.1)
+
+pub repeat-unit-requires-2 : goal.repeat-unit-requires-2
+repeat-unit-requires-2 t c =
+    let b = between-each c.args.id (length c.args.program.now.tree.nodes) 1 c.args.parts.now c.requires (omega arith) in
+    let below = b.0 in
+    let within = b.1 in
+    (omega arith, b.1)
+
+pub all-returns : goal.all-returns
+all-returns t c =
+    let end : drop c.loop-part.part-index c.args.parts.now ≡ [] = drop_all c.loop-part.part-index c.args.parts.now (omega arith) in
+    c.loop-part.invariant c.loop-part.out.stop c.loop-part.out.list.items (rw end (nothing-written c.loop-part.out.stop c.loop-part.out.list.items))
 
 pub operation-returns : goal.operation-returns
 operation-returns t c =
@@ -83,6 +124,9 @@ variable-returns t c =
     let w04 = and_behind w0.stop w1.stop w4.stop w0.list.items w1.list.items w4.list.items (instr place (does.Make mode 0) ∷ []) (λ n. stretch source n ++ store ∷ bind ∷ []) c.emit-2.ensures w14 in
     rw (two, ← c.behind_ref-mode.ensures) (writes-as w0.stop w4.stop w0.list.items w4.list.items _ _ (variable_set place mode slot (length w0.list.items) (tree_at c.args.program.now (get_or c.args.parts.now 0 0)) source) w04)
 
+pub serial-returns-then-parts-eq0 : goal.serial-returns-then-parts-eq0
+serial-returns-then-parts-eq0 t c = rw (nil_from_length c.args.parts.now (omega arith)) c.blank.ensures
+
 pub serial-returns-then-note-eq0 : goal.serial-returns-then-note-eq0
 serial-returns-then-note-eq0 t c =
     let some = some_parts c.args.parts.now (omega arith) in
@@ -115,6 +159,9 @@ serial-returns t c =
 pub only-returns-then-parts-ne1 : goal.only-returns-then-parts-ne1
 only-returns-then-parts-ne1 t c = rw (← only_none (tree_at c.args.program.now) c.args.parts.now (λ e. absurd (omega arith))) c.blank.ensures
 
+pub only-returns : goal.only-returns
+only-returns t c = rw (one_part c.args.parts.now (omega arith)) c.unit.ensures
+
 pub choice-returns : goal.choice-returns
 choice-returns t c =
     choice_all c.args.out.now.stop c.unit.new.out.stop c.emit.new.self.stop c.unit-2.new.out.stop c.emit-2.new.self.stop c.patch.new.self.stop c.otherwise.new.out.stop c.patch-2.new.self.stop
@@ -122,6 +169,27 @@ choice-returns t c =
     c.args.place c.len-unless.result c.len-jump.result c.len-x.result c.len-end.result
     (tree_at c.args.program.now c.args.enquiry) (tree_at c.args.program.now c.args.part) (option_map_or (tree_at c.args.program.now) c.args.other (made.nothing c.args.place))
     c.unit.ensures c.len-unless.ensures c.emit.ensures c.unit-2.ensures c.len-jump.ensures c.emit-2.ensures c.len-x.ensures c.patch.ensures.list c.patch.ensures.stop c.otherwise.ensures c.len-end.ensures c.patch-2.ensures.list c.patch-2.ensures.stop
+
+pub conditional-choice-requires : goal.conditional-choice-requires
+conditional-choice-requires t c =
+    let n = length c.args.program.now.tree.nodes in
+    let enquiry = between-each c.args.id n 0 c.args.parts.now c.requires (omega arith) in
+    let part = between-each c.args.id n 1 c.args.parts.now c.requires (omega arith) in
+    (omega arith, (enquiry, (part, tt)))
+
+pub conditional-returns-then-parts-eq2 : goal.conditional-returns-then-parts-eq2
+conditional-returns-then-parts-eq2 t c = rw (two_parts c.args.parts.now (omega arith)) c.choice.ensures
+
+pub conditional-choice-requires-then-parts-eq3 : goal.conditional-choice-requires-then-parts-eq3
+conditional-choice-requires-then-parts-eq3 t c =
+    let n = length c.args.program.now.tree.nodes in
+    let enquiry = between-each c.args.id n 0 c.args.parts.now c.requires (omega arith) in
+    let part = between-each c.args.id n 1 c.args.parts.now c.requires (omega arith) in
+    let other = between-each c.args.id n 2 c.args.parts.now c.requires (omega arith) in
+    (omega arith, (enquiry, (part, other)))
+
+pub conditional-returns-then-parts-eq3 : goal.conditional-returns-then-parts-eq3
+conditional-returns-then-parts-eq3 t c = rw (three_parts c.args.parts.now (omega arith)) c.choice-then-parts-eq3.ensures
 
 pub conditional-returns : goal.conditional-returns
 conditional-returns t c = rw (← choice_none (tree_at c.args.program.now) c.args.place c.args.parts.now (λ e. absurd (omega arith)) (λ e. absurd (omega arith))) c.blank.ensures

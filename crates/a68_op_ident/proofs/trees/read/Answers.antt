@@ -1,4 +1,5 @@
 use Rattle.std.proofs.Common.{◌≡◌, ◌+◌, ◌*◌, ◌/◌, ◌∙◌, length, sym, ap, arith, Some, slice_get}
+use Rattle.std.proofs.lemmas.Grind.{elements}
 use Rattle.std.proofs.lemmas.Option.{slice_get-get_or}
 use Rattle.a68_tree.specs.Trees.{Built}
 use Rattle.a68_op_ident.proofs.Unread.{lacks_sign, lacks_operand, reads_are}
@@ -36,3 +37,6 @@ returns-in_default-2 c =
     let count = c.len-count.result / 2 in
     let long : length c.deref-2.result.now ≡ 2 * count + 1 = omega arith in
     lacks_operand tree c.args.formula count node c.deref-2.result.now there parts long (rw c.in_default-2.is at c.in_ok-operands.ensures.none)
+
+pub returns-then-len-eq0 : goal.returns-then-len-eq0
+returns-then-len-eq0 c = grind (arith, elements)

@@ -1,4 +1,5 @@
 use Rattle.std.proofs.Common.{length, arith, sym, ◌∙◌, List, ap}
+use Rattle.std.proofs.lemmas.Grind.{elements}
 use Rattle.a68_op_ident.specs.declared.formula.Operator.{Operator}
 use Rattle.a68_tree.specs.declared.node.Node.{Node}
 use Rattle.a68_op_ident.proofs.Shaping.{room, placed_formula}
@@ -27,3 +28,9 @@ returns-clause-within c =
     let same = c.in_ok-place.ensures.same in
     let long = same.long in
     omega arith
+
+pub place-requires-clause-later : goal.place-requires-clause-later
+place-requires-clause-later c = grind (arith, elements)
+
+pub overflow_cast-result : goal.overflow_cast-result
+overflow_cast-result c = grind (arith, elements)

@@ -26,3 +26,20 @@ returns c =
     let has = subst (λ (r : Bool × List ℕ). IsRowKey classes (get_or heads at 0) r.0 r.1 key.items) row one in
     settled_on heads rows c.args.table.now.entries c.numbered.new.table.entries classes at c.in_ok-class.class key c.requires.ended lt c.requires.few without (λ w i. All-contains (λ k. k < length rows) (row_at rows at).1 w (c.requires.wired.closed at lt) i) parts has
     (record { number = c.in_ok-class.ensures.number; here = c.in_ok-class.ensures.here; others = c.in_ok-class.ensures.others })
+
+pub are_settled-requires : goal.are_settled-requires
+are_settled-requires c =
+    let rows = c.args.rows.now in
+    let at = c.args.at in
+    let lt : at < length rows = omega arith in
+    let row : c.index-rows-at.result ≡ row_at rows at = c.index-rows-at.is ∙ get_or_default rows at c.index-rows-at.result (false, []) lt in
+    let items : c.deref-2.result.now ≡ (row_at rows at).1 = c.deref-2.ensures.value ∙ ap (λ (r : Bool × List ℕ). r.1) (c.row.view_is ∙ row) in
+    rw (items, c.deref.ensures.value, c.requires.ended.long) (c.requires.wired.closed at lt)
+
+pub row_key-requires : goal.row_key-requires
+row_key-requires c =
+    let rows = c.args.rows.now in
+    let at = c.args.at in
+    let lt : at < length rows = omega arith in
+    let row : c.index-rows-at.result ≡ row_at rows at = c.index-rows-at.is ∙ get_or_default rows at c.index-rows-at.result (false, []) lt in
+    rw (row, c.deref-3.ensures.value, c.requires.ended.long) (c.requires.wired.closed at lt)

@@ -60,3 +60,15 @@ returns-clause-split c = split_whole c.args.unions c.args.rows.now c.args.classe
 
 pub returns-clause-below : goal.returns-clause-below
 returns-clause-below c = all_below c.args.unions c.args.rows.now c.args.classes.now c.args.by c.loop-v.moved.items c.loop-v.next.items c.loop-v.v c.loop-v.invariant
+
+pub bounds-rows-class : goal.bounds-rows-class
+bounds-rows-class c =
+    let l = c.requires.long in
+    let lt : c.loop-v.v < length c.args.classes.now = omega arith in
+    c.requires.below c.loop-v.v 0 lt
+
+pub target_of-target-requires-clause-there : goal.target_of-target-requires-clause-there
+target_of-target-requires-clause-there c =
+    let l = c.requires.long in
+    let lt : c.loop-v.v < length c.args.classes.now = omega arith in
+    rw c.loop-v.invariant.wide (c.requires.below c.loop-v.v 0 lt)

@@ -20,3 +20,15 @@ splits-preserved c =
       below = c.in_ok-classes-2.ensures.below;
       coarse = splits c.has_short_unions-unions.result c.args.heads.now rows c.splits.classes.items c.in-Some.by c.in_ok-classes-2.classes.items c.requires.wired c.splits.invariant.coarse is;
     }
+
+pub split-requires-clause-long : goal.split-requires-clause-long
+split-requires-clause-long c = rw c.deref.ensures.value c.splits.invariant.long
+
+pub split-requires-clause-below : goal.split-requires-clause-below
+split-requires-clause-below c = rw c.deref.ensures.value c.splits.invariant.below
+
+pub returns : goal.returns
+returns c = record { long = c.splits.invariant.long; coarse = c.splits.invariant.coarse }
+
+pub returns-in_default : goal.returns-in_default
+returns-in_default c = record { long = c.splits.invariant.long; coarse = c.splits.invariant.coarse }

@@ -1,4 +1,4 @@
-use Rattle.std.proofs.Common.{◌≡◌, ℕ, List, Bool, length, refl, subst}
+use Rattle.std.proofs.Common.{◌≡◌, ◌∙◌, sym, ℕ, List, Bool, length, refl, subst}
 use Rattle.a68_refine.specs.Rounds.{ByFirst, IsCoarse, IsStart}
 use Rattle.a68_refine.proofs.Splitting.{PairKey, starts}
 use Rattle.a68_refine.proofs.split.start.Goals as goal
@@ -20,3 +20,9 @@ split_all-requires-clause-first c = starts_as c.args.heads.now c.args.rows.now c
 
 pub returns : goal.returns
 returns c = starts_as c.args.heads.now c.args.rows.now c.in_ok-split.split.items c.deref-6.result.now c.in_ok-classes.classes.items c.in_ok-classes.classes.items c.deref-6.ensures.value refl c.requires.wired.long c.in_ok-split.ensures.coarse c.in_ok-classes.ensures
+
+pub joined-requires-clause-long : goal.joined-requires-clause-long
+joined-requires-clause-long c = rw c.deref.ensures.value (c.in_ok-ended.ensures.long ∙ sym c.requires.wired.long)
+
+pub joined-requires-2-clause-long : goal.joined-requires-2-clause-long
+joined-requires-2-clause-long c = rw c.deref-6.ensures.value (c.in_ok-split.ensures.long ∙ sym c.requires.wired.long)

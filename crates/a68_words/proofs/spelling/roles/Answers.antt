@@ -1,4 +1,5 @@
 use Rattle.std.proofs.Common.{◌≡◌, length, arith}
+use Rattle.std.proofs.lemmas.Grind.{elements}
 use Rattle.std.proofs.Math.Seq.{take-length}
 use Rattle.a68_words.proofs.Listed.{one_role}
 use Rattle.a68_words.proofs.spelling.roles.Goals as goal
@@ -11,3 +12,6 @@ pub returns-clause-roles : goal.returns-clause-roles
 returns-clause-roles c =
     let all : c.loop-i.i ≡ length c.args.symbols.now.symbols = omega arith in
     rw (all, take-length) at c.loop-i.invariant
+
+pub returns-clause-few : goal.returns-clause-few
+returns-clause-few c = grind (arith, elements)

@@ -19,3 +19,8 @@ loop-preserved c =
     ∙ sym (pop-more left c.loop.self c.pop_value.new.self c.in-Some.value (reverse c.loop.items.items) c.in-Some.ensures)
     ∙ ap (λ n. pop_values n c.loop.self (reverse c.loop.items.items)) (sym one)
     ∙ c.loop.invariant
+
+pub returns : goal.returns
+returns c =
+    let none : c.args.count - c.loop.counter ≡ 0 = omega arith in
+    sym c.loop.invariant ∙ ap (λ n. pop_values n c.loop.self (reverse c.loop.items.items)) none

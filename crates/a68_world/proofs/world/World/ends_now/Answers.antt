@@ -1,4 +1,4 @@
-use Rattle.std.proofs.Common.{◌∙◌, subst, sym, arith}
+use Rattle.std.proofs.Common.{◌∙◌, subst, sym, arith, rules}
 use Rattle.a68_world.specs.Run.{Run}
 use Rattle.a68_world.specs.Turns.{GoesOn}
 use Rattle.a68_world.proofs.Turning.{due-here}
@@ -8,3 +8,6 @@ pub returns-then-len-self : goal.returns-then-len-self
 returns-then-len-self c =
     let goes = subst (λ (r : Run). GoesOn r) (sym c.self.view_is) c.requires in
     rw (← c.self.view_is) (due-here c.self.inside c.in-Want.want c.self.invariant goes (sym c.ask.ensures ∙ c.in-Want.is) (omega (arith, c.len.ensures, c.if-len-self.true, c.self.inside.journal.ok.0)))
+
+pub returns-in-None : goal.returns-in-None
+returns-in-None c = search rules

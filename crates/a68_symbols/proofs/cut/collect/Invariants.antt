@@ -1,6 +1,6 @@
 use Rattle.std.proofs.Common.{length}
 use Rattle.a68_symbols.proofs.Turns.{Done}
-use Rattle.a68_symbols.proofs.cut.symbols.Given as goal
+use Rattle.a68_symbols.proofs.cut.collect.Given as goal
 
 abbrev pub invariant-loop-rest : goal.invariant-loop-rest
 invariant-loop-rest l = Done l.bytes l.at l.rest l.found

@@ -1,0 +1,19 @@
+use Rattle.a68_world.proofs.acts.act.Goals as goal
+
+pub returns-in-Enter : goal.returns-in-Enter
+returns-in-Enter c = rw c.in-Enter.is c.enter.ensures
+
+pub returns-in-Bind : goal.returns-in-Bind
+returns-in-Bind c = rw c.in-Bind.is c.bind.ensures
+
+pub returns-in-Look : goal.returns-in-Look
+returns-in-Look c = rw c.in-Look.is c.look.ensures
+
+pub returns-in-Make : goal.returns-in-Make
+returns-in-Make c = rw c.in-Make.is c.make.ensures
+
+pub returns-in-Fetch : goal.returns-in-Fetch
+returns-in-Fetch c = rw c.in-Fetch.is c.fetch.ensures
+
+pub returns-in-Assign : goal.returns-in-Assign
+returns-in-Assign c = rw c.in-Assign.is c.assign.ensures
