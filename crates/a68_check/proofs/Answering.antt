@@ -1,5 +1,5 @@
 -- Answers that say more, or less.
-use Rattle.std.specs.Prelude.{◌≡◌, Ok, Err, IfOk, IfErr, OnErr, MatchResult}
+use Rattle.std.specs.Prelude.{◌≡◌, Ok, Err, IfOk, IfErr, MatchResult}
 use Rattle.std.proofs.Common.{subst}
 use Rattle.a68_base.specs.declared.refusal.Refusal.{Refusal}
 use Rattle.a68_base.specs.declared.refusal.Stop.{Stop}
@@ -11,13 +11,9 @@ pub if-ok : {A B : Type 0} {P Q : A → Type 0} (r : Result A B) → ((a : A) �
 if-ok (Ok a) f p = f a p
 if-ok (Err b) f p = tt
 
-pub on-err : {A B P Q : Type 0} (r : Result A B) → (P → Q) → OnErr r P → OnErr r Q
-on-err (Ok a) f p = tt
-on-err (Err b) f p = f p
-
-pub on-any-err : {A B P : Type 0} (r : Result A B) → P → OnErr r P
-on-any-err (Ok a) p = tt
-on-any-err (Err b) p = p
+pub if-err : {A B : Type 0} {P Q : B → Type 0} (r : Result A B) → ((b : B) → P b → Q b) → IfErr r P → IfErr r Q
+if-err (Ok a) f p = tt
+if-err (Err b) f p = f b p
 
 -- what is known of a result that is Ok, and of one that is Err
 pub when-ok : {A B : Type 0} (P : A → Type 0) (Q : B → Type 0) (r : Result A B) (a : A) → r ≡ Ok a → MatchResult r P Q → P a

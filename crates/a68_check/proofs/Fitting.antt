@@ -14,13 +14,16 @@ use Rattle.a68_check.specs.declared.goals.Goal.TheVariants as goal
 use Rattle.a68_check.proofs.Known.{IsForm, Known, IsGiven, known, made-as}
 use Rattle.a68_code.specs.Flow.{takes}
 use Rattle.a68_code.specs.Operands.{is_well_made}
-use Rattle.a68_elab.specs.Made.{tree_at, trees_at, only, all_but_last, last_tree, serial_of, operator_of, denoted, controls}
+use Rattle.a68_elab.specs.Made.{tree_at, trees_at, only, all_but_last, last_tree, serial_of, controls}
+use Rattle.a68_elab.specs.Made as made
 use Rattle.a68_elab.specs.Trees.{Order, collateral, serial, Tree, Trees, operation, no_trees, ◌and_tree◌}
 use Rattle.a68_gen.specs.Fits.{Fits, AllFit}
 use Rattle.a68_gen.specs.Operands.{FitsModes, FitAll}
 use Rattle.a68_gen.specs.Stretches.{does_of}
 use Rattle.a68_modes.specs.Nodes.{standard_shapes}
 use Rattle.a68_tree.specs.Trees.{Built}
+use Rattle.a68_values.specs.Content as content
+use Rattle.a68_values.specs.declared.plain.Plain.TheVariants as value
 use Rattle.a68_tree.specs.declared.kind.NodeKind.TheVariants as kind
 
 -- the tree fits in both ways
@@ -82,8 +85,8 @@ by-tree gives t u e a = subst (λ x. IsFit gives x) (sym e) a
 
 number-fits : (p : Annotated) (id : ℕ) (g : Goal) → Known p id form.Number g → IsFit true (tree_at p id)
 number-fits p id g k =
-    by-tree true _ _ (made-as p id form.Number g k kind.Denotation k.node.parts k.spelt refl)
-    (fit-none true k.node.span.from (constant (denoted (slice_get p.tree.spellings k.node.name))) serial refl refl refl)
+    by-tree true _ _ (made-as p id form.Number g k kind.Denotation k.node.parts k.spelt.kind refl ∙ ap (made.denoted k.node.span.from) k.spelt.is)
+    (fit-none true k.node.span.from (constant (content.plain (value.Int k.spelt.value))) serial refl refl refl)
 
 variable-fits : (p : Annotated) (id : ℕ) → Known p id form.Variable goal.Plain → IsFit true (tree_at p id)
 variable-fits p id k =
@@ -100,14 +103,14 @@ sum-fits : (p : Annotated) (id l r : ℕ) (g : Goal) → Known p id (form.Sum l 
 sum-fits p id l r g k a b =
     let place = k.node.span.from in
     let parts = tree_at p l and_tree (tree_at p r and_tree no_trees) in
-    by-tree true _ _ (made-as p id (form.Sum l r) g k kind.Dyadic (l ∷ r ∷ []) k.spelt.kind k.spelt.parts ∙ ap (λ o. operation place (operator_of o) collateral parts) k.spelt.is)
+    by-tree true _ _ (made-as p id (form.Sum l r) g k kind.Dyadic (l ∷ r ∷ []) k.spelt.kind k.spelt.parts ∙ ap (λ o. made.formula place o parts) k.spelt.is)
     (fit-two true place (apply k.spelt.row) collateral (tree_at p l) (tree_at p r) refl refl k.spelt.fits a b)
 
 test-fits : (p : Annotated) (id l r : ℕ) (g : Goal) → Known p id (form.Test l r) g → IsFit true (tree_at p l) → IsFit true (tree_at p r) → IsFit true (tree_at p id)
 test-fits p id l r g k a b =
     let place = k.node.span.from in
     let parts = tree_at p l and_tree (tree_at p r and_tree no_trees) in
-    by-tree true _ _ (made-as p id (form.Test l r) g k kind.Dyadic (l ∷ r ∷ []) k.spelt.kind k.spelt.parts ∙ ap (λ o. operation place (operator_of o) collateral parts) k.spelt.is)
+    by-tree true _ _ (made-as p id (form.Test l r) g k kind.Dyadic (l ∷ r ∷ []) k.spelt.kind k.spelt.parts ∙ ap (λ o. made.formula place o parts) k.spelt.is)
     (fit-two true place (apply k.spelt.row) collateral (tree_at p l) (tree_at p r) refl refl k.spelt.fits a b)
 
 enquiry-fits : (p : Annotated) (id test : ℕ) → Known p id form.Serial goal.Enquiry → parts_at p.tree id ≡ test ∷ [] → IsFit true (tree_at p test) → IsFit true (tree_at p id)

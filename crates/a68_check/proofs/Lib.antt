@@ -1,10 +1,11 @@
 pub mod Answering
 pub mod Defining
-pub mod Enquiring
 pub mod Fitting
 pub mod Forming
 pub mod Known
 pub mod Leading
+pub mod Missing
 pub mod Noting
 pub mod Parts
 pub mod Spelling
+pub mod One

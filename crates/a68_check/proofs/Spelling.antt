@@ -45,9 +45,15 @@ pub record IsDyadic (left right : ℕ) (k : NodeKind) (s : Option (List ℕ)) (i
   pub is : option_and_then row_of s ≡ Some row
   pub fits : IsTrue (nat_le 9 row && nat_le row 17)
 
+-- a denotation of a number, and its value
+pub record IsNumber (k : NodeKind) (s : Option (List ℕ)) : Type 0 where
+  pub kind : k ≡ kind.Denotation
+  pub value : ℤ
+  pub is : option_and_then int_in s ≡ Some value
+
 -- what a node of a form is
 abbrev pub Spelt : Form → NodeKind → Option (List ℕ) → List ℕ → Type 0
-Spelt form.Number k s ids = k ≡ kind.Denotation
+Spelt form.Number k s ids = IsNumber k s
 Spelt form.Variable k s ids = k ≡ kind.Tag
 Spelt (form.Sum l r) k s ids = IsDyadic l r k s ids
 Spelt (form.Test l r) k s ids = IsDyadic l r k s ids
@@ -82,12 +88,12 @@ spelt-tag s t =
     spelt-if kind.Tag s [] (is_print t) form.Print (if is_standard t then form.Other else form.Variable) tt
     (spelt-if kind.Tag s [] (is_standard t) form.Other form.Variable tt refl)
 
-spelt-number : (s : Option (List ℕ)) (v : Option ℤ) → Spelt (option_map_or (λ n. form.Number) v form.Other) kind.Denotation s []
-spelt-number s None = tt
-spelt-number s (Some v) = refl
+spelt-number : (s : Option (List ℕ)) (v : Option ℤ) → option_and_then int_in s ≡ v → Spelt (option_map_or (λ n. form.Number) v form.Other) kind.Denotation s []
+spelt-number s None e = tt
+spelt-number s (Some v) e = record { kind = refl; value = v; is = e }
 
 spelt-leaf : (k : NodeKind) (s : Option (List ℕ)) → Spelt (leaf k s) k s []
-spelt-leaf kind.Denotation (Some t) = spelt-number (Some t) (int_in t)
+spelt-leaf kind.Denotation (Some t) = spelt-number (Some t) (int_in t) refl
 spelt-leaf kind.Tag (Some t) = spelt-tag (Some t) t
 spelt-leaf kind.Declarer (Some t) = spelt-if kind.Declarer (Some t) [] (is_int t) form.Int form.Other tt tt
 spelt-leaf _ _ = tt

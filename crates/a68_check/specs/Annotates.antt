@@ -7,6 +7,8 @@ use Rattle.a68_base.specs.declared.refusal.Rule.TheVariants.{X0, N1, N3}
 use Rattle.a68_base.specs.declared.refusal.Stop.{Stop}
 use Rattle.a68_base.specs.declared.refusal.Stop.TheVariants.{Refused, NoMemory}
 use Rattle.a68_check.specs.Definitions.{in_text, Repeats, FirstRepeat, Undefined, FirstUndefined}
+use Rattle.a68_check.specs.Goals.{goals_of}
+use Rattle.a68_check.specs.Misfits.{FirstOther}
 use Rattle.a68_check.specs.Notes.{notes_of}
 use Rattle.a68_check.specs.Small.{Runs}
 use Rattle.a68_modes.specs.Nodes.{standard_shapes}
@@ -30,10 +32,11 @@ pub record IsAnnotated (program : Annotated) : Type 0 where
 abbrev pub place_at : Built → (id : ℕ) → ℕ
 place_at tree id = option_map_or (λ (n : Node). n.span.from) (slice_get tree.nodes id) 0
 
--- the rule that a tree of shaped formulas breaks: it has a form that does not run yet, it defines a tag twice, or it
--- defines none twice and uses one that it does not define
+-- The rule that a tree of shaped formulas breaks, and where: at its first node in order of text that does not run yet
+-- where it stands; else at the first definition of a tag that is a second one; else at the first use of a tag that is not
+-- defined.
 pub data Breaks (tree : Built) (refusal : Refusal) : Type 0 where
-  other : (id : ℕ) → (refusal.rule ≡ X0) → (refusal.place ≡ place_at tree id) → id < length tree.nodes → (Runs tree → ⊥) → Breaks tree refusal
+  other : (id : ℕ) → (refusal.rule ≡ X0) → (refusal.place ≡ place_at tree id) → id < length tree.nodes → FirstOther tree (goals_of tree) id → Breaks tree refusal
   repeats : (n : ℕ) → (refusal.rule ≡ N3) → (refusal.place ≡ place_at tree (in_text tree n)) → Runs tree → FirstRepeat tree n → Breaks tree refusal
   undefined : (n : ℕ) → (refusal.rule ≡ N1) → (refusal.place ≡ place_at tree (in_text tree n)) → Runs tree → ((k : ℕ) → k < length tree.nodes → Repeats tree k → ⊥)
       → FirstUndefined tree n → Breaks tree refusal

@@ -14,4 +14,4 @@ pub use annotation::annotate;
 pub use definitions::Definition;
 pub use form::Form;
 pub use goals::Goal;
-pub use laws::annotated_trees_fit;
+pub use laws::{annotated_trees_fit, annotations_are_one};

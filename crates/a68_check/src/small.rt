@@ -1,5 +1,6 @@
 //! Which programs run: each function answers the first node that it finds to be of another form.
-ghost use Rattle.std.specs.Prelude.{◌≡◌, ◌<◌, ◌≤◌, ◌↔◌, ℕ, IfOk, IfErr, OnErr, IsTrue, length, Some, slice_get};
+ghost use Rattle.std.specs.Prelude.{◌≡◌, ◌<◌, ◌≤◌, ◌↔◌, ℕ, IfOk, IfErr, IsTrue, length, take, drop};
+ghost use Rattle.a68_check.specs.Misfits.{FirstMisfit, FirstAmong, FirstOther, ◌is_to_be◌, all_to_be, outermost, definition, declarer, statement, body, condition, enquiry, comparison, formula, destination, called};
 ghost use Rattle.a68_check.specs.Forms.{parts_at};
 ghost use Rattle.a68_check.specs.Forms as forms;
 ghost use Rattle.a68_check.specs.Small as small;
@@ -54,7 +55,7 @@ pub fn parts_of(tree: &Tree, id: NodeId) -> &[NodeId]
 fn formula(tree: &Tree, goals: &[Goal], id: NodeId) -> Result<(), NodeId>
     requires { id < length tree.now.nodes }
     ensures is { IfOk result (λ u. IsFormula tree.now goals.now id) }
-    ensures other { OnErr result (IsFormula tree.now goals.now id → ⊥) }
+    ensures first { IfErr result (λ misfit. FirstMisfit tree.now goals.now (id is_to_be formula) misfit) }
     ensures there { IfErr result (λ id. id < length tree.now.nodes) }
 {
     match form_of(tree, id) {
@@ -74,7 +75,7 @@ fn formula(tree: &Tree, goals: &[Goal], id: NodeId) -> Result<(), NodeId>
 fn comparison(tree: &Tree, goals: &[Goal], id: NodeId) -> Result<(), NodeId>
     requires { id < length tree.now.nodes }
     ensures is { IfOk result (λ u. IsComparison tree.now goals.now id) }
-    ensures other { OnErr result (IsComparison tree.now goals.now id → ⊥) }
+    ensures first { IfErr result (λ misfit. FirstMisfit tree.now goals.now (id is_to_be comparison) misfit) }
     ensures there { IfErr result (λ id. id < length tree.now.nodes) }
 {
     match form_of(tree, id) {
@@ -89,7 +90,7 @@ fn comparison(tree: &Tree, goals: &[Goal], id: NodeId) -> Result<(), NodeId>
 fn enquiry(tree: &Tree, goals: &[Goal], id: NodeId) -> Result<(), NodeId>
     requires { id < length tree.now.nodes }
     ensures is { IfOk result (λ u. IsEnquiry tree.now goals.now id) }
-    ensures other { OnErr result (IsEnquiry tree.now goals.now id → ⊥) }
+    ensures first { IfErr result (λ misfit. FirstMisfit tree.now goals.now (id is_to_be enquiry) misfit) }
     ensures there { IfErr result (λ id. id < length tree.now.nodes) }
 {
     let parts = parts_of(tree, id);
@@ -104,7 +105,7 @@ fn enquiry(tree: &Tree, goals: &[Goal], id: NodeId) -> Result<(), NodeId>
 fn destination(tree: &Tree, goals: &[Goal], id: NodeId) -> Result<(), NodeId>
     requires { id < length tree.now.nodes }
     ensures is { IfOk result (λ u. (forms.form_of tree.now id ≡ form.Variable) × (small.goal_at goals.now id ≡ goal.Destination)) }
-    ensures other { OnErr result (forms.form_of tree.now id ≡ form.Variable → small.goal_at goals.now id ≡ goal.Destination → ⊥) }
+    ensures first { IfErr result (λ misfit. FirstMisfit tree.now goals.now (id is_to_be destination) misfit) }
     ensures there { IfErr result (λ id. id < length tree.now.nodes) }
 {
     match form_of(tree, id) {
@@ -117,10 +118,10 @@ fn destination(tree: &Tree, goals: &[Goal], id: NodeId) -> Result<(), NodeId>
 }
 
 // What is called: print.
-fn called(tree: &Tree, id: NodeId) -> Result<(), NodeId>
+fn called(tree: &Tree, goals: &[Goal], id: NodeId) -> Result<(), NodeId>
     requires { id < length tree.now.nodes }
     ensures is { IfOk result (λ u. forms.form_of tree.now id ≡ form.Print) }
-    ensures other { OnErr result (forms.form_of tree.now id ≡ form.Print → ⊥) }
+    ensures first { IfErr result (λ misfit. FirstMisfit tree.now goals.now (id is_to_be called) misfit) }
     ensures there { IfErr result (λ id. id < length tree.now.nodes) }
 {
     match form_of(tree, id) {
@@ -133,7 +134,7 @@ fn called(tree: &Tree, id: NodeId) -> Result<(), NodeId>
 fn test(tree: &Tree, goals: &[Goal], id: NodeId) -> Result<(), NodeId>
     requires { id < length tree.now.nodes }
     ensures is { IfOk result (λ u. IsWhile tree.now goals.now id) }
-    ensures other { OnErr result (IsWhile tree.now goals.now id → ⊥) }
+    ensures first { IfErr result (λ misfit. FirstMisfit tree.now goals.now (id is_to_be condition) misfit) }
     ensures there { IfErr result (λ id. id < length tree.now.nodes) }
 {
     match form_of(tree, id) {
@@ -146,7 +147,7 @@ fn test(tree: &Tree, goals: &[Goal], id: NodeId) -> Result<(), NodeId>
 fn statement(tree: &Tree, goals: &[Goal], id: NodeId) -> Result<(), NodeId>
     requires { id < length tree.now.nodes }
     ensures is { IfOk result (λ u. IsStatement tree.now goals.now id) }
-    ensures other { OnErr result (IsStatement tree.now goals.now id → ⊥) }
+    ensures first { IfErr result (λ misfit. FirstMisfit tree.now goals.now (id is_to_be statement) misfit) }
     ensures there { IfErr result (λ id. id < length tree.now.nodes) }
 {
     match form_of(tree, id) {
@@ -155,7 +156,7 @@ fn statement(tree: &Tree, goals: &[Goal], id: NodeId) -> Result<(), NodeId>
             formula(tree, goals, source)
         }
         Form::Call(function, item) => {
-            called(tree, function)?;
+            called(tree, goals, function)?;
             formula(tree, goals, item)
         }
         Form::Choice(asked, part) => {
@@ -181,7 +182,7 @@ fn statements(tree: &Tree, goals: &[Goal], id: NodeId, first: usize) -> Result<(
     requires there { id < length tree.now.nodes }
     requires first { first ≤ length (parts_at tree.now id) }
     ensures is { IfOk result (λ u. AllStatements tree.now goals.now (parts_at tree.now id) first) }
-    ensures other { OnErr result (AllStatements tree.now goals.now (parts_at tree.now id) first → ⊥) }
+    ensures first { IfErr result (λ misfit. FirstAmong tree.now goals.now (all_to_be statement (drop first (parts_at tree.now id))) misfit) }
     ensures there { IfErr result (λ id. id < length tree.now.nodes) }
 {
     let parts = parts_of(tree, id);
@@ -195,7 +196,7 @@ fn statements(tree: &Tree, goals: &[Goal], id: NodeId, first: usize) -> Result<(
 fn body(tree: &Tree, goals: &[Goal], id: NodeId) -> Result<(), NodeId>
     requires { id < length tree.now.nodes }
     ensures is { IfOk result (λ u. IsBody tree.now goals.now id) }
-    ensures other { OnErr result (IsBody tree.now goals.now id → ⊥) }
+    ensures first { IfErr result (λ misfit. FirstMisfit tree.now goals.now (id is_to_be body) misfit) }
     ensures there { IfErr result (λ id. id < length tree.now.nodes) }
 {
     if is_serial(tree, id) && is_plain(goals, id) && parts_of(tree, id).len() > 0 {
@@ -206,10 +207,10 @@ fn body(tree: &Tree, goals: &[Goal], id: NodeId) -> Result<(), NodeId>
 }
 
 // INT as a declarer.
-fn declarer(tree: &Tree, id: NodeId) -> Result<(), NodeId>
+fn declarer(tree: &Tree, goals: &[Goal], id: NodeId) -> Result<(), NodeId>
     requires { id < length tree.now.nodes }
     ensures is { IfOk result (λ u. forms.form_of tree.now id ≡ form.Int) }
-    ensures other { OnErr result (forms.form_of tree.now id ≡ form.Int → ⊥) }
+    ensures first { IfErr result (λ misfit. FirstMisfit tree.now goals.now (id is_to_be declarer) misfit) }
     ensures there { IfErr result (λ id. id < length tree.now.nodes) }
 {
     match form_of(tree, id) {
@@ -221,13 +222,13 @@ fn declarer(tree: &Tree, id: NodeId) -> Result<(), NodeId>
 fn definition(tree: &Tree, goals: &[Goal], id: NodeId) -> Result<(), NodeId>
     requires { id < length tree.now.nodes }
     ensures is { IfOk result (λ u. IsDefinition tree.now goals.now id) }
-    ensures other { OnErr result (IsDefinition tree.now goals.now id → ⊥) }
+    ensures first { IfErr result (λ misfit. FirstMisfit tree.now goals.now (id is_to_be definition) misfit) }
     ensures there { IfErr result (λ id. id < length tree.now.nodes) }
 {
     match form_of(tree, id) {
-        Form::Plain(declared) => declarer(tree, declared),
+        Form::Plain(declared) => declarer(tree, goals, declared),
         Form::Set(declared, source) => {
-            declarer(tree, declared)?;
+            declarer(tree, goals, declared)?;
             formula(tree, goals, source)
         }
         _ => Err(id),
@@ -239,7 +240,7 @@ fn definitions(tree: &Tree, goals: &[Goal], id: NodeId, end: usize) -> Result<()
     requires there { id < length tree.now.nodes }
     requires end { end ≤ length (parts_at tree.now id) }
     ensures is { IfOk result (λ u. AllDefinitions tree.now goals.now (parts_at tree.now id) end) }
-    ensures other { OnErr result (AllDefinitions tree.now goals.now (parts_at tree.now id) end → ⊥) }
+    ensures first { IfErr result (λ misfit. FirstAmong tree.now goals.now (all_to_be definition (take end (parts_at tree.now id))) misfit) }
     ensures there { IfErr result (λ id. id < length tree.now.nodes) }
 {
     let parts = parts_of(tree, id);
@@ -267,7 +268,7 @@ fn leading(tree: &Tree, id: NodeId) -> usize
 fn outermost(tree: &Tree, goals: &[Goal], id: NodeId) -> Result<(), NodeId>
     requires { id < length tree.now.nodes }
     ensures is { IfOk result (λ u. IsOutermost tree.now goals.now id) }
-    ensures other { OnErr result (IsOutermost tree.now goals.now id → ⊥) }
+    ensures first { IfErr result (λ misfit. FirstMisfit tree.now goals.now (id is_to_be outermost) misfit) }
     ensures there { IfErr result (λ id. id < length tree.now.nodes) }
 {
     if !is_serial(tree, id) {
@@ -287,7 +288,7 @@ fn outermost(tree: &Tree, goals: &[Goal], id: NodeId) -> Result<(), NodeId>
 /// Does the tree run? If not, the first node of another form.
 pub fn program(tree: &Tree, goals: &[Goal]) -> Result<(), NodeId>
     ensures is { IfOk result (λ u. IsProgram tree.now goals.now) }
-    ensures other { OnErr result (IsProgram tree.now goals.now → ⊥) }
+    ensures first { IfErr result (λ misfit. FirstOther tree.now goals.now misfit) }
     ensures there { IfErr result (λ id. id < length tree.now.nodes) }
 {
     let root = tree.root();

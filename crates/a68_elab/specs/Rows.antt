@@ -12,7 +12,7 @@ use Rattle.a68_acts.specs.declared.want.Reply.TheVariants as reply
 use Rattle.a68_acts.specs.declared.want.Want.{Want}
 use Rattle.a68_acts.specs.declared.want.Want.TheVariants as want
 use Rattle.a68_elab.specs.Terms.{no_frame, in_frame, Job, operating, resuming, preceding, ending, choosing, chosen, counting, stepping, turning, testing, running, leaving, Term, todo, part, yielded, no_terms, only, todos, values, last_of}
-use Rattle.a68_elab.specs.Trees.{Tree, operation, phrases, choice, loop, Program}
+use Rattle.a68_elab.specs.Trees.{Tree, operation, phrases, choice, loop, unbuilt, Program}
 use Rattle.a68_values.specs.Content.{Content, void, scope_of}
 use Rattle.a68_values.specs.declared.act.FaultKind.{FaultKind}
 use Rattle.a68_values.specs.declared.act.FaultKind.TheVariants as fault
@@ -86,6 +86,8 @@ begin (phrases place (suc n) yields before final) chain =
 begin (choice place enquiry if_true if_false) chain = goes (part (choosing place if_true if_false) chain (only (todo enquiry chain)))
 -- a loop clause: FROM, BY and TO (Report, 3.5.2)
 begin (loop place controls test body) chain = goes (part (counting place test body) chain (todos controls chain))
+-- what is not built has no rule; no program that fits comes here (own)
+begin unbuilt chain = meets fault.Kind 0
 
 -- what a construct does whose parts at hand have yielded these values
 abbrev pub finish : Program → Job → List Environ → List Content → Then Term

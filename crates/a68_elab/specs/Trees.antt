@@ -22,6 +22,8 @@ mutual
     choice : (place : ℕ) (enquiry if_true if_false : Tree) → Tree
     -- a loop clause: FROM, BY and TO, WHILE, and DO (Report, 3.5)
     loop : (place : ℕ) (controls : Trees) (test body : Tree) → Tree
+    -- a construct that is not built yet: no program that fits has one, and no code is its translation (own)
+    unbuilt : Tree
 
   pub data Trees : Type 0 where
     no_trees : Trees

@@ -1,10 +1,11 @@
 //! The elaboration of a program.
 #![tactic(auto)]
 
-ghost use Rattle.std.specs.Prelude.{◌≡◌, ◌<◌, ℕ, List, Some, slice_get};
+ghost use Rattle.std.specs.Prelude.{◌≡◌, ◌≤◌, ◌<◌, ℕ, List, Some, slice_get};
 ghost use Rattle.a68_annot.specs.declared.annotated.Annotated.{Annotated};
 ghost use Rattle.a68_annot.specs.declared.note.Note.{Note};
-ghost use Rattle.a68_elab.specs.Made.{tree_at, unit, trees_at};
+ghost use Rattle.a68_elab.specs.Made.{program_of, tree_at, unit, trees_at};
+ghost use Rattle.a68_elab.specs.Places.{ProgramBeginsBy};
 ghost use Rattle.a68_tree.specs.Trees.{AllBetween};
 ghost use Rattle.a68_tree.specs.declared.node.Node.{Node};
 
@@ -12,4 +13,10 @@ ghost use Rattle.a68_tree.specs.declared.node.Node.{Node};
 pub fn trees_law()
     ensures { (program : Annotated) (id end : ℕ) (node : Node) (note : Note) → slice_get program.tree.nodes id ≡ Some node → slice_get program.notes id ≡ Some note
         → AllBetween id end node.parts → tree_at program id ≡ unit program.modes program.tree.spellings node note (trees_at (tree_at program) node.parts) }
+{}
+
+/// A law: where each node of an annotated tree begins at a byte or before it, each construct of the program does.
+pub fn constructs_begin_by()
+    ensures { (program : Annotated) (end : ℕ) → ((id : ℕ) (n : Node) → slice_get program.tree.nodes id ≡ Some n → n.span.from ≤ end)
+        → ProgramBeginsBy end (program_of program) }
 {}

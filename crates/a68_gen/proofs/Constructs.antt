@@ -1,12 +1,13 @@
 -- What each function that writes a construct has written, and what is refused midway.
-use Rattle.std.proofs.Common.{◌≡◌, ◌≢◌, ℕ, zero, suc, ◌+◌, ◌<◌, Bool, List, [], ◌∷◌, ◌++◌, length, drop, get_or, refl, sym, ◌∙◌, ap, arith, append_assoc, append-nil, length-append, drop-cons, add-one}
+use Rattle.std.proofs.Common.{◌≡◌, ◌≢◌, ℕ, zero, suc, ◌+◌, ◌<◌, Bool, true, false, List, [], ◌∷◌, ◌++◌, length, drop, get_or, refl, sym, ◌∙◌, ap, arith, append_assoc, append-nil, length-append, drop-cons, add-one}
+use Rattle.std.proofs.lemmas.Bool.{false≢true}
 use Rattle.std.specs.Prelude.{if◌then◌else◌}
 use Rattle.a68_code.specs.declared.code.Instr.{Instr}
 use Rattle.a68_code.specs.declared.does.Does.TheVariants as does
 use Rattle.a68_elab.specs.Made as made
 use Rattle.a68_elab.specs.Made.{coerced, behind_ref, only, trees_at, all_but_last, last_tree}
-use Rattle.a68_elab.specs.Trees.{Tree, Trees, no_trees, ◌and_tree◌}
-use Rattle.a68_gen.specs.Coercing.{coercions}
+use Rattle.a68_elab.specs.Trees.{Tree, Trees, unbuilt, no_trees, ◌and_tree◌}
+use Rattle.a68_gen.specs.Coercing.{coercions, are_built}
 use Rattle.a68_gen.specs.Listing.{instr, stretch, stretches}
 use Rattle.a68_modes.specs.Nodes.{shape_at}
 use Rattle.a68_modes.specs.declared.coercion.Coercion.{Coercion}
@@ -19,16 +20,23 @@ use Rattle.a68_tree.specs.Trees.{AllBetween}
 one_more : (xs ys : List Instr) (x : Instr) → ((xs ++ []) ++ x ∷ []) ++ ys ≡ xs ++ (x ∷ ys)
 one_more xs ys x = ap (λ l. (l ++ x ∷ []) ++ ys) (append-nil xs) ∙ append_assoc xs (x ∷ []) ys
 
--- the instructions of a unit are those of its construct and of its coercions
-pub coerced_list : (modes : List Shape) (place mode at : ℕ) (path : List Coercion) (t : Tree)
+-- the instructions of a unit are those of its construct and of its coercions, where these are built
+pub coerced_list : (modes : List Shape) (place mode at : ℕ) (path : List Coercion) (t : Tree) → are_built path ≡ true
     → stretch (coerced modes place mode path t) at ≡ stretch t at ++ coercions modes place mode path
-coerced_list modes place mode at [] t = sym (append-nil (stretch t at))
-coerced_list modes place mode at (coercion.Deref ∷ path) t =
+coerced_list modes place mode at [] t built = sym (append-nil (stretch t at))
+coerced_list modes place mode at (coercion.Deref ∷ path) t built =
     let m = behind_ref (shape_at modes mode) in
-    coerced_list modes place m at path _ ∙ one_more (stretch t at) (coercions modes place m path) (instr place (does.Deref m))
-coerced_list modes place mode at (coercion.Drop ∷ path) t =
-    coerced_list modes place 0 at path _ ∙ one_more (stretch t at) (coercions modes place 0 path) (instr place does.Drop)
-coerced_list modes place mode at (_ ∷ path) t = coerced_list modes place mode at path t
+    coerced_list modes place m at path _ built ∙ one_more (stretch t at) (coercions modes place m path) (instr place (does.Deref m))
+coerced_list modes place mode at (coercion.Drop ∷ path) t built =
+    coerced_list modes place 0 at path _ built ∙ one_more (stretch t at) (coercions modes place 0 path) (instr place does.Drop)
+coerced_list modes place mode at (_ ∷ path) t built = absurd (false≢true built)
+
+-- with others the unit is not built
+pub coerced_unbuilt : (modes : List Shape) (place mode : ℕ) (path : List Coercion) (t : Tree) → are_built path ≡ false → coerced modes place mode path t ≡ unbuilt
+coerced_unbuilt modes place mode [] t none = absurd (false≢true (sym none))
+coerced_unbuilt modes place mode (coercion.Deref ∷ path) t none = coerced_unbuilt modes place _ path _ none
+coerced_unbuilt modes place mode (coercion.Drop ∷ path) t none = coerced_unbuilt modes place 0 path _ none
+coerced_unbuilt modes place mode (_ ∷ path) t none = refl
 
 -- ---- parts
 
@@ -85,12 +93,17 @@ framed_serial place (suc n) at kept yields t ts ne e =
 
 -- ---- variables
 
-pub variable_none : (f : ℕ → Tree) (place mode slot at : ℕ) (ids : List ℕ) → length ids ≢ 2
+pub variable_plain : (f : ℕ → Tree) (place mode slot at : ℕ) (ids : List ℕ) → length ids ≡ 1
     → instr place (does.Make mode 0) ∷ instr place (does.Bind slot) ∷ [] ≡ stretch (made.variable place mode slot (trees_at f ids)) at
-variable_none f place mode slot at [] n = refl
-variable_none f place mode slot at (a ∷ []) n = refl
-variable_none f place mode slot at (a ∷ b ∷ []) n = absurd (n refl)
-variable_none f place mode slot at (a ∷ b ∷ c ∷ ids) n = refl
+variable_plain f place mode slot at [] e = absurd (omega arith)
+variable_plain f place mode slot at (a ∷ []) e = refl
+variable_plain f place mode slot at (a ∷ b ∷ ids) e = absurd (omega arith)
+
+pub variable_none : (f : ℕ → Tree) (place mode slot : ℕ) (ids : List ℕ) → length ids ≢ 1 → length ids ≢ 2 → unbuilt ≡ made.variable place mode slot (trees_at f ids)
+variable_none f place mode slot [] n m = refl
+variable_none f place mode slot (a ∷ []) n m = absurd (n refl)
+variable_none f place mode slot (a ∷ b ∷ []) n m = absurd (m refl)
+variable_none f place mode slot (a ∷ b ∷ c ∷ ids) n m = refl
 
 pub variable_set : (place mode slot at : ℕ) (d source : Tree)
     → (instr place (does.Make mode 0) ∷ []) ++ (stretch source (at + 1) ++ instr place (does.Store mode) ∷ instr place (does.Bind slot) ∷ [])
@@ -104,26 +117,26 @@ variable_set place mode slot at d source =
     ∙ ap (λ l. ((m ∷ l) ++ k ∷ []) ++ b ∷ []) (append-nil s)
     ∙ append_assoc (m ∷ s) (k ∷ []) (b ∷ []))
 
--- ---- what is left blank
+-- ---- what is not built
 
-pub only_none : (f : ℕ → Tree) (ids : List ℕ) → length ids ≢ 1 → made.blank ≡ made.only_of (trees_at f ids)
+pub only_none : (f : ℕ → Tree) (ids : List ℕ) → length ids ≢ 1 → unbuilt ≡ made.only_of (trees_at f ids)
 only_none f [] n = refl
 only_none f (a ∷ []) n = absurd (n refl)
 only_none f (a ∷ b ∷ ids) n = refl
 
-pub call_none : (f : ℕ → Tree) (place : ℕ) (ids : List ℕ) → length ids ≢ 2 → made.blank ≡ made.call_of place (trees_at f ids)
+pub call_none : (f : ℕ → Tree) (place : ℕ) (ids : List ℕ) → length ids ≢ 2 → unbuilt ≡ made.call_of place (trees_at f ids)
 call_none f place [] n = refl
 call_none f place (a ∷ []) n = refl
 call_none f place (a ∷ b ∷ []) n = absurd (n refl)
 call_none f place (a ∷ b ∷ c ∷ ids) n = refl
 
-pub loop_none : (f : ℕ → Tree) (place : ℕ) (ids : List ℕ) → length ids ≢ 2 → made.blank ≡ made.loop_of place (trees_at f ids)
+pub loop_none : (f : ℕ → Tree) (place : ℕ) (ids : List ℕ) → length ids ≢ 2 → unbuilt ≡ made.loop_of place (trees_at f ids)
 loop_none f place [] n = refl
 loop_none f place (a ∷ []) n = refl
 loop_none f place (a ∷ b ∷ []) n = absurd (n refl)
 loop_none f place (a ∷ b ∷ c ∷ ids) n = refl
 
-pub choice_none : (f : ℕ → Tree) (place : ℕ) (ids : List ℕ) → length ids ≢ 2 → length ids ≢ 3 → made.blank ≡ made.choice_of place (trees_at f ids)
+pub choice_none : (f : ℕ → Tree) (place : ℕ) (ids : List ℕ) → length ids ≢ 2 → length ids ≢ 3 → unbuilt ≡ made.choice_of place (trees_at f ids)
 choice_none f place [] n m = refl
 choice_none f place (a ∷ []) n m = refl
 choice_none f place (a ∷ b ∷ []) n m = absurd (n refl)

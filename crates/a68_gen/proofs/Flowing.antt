@@ -15,7 +15,7 @@ use Rattle.a68_code.specs.declared.code.Code.{Code}
 use Rattle.a68_code.specs.declared.code.Instr.{Instr}
 use Rattle.a68_code.specs.declared.does.Does.{Does}
 use Rattle.a68_code.specs.declared.does.Does.TheVariants as does
-use Rattle.a68_elab.specs.Trees.{Tree, Trees, operation, phrases, choice, loop, no_trees, ◌and_tree◌, count}
+use Rattle.a68_elab.specs.Trees.{Tree, Trees, operation, phrases, choice, loop, unbuilt, no_trees, ◌and_tree◌, count}
 use Rattle.a68_gen.proofs.Forward.{forward}
 use Rattle.a68_gen.proofs.Heights.{bit, after, after_true, after_false, At, HeightsOf, AllHeights, starts, starts_all}
 use Rattle.a68_gen.specs.Operands.{FitsModes, FitAll}
@@ -244,6 +244,7 @@ module _ (code : Code) (W : ℕ → ℕ → Type 0) (is_inside : (k h : ℕ) →
     flows g (loop p controls test body) a b s base fit into out k h (inr (inr (inr (inr (inr (inr (inr (inr (inr x))))))))) =
         at_flows s.8 (base + 1)
         (next s.8 b p does.Forget base (base + 1) s.20 refl refl (subst (λ (x : Bool). W b (base + bit x)) s.9 out) refl tt) k h x
+    flows g unbuilt a b s base fit into out k h x = absurd s
 
     pub flows_all : (g : Bool) (ts : Trees) (a b : ℕ) (s : StandAll code g ts a b) (base : ℕ) → FitAll code.modes ts → ((k h : ℕ) → AllHeights code g ts a b s base k h → W k h)
         → W b (after g ts base) → (k h : ℕ) → AllHeights code g ts a b s base k h → Flows code W k h

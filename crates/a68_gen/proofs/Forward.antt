@@ -1,7 +1,7 @@
 -- A stretch goes forward.
 use Rattle.std.proofs.Common.{◌≡◌, ◌≤◌, ◌+◌, ℕ, zero, suc, arith, Bool, true, false}
 use Rattle.a68_code.specs.declared.code.Code.{Code}
-use Rattle.a68_elab.specs.Trees.{Tree, Trees, operation, phrases, choice, loop, no_trees, ◌and_tree◌}
+use Rattle.a68_elab.specs.Trees.{Tree, Trees, operation, phrases, choice, loop, unbuilt, no_trees, ◌and_tree◌}
 use Rattle.a68_gen.specs.Stretches.{Stands, StandAll}
 
 pub next_is : (k m : ℕ) → k + 1 ≡ m → suc k ≡ m
@@ -20,6 +20,7 @@ mutual
   forward code g (loop p controls test body) a b s =
       let x = forward_all code true controls a s.0 s.11 in let y = forward code true test s.3 s.4 s.15 in let z = forward code false body s.5 s.6 s.17 in
       let p1 = s.12.1 in let p2 = s.13.1 in let p3 = s.14.1 in let p4 = s.16.1 in let p5 = s.18.1 in let p6 = s.19.1 in let p7 = s.20.1 in omega arith
+  forward code g unbuilt a b s = absurd s
 
   pub forward_all : (code : Code) (g : Bool) (ts : Trees) (a b : ℕ) → StandAll code g ts a b → a ≤ b
   forward_all code g no_trees a b s = omega arith

@@ -28,10 +28,10 @@ whole program node s0 s1 s2 l0 l1 l2 root es el er en w v =
     rw place (and_behind None s1 s2 [] l1 l2 (stretch (tree_at program 0) 0) (λ n. instr node.span.from does.End ∷ []) w' v)
 
 -- code with this list translates the program, and is valid
-pub is_translated : (program : Annotated) (code : Code) (s2 : Option Stop) → s2 ≡ None → Writes None s2 [] code.list (listing (program_of program)) → code.modes ≡ program.modes
+pub is_translated : (program : Annotated) (code : Code) (s2 : Option Stop) → s2 ≡ None → Writes None s2 [] code.list (listing (program_of program)) → code.texts ≡ [] → code.modes ≡ program.modes
     → Fits program.modes false (program_of program).tree → Translates (program_of program) code
-is_translated program code None e w m f = translated (program_of program) code w m f
-is_translated program code (Some s) e w m f = absurd (cc)
+is_translated program code None e w x m f = translated (program_of program) code w x m f
+is_translated program code (Some s) e w x m f = absurd (cc)
 
 pub is_valid : (program : Annotated) (code : Code) → Translates (program_of program) code → code.modes ≡ program.modes → FitsModes program.modes (program_of program).tree → IsValid code
 is_valid program code t m f = valid (program_of program) code t (rw m f)

@@ -2,7 +2,7 @@
 use Rattle.std.proofs.Common.{◌≡◌, ◌<◌, ◌≤◌, ◌⊎◌, ◌+◌, ℕ, zero, suc, arith, Bool, true, false, refl, sym, ap, ◌∙◌, subst, inl, inr, ⊎_elim}
 use Rattle.std.proofs.lemmas.Bool.{cases_lt}
 use Rattle.a68_code.specs.declared.code.Code.{Code}
-use Rattle.a68_elab.specs.Trees.{Tree, Trees, operation, phrases, choice, loop, no_trees, ◌and_tree◌, count}
+use Rattle.a68_elab.specs.Trees.{Tree, Trees, operation, phrases, choice, loop, unbuilt, no_trees, ◌and_tree◌, count}
 use Rattle.a68_gen.specs.Stretches.{Stands, StandAll}
 
 abbrev pub bit : Bool → ℕ
@@ -41,6 +41,7 @@ abbrev mutual
       ⊎ (At s.0 (base + 3) k h ⊎ (At s.1 (base + 1) k h ⊎ (At s.2 (base + 1) k h
       ⊎ (HeightsOf code true test s.3 s.4 s.15 (base + 1) k h ⊎ (At s.4 (base + 2) k h ⊎ (HeightsOf code false body s.5 s.6 s.17 (base + 1) k h
       ⊎ (At s.6 (base + 1) k h ⊎ (At s.7 (base + 1) k h ⊎ At s.8 (base + 1) k h))))))))
+  HeightsOf code g unbuilt a b s base k h = ⊥
 
   pub AllHeights : (code : Code) (g : Bool) (ts : Trees) (a b : ℕ) → StandAll code g ts a b → (base : ℕ) → ℕ → ℕ → Type 0
   AllHeights code g no_trees a b s base k h = ⊥
@@ -107,6 +108,7 @@ mutual
       (both _ _ _ _ _ (one s.4 s.5 (base + 2) s.16.1)
       (both _ _ _ _ _ (piece code false body s.5 s.6 s.17 (base + 1))
       (both _ _ _ _ _ (one s.6 s.7 (base + 1) s.18.1) (both _ _ _ _ _ (one s.7 s.8 (base + 1) s.19.1) (one s.8 b (base + 1) s.20.1)))))))))
+  piece code g unbuilt a b s base = absurd s
 
   pieces : (code : Code) (g : Bool) (ts : Trees) (a b : ℕ) (s : StandAll code g ts a b) (base : ℕ) → Piece a b (AllHeights code g ts a b s base)
   pieces code g no_trees a b s base = nothing a b s
@@ -122,6 +124,7 @@ mutual
   starts code g (choice p enquiry if_true if_false) a b s base = inl (starts code true enquiry a s.0 s.4 base)
   starts code g (loop p controls test body) a b s base =
       ⊎_elim inl (λ e. inr (inl (e.0, e.1 ∙ after_true controls base ∙ ap (λ (n : ℕ). base + n) s.10))) (starts_all code true controls a s.0 s.11 base)
+  starts code g unbuilt a b s base = absurd s
 
   pub starts_all : (code : Code) (g : Bool) (ts : Trees) (a b : ℕ) (s : StandAll code g ts a b) (base : ℕ) → AllHeights code g ts a b s base a base ⊎ ((a ≡ b) × (base ≡ after g ts base))
   starts_all code g no_trees a b s base = inr (s, refl)

@@ -4,7 +4,9 @@ pub mod Forward
 pub mod Generating
 pub mod Heights
 pub mod Jumping
+pub mod Listed
 pub mod Patching
+pub mod Places
 pub mod Standing
 pub mod Validity
 pub mod Writing

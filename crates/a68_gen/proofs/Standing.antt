@@ -4,7 +4,7 @@ use Rattle.a68_code.specs.declared.code.Code.{Code}
 use Rattle.a68_code.specs.declared.code.Instr.{Instr}
 use Rattle.a68_code.specs.declared.does.Does.{Does}
 use Rattle.a68_code.specs.declared.does.Does.TheVariants as does
-use Rattle.a68_elab.specs.Trees.{Tree, Trees, operation, phrases, choice, loop, no_trees, ◌and_tree◌, count, Program}
+use Rattle.a68_elab.specs.Trees.{Tree, Trees, operation, phrases, choice, loop, unbuilt, no_trees, ◌and_tree◌, count, Program}
 use Rattle.a68_gen.specs.Listing.{instr, stretch, stretches, listing}
 use Rattle.a68_gen.specs.Fits.{Fits, AllFit}
 use Rattle.a68_gen.specs.Stretches.{does_of, leave, Has, Stands, StandAll, Translates}
@@ -160,6 +160,7 @@ mutual
         (holds-head {at = n + 1} jump (forget ∷ []) h9, jump_end),
         (forgets, last),
       )
+  stands code gives unbuilt at f h = absurd f
 
   pub all_stand : (code : Code) (gives : Bool) (trees : Trees) (at : ℕ) → AllFit code.modes gives trees → Holds code at (stretches trees at) → StandAll code gives trees at (at + length (stretches trees at))
   all_stand code gives no_trees at f h = omega arith
@@ -174,8 +175,8 @@ holds-all : (code : Code) (list : List Instr) → code.list ≡ list → Holds c
 holds-all code list e = record { each = λ k i p. let z : 0 + k ≡ k = omega arith in rw (z, e) p }
 
 -- code that is the listing of a program whose parts fit translates it
-pub translated : (program : Program) (code : Code) → code.list ≡ listing program → code.modes ≡ program.modes → Fits program.modes false program.tree → Translates program code
-translated program code listed modes fits =
+pub translated : (program : Program) (code : Code) → code.list ≡ listing program → code.texts ≡ [] → code.modes ≡ program.modes → Fits program.modes false program.tree → Translates program code
+translated program code listed texts modes fits =
     let list = stretch program.tree 0 in
     let i = instr program.place does.End in
     let h = holds-all code (list ++ i ∷ []) listed in
@@ -187,5 +188,6 @@ translated program code listed modes fits =
       stands = to_end code false program.tree 0 zero_end (stands code false program.tree 0 fit (holds-front list (i ∷ []) h));
       ends = (end_at, refl);
       no_more = ap (λ (l : List Instr). length l) listed ∙ length-append list (i ∷ []);
+      texts = texts;
       modes = modes;
     }

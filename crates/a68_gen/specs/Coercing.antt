@@ -1,5 +1,6 @@
 -- The instructions of coercions, and of formulas.
-use Rattle.std.specs.Prelude.{ℕ, pos, List, [], ◌∷◌, ◌++◌, None, Some}
+use Rattle.std.specs.Prelude.{ℕ, pos, Bool, true, false, List, [], ◌∷◌, ◌++◌, None, Some}
+use Rattle.std.specs.List.{list_all}
 use Rattle.std.specs.declared.option.Option.{Option}
 use Rattle.a68_code.specs.declared.code.Instr.{Instr}
 use Rattle.a68_code.specs.declared.does.Does.{Does}
@@ -12,6 +13,15 @@ use Rattle.a68_modes.specs.Nodes.{shape_at}
 use Rattle.a68_modes.specs.declared.coercion.Coercion.{Coercion}
 use Rattle.a68_modes.specs.declared.coercion.Coercion.TheVariants as coercion
 use Rattle.a68_modes.specs.declared.shape.Shape.{Shape}
+
+-- the coercions that are built
+abbrev pub is_built : Coercion → Bool
+is_built coercion.Deref = true
+is_built coercion.Drop = true
+is_built _ = false
+
+abbrev pub are_built : List Coercion → Bool
+are_built path = list_all is_built path
 
 -- the mode behind a coercion from a mode
 abbrev pub behind : List Shape → (mode : ℕ) → Coercion → ℕ
@@ -29,11 +39,6 @@ coercion_of modes place mode _ = []
 abbrev pub coercions : List Shape → (place mode : ℕ) → List Coercion → List Instr
 coercions modes place mode [] = []
 coercions modes place mode (c ∷ path) = coercion_of modes place mode c ++ coercions modes place (behind modes mode c) path
-
--- the instruction of a formula; without an operator it does not run yet
-abbrev pub operator_of : Option ℕ → Does
-operator_of (Some row) = does.Apply row
-operator_of None = does.Push (plain value.Unset)
 
 -- the head of a loop from 1 by 1 without a limit, where e is the place behind it
 abbrev pub head_of : (place e : ℕ) → List Instr

@@ -2,11 +2,12 @@
 use Rattle.std.specs.Prelude.{◌≡◌, Bool, true, false, List}
 use Rattle.a68_acts.specs.Operations.{leaves}
 use Rattle.a68_code.specs.Flow.{takes}
-use Rattle.a68_elab.specs.Trees.{Tree, Trees, operation, phrases, choice, loop, no_trees, ◌and_tree◌, count}
+use Rattle.a68_elab.specs.Trees.{Tree, Trees, operation, phrases, choice, loop, unbuilt, no_trees, ◌and_tree◌, count}
 use Rattle.a68_gen.specs.Stretches.{does_of}
 use Rattle.a68_modes.specs.declared.shape.Shape.{Shape}
 
--- The tree yields a value or none, as `gives` says, and each operation in it has as many parts as it takes values.
+-- The tree yields a value or none, as `gives` says, each operation in it has as many parts as it takes values, and all of
+-- it is built.
 abbrev mutual
   pub Fits : List Shape → (gives : Bool) → Tree → Type 0
   Fits modes gives (operation place op order parts) =
@@ -16,6 +17,7 @@ abbrev mutual
       Fits modes true enquiry × Fits modes gives if_true × Fits modes gives if_false
   Fits modes gives (loop place controls test body) =
       (gives ≡ false) × (count controls ≡ 3) × AllFit modes true controls × Fits modes true test × Fits modes false body
+  Fits modes gives unbuilt = ⊥
 
   pub AllFit : List Shape → (gives : Bool) → Trees → Type 0
   AllFit modes gives no_trees = Unit {0}

@@ -3,7 +3,7 @@ use Rattle.std.specs.Prelude.{ℕ, zero, suc, ◌+◌, List, [], ◌∷◌, ◌+
 use Rattle.a68_code.specs.declared.code.Instr.{Instr}
 use Rattle.a68_code.specs.declared.does.Does.{Does}
 use Rattle.a68_code.specs.declared.does.Does.TheVariants as does
-use Rattle.a68_elab.specs.Trees.{Tree, Trees, operation, phrases, choice, loop, no_trees, ◌and_tree◌, count, Program}
+use Rattle.a68_elab.specs.Trees.{Tree, Trees, operation, phrases, choice, loop, unbuilt, no_trees, ◌and_tree◌, count, Program}
 use Rattle.a68_gen.specs.Stretches.{does_of, leave}
 
 -- an instruction keeps the place of its construct
@@ -39,6 +39,8 @@ abbrev mutual
       let e = t + 2 + length second + 1 + length third + 2 in
       first ++ (instr place does.Counter ∷ instr place (does.Step e) ∷ instr place does.Turn ∷ (second
       ++ (instr place (does.Unless e) ∷ (third ++ instr place (does.Advance t) ∷ instr place (does.Jump e) ∷ instr place does.Forget ∷ []))))
+  -- what is not built has none
+  stretch unbuilt at = []
 
   -- those of trees, one behind the other
   pub stretches : Trees → (at : ℕ) → List Instr

@@ -1,11 +1,11 @@
 -- Translation: which instructions a construct becomes, and where they stand.
-use Rattle.std.specs.Prelude.{◌≡◌, ℕ, zero, suc, ◌+◌, Bool, true, false, length, Some, slice_get, if◌then◌else◌}
+use Rattle.std.specs.Prelude.{◌≡◌, ℕ, zero, suc, ◌+◌, Bool, true, false, [], length, Some, slice_get, if◌then◌else◌}
 use Rattle.a68_acts.specs.Operations.{Operation, constant, skip, tag, make, bind, deref, store, apply, drop, print, leaves}
 use Rattle.a68_code.specs.Flow.{takes}
 use Rattle.a68_code.specs.declared.code.Code.{Code}
 use Rattle.a68_code.specs.declared.does.Does.{Does}
 use Rattle.a68_code.specs.declared.does.Does.TheVariants as does
-use Rattle.a68_elab.specs.Trees.{Tree, Trees, operation, phrases, choice, loop, no_trees, ◌and_tree◌, count, Program}
+use Rattle.a68_elab.specs.Trees.{Tree, Trees, operation, phrases, choice, loop, unbuilt, no_trees, ◌and_tree◌, count, Program}
 
 -- the instruction of an operation on so many values
 abbrev pub does_of : Operation → ℕ → Does
@@ -51,17 +51,20 @@ abbrev mutual
       × Has code place does.Counter c t × Has code place (does.Step e) t t' × Has code place does.Turn t' u
       × Stands code true test u m × Has code place (does.Unless e) m m' × Stands code false body m' n
       × Has code place (does.Advance t) n v × Has code place (does.Jump e) v e × Has code place does.Forget e b
+  -- what is not built stands nowhere
+  Stands code gives unbuilt a b = ⊥
 
   -- the stretches of trees, one behind the other
   pub StandAll : Code → (gives : Bool) → Trees → (a b : ℕ) → Type 0
   StandAll code gives no_trees a b = a ≡ b
   StandAll code gives (tree and_tree trees) a b = (m : ℕ) × Stands code gives tree a m × StandAll code gives trees m b
 
--- the code is the stretch of the program, which yields nothing, and End behind it, and no more; its modes are those of
--- the program
+-- the code is the stretch of the program, which yields nothing, and End behind it, and no more; it has no routine texts,
+-- since these do not run yet, and its modes are those of the program
 pub record Translates (program : Program) (code : Code) : Type 0 where
   pub end : ℕ
   pub stands : Stands code false program.tree 0 end
   pub ends : Has code program.place does.End end (end + 1)
   pub no_more : length code.list ≡ end + 1
+  pub texts : code.texts ≡ []
   pub modes : code.modes ≡ program.modes

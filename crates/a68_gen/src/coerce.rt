@@ -1,6 +1,7 @@
 //! The instructions of coercions.
 ghost use Rattle.std.specs.Prelude.{◌≡◌};
 ghost use Rattle.a68_elab.specs.Made as made;
+ghost use Rattle.a68_gen.specs.Coercing as coercing;
 ghost use Rattle.a68_gen.specs.Coercing.{behind, coercion_of, coercions};
 ghost use Rattle.a68_gen.specs.Writers.{Wrote};
 ghost use Rattle.a68_modes.specs.Nodes.{shape_at};
@@ -21,6 +22,14 @@ pub fn behind_ref(modes: &Modes, mode: ModeId) -> ModeId
         Shape::Ref(to) => *to,
         _ => 0,
     }
+}
+
+/// Are all coercions of a unit built?
+pub fn are_built(note: &Note) -> bool
+    ensures { result ≡ coercing.are_built note.now.path }
+{
+    let path = &note.path.items;
+    path.iter().all(|coercion| matches!(coercion, Coercion::Deref | Coercion::Drop))
 }
 
 // Writes a coercion from a mode, and gives the mode behind it.

@@ -72,10 +72,3 @@ pub fn push_int(value: i64) -> Does
 {
     Does::Push(Value::of(Plain::Int(value)))
 }
-
-/// The value unset, pushed.
-pub fn push_unset() -> Does
-    ensures { result ≡ Does.Push (plain value_of.Unset) }
-{
-    Does::Push(Value::of(Plain::Unset))
-}

@@ -7,4 +7,4 @@ mod rows;
 mod translate;
 mod writer;
 
-pub use translate::generate;
+pub use translate::{generate, translations_are_listings};

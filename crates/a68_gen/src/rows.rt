@@ -1,48 +1,38 @@
 //! The instructions of constructs. Above each function stands what it writes: `[x]` is what the part x writes.
-ghost use Rattle.std.specs.Option.{option_map_or};
+ghost use Rattle.std.specs.Option.{option_map_or, option_and_then};
+ghost use Rattle.a68_denote.specs.Numbers.{int_in};
 ghost use Rattle.std.specs.Prelude.{◌≡◌, ◌<◌, ◌∷◌, ◌++◌, [], not, length, slice_get, IfSome, if◌then◌else◌};
 ghost use Rattle.a68_elab.specs.Made as made;
 ghost use Rattle.a68_elab.specs.Made.{tree_at, trees_at};
 ghost use Rattle.a68_elab.specs.Trees as trees;
-ghost use Rattle.a68_gen.specs.Coercing.{operator_of, head_of};
+ghost use Rattle.a68_gen.specs.Coercing.{head_of};
 ghost use Rattle.a68_gen.specs.Listing.{instr, stretch, stretches};
 ghost use Rattle.a68_gen.specs.Writers.{Wrote};
 ghost use Rattle.a68_modes.specs.Nodes.{shape_at, is_void};
 ghost use Rattle.a68_tree.specs.Trees.{AllBetween};
 
-use crate::coerce::{behind_ref, coerce};
-use crate::emit::{push_int, push_unset};
+use crate::coerce::{are_built, behind_ref, coerce};
+use crate::emit::push_int;
 use crate::writer::Writer;
 use a68_annot::{Annotated, Note};
 use a68_code::Does;
 use a68_denote::int_of;
 use a68_tree::{Node, NodeId, NodeKind};
 
-// A construct that does not run yet: Push unset. No annotated tree has one.
-fn blank(out: &mut Writer)
-    ensures { Wrote out.old out.new (stretch made.blank (length out.old.list.items)) }
-{
-    out.emit(0, push_unset());
-}
+// Writes nothing for a construct that is not built. No annotated tree has one.
+fn unbuilt(_out: &mut Writer)
+    ensures { Wrote _out.old _out.new (stretch trees.unbuilt (length _out.old.list.items)) }
+{}
 
 // Push the value of a number.
-fn denotation(program: &Annotated, node: &Node) -> Does
+fn denotation(program: &Annotated, node: &Node, out: &mut Writer)
     requires { node.now.name < length program.now.tree.spellings }
-    ensures { result ≡ Does.Push (made.denoted (slice_get program.now.tree.spellings node.now.name)) }
+    ensures { Wrote out.old out.new (stretch (made.denoted node.now.span.from (option_and_then int_in (slice_get program.now.tree.spellings node.now.name)))
+        (length out.old.list.items)) }
 {
     match int_of(program.tree.spelling(node.name)) {
-        Some(value) => push_int(value),
-        None => push_unset(),
-    }
-}
-
-// Apply the operator, or Push unset where there is none.
-fn operator(note: &Note) -> Does
-    ensures { result ≡ operator_of note.now.op }
-{
-    match note.op {
-        Some(row) => Does::Apply(row),
-        None => push_unset(),
+        Some(value) => out.emit(node.span.from, push_int(value)),
+        None => unbuilt(out),
     }
 }
 
@@ -82,6 +72,10 @@ pub fn unit(program: &Annotated, id: NodeId, out: &mut Writer)
 {
     let node = program.tree.node(id);
     let note = program.note(id);
+    if !are_built(note) {
+        unbuilt(out);
+        return;
+    }
     construct(program, id, node, note, out);
     coerce(&program.modes, node.span.from, note, out);
 }
@@ -98,9 +92,9 @@ fn construct(program: &Annotated, id: NodeId, node: &Node, note: &Note, out: &mu
     let place = node.span.from;
     let parts = &node.parts.items;
     match node.kind {
-        NodeKind::Denotation => out.emit(place, denotation(program, node)),
+        NodeKind::Denotation => denotation(program, node, out),
         NodeKind::Tag => out.emit(place, tag(note)),
-        NodeKind::Dyadic => operation(program, id, parts, place, operator(note), out),
+        NodeKind::Dyadic => formula(program, id, parts, place, note, out),
         NodeKind::Assignation => operation(program, id, parts, place, store(program, note), out),
         NodeKind::Variable => variable(program, id, parts, place, note, out),
         NodeKind::Call => call(program, id, parts, place, out),
@@ -108,7 +102,7 @@ fn construct(program: &Annotated, id: NodeId, node: &Node, note: &Note, out: &mu
         NodeKind::Closed | NodeKind::While => only(program, id, parts, out),
         NodeKind::Conditional => conditional(program, id, parts, place, out),
         NodeKind::Loop => repeat(program, id, parts, place, out),
-        _ => blank(out),
+        _ => unbuilt(out),
     }
 }
 
@@ -140,6 +134,25 @@ fn operation(
     out.emit(place, does);
 }
 
+// [operands] Apply.
+#[cycle(units)]
+fn formula(
+    program: &Annotated,
+    id: NodeId,
+    parts: &[NodeId],
+    place: u32,
+    note: &Note,
+    out: &mut Writer,
+)
+    requires { AllBetween id (length program.now.tree.nodes) parts.now }
+    ensures { Wrote out.old out.new (stretch (made.formula place note.now.op (trees_at (tree_at program.now) parts.now)) (length out.old.list.items)) }
+{
+    match note.op {
+        Some(row) => operation(program, id, parts, place, Does::Apply(row), out),
+        None => unbuilt(out),
+    }
+}
+
 // Make; with a source [source] Store; Bind.
 #[cycle(units)]
 fn variable(
@@ -156,9 +169,13 @@ fn variable(
 {
     let mode = behind_ref(&program.modes, note.mode);
     let slot = note.step.slot;
-    if parts.len() != 2 {
+    if parts.len() == 1 {
         out.emit(place, Does::Make { mode, bounds: 0 });
         out.emit(place, Does::Bind(slot));
+        return;
+    }
+    if parts.len() != 2 {
+        unbuilt(out);
         return;
     }
     out.emit(place, Does::Make { mode, bounds: 0 });
@@ -174,7 +191,7 @@ fn call(program: &Annotated, id: NodeId, parts: &[NodeId], place: u32, out: &mut
     ensures { Wrote out.old out.new (stretch (made.call_of place (trees_at (tree_at program.now) parts.now)) (length out.old.list.items)) }
 {
     if parts.len() != 2 {
-        blank(out);
+        unbuilt(out);
         return;
     }
     unit(program, parts[1], out);
@@ -196,7 +213,7 @@ fn serial(
         (trees_at (tree_at program.now) parts.now)) (length out.old.list.items)) }
 {
     if parts.len() == 0 {
-        blank(out);
+        unbuilt(out);
         return;
     }
     if note.slots == 0 {
@@ -215,7 +232,7 @@ fn only(program: &Annotated, id: NodeId, parts: &[NodeId], out: &mut Writer)
     ensures { Wrote out.old out.new (stretch (made.only_of (trees_at (tree_at program.now) parts.now)) (length out.old.list.items)) }
 {
     if parts.len() != 1 {
-        blank(out);
+        unbuilt(out);
         return;
     }
     unit(program, parts[0], out);
@@ -277,7 +294,7 @@ fn conditional(program: &Annotated, id: NodeId, parts: &[NodeId], place: u32, ou
         choice(program, id, parts[0], parts[1], Some(parts[2]), place, out);
         return;
     }
-    blank(out);
+    unbuilt(out);
 }
 
 // FROM 1, BY 1, no limit: Push 1 Push 1 Skip 1 Counter t: Step e Turn, where e is yet to come.
@@ -299,7 +316,7 @@ fn repeat(program: &Annotated, id: NodeId, parts: &[NodeId], place: u32, out: &m
     ensures { Wrote out.old out.new (stretch (made.loop_of place (trees_at (tree_at program.now) parts.now)) (length out.old.list.items)) }
 {
     if parts.len() != 2 {
-        blank(out);
+        unbuilt(out);
         return;
     }
     let step = out.len() + 4;

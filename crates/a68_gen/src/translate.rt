@@ -1,13 +1,18 @@
 //! Translation.
-ghost use Rattle.std.specs.Prelude.{false, ◌≤◌, length, IfOk};
+ghost use Rattle.std.specs.Prelude.{◌≡◌, ℕ, false, ◌≤◌, List, length, IfOk};
+ghost use Rattle.a68_base.specs.declared.refusal.Refusal.{Refusal};
+ghost use Rattle.a68_code.specs.declared.code.Code.{Code};
+ghost use Rattle.a68_code.specs.declared.code.Instr.{Instr};
 ghost use Rattle.a68_code.specs.Valid.{IsValid};
 ghost use Rattle.a68_elab.specs.Made.{program_of};
+ghost use Rattle.a68_elab.specs.Places.{ProgramBeginsBy};
+ghost use Rattle.a68_elab.specs.Trees.{Program};
 ghost use Rattle.a68_gen.specs.Fits.{Fits};
 ghost use Rattle.a68_gen.specs.Generated.{OnTooLong};
 ghost use Rattle.a68_gen.specs.Listing.{listing};
 ghost use Rattle.a68_gen.specs.Operands.{FitsModes};
 ghost use Rattle.a68_gen.specs.Stretches.{Translates};
-ghost use Rattle.a68_gen.specs.Writing.{most};
+ghost use Rattle.a68_gen.specs.Writing.{IsTooLong, most};
 
 use crate::rows::unit;
 use crate::writer::Writer;
@@ -45,3 +50,13 @@ pub fn generate(alloc: Global, program: &Annotated) -> Result<Code, Stop>
         modes: program.modes.copy(alloc)?,
     })
 }
+
+/// A law: the instructions of a program are those that are listed, and a program has one code; what is refused for its
+/// length has more instructions than a program may have, and is refused at a construct of the program.
+pub fn translations_are_listings()
+    ensures list { (program : Program) (code : Code) → Translates program code → code.list ≡ listing program }
+    ensures code { (program : Program) (code other : Code) → Translates program code → Translates program other → other ≡ code }
+    ensures limit { (list : List Instr) (refusal : Refusal) → IsTooLong list refusal → length list ≤ most → ⊥ }
+    ensures place { (program : Program) (end : ℕ) (refusal : Refusal) → ProgramBeginsBy end program → IsTooLong (listing program) refusal
+        → refusal.place ≤ end }
+{}

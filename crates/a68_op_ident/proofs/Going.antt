@@ -7,7 +7,7 @@ use Rattle.std.proofs.lemmas.Option.{slice_get-get_or}
 use borrow.Author.Tests.{ltb-true}
 use Rattle.a68_op_ident.specs.Formulas.{operand_at, sign_of, is_sign, is_formula, Reads}
 use Rattle.a68_op_ident.specs.Readings.{IsUnread, IsPlaced}
-use Rattle.a68_op_ident.specs.Shapes.{IsShaped, IsLeft, Going}
+use Rattle.a68_op_ident.specs.Shapes.{IsShaped, IsLeft, IsOperatorNode, Going}
 use Rattle.a68_op_ident.specs.Roots.{Same}
 use Rattle.a68_op_ident.specs.declared.formula.Operand.{Operand}
 use Rattle.a68_op_ident.specs.declared.formula.Operator.{Operator}
@@ -20,7 +20,7 @@ use Rattle.a68_tree.specs.declared.kind.NodeKind.TheVariants.{Formula, Sign}
 
 pub start : (flat : Built) → IsSound flat.nodes (length flat.spellings) → Going flat flat.nodes 0
 start flat sound = record {
-  shaped = record { long = refl; kept = λ id n p e f s. absurd (omega arith); formulas = λ id n p e f. absurd (omega arith) };
+  shaped = record { long = refl; kept = λ id n p e. absurd (omega arith); formulas = λ id n p e f. absurd (omega arith) };
   rest = λ k p. refl;
   sound = sound;
 }
@@ -40,9 +40,9 @@ pub pass : (flat : Built) (nodes : List Node) (id : ℕ) (n : Node) → Going fl
 pass flat nodes id n going at other = record {
   shaped = record {
     long = going.shaped.long;
-    kept = λ k m p e f s. elim (less_or_not k id) [
-      | inl q ↦ going.shaped.kept k m q e f s
-      | inr q ↦ (let same : k ≡ id = omega arith in going.rest k (omega arith) ∙ e)
+    kept = λ k m p e. elim (less_or_not k id) [
+      | inl q ↦ going.shaped.kept k m q e
+      | inr q ↦ inr (going.rest k (omega arith) ∙ e)
     ];
     formulas = λ k m p e f. elim (less_or_not k id) [
       | inl q ↦ wider_or_left (omega arith) (going.shaped.formulas k m q e f)
@@ -95,9 +95,9 @@ pub left : (flat : Built) (nodes : List Node) (id : ℕ) (n : Node) → Going fl
 left flat nodes id n going at none = record {
   shaped = record {
     long = going.shaped.long;
-    kept = λ k m p e f s. elim (less_or_not k id) [
-      | inl q ↦ going.shaped.kept k m q e f s
-      | inr q ↦ (let same : k ≡ id = omega arith in going.rest k (omega arith) ∙ e)
+    kept = λ k m p e. elim (less_or_not k id) [
+      | inl q ↦ going.shaped.kept k m q e
+      | inr q ↦ inr (going.rest k (omega arith) ∙ e)
     ];
     formulas = λ k m p e f. elim (less_or_not k id) [
       | inl q ↦ wider_or_left (omega arith) (going.shaped.formulas k m q e f)
@@ -136,6 +136,11 @@ grown same less room (inl old) =
     inl (record { operands = old.operands; signs = old.signs; reads = old.reads; within = omega arith; placed = keeps old.placed (λ x u v. same.before x (omega arith)) })
 grown {k = k} same less room (inr old) = inr (record { unread = old.unread; same = same.before k less ∙ old.same })
 
+-- a node that stays is kept, or it is one of a formula
+kept_on : {flat : Built} {k : ℕ} {n : Node} {a b : Option Node} → b ≡ a → IsOperatorNode flat k ⊎ (a ≡ Some n) → IsOperatorNode flat k ⊎ (b ≡ Some n)
+kept_on same (inl one) = inl one
+kept_on same (inr old) = inr (same ∙ old)
+
 -- a formula that is shaped
 pub shaped_formula : (flat : Built) (nodes new : List Node) (id count : ℕ) (n : Node) → Going flat nodes id → slice_get nodes id ≡ Some n → is_formula n.kind ≡ true
     → IsPlaced (record { nodes = nodes; spellings = flat.spellings }) new id count → Going flat new (id + count + 1)
@@ -148,17 +153,11 @@ shaped_formula flat nodes new id count n going at is placed =
     record {
       shaped = record {
         long = same.long ∙ going.shaped.long;
-        kept = λ k m p e f s. elim (less_or_not k id) [
-          | inl q ↦ same.before k q ∙ going.shaped.kept k m q e f s
-          | inr q ↦ elim (eq_or_more id k q) [
-            | inl z ↦ (let two : Some m ≡ Some placed.node = sym e ∙ ap (λ x. slice_get flat.nodes x) (sym z) ∙ here in
-                let eq : m ≡ placed.node = cc in
-                absurd (truth is_placed (ap (λ (x : Node). is_formula x.kind) (sym eq) ∙ f)))
-            | inr z ↦ (let j : ℕ = k - (id + 1) in
-                let at_k : id + 1 + j ≡ k = omega arith in
-                let sign = slice_get-get_or placed.signs j (record { name = 0; priority = 0 }) (omega arith) in
-                let read = reads.signs_are.each j (omega arith) in
-                absurd (no_sign flat.spellings m (slice_get flat.nodes (id + 1 + j)) _ s (ap (λ x. slice_get flat.nodes x) at_k ∙ e) (sym read ∙ sign)))
+        kept = λ k m p e. elim (less_or_not k id) [
+          | inl q ↦ kept_on (same.before k q) (going.shaped.kept k m q e)
+          | inr q ↦ elim (less_or_not k (id + count)) [
+            | inl u ↦ inl (record { formula = id; node = placed.node; there = here; formed = is_placed; operands = placed.operands; signs = placed.signs; reads = reads; from = q; below = omega arith })
+            | inr u ↦ inr (same.behind k u ∙ going.rest k q ∙ e)
           ]
         ];
         formulas = λ k m p e f. elim (less_or_not k id) [

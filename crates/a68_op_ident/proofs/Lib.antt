@@ -1,4 +1,5 @@
 pub mod Going
+pub mod One
 pub mod Placing
 pub mod Shaping
 pub mod Signs

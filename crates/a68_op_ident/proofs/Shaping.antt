@@ -87,15 +87,15 @@ less_or_not (suc a) (suc b) = elim (less_or_not a b) [ inl p ↦ inl (omega arit
 pub eq_or_more : (a b : ℕ) → a ≤ b → (a ≡ b) ⊎ (a < b)
 eq_or_more a b p = elim (less_or_not a b) [ inl q ↦ inr q | inr q ↦ inl (omega arith) ]
 
-data Split (i id middle : ℕ) : Type 0 where
+pub data Split (i id middle : ℕ) : Type 0 where
   here_at : i ≡ id → Split i id middle
   left_of : id + 1 ≤ i → i < middle → Split i id middle
   right_of : middle ≤ i → Split i id middle
 
-split : (i id middle : ℕ) → id ≤ i → Split i id middle
+pub split : (i id middle : ℕ) → id ≤ i → Split i id middle
 split i id middle p = elim (eq_or_more id i p) [ inl e ↦ here_at (sym e) | inr q ↦ elim (less_or_not i middle) [ inl u ↦ left_of (omega arith) u | inr u ↦ right_of u ] ]
 
-some_same : {X : Type 0} {x y : X} → Some x ≡ Some y → x ≡ y
+pub some_same : {X : Type 0} {x y : X} → Some x ≡ Some y → x ≡ y
 some_same e = cc
 
 -- each node that is placed stands before its parts, and has a name

@@ -1,6 +1,6 @@
 -- A tree whose formulas are shaped by the priorities of their signs.
-use Rattle.std.specs.Prelude.{◌≡◌, ◌<◌, ◌≤◌, ◌+◌, ◌⊎◌, ℕ, true, false, List, length, Some, slice_get}
-use Rattle.a68_op_ident.specs.Formulas.{is_sign, is_formula, Reads, Placed}
+use Rattle.std.specs.Prelude.{◌≡◌, ◌<◌, ◌≤◌, ◌+◌, ◌⊎◌, ℕ, true, List, length, Some, slice_get}
+use Rattle.a68_op_ident.specs.Formulas.{is_formula, Reads, Placed}
 use Rattle.a68_op_ident.specs.Readings.{IsUnread}
 use Rattle.a68_op_ident.specs.declared.formula.Operand.{Operand}
 use Rattle.a68_op_ident.specs.declared.formula.Operator.{Operator}
@@ -21,10 +21,24 @@ pub record IsLeft (flat : Built) (shaped : List Node) (formula : ℕ) (node : No
   pub unread : IsUnread flat formula
   pub same : slice_get shaped formula ≡ Some node
 
--- As the flat tree, but that the formulas among its first nodes are shaped where they can be read.
+-- One of the places where the nodes of a formula's signs stand: of a formula that can be read, as many places as it has
+-- signs, from its own on.
+pub record IsOperatorNode (flat : Built) (id : ℕ) : Type 0 where
+  pub formula : ℕ
+  pub node : Node
+  pub there : slice_get flat.nodes formula ≡ Some node
+  pub formed : is_formula node.kind ≡ true
+  pub operands : List Operand
+  pub signs : List Operator
+  pub reads : Reads flat formula node.parts operands signs
+  pub from : formula ≤ id
+  pub below : id < formula + length signs
+
+-- As the flat tree, but that the formulas among its first nodes are shaped where they can be read: each of these nodes
+-- is one of such a formula, or it is as it was.
 pub record ShapedTo (flat : Built) (shaped : List Node) (bound : ℕ) : Type 0 where
   pub long : length shaped ≡ length flat.nodes
-  pub kept : (id : ℕ) (n : Node) → id < bound → slice_get flat.nodes id ≡ Some n → is_formula n.kind ≡ false → is_sign n.kind ≡ false → slice_get shaped id ≡ Some n
+  pub kept : (id : ℕ) (n : Node) → id < bound → slice_get flat.nodes id ≡ Some n → IsOperatorNode flat id ⊎ (slice_get shaped id ≡ Some n)
   pub formulas : (id : ℕ) (n : Node) → id < bound → slice_get flat.nodes id ≡ Some n → is_formula n.kind ≡ true → IsShaped flat shaped bound id n.parts ⊎ IsLeft flat shaped id n
 
 -- a tree whose first nodes are shaped, and whose others are as they were

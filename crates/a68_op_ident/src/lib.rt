@@ -7,4 +7,4 @@ mod reading;
 mod trees;
 
 pub use formula::{Operand, Operator};
-pub use trees::shape;
+pub use trees::{shape, shapes_are_one};

@@ -117,3 +117,8 @@ pub fn shape(alloc: Global, tree: Tree) -> Result<Tree, NoMemory>
     }
     Ok(Tree::new(nodes, spellings))
 }
+
+/// A law: a flat tree has one shaped tree at most.
+pub fn shapes_are_one()
+    ensures { (flat one other : Built) → Shaped flat one → Shaped flat other → other ≡ one }
+{}

@@ -7,7 +7,8 @@ use Rattle.a68_symbols.specs.declared.symbol.Symbol.{Symbol}
 use Rattle.a68_symbols.specs.Limits.{most_symbols}
 use Rattle.a68_symbols.specs.Names.{Named}
 use Rattle.a68_symbols.specs.declared.form.Given.{Given}
-use Rattle.a68_symbols.specs.Symbols.{Piece, piece_of, Front, front_none, front_is, IsCut, cut_ended, cut_passed, cut_taken, SymbolsAre}
+use Rattle.a68_symbols.specs.Symbols.{Piece, piece_of, Front, front_none, front_is, IsCut, cut_ended, cut_passed, cut_taken, SymbolsAre, StopsAt, stop_broken, stop_full, stop_passed, stop_taken, IsRefused, too_long, stopped}
+use Rattle.a68_base.specs.declared.refusal.Rule.{Rule}
 
 -- ---- as few symbols as a text may have
 
@@ -44,3 +45,15 @@ pub symbols_within : (text : List ℕ) (found : Named) → SymbolsAre text (map 
 symbols_within text found are i s e =
     let piece : slice_get (map piece_of found.symbols) i ≡ Some (piece_of s) = slice_get-map piece_of found.symbols i ∙ ap (option_map piece_of) e in
     let w = cut_within are.has.1 i (piece_of s) piece in omega (arith, w)
+
+-- ---- a place where a text has no symbols is within it
+
+stops_within : {at before place : ℕ} {text : List ℕ} {rule : Rule} → StopsAt at before text rule place → place ≤ at + length text
+stops_within (stop_broken f) = omega arith
+stops_within (stop_full f full) = omega arith
+stops_within {at = at} {place = place} (stop_passed {n = n} {text = text} f more) = rest_within at n text place (front_within f) (stops_within more)
+stops_within {at = at} {place = place} (stop_taken {n = n} {text = text} f few more) = rest_within at n text place (front_within f) (stops_within more)
+
+pub refusal_within : (text : List ℕ) (rule : Rule) (place : ℕ) → IsRefused text rule place → place ≤ length text
+refusal_within text _ _ (too_long long) = omega (arith, long)
+refusal_within text rule place (stopped few stops) = let w = stops_within stops in omega (arith, w)

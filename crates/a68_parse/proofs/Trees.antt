@@ -33,6 +33,9 @@ text_few found classes =
 some_symbols : (text : List Sym) (kind : NodeKind) (under : Forest) → IsEnclosed kind under → text ≡ spells under [] → 0 < length text
 some_symbols text kind under p e = let b = first_enclosed p [] in let h = ap length (e ∙ b.is) in omega (arith, h)
 
+pub tree_filled : (found : Named) (classes : List (Option Class)) (list : List Node) → IsTree found classes list → 0 < length found.symbols
+tree_filled found classes list t = let a = some_symbols (text_of found classes) t.kind t.under t.is t.spelled in let b = text_few found classes in omega (arith, a, b)
+
 module _ (found : Named) (classes : List (Option Class)) (text : List Sym) (new : List Entry) (same : text ≡ text_of found classes) (p : ReadProgram text new) where
   abbrev pub drafted : AreDrafted new
   drafted = record { kind = p.kind; under = p.under; added = p.added }

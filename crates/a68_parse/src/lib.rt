@@ -4,4 +4,4 @@
 mod program;
 mod text;
 
-pub use program::{parse, symbols_are_bounded};
+pub use program::{parse, symbols_are_bounded, trees_lie_in_texts};

@@ -1,11 +1,15 @@
 //! Whole programs.
-ghost use Rattle.std.specs.Prelude.{◌≡◌, ◌≤◌, ℕ, List, length, map, slice_get, Some, IfOk};
+ghost use Rattle.std.specs.Prelude.{◌≡◌, ◌<◌, ◌≤◌, ℕ, List, length, map, slice_get, Some, IfOk};
+ghost use Rattle.a68_base.specs.declared.refusal.Rule as rules;
 ghost use Rattle.a68_symbols.specs.declared.symbol.Symbol.{Symbol};
 ghost use Rattle.a68_symbols.specs.Limits.{most_symbols};
 ghost use Rattle.a68_symbols.specs.Names.{Named};
-ghost use Rattle.a68_symbols.specs.Symbols.{SymbolsAre, piece_of};
+ghost use Rattle.a68_symbols.specs.Symbols.{SymbolsAre, IsRefused, piece_of};
 ghost use Rattle.a68_turn.specs.Drafted.{SpellsAlike};
-ghost use Rattle.a68_parse.specs.Parses.{Parses};
+ghost use Rattle.a68_parse.specs.Parses.{Parses, IsTree};
+ghost use Rattle.a68_tree.specs.declared.node.Node.{Node};
+ghost use Rattle.a68_words.specs.declared.class.Class.{Class};
+ghost use Rattle.std.specs.declared.option.Option.{Option};
 
 use crate::text::text;
 use a68_base::{Refusal, Rule, Stop};
@@ -40,4 +44,12 @@ pub fn symbols_are_bounded()
     ensures few { (text : List ℕ) (found : Named) → SymbolsAre text (map piece_of found.symbols) → length found.symbols ≤ most_symbols }
     ensures within { (text : List ℕ) (found : Named) → SymbolsAre text (map piece_of found.symbols)
         → (i : ℕ) (s : Symbol) → slice_get found.symbols i ≡ Some s → s.span.from ≤ length text }
+    ensures refused { (text : List ℕ) (rule : rules.Rule) (place : ℕ) → IsRefused text rule place → place ≤ length text }
+    ensures filled { (found : Named) (classes : List (Option Class)) (list : List Node) → IsTree found classes list → 0 < length found.symbols }
+{}
+
+/// A law: each node of a tree begins within its text.
+pub fn trees_lie_in_texts()
+    ensures { (text : List ℕ) (found : Named) (classes : List (Option Class)) (list : List Node) → SymbolsAre text (map piece_of found.symbols)
+        → IsTree found classes list → (id : ℕ) (n : Node) → slice_get list id ≡ Some n → n.span.from ≤ length text }
 {}

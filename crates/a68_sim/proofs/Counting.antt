@@ -141,6 +141,7 @@ translates = record {
   );
   ends = (refl, refl);
   no_more = refl;
+  texts = refl;
   modes = refl;
 }
 

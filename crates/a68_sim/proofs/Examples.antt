@@ -93,6 +93,7 @@ translates = record {
   );
   ends = (refl, refl);
   no_more = refl;
+  texts = refl;
   modes = refl;
 }
 
@@ -216,6 +217,7 @@ unset_translates = record {
   );
   ends = (refl, refl);
   no_more = refl;
+  texts = refl;
   modes = refl;
 }
 
@@ -296,6 +298,7 @@ newer_translates = record {
   );
   ends = (refl, refl);
   no_more = refl;
+  texts = refl;
   modes = refl;
 }
 

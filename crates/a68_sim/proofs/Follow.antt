@@ -10,7 +10,7 @@ use Rattle.a68_code.specs.declared.does.Does.TheVariants as does
 use Rattle.a68_elab.specs.Positions.{within, OpensIn, in_this, past}
 use Rattle.a68_elab.specs.Rows.{meets, acts, within_frame}
 use Rattle.a68_elab.specs.Terms.{Range, no_frame, in_frame, Job, operating, resuming, preceding, ending, choosing, chosen, counting, stepping, turning, testing, running, leaving, Term, todo, part, yielded, Terms, no_terms, ◌and_term◌, todos, order_of}
-use Rattle.a68_elab.specs.Trees.{Tree, Trees, operation, phrases, choice, loop, no_trees, ◌and_tree◌, count, Order, Program}
+use Rattle.a68_elab.specs.Trees.{Tree, Trees, operation, phrases, choice, loop, unbuilt, no_trees, ◌and_tree◌, count, Order, Program}
 use Rattle.a68_gen.specs.Stretches.{Has, Stands, StandAll, leave}
 use Rattle.a68_sim.proofs.Asking.{idle, at_instr, place_is, is_inside}
 use Rattle.a68_gen.proofs.Forward.{next_is}
@@ -138,6 +138,7 @@ module _ (program : Program) (code : Code) (same : code.modes ≡ program.modes)
         progress_row program code _ _ _ st refl
         (trees_progress controls (counting p test body) c [] s.a z.0 b base home g st refl z.11 (s.state ∙ ap (λ x. idle s.a base x) (sym s.chain))
         (z.9, s.chain, count_todos controls c ∙ z.10, z.1, z.12, l) (counting_done program code b base home g p test body c z.0))
+    tree_progress unbuilt c b base home g st s = absurd s.stands
 
     -- parts that are reached, behind those that have yielded
     trees_progress : (trees : Trees) (job : Job) (ch : List Environ) (acc : List Content) (a k b : ℕ) (base : List Item) (home : List Environ) (g : Bool) (st : State)

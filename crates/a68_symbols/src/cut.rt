@@ -1,11 +1,11 @@
 //! A text cut into its symbols.
-ghost use Rattle.std.specs.Prelude.{◌≡◌, ◌≤◌, ℕ, List, length, IfOk};
+ghost use Rattle.std.specs.Prelude.{◌≡◌, ◌≤◌, ℕ, List, length, map, IfOk};
 ghost use Rattle.a68_base.specs.declared.refusal.Rule.{Rule};
 ghost use Rattle.a68_symbols.specs.Gives as specs;
 ghost use Rattle.a68_symbols.specs.Limits.{most_bytes};
-ghost use Rattle.a68_symbols.specs.Names.{AreNamed, no_symbols};
+ghost use Rattle.a68_symbols.specs.Names.{Named, AreNamed, no_symbols};
 ghost use Rattle.a68_symbols.specs.Steps.{Keeps};
-ghost use Rattle.a68_symbols.specs.Symbols.{Answers, Collects, HasSymbols, IsRefused, Piece};
+ghost use Rattle.a68_symbols.specs.Symbols.{Answers, Collects, HasSymbols, IsRefused, Piece, piece_of};
 
 use crate::Symbols;
 use crate::collector::Collector;
@@ -100,4 +100,6 @@ pub fn symbols_are_one()
         → IsRefused text rule place → IsRefused text other at → (other ≡ rule) × (at ≡ place) }
     ensures apart { (text : List ℕ) (rule : Rule) (place : ℕ) (pieces : List Piece)
         → IsRefused text rule place → HasSymbols text pieces → ⊥ }
+    ensures named { (text : List ℕ) (found other : Named) → map piece_of other.symbols ≡ map piece_of found.symbols
+        → AreNamed text found → AreNamed text other → other ≡ found }
 {}

@@ -1,6 +1,7 @@
 //! Symbols and lists of them.
 ghost use Rattle.std.specs.Prelude.{◌≡◌, ◌<◌, length, slice_get};
 ghost use Rattle.std.specs.Option.{option_map};
+ghost use Rattle.a68_symbols.specs.Names.{HaveNames};
 
 use a68_base::Span;
 use std::marker::Model;
@@ -61,6 +62,14 @@ impl Symbols {
         ensures { result ≡ length self.now.symbols }
     {
         self.items.len() as u32
+    }
+
+    /// How many spellings there are.
+    pub fn names(&self) -> u32
+        ensures count { result ≡ length self.now.spellings }
+        ensures all { HaveNames self.now.symbols result }
+    {
+        self.spellings.len() as u32
     }
 
     /// The symbol of that number, from 0.

@@ -1,4 +1,8 @@
+pub mod Beginning
+pub mod Compiled
 pub mod Lined
+pub mod One
 pub mod Refusing
 pub mod Told
+pub mod Within
 pub mod Written

@@ -10,7 +10,7 @@ use Rattle.a68_elab.specs.Made.{program_of}
 use Rattle.a68_gen.specs.Listing.{listing}
 use Rattle.a68_gen.specs.Writing.{Stops}
 use Rattle.a68_parse.specs.Parses.{Parses}
-use Rattle.a68_symbols.specs.Names.{Named}
+use Rattle.a68_symbols.specs.Names.{Named, AreNamed}
 use Rattle.a68_symbols.specs.Symbols.{SymbolsAre, piece_of}
 use Rattle.a68_top.specs.Compiles.{IsTreeOf, IsProgramOf, RefusedAs, unclassed, no_tree, no_meaning, too_long}
 use Rattle.a68_words.specs.Classes.{Answers, IsClassed}
@@ -18,15 +18,15 @@ use Rattle.a68_words.specs.declared.class.Class.{Class}
 use Rattle.std.specs.declared.option.Option.{Option}
 use Rattle.a68_tree.specs.Trees.{Built}
 
-pub unparsed : (text : List ℕ) (found : Named) (classes : List (Option Class)) (end : ℕ) → end ≡ length text → SymbolsAre text (map piece_of found.symbols) → IsClassed found classes
+pub unparsed : (text : List ℕ) (found : Named) (classes : List (Option Class)) (end : ℕ) → end ≡ length text → SymbolsAre text (map piece_of found.symbols) → AreNamed text found → IsClassed found classes
     → (r : Result Built Stop) → Parses found classes end r → IfErr r (λ why. StopsBy (RefusedAs text) why)
-unparsed text found classes end e symbols classed (Ok t) p = tt
-unparsed text found classes end e symbols classed (Err NoMemory) p = tt
-unparsed text found classes end e symbols classed (Err (Refused f)) p = no_tree found classes symbols classed (subst (λ x. Parses found classes x (Err (Refused f))) e p)
+unparsed text found classes end e symbols named classed (Ok t) p = tt
+unparsed text found classes end e symbols named classed (Err NoMemory) p = tt
+unparsed text found classes end e symbols named classed (Err (Refused f)) p = no_tree found classes symbols named classed (subst (λ x. Parses found classes x (Err (Refused f))) e p)
 
-pub unsorted : (text : List ℕ) (found : Named) → SymbolsAre text (map piece_of found.symbols) → (s : Stop) → Answers found (Err s) → StopsBy (RefusedAs text) s
-unsorted text found symbols NoMemory p = tt
-unsorted text found symbols (Refused f) p = unclassed found symbols p
+pub unsorted : (text : List ℕ) (found : Named) → SymbolsAre text (map piece_of found.symbols) → AreNamed text found → (s : Stop) → Answers found (Err s) → StopsBy (RefusedAs text) s
+unsorted text found symbols named NoMemory p = tt
+unsorted text found symbols named (Refused f) p = unclassed found symbols named p
 
 stopped : (text : List ℕ) (tree : Built) → IsTreeOf text tree → (s : Stop) → StopsBy (λ f. Refuses tree f) s → StopsBy (RefusedAs text) s
 stopped text tree is NoMemory p = tt

@@ -1,5 +1,5 @@
 -- What a text is made into, and why another one is refused.
-use Rattle.std.specs.Prelude.{◌≡◌, ℕ, List, [], length, map, Err}
+use Rattle.std.specs.Prelude.{◌≡◌, ◌≤◌, ℕ, List, [], length, map, Err}
 use Rattle.a68_annot.specs.declared.annotated.Annotated.{Annotated}
 use Rattle.a68_base.specs.declared.refusal.Refusal.{Refusal}
 use Rattle.a68_base.specs.declared.refusal.Rule.TheVariants.{S6}
@@ -8,25 +8,28 @@ use Rattle.a68_check.specs.Annotates.{IsAnnotated, Refuses}
 use Rattle.a68_elab.specs.Made.{program_of}
 use Rattle.a68_gen.specs.Listing.{listing}
 use Rattle.a68_gen.specs.Stretches.{Translates}
-use Rattle.a68_gen.specs.Writing.{IsTooLong}
+use Rattle.a68_gen.specs.Writing.{IsTooLong, most}
 use Rattle.a68_op_ident.specs.Shapes.{Shaped}
 use Rattle.a68_parse.specs.Parses.{IsTree, Parses}
-use Rattle.a68_symbols.specs.Names.{Named}
+use Rattle.a68_symbols.specs.Names.{Named, AreNamed}
 use Rattle.a68_symbols.specs.Symbols.{SymbolsAre, RefusalIs, piece_of}
 use Rattle.a68_top.specs.declared.finish.Made.{Made}
 use Rattle.a68_words.specs.Classes.{IsClassed, IsRefused}
 use Rattle.a68_words.specs.declared.class.Class.{Class}
 use Rattle.std.specs.declared.option.Option.{Option}
 use Rattle.a68_tree.specs.Trees.{Built}
+use Rattle.a68_tree.specs.declared.node.Node.{Node}
 use Rattle.a68_turn.specs.Drafted.{SpellsAlike}
 
 -- the tree of the text's symbols, by the grammar, with their spellings; each bold word has its class
 pub record IsTreeOf (text : List ℕ) (tree : Built) : Type 0 where
   pub found : Named
   pub symbols : SymbolsAre text (map piece_of found.symbols)
+  pub named : AreNamed text found
   pub classes : List (Option Class)
   pub classed : IsClassed found classes
   pub derived : IsTree found classes tree.nodes
+  pub only : (others : List Node) → IsTree found classes others → others ≡ tree.nodes
   pub spelled : SpellsAlike found tree.spellings
 
 -- The tree of the text with its formulas shaped by the priorities of their signs, and what is known of each node.
@@ -36,16 +39,17 @@ pub record IsProgramOf (text : List ℕ) (program : Annotated) : Type 0 where
   pub shaped : Shaped tree program.tree
   pub annotated : IsAnnotated program
 
--- the program of the text, and its code
+-- the program of the text, and its code, which has no more instructions than a program may have
 pub record Compiles (text : List ℕ) (made : Made) : Type 0 where
   pub program : IsProgramOf text made.program
   pub translated : Translates (program_of made.program) made.code
+  pub short : length made.code.list ≤ most
 
 -- The rule that the text breaks: of symbols; that there is one; of words and nesting; of the grammar; of the meaning; or the limit of code.
 pub data RefusedAs (text : List ℕ) (refusal : Refusal) : Type 0 where
   unlike_symbols : RefusalIs text refusal.rule refusal.place → RefusedAs text refusal
   empty : SymbolsAre text [] → refusal.rule ≡ S6 → refusal.place ≡ length text → RefusedAs text refusal
-  unclassed : (found : Named) → SymbolsAre text (map piece_of found.symbols) → IsRefused found refusal.rule refusal.place → RefusedAs text refusal
-  no_tree : (found : Named) (classes : List (Option Class)) → SymbolsAre text (map piece_of found.symbols) → IsClassed found classes → Parses found classes (length text) (Err (Refused refusal)) → RefusedAs text refusal
+  unclassed : (found : Named) → SymbolsAre text (map piece_of found.symbols) → AreNamed text found → IsRefused found refusal.rule refusal.place → RefusedAs text refusal
+  no_tree : (found : Named) (classes : List (Option Class)) → SymbolsAre text (map piece_of found.symbols) → AreNamed text found → IsClassed found classes → Parses found classes (length text) (Err (Refused refusal)) → RefusedAs text refusal
   no_meaning : (tree : Built) → IsTreeOf text tree → Refuses tree refusal → RefusedAs text refusal
   too_long : (program : Annotated) → IsProgramOf text program → IsTooLong (listing (program_of program)) refusal → RefusedAs text refusal

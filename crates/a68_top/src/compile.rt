@@ -1,8 +1,10 @@
 //! A text made into a program that can run.
-ghost use Rattle.std.specs.Prelude.{◌≡◌, ◌<◌, ◌≤◌, ◌^◌, length, map, IfOk, IfErr};
+ghost use Rattle.std.specs.Prelude.{◌≡◌, ◌<◌, ◌≤◌, ◌^◌, List, length, map, IfOk, IfErr};
 ghost use Rattle.a68_check.specs.Annotates.{StopsBy};
 ghost use Rattle.a68_code.specs.Valid.{IsValid};
 ghost use Rattle.a68_parse.specs.Parses.{IsTree};
+ghost use Rattle.a68_symbols.specs.Names.{AreNamed};
+ghost use Rattle.a68_tree.specs.declared.node.Node.{Node};
 ghost use Rattle.a68_symbols.specs.Symbols.{SymbolsAre, piece_of};
 ghost use Rattle.a68_turn.specs.Drafted.{SpellsAlike};
 ghost use Rattle.a68_words.specs.Classes.{IsClassed};
@@ -23,8 +25,10 @@ use std::alloc::Global;
 fn parsed(alloc: Global, text: &[u8], found: &Symbols, classes: &Classed) -> Result<Tree, Stop>
     requires length { length text.now < 2 ^ 32 }
     requires symbols { SymbolsAre text.now (map piece_of found.now.symbols) }
+    requires named { AreNamed text.now found.now }
     requires classed { IsClassed found.now classes.now }
     ensures derived { IfOk result (λ tree. IsTree found.now classes.now tree.nodes) }
+    ensures only { IfOk result (λ tree. (others : List Node) → IsTree found.now classes.now others → others ≡ tree.nodes) }
     ensures spelled { IfOk result (λ tree. SpellsAlike found.now tree.spellings) }
     ensures refused { IfErr result (λ why. StopsBy (RefusedAs text.now) why) }
 {
@@ -36,6 +40,7 @@ fn parsed(alloc: Global, text: &[u8], found: &Symbols, classes: &Classed) -> Res
 fn tree_of_symbols(alloc: Global, text: &[u8], found: &Symbols) -> Result<Tree, Stop>
     requires length { length text.now < 2 ^ 32 }
     requires symbols { SymbolsAre text.now (map piece_of found.now.symbols) }
+    requires named { AreNamed text.now found.now }
     ensures ok { IfOk result (λ tree. IsTreeOf text.now tree) }
     ensures refused { IfErr result (λ why. StopsBy (RefusedAs text.now) why) }
 {

@@ -1,5 +1,5 @@
 //! The spellings of the symbols.
-ghost use Rattle.std.specs.Prelude.{◌≡◌, ◌≤◌, ◌^◌, length, IfOk};
+ghost use Rattle.std.specs.Prelude.{length, IfOk};
 ghost use Rattle.a68_symbols.specs.Names.{HaveNames};
 ghost use Rattle.a68_turn.specs.Drafted.{SpellsAlike};
 
@@ -7,30 +7,14 @@ use a68_base::{NoMemory, Text};
 use a68_symbols::Symbols;
 use std::alloc::Global;
 
-/// One more than the greatest name of a symbol.
-fn name_count(symbols: &Symbols) -> usize
-    ensures all { HaveNames symbols.now.symbols result }
-    ensures within { result ≤ length symbols.now.spellings }
-    ensures small { result ≤ 2 ^ 32 }
-{
-    let mut count = 0;
-    for i in 0..symbols.len() {
-        let name = symbols.at(i).name as usize;
-        if name >= count {
-            count = name + 1;
-        }
-    }
-    count
-}
-
 /// The spellings of the symbols, by their names.
 pub fn spellings(alloc: Global, symbols: &Symbols) -> Result<Vec<Text>, NoMemory>
     ensures names { IfOk result (λ list. HaveNames symbols.now.symbols (length list.items)) }
     ensures alike { IfOk result (λ list. SpellsAlike symbols.now list.items) }
 {
     let mut list = Vec::new(alloc);
-    for name in 0..name_count(symbols) {
-        list.push(Text::from_slice(alloc, symbols.spelling(name as u32))?)?;
+    for name in 0..symbols.names() {
+        list.push(Text::from_slice(alloc, symbols.spelling(name))?)?;
     }
     Ok(list)
 }

@@ -1,5 +1,6 @@
 use Rattle.std.proofs.Common.{refl, sym, ◌∙◌, ap, subst, length}
 use Rattle.a68_check.specs.Annotates.{place_at, Breaks, other, repeats, undefined, StopsBy}
+use Rattle.a68_check.specs.Misfits.{FirstOther}
 use Rattle.a68_check.specs.Notes.{notes_before}
 use Rattle.a68_check.specs.Small.{IsProgram}
 use Rattle.a68_check.proofs.Answering.{when-ok, when-err}
@@ -9,7 +10,7 @@ use Rattle.a68_check.proofs.annotation.known.Goals as goal
 pub returns-in-Err-clause-refused : goal.returns-in-Err-clause-refused
 returns-in-Err-clause-refused c =
     subst (λ s. StopsBy (λ refusal. Breaks c.args.tree.now refusal) s) (sym c.broken.ensures)
-    (other c.in-Err.id refl refl c.in-Err.ensures.there (λ runs. c.in-Err.ensures.other (subst (λ g. IsProgram c.args.tree.now g) (sym (c.deref.ensures.value ∙ c.in_ok-asked.ensures)) runs)))
+    (other c.in-Err.id refl refl c.in-Err.ensures.there (subst (λ g. FirstOther c.args.tree.now g c.in-Err.id) (c.deref.ensures.value ∙ c.in_ok-asked.ensures) c.in-Err.ensures.first))
 
 -- src/annotation.rt:38:20
 pub returns-in-Err-2-clause-refused : goal.returns-in-Err-2-clause-refused

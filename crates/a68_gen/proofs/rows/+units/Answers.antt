@@ -1,4 +1,4 @@
-use Rattle.std.proofs.Common.{rules, ◌≡◌, ◌+◌, ◌++◌, [], ◌∷◌, length, refl, ap, drop, get_or, arith}
+use Rattle.std.proofs.Common.{◌≡◌, ◌+◌, ◌++◌, [], ◌∷◌, length, refl, sym, ◌∙◌, ap, drop, get_or, arith}
 use Rattle.std.specs.Option.{option_map_or}
 use Rattle.std.proofs.lemmas.List.{drop_all, nil_from_length}
 use Rattle.a68_code.specs.declared.does.Does.TheVariants as does
@@ -9,12 +9,19 @@ use Rattle.a68_elab.specs.Made.{tree_at, trees_at, behind_ref}
 use Rattle.a68_gen.specs.Coercing.{coercions}
 use Rattle.a68_gen.specs.Listing.{instr, stretch, stretches}
 use Rattle.a68_gen.specs.Writing.{Writes}
-use Rattle.a68_gen.proofs.Constructs.{coerced_list, part-cons, between-each, one_part, two_parts, three_parts, some_parts, call_whole, plain_serial, framed_serial, variable_none, variable_set, only_none, call_none, loop_none, choice_none}
+use Rattle.a68_gen.proofs.Constructs.{coerced_list, coerced_unbuilt, part-cons, between-each, one_part, two_parts, three_parts, some_parts, call_whole, plain_serial, framed_serial, variable_plain, variable_none, variable_set, only_none, call_none, loop_none, choice_none}
 use Rattle.a68_gen.proofs.Jumping.{choice_all, loop_all}
 use Rattle.a68_gen.proofs.Writing.{and_behind, nothing-written, writes-as}
 use Rattle.a68_gen.proofs.rows.+units.Goals as goal
 use Rattle.std.specs.Prelude.{not, if◌then◌else◌}
 use Rattle.a68_modes.specs.Nodes.{shape_at, is_void}
+
+pub unit-returns-then-not-are_built : goal.unit-returns-then-not-are_built
+unit-returns-then-not-are_built t c =
+    let note = c.note-note.result.now in
+    let node = c.node-node.result.now in
+    let tree = tree_of_nodes c.args.program.now c.args.id (length c.args.program.now.tree.nodes) node note c.node-node.ensures.is c.note-note.ensures c.node-node.ensures.behind in
+    rw (tree, coerced_unbuilt c.args.program.now.modes node.span.from note.mode note.path _ (sym c.are_built.ensures ∙ c.if-not-are_built.true)) c.unbuilt.ensures
 
 pub unit-returns : goal.unit-returns
 unit-returns t c =
@@ -22,7 +29,7 @@ unit-returns t c =
     let node = c.node-node.result.now in
     let tree = tree_of_nodes c.args.program.now c.args.id (length c.args.program.now.tree.nodes) node note c.node-node.ensures.is c.note-note.ensures c.node-node.ensures.behind in
     let path = coercions c.args.program.now.modes node.span.from note.mode note.path in
-    rw (tree, coerced_list c.args.program.now.modes node.span.from note.mode (length c.args.out.now.list.items) note.path _)
+    rw (tree, coerced_list c.args.program.now.modes node.span.from note.mode (length c.args.out.now.list.items) note.path _ (sym c.are_built.ensures ∙ c.if-not-are_built.false))
     (and_behind c.args.out.now.stop c.construct.new.out.stop c.coerce.new.out.stop c.args.out.now.list.items c.construct.new.out.list.items c.coerce.new.out.list.items _ (λ n. path) c.construct.ensures c.coerce.ensures)
 
 pub all-unit-requires : goal.all-unit-requires
@@ -88,7 +95,7 @@ operation-returns t c =
     (stretches (trees_at (tree_at c.args.program.now) c.args.parts.now) (length c.args.out.now.list.items)) (λ n. instr c.args.place c.args.does ∷ []) c.all.ensures c.emit.ensures
 
 pub call-returns-then-parts-ne2 : goal.call-returns-then-parts-ne2
-call-returns-then-parts-ne2 t c = rw (← call_none (tree_at c.args.program.now) c.args.place c.args.parts.now (λ e. absurd (omega arith))) c.blank.ensures
+call-returns-then-parts-ne2 t c = rw (← call_none (tree_at c.args.program.now) c.args.place c.args.parts.now (λ e. absurd (omega arith))) c.unbuilt.ensures
 
 pub call-returns : goal.call-returns
 call-returns t c =
@@ -98,12 +105,15 @@ call-returns t c =
     rw two (writes-as c.args.out.now.stop c.emit.new.self.stop c.args.out.now.list.items c.emit.new.self.list.items _ _ (call_whole c.args.place at (tree_at c.args.program.now (get_or c.args.parts.now 0 0)) item)
     (and_behind c.args.out.now.stop c.unit.new.out.stop c.emit.new.self.stop c.args.out.now.list.items c.unit.new.out.list.items c.emit.new.self.list.items (stretch item at) (λ n. instr c.args.place (does.Print 1) ∷ []) c.unit.ensures c.emit.ensures))
 
-pub variable-returns-then-parts-ne2 : goal.variable-returns-then-parts-ne2
-variable-returns-then-parts-ne2 t c =
+pub variable-returns-then-parts-eq1 : goal.variable-returns-then-parts-eq1
+variable-returns-then-parts-eq1 t c =
     let mode = c.behind_ref-mode.result in
-    rw (← c.behind_ref-mode.ensures, ← variable_none (tree_at c.args.program.now) c.args.place mode c.args.note.now.step.slot (length c.args.out.now.list.items) c.args.parts.now (λ e. absurd (omega arith)))
-    (and_behind c.args.out.now.stop c.emit.new.self.stop c.emit-then-parts-ne2.new.self.stop c.args.out.now.list.items c.emit.new.self.list.items c.emit-then-parts-ne2.new.self.list.items
-    (instr c.args.place (does.Make mode 0) ∷ []) (λ n. instr c.args.place (does.Bind c.args.note.now.step.slot) ∷ []) c.emit.ensures c.emit-then-parts-ne2.ensures)
+    rw (← c.behind_ref-mode.ensures, ← variable_plain (tree_at c.args.program.now) c.args.place mode c.args.note.now.step.slot (length c.args.out.now.list.items) c.args.parts.now (omega arith))
+    (and_behind c.args.out.now.stop c.emit.new.self.stop c.emit-then-parts-eq1.new.self.stop c.args.out.now.list.items c.emit.new.self.list.items c.emit-then-parts-eq1.new.self.list.items
+    (instr c.args.place (does.Make mode 0) ∷ []) (λ n. instr c.args.place (does.Bind c.args.note.now.step.slot) ∷ []) c.emit.ensures c.emit-then-parts-eq1.ensures)
+
+pub variable-returns-then-parts-ne2 : goal.variable-returns-then-parts-ne2
+variable-returns-then-parts-ne2 t c = rw (← variable_none (tree_at c.args.program.now) c.args.place _ c.args.note.now.step.slot c.args.parts.now (λ e. absurd (omega arith)) (λ e. absurd (omega arith))) c.unbuilt.ensures
 
 pub variable-returns : goal.variable-returns
 variable-returns t c =
@@ -125,7 +135,7 @@ variable-returns t c =
     rw (two, ← c.behind_ref-mode.ensures) (writes-as w0.stop w4.stop w0.list.items w4.list.items _ _ (variable_set place mode slot (length w0.list.items) (tree_at c.args.program.now (get_or c.args.parts.now 0 0)) source) w04)
 
 pub serial-returns-then-parts-eq0 : goal.serial-returns-then-parts-eq0
-serial-returns-then-parts-eq0 t c = rw (nil_from_length c.args.parts.now (omega arith)) c.blank.ensures
+serial-returns-then-parts-eq0 t c = rw (nil_from_length c.args.parts.now (omega arith)) c.unbuilt.ensures
 
 pub serial-returns-then-note-eq0 : goal.serial-returns-then-note-eq0
 serial-returns-then-note-eq0 t c =
@@ -157,7 +167,7 @@ serial-returns t c =
     rw some (writes-as w0.stop w3.stop w0.list.items w3.list.items _ _ (framed_serial place note.slots (length w0.list.items) (if yields then 1 else 0) yields first rest (λ e. absurd (omega arith)) refl) w03)
 
 pub only-returns-then-parts-ne1 : goal.only-returns-then-parts-ne1
-only-returns-then-parts-ne1 t c = rw (← only_none (tree_at c.args.program.now) c.args.parts.now (λ e. absurd (omega arith))) c.blank.ensures
+only-returns-then-parts-ne1 t c = rw (← only_none (tree_at c.args.program.now) c.args.parts.now (λ e. absurd (omega arith))) c.unbuilt.ensures
 
 pub only-returns : goal.only-returns
 only-returns t c = rw (one_part c.args.parts.now (omega arith)) c.unit.ensures
@@ -192,10 +202,10 @@ pub conditional-returns-then-parts-eq3 : goal.conditional-returns-then-parts-eq3
 conditional-returns-then-parts-eq3 t c = rw (three_parts c.args.parts.now (omega arith)) c.choice-then-parts-eq3.ensures
 
 pub conditional-returns : goal.conditional-returns
-conditional-returns t c = rw (← choice_none (tree_at c.args.program.now) c.args.place c.args.parts.now (λ e. absurd (omega arith)) (λ e. absurd (omega arith))) c.blank.ensures
+conditional-returns t c = rw (← choice_none (tree_at c.args.program.now) c.args.place c.args.parts.now (λ e. absurd (omega arith)) (λ e. absurd (omega arith))) c.unbuilt.ensures
 
 pub repeat-returns-then-parts-ne2 : goal.repeat-returns-then-parts-ne2
-repeat-returns-then-parts-ne2 t c = rw (← loop_none (tree_at c.args.program.now) c.args.place c.args.parts.now (λ e. absurd (omega arith))) c.blank.ensures
+repeat-returns-then-parts-ne2 t c = rw (← loop_none (tree_at c.args.program.now) c.args.place c.args.parts.now (λ e. absurd (omega arith))) c.unbuilt.ensures
 
 pub repeat-returns : goal.repeat-returns
 repeat-returns t c =
@@ -206,6 +216,3 @@ repeat-returns t c =
     (tree_at c.args.program.now (get_or c.args.parts.now 0 0)) (tree_at c.args.program.now (get_or c.args.parts.now 1 0))
     (ap (λ n. n + 4) c.len-step.ensures) c.loop_head.ensures c.unit.ensures c.len-unless.ensures c.emit.ensures c.unit-2.ensures (ap (λ n. n + 2) c.len-end.ensures) c.patch.ensures.list c.patch.ensures.stop c.patch-2.ensures.list c.patch-2.ensures.stop c.emit-2.ensures c.emit-3.ensures c.emit-4.ensures in
     rw two all
-
-pub construct-returns-in-Dyadic : goal.construct-returns-in-Dyadic
-construct-returns-in-Dyadic c = search rules

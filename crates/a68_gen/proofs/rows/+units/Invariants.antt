@@ -34,6 +34,9 @@ decreases-repeat l = 8 * (length l.program.now.tree.nodes - l.id) + 5
 abbrev pub decreases-choice : goal.decreases-choice
 decreases-choice l = 8 * (length l.program.now.tree.nodes - l.id) + 4
 
+abbrev pub decreases-formula : goal.decreases-formula
+decreases-formula l = 8 * (length l.program.now.tree.nodes - l.id) + 3
+
 abbrev pub decreases-operation : goal.decreases-operation
 decreases-operation l = 8 * (length l.program.now.tree.nodes - l.id) + 2
 

@@ -1,4 +1,5 @@
 use Rattle.a68_symbols.proofs.Cutting.{one_list, refusal_is}
+use Rattle.a68_symbols.proofs.One.{one_named}
 use Rattle.a68_symbols.proofs.cut.symbols_are_one.Goals as goal
 
 pub returns-clause-list : goal.returns-clause-list
@@ -9,3 +10,6 @@ returns-clause-refusal c = λ text rule other place at r. (refusal_is text rule 
 
 pub returns-clause-apart : goal.returns-clause-apart
 returns-clause-apart c = λ text rule place pieces r. (refusal_is text rule place r).none pieces
+
+pub returns-clause-named : goal.returns-clause-named
+returns-clause-named c = one_named

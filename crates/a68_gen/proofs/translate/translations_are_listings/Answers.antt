@@ -1,0 +1,15 @@
+use Rattle.a68_gen.proofs.Listed.{listed, one_code, not_short}
+use Rattle.a68_gen.proofs.Places.{refused_by}
+use Rattle.a68_gen.proofs.translate.translations_are_listings.Goals as goal
+
+pub returns-clause-list : goal.returns-clause-list
+returns-clause-list c = listed
+
+pub returns-clause-code : goal.returns-clause-code
+returns-clause-code c = one_code
+
+pub returns-clause-limit : goal.returns-clause-limit
+returns-clause-limit c = not_short
+
+pub returns-clause-place : goal.returns-clause-place
+returns-clause-place c = refused_by

@@ -1,0 +1,176 @@
+-- A text has one answer.
+use Rattle.std.proofs.Common.{◌≡◌, ℕ, ◌<◌, ◌⊎◌, inl, inr, List, [], length, map, sym, ap, subst, ◌∙◌, arith, slice_get}
+use Rattle.std.proofs.lemmas.List.{length-map}
+use Rattle.std.proofs.lemmas.Option.{slice_get_within}
+use Rattle.a68_annot.specs.declared.annotated.Annotated.{Annotated}
+use Rattle.a68_base.specs.declared.refusal.Refusal.{Refusal}
+use Rattle.a68_base.specs.declared.refusal.Rule.{Rule}
+use Rattle.a68_base.specs.declared.refusal.Rule.TheVariants.{S6, X0}
+use Rattle.a68_check.specs.Annotates.{IsAnnotated, Refuses, Breaks}
+use Rattle.a68_elab.specs.Made.{program_of}
+use Rattle.a68_gen.specs.Listing.{listing}
+use Rattle.a68_gen.specs.Writing.{IsTooLong, places, most}
+use Rattle.a68_op_ident.specs.Shapes.{Shaped}
+use Rattle.a68_parse.specs.Parses.{IsTree}
+use Rattle.a68_symbols.specs.Names.{Named, AreNamed}
+use Rattle.a68_symbols.specs.Symbols.{SymbolsAre, RefusalIs, Piece, piece_of}
+use Rattle.a68_top.specs.Compiles.{IsTreeOf, IsProgramOf, RefusedAs, unlike_symbols, empty, unclassed, no_tree, no_meaning, too_long}
+use Rattle.a68_tree.specs.Trees.{Built}
+use Rattle.a68_tree.specs.declared.node.Node.{Node}
+use Rattle.a68_turn.specs.Drafted.{SpellsAlike}
+use Rattle.a68_words.specs.Classes.{IsClassed, IsRefused}
+use Rattle.a68_words.specs.declared.class.Class.{Class}
+use Rattle.std.specs.declared.option.Option.{Option}
+
+-- what the laws of the lower crates say, as these give it
+pub record Laws : Type 0 where
+  pub named : (text : List ℕ) (found other : Named) → map piece_of other.symbols ≡ map piece_of found.symbols → AreNamed text found → AreNamed text other → other ≡ found
+  pub classes : (found : Named) (classes others : List (Option Class)) → IsClassed found classes → IsClassed found others → others ≡ classes
+  pub unclassed : (found : Named) (rule other : Rule) (place at : ℕ) → IsRefused found rule place → IsRefused found other at → (other ≡ rule) × (at ≡ place)
+  pub apart : (found : Named) (rule : Rule) (place : ℕ) (classes : List (Option Class)) → IsRefused found rule place → IsClassed found classes → ⊥
+  pub filled : (found : Named) (classes : List (Option Class)) (list : List Node) → IsTree found classes list → 0 < length found.symbols
+  pub shapes : (flat one other : Built) → Shaped flat one → Shaped flat other → other ≡ one
+  pub breaks : (tree : Built) (r s : Refusal) → Breaks tree r → Breaks tree s → (r.rule ≡ s.rule) × (r.place ≡ s.place)
+  pub unbroken : (program : Annotated) (r : Refusal) → IsAnnotated program → Breaks program.tree r → ⊥
+  pub notes : (a b : Annotated) → a.tree ≡ b.tree → IsAnnotated a → IsAnnotated b → a ≡ b
+
+abbrev pub AreOne : Refusal → Refusal → Type 0
+AreOne r s = (r.rule ≡ s.rule) × ((r.rule ≡ S6) ⊎ (r.place ≡ s.place))
+
+module _ (laws : Laws) (text : List ℕ) where
+  same_found : (a b : Named) → SymbolsAre text (map piece_of a.symbols) → AreNamed text a → SymbolsAre text (map piece_of b.symbols) → AreNamed text b → a ≡ b
+  same_found a b p n q m = laws.named text b a (q.only (map piece_of a.symbols) p.has) m n
+
+  has_some : (found : Named) (rule : Rule) (place : ℕ) → SymbolsAre text [] → SymbolsAre text (map piece_of found.symbols) → 0 < length found.symbols → ⊥
+  has_some found rule place none some lt =
+      let e : map piece_of found.symbols ≡ [] = none.only (map piece_of found.symbols) some.has in
+      let l = sym (length-map found.symbols piece_of) ∙ ap (λ (ps : List Piece). length ps) e in
+      omega (arith, l, lt)
+
+  pub same_tree : (a b : Built) → IsTreeOf text a → IsTreeOf text b → a ≡ b
+  same_tree a b p q =
+      let found : p.found ≡ q.found = same_found p.found q.found p.symbols p.named q.symbols q.named in
+      let classed : IsClassed q.found p.classes = subst (λ f. IsClassed f p.classes) found p.classed in
+      let classes : p.classes ≡ q.classes = laws.classes q.found q.classes p.classes q.classed classed in
+      let derived : IsTree q.found p.classes a.nodes = subst (λ f. IsTree f p.classes a.nodes) found p.derived in
+      let derived' : IsTree q.found q.classes a.nodes = subst (λ cs. IsTree q.found cs a.nodes) classes derived in
+      let nodes : a.nodes ≡ b.nodes = q.only a.nodes derived' in
+      let alike : SpellsAlike q.found a.spellings = subst (λ f. SpellsAlike f a.spellings) found p.spelled in
+      let spellings : a.spellings ≡ b.spellings = alike ∙ sym q.spelled in
+      ap {A = List Node} {B = Built} (λ ns. record { nodes = ns; spellings = a.spellings }) nodes ∙ ap {A = List (List ℕ)} {B = Built} (λ ss. record { nodes = b.nodes; spellings = ss }) spellings
+
+  pub same_program : (a b : Annotated) → IsProgramOf text a → IsProgramOf text b → a ≡ b
+  same_program a b p q =
+      let flat : p.tree ≡ q.tree = same_tree p.tree q.tree p.is q.is in
+      let shaped : Shaped q.tree a.tree = subst (λ t. Shaped t a.tree) flat p.shaped in
+      let tree : a.tree ≡ b.tree = laws.shapes q.tree b.tree a.tree q.shaped shaped in
+      laws.notes a b tree p.annotated q.annotated
+
+  -- a tree of the text, and no symbols, classes or tree
+  tree_filled : (tree : Built) → IsTreeOf text tree → SymbolsAre text [] → ⊥
+  tree_filled tree is none = has_some is.found S6 0 none is.symbols (laws.filled is.found is.classes tree.nodes is.derived)
+
+  tree_symbols : (tree : Built) (rule : Rule) (place : ℕ) → IsTreeOf text tree → RefusalIs text rule place → ⊥
+  tree_symbols tree rule place is r = r.none (map piece_of is.found.symbols) is.symbols.has
+
+  tree_classed : (tree : Built) (found : Named) (rule : Rule) (place : ℕ) → IsTreeOf text tree → SymbolsAre text (map piece_of found.symbols) → AreNamed text found
+      → IsRefused found rule place → ⊥
+  tree_classed tree found rule place is symbols named r =
+      let same : is.found ≡ found = same_found is.found found is.symbols is.named symbols named in
+      laws.apart found rule place is.classes r (subst (λ f. IsClassed f is.classes) same is.classed)
+
+  tree_parsed : (tree : Built) (found : Named) (classes : List (Option Class)) → IsTreeOf text tree → SymbolsAre text (map piece_of found.symbols) → AreNamed text found
+      → IsClassed found classes → ((list : List Node) → IsTree found classes list → ⊥) → ⊥
+  tree_parsed tree found classes is symbols named classed none =
+      let same : is.found ≡ found = same_found is.found found is.symbols is.named symbols named in
+      let also : IsClassed found is.classes = subst (λ f. IsClassed f is.classes) same is.classed in
+      let cs : is.classes ≡ classes = laws.classes found classes is.classes classed also in
+      none tree.nodes (subst (λ c. IsTree found c tree.nodes) cs (subst (λ f. IsTree f is.classes tree.nodes) same is.derived))
+
+  -- a text that has a tree is refused only by its meaning or its length
+  data Late (r : Refusal) : Type 0 where
+    late_meaning : (tree : Built) → IsTreeOf text tree → Refuses tree r → Late r
+    late_long : (program : Annotated) → IsProgramOf text program → IsTooLong (listing (program_of program)) r → Late r
+
+  late : (tree : Built) (r : Refusal) → IsTreeOf text tree → RefusedAs text r → Late r
+  late tree r is (unlike_symbols u) = absurd (tree_symbols tree r.rule r.place is u)
+  late tree r is (empty none e p) = absurd (tree_filled tree is none)
+  late tree r is (unclassed found s n u) = absurd (tree_classed tree found r.rule r.place is s n u)
+  late tree r is (no_tree found classes s n c u) = absurd (tree_parsed tree found classes is s n c u.2)
+  late tree r is (no_meaning t i u) = late_meaning t i u
+  late tree r is (too_long p i u) = late_long p i u
+
+  broken_once : (t u : Built) (r s : Refusal) → IsTreeOf text t → IsTreeOf text u → Refuses t r → Refuses u s → AreOne r s
+  broken_once t u r s is also p q =
+      let flat : t ≡ u = same_tree t u is also in
+      let shaped : Shaped u p.shaped = subst (λ x. Shaped x p.shaped) flat p.is_shaped in
+      let same : p.shaped ≡ q.shaped = laws.shapes u q.shaped p.shaped q.is_shaped shaped in
+      let one = laws.breaks q.shaped r s (subst (λ x. Breaks x r) same p.breaks) q.breaks in
+      (one.0, inr one.1)
+
+  pub not_both : (t : Built) (program : Annotated) (r : Refusal) → IsTreeOf text t → IsProgramOf text program → Refuses t r → ⊥
+  not_both t program r is q p =
+      let flat : t ≡ q.tree = same_tree t q.tree is q.is in
+      let shaped : Shaped q.tree p.shaped = subst (λ x. Shaped x p.shaped) flat p.is_shaped in
+      let same : p.shaped ≡ program.tree = laws.shapes q.tree program.tree p.shaped q.shaped shaped in
+      laws.unbroken program r q.annotated (subst (λ x. Breaks x r) same p.breaks)
+
+  some_symbol : (found : Named) (rule : Rule) (place : ℕ) → IsRefused found rule place → 0 < length found.symbols
+  some_symbol found rule place u = let lt = slice_get_within found.symbols u.at u.symbol u.is in omega (arith, lt)
+
+  long_once : (p q : Annotated) (r s : Refusal) → IsProgramOf text p → IsProgramOf text q → IsTooLong (listing (program_of p)) r → IsTooLong (listing (program_of q)) s → AreOne r s
+  long_once p q r s i j u v =
+      let same = same_program p q i j in
+      let lists = ap (λ x. listing (program_of x)) same in
+      let places_same = sym u.place ∙ ap (λ l. slice_get (places l) most) lists ∙ v.place in
+      let place : r.place ≡ s.place = cc (places_same) in
+      (u.rule ∙ sym v.rule, inr place)
+
+  -- two refusals of a text are one
+  pub one_refusal : (r s : Refusal) → RefusedAs text r → RefusedAs text s → AreOne r s
+  one_refusal r s (unlike_symbols u) (unlike_symbols v) = let e = v.only r.rule r.place u.refused in (e.0, inr e.1)
+  one_refusal r s (unlike_symbols u) (empty none e p) = absurd (u.none [] none.has)
+  one_refusal r s (unlike_symbols u) (unclassed f symbols n v) = absurd (u.none (map piece_of f.symbols) symbols.has)
+  one_refusal r s (unlike_symbols u) (no_tree f c symbols n cl v) = absurd (u.none (map piece_of f.symbols) symbols.has)
+  one_refusal r s (unlike_symbols u) (no_meaning t i v) = absurd (tree_symbols t r.rule r.place i u)
+  one_refusal r s (unlike_symbols u) (too_long p i v) = absurd (tree_symbols i.tree r.rule r.place i.is u)
+  one_refusal r s (empty none e p) (unlike_symbols v) = absurd (v.none [] none.has)
+  one_refusal r s (empty none e p) (empty also f q) = (e ∙ sym f, inl e)
+  one_refusal r s (empty none e p) (unclassed f symbols n v) = absurd (has_some f S6 0 none symbols (some_symbol f s.rule s.place v))
+  one_refusal r s (empty none e p) (no_tree f c symbols n cl v) = (e ∙ sym v.0, inl e)
+  one_refusal r s (empty none e p) (no_meaning t i v) = absurd (tree_filled t i none)
+  one_refusal r s (empty none e p) (too_long q i v) = absurd (tree_filled i.tree i.is none)
+  one_refusal r s (unclassed f symbols n u) (unlike_symbols v) = absurd (v.none (map piece_of f.symbols) symbols.has)
+  one_refusal r s (unclassed f symbols n u) (empty none e p) = absurd (has_some f S6 0 none symbols (some_symbol f r.rule r.place u))
+  one_refusal r s (unclassed f symbols n u) (unclassed g also m v) =
+      let same : f ≡ g = same_found f g symbols n also m in
+      let e = laws.unclassed g s.rule r.rule s.place r.place v (subst (λ x. IsRefused x r.rule r.place) same u) in
+      (e.0, inr e.1)
+  one_refusal r s (unclassed f symbols n u) (no_tree g c also m cl v) =
+      let same : f ≡ g = same_found f g symbols n also m in
+      absurd (laws.apart g r.rule r.place c (subst (λ x. IsRefused x r.rule r.place) same u) cl)
+  one_refusal r s (unclassed f symbols n u) (no_meaning t i v) = absurd (tree_classed t f r.rule r.place i symbols n u)
+  one_refusal r s (unclassed f symbols n u) (too_long p i v) = absurd (tree_classed i.tree f r.rule r.place i.is symbols n u)
+  one_refusal r s (no_tree f c symbols n cl u) (unlike_symbols v) = absurd (v.none (map piece_of f.symbols) symbols.has)
+  one_refusal r s (no_tree f c symbols n cl u) (empty none e p) = (u.0 ∙ sym e, inl u.0)
+  one_refusal r s (no_tree f c symbols n cl u) (unclassed g also m v) =
+      let same : g ≡ f = same_found g f also m symbols n in
+      absurd (laws.apart f s.rule s.place c (subst (λ x. IsRefused x s.rule s.place) same v) cl)
+  one_refusal r s (no_tree f c symbols n cl u) (no_tree g d also m dl v) = (u.0 ∙ sym v.0, inl u.0)
+  one_refusal r s (no_tree f c symbols n cl u) (no_meaning t i v) = absurd (tree_parsed t f c i symbols n cl u.2)
+  one_refusal r s (no_tree f c symbols n cl u) (too_long p i v) = absurd (tree_parsed i.tree f c i.is symbols n cl u.2)
+  one_refusal r s (no_meaning t i u) q = elim (late t s i q) [
+    | late_meaning w j v ↦ broken_once t w r s i j u v
+    | late_long p j v ↦ absurd (not_both t p r i j u)
+  ]
+  one_refusal r s (too_long p i u) q = elim (late i.tree s i.is q) [
+    | late_meaning w j v ↦ absurd (not_both w p s j i v)
+    | late_long o j v ↦ long_once p o r s i j u v
+  ]
+
+  -- what is compiled is refused at most for its length
+  pub compiled_late : (program : Annotated) (r : Refusal) → IsProgramOf text program → RefusedAs text r → IsTooLong (listing (program_of program)) r
+  compiled_late program r i q = elim (late i.tree r i.is q) [
+    | late_meaning w j v ↦ absurd (not_both w program r j i v)
+    | late_long o j v ↦ (let same = same_program o program j i in subst (λ x. IsTooLong (listing (program_of x)) r) same v)
+  ]

@@ -1,0 +1,42 @@
+use Rattle.a68_top.proofs.Compiled.{Codes, not_refused, one_made}
+use Rattle.a68_top.proofs.One.{Laws, one_refusal, same_program}
+use Rattle.a68_top.proofs.Within.{Bounds, place_within}
+use Rattle.a68_top.proofs.laws.answers_are_one.Goals as goal
+
+laws : goal.After-translations_are_listings → Laws
+laws c = record {
+  named = c.symbols_are_one.ensures.named;
+  classes = c.classes_are_one.ensures.list;
+  unclassed = c.classes_are_one.ensures.refusal;
+  apart = c.classes_are_one.ensures.apart;
+  filled = c.symbols_are_bounded.ensures.filled;
+  shapes = c.shapes_are_one.ensures;
+  breaks = c.annotations_are_one.ensures.refusal;
+  unbroken = c.annotations_are_one.ensures.apart;
+  notes = c.annotations_are_one.ensures.notes;
+}
+
+codes : goal.After-translations_are_listings → Codes
+codes c = record {
+  list = c.translations_are_listings.ensures.list;
+  code = c.translations_are_listings.ensures.code;
+  limit = c.translations_are_listings.ensures.limit;
+}
+
+bounds : goal.After-translations_are_listings → Bounds
+bounds c = record {
+  broken = c.symbols_are_bounded.ensures.refused;
+  symbols = c.symbols_are_bounded.ensures.within;
+  nodes = c.trees_lie_in_texts.ensures;
+  constructs = c.constructs_begin_by.ensures;
+  instructions = c.translations_are_listings.ensures.place;
+}
+
+pub returns : goal.returns
+returns c = record {
+  refusals = one_refusal (laws c);
+  within = place_within (bounds c);
+  apart = not_refused (laws c) (codes c);
+  programs = same_program (laws c);
+  compiled = one_made (laws c) (codes c);
+}

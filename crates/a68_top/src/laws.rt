@@ -1,0 +1,35 @@
+//! What holds of every text, whatever is done with it.
+ghost use Rattle.std.specs.Prelude.{◌≡◌, ◌≤◌, ◌⊎◌, ℕ, List, length};
+ghost use Rattle.a68_annot.specs.declared.annotated.Annotated.{Annotated};
+ghost use Rattle.a68_base.specs.declared.refusal.Refusal.{Refusal};
+ghost use Rattle.a68_base.specs.declared.refusal.Rule.TheVariants.{S6};
+ghost use Rattle.a68_top.specs.Compiles.{IsProgramOf, Compiles, RefusedAs};
+ghost use Rattle.a68_top.specs.declared.finish.Made.{Made};
+
+use a68_check::annotations_are_one;
+use a68_elab::constructs_begin_by;
+use a68_gen::translations_are_listings;
+use a68_op_ident::shapes_are_one;
+use a68_parse::{symbols_are_bounded, trees_lie_in_texts};
+use a68_symbols::symbols_are_one;
+use a68_words::classes_are_one;
+
+/// A law: a text has one answer. It is compiled or refused and never both; what it is compiled into is one program with
+/// one code; it is refused by one rule, and but for S6 at one place; and this place is a byte of the text, or its end.
+pub fn answers_are_one()
+    ensures refusals { (text : List ℕ) (r s : Refusal) → RefusedAs text r → RefusedAs text s
+        → (r.rule ≡ s.rule) × ((r.rule ≡ S6) ⊎ (r.place ≡ s.place)) }
+    ensures within { (text : List ℕ) (r : Refusal) → RefusedAs text r → r.place ≤ length text }
+    ensures apart { (text : List ℕ) (made : Made) (r : Refusal) → Compiles text made → RefusedAs text r → ⊥ }
+    ensures programs { (text : List ℕ) (a b : Annotated) → IsProgramOf text a → IsProgramOf text b → a ≡ b }
+    ensures compiled { (text : List ℕ) (a b : Made) → Compiles text a → Compiles text b → a ≡ b }
+{
+    symbols_are_one();
+    classes_are_one();
+    symbols_are_bounded();
+    trees_lie_in_texts();
+    shapes_are_one();
+    annotations_are_one();
+    constructs_begin_by();
+    translations_are_listings();
+}
