@@ -1,6 +1,7 @@
 -- The store: what the strands of a run share.
 use Rattle.std.specs.Prelude.{ℕ, zero, suc, ◌+◌, List, [], ◌∷◌, length, sum_by, None, Some, slice_get, nat_eq, if◌then◌else◌}
 use Rattle.std.specs.declared.option.Option.{Option}
+use Rattle.a68_base.specs.declared.limits.TheConstants.{MOST_COUNTED, MOST_PRINTED}
 use Rattle.a68_values.specs.Content.{Content, Contents, void, plain, layout, structure, row, united, no_parts, ◌and_part◌}
 use Rattle.a68_values.specs.declared.chain.Environ.{Environ}
 use Rattle.a68_values.specs.declared.held.Held.{Held}
@@ -66,7 +67,7 @@ counted store = length store.cells + sum_by frame_weight store.frames
 
 -- the most that a store may count, and the most bytes that a run may print
 abbrev pub most_counted : ℕ
-most_counted = 4194304
+most_counted = MOST_COUNTED
 
 abbrev pub most_printed : ℕ
-most_printed = 16777216
+most_printed = MOST_PRINTED

@@ -3,9 +3,13 @@
 #![tactic(auto)]
 
 mod operation;
+mod operations;
 mod printed;
 mod want;
 
 pub use operation::{Counter, Doing, Next};
+pub use operations::{
+    advanced, applied, assigned, counter_of, has_turn, made, on_plain, print_next, resumed, skipped,
+};
 pub use printed::printed_int;
 pub use want::{Reply, Want};

@@ -1,6 +1,6 @@
 //! Operations between two of their acts.
 use crate::Want;
-use a68_values::{FaultKind, Name, Parts, Value};
+use a68_values::{FaultKind, Name, Value, Values};
 
 /// How an operation goes on.
 #[derive(Drop)]
@@ -27,7 +27,7 @@ pub enum Next {
     /// It yields the name of the new cells, of this scope.
     Made { scope: u32 },
     /// It prints these items, the next one last, and yields nothing.
-    Printing(Parts),
+    Printing(Values),
 }
 
 /// A loop's counter: what it counts now, what each turn adds, and the limit where there is one (Report, 3.5).

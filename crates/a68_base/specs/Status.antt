@@ -1,3 +1,4 @@
+-- Inner: the headline does not rest on this file.
 -- The numbers of the statuses.
 use Rattle.std.specs.Prelude.{ℕ}
 use Rattle.a68_base.specs.declared.status.Status.{Status}

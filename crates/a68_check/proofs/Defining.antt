@@ -6,7 +6,7 @@ use Rattle.std.specs.declared.option.Option.{Option}
 use Rattle.std.proofs.Math.ListN.{length-set}
 use Rattle.std.proofs.lemmas.Bool.Decides.{eqb_tells}
 use Rattle.a68_check.specs.Definitions.{defines, in_text, name_at, defined_before, one_more, find, Repeats, Tells}
-use Rattle.a68_check.specs.Forms.{form_of}
+use Rattle.a68_check.specs.Constructs.{construct_of}
 use Rattle.a68_check.specs.declared.definitions.Definition.{Definition}
 use Rattle.a68_op_ident.proofs.Placing.{get-set_here, get-set_there}
 use Rattle.a68_tree.specs.Trees.{Built}
@@ -55,20 +55,20 @@ tells_more table names m id c ds tells within none count =
           (eqb_tells m name);
     }
 
-pub defined_more : (tree : Built) (k : ℕ) → defines (form_of tree (in_text tree k)) ≡ true → defined_before tree (k + 1) ≡ defined_before tree k ++ (name_at tree (in_text tree k), in_text tree k) ∷ []
+pub defined_more : (tree : Built) (k : ℕ) → defines (construct_of tree (in_text tree k)) ≡ true → defined_before tree (k + 1) ≡ defined_before tree k ++ (name_at tree (in_text tree k), in_text tree k) ∷ []
 defined_more tree k e = rw (add-one, e) refl
 
 pub name_of_node : (tree : Built) (id : ℕ) (n : Node) → slice_get tree.nodes id ≡ Some n → name_at tree id ≡ n.name
 name_of_node tree id n e = ap (λ (m : Option Node). option_map_or (λ (x : Node). x.name) m 0) e
 
 -- a table with the definition of a node
-pub tells_node : (tree : Built) (k id c : ℕ) (n : Node) (table : List (Option Definition)) → id ≡ in_text tree k → slice_get tree.nodes id ≡ Some n → defines (form_of tree id) ≡ true → n.name < length tree.spellings
+pub tells_node : (tree : Built) (k id c : ℕ) (n : Node) (table : List (Option Definition)) → id ≡ in_text tree k → slice_get tree.nodes id ≡ Some n → defines (construct_of tree id) ≡ true → n.name < length tree.spellings
     → Tells table (length tree.spellings) (defined_before tree k) → slice_get table n.name ≡ Some None → c ≡ length (defined_before tree k)
     → Tells (slice_set table n.name (Some (record { slot = c; id = id }))) (length tree.spellings) (defined_before tree (k + 1))
 tells_node tree k id c n table is e d within tells free count =
     let none : find n.name (defined_before tree k) ≡ None = some_same (sym (tells.each n.name within) ∙ free) in
     let more : defined_before tree (k + 1) ≡ defined_before tree k ++ (name_at tree id, id) ∷ [] =
-    subst (λ x. defined_before tree (k + 1) ≡ defined_before tree k ++ (name_at tree x, x) ∷ []) (sym is) (defined_more tree k (subst (λ x. defines (form_of tree x) ≡ true) is d)) in
+    subst (λ x. defined_before tree (k + 1) ≡ defined_before tree k ++ (name_at tree x, x) ∷ []) (sym is) (defined_more tree k (subst (λ x. defines (construct_of tree x) ≡ true) is d)) in
     rw (more, name_of_node tree id n e) (tells_more table (length tree.spellings) n.name id c (defined_before tree k) tells within none count)
 
 no_some : (o : Option Definition) → o ≡ None → IsSome o → ⊥

@@ -7,13 +7,13 @@ use Rattle.std.specs.declared.option.Option.{Option}
 use Rattle.a68_annot.specs.declared.annotated.Annotated.{Annotated}
 use Rattle.a68_annot.specs.declared.note.Note.{Note}
 use Rattle.a68_check.specs.Annotates.{IsAnnotated}
-use Rattle.a68_check.specs.Forms.{form_of, form_of_node, parts_at}
+use Rattle.a68_check.specs.Constructs.{construct_of, construct_of_node, parts_at}
 use Rattle.a68_check.specs.Goals.{goals_of}
 use Rattle.a68_check.specs.Notes.{mode_of, path_of, op_of, applied, slot_of, slots_of, spelling_at, found_at, note_of, notes_before}
 use Rattle.a68_check.specs.Small.{goal_at}
-use Rattle.a68_check.specs.declared.form.Form.{Form}
-use Rattle.a68_check.specs.declared.form.Form.TheVariants as form
-use Rattle.a68_check.specs.declared.goals.Goal.{Goal}
+use Rattle.a68_check.specs.declared.construct.Construct.{Construct}
+use Rattle.a68_check.specs.declared.construct.Construct.TheVariants as construct
+use Rattle.a68_check.specs.declared.goals.Purpose.{Purpose}
 use Rattle.a68_check.proofs.Defining.{name_of_node}
 use Rattle.a68_check.proofs.Noting.{notes-long}
 use Rattle.a68_check.proofs.Spelling.{Spelt, spelt-as}
@@ -35,7 +35,7 @@ get-end [] y (suc k) e = absurd (omega arith)
 get-end (x ∷ xs) y zero e = absurd (omega arith)
 get-end (x ∷ xs) y (suc k) e = get-end xs y k (omega arith)
 
-note-at : (tree : Built) (goals : List Goal) (n k : ℕ) → k < n → slice_get (notes_before tree goals n) k ≡ Some (note_of tree goals k)
+note-at : (tree : Built) (goals : List Purpose) (n k : ℕ) → k < n → slice_get (notes_before tree goals n) k ≡ Some (note_of tree goals k)
 note-at tree goals zero k p = absurd (omega arith)
 note-at tree goals (suc n) k p =
     ⊎_elim (λ q. get-left (notes_before tree goals n) (note_of tree goals n ∷ []) k (note_of tree goals k) (note-at tree goals n k q))
@@ -45,21 +45,21 @@ note-at tree goals (suc n) k p =
     (cases_lt k n)
 
 -- a form that runs
-abbrev pub IsForm : Form → Type 0
-IsForm form.Other = ⊥
-IsForm _ = Unit {0}
+abbrev pub IsConstruct : Construct → Type 0
+IsConstruct construct.Other = ⊥
+IsConstruct _ = Unit {0}
 
-node-there : (spellings : List (List ℕ)) (o : Option Node) (f : Form) → IsForm f → option_map_or (form_of_node spellings) o form.Other ≡ f
-    → (n : Node) × (o ≡ Some n) × (form_of_node spellings n ≡ f)
-node-there spellings None f is e = absurd (subst (λ g. IsForm g) (sym e) is)
+node-there : (spellings : List (List ℕ)) (o : Option Node) (f : Construct) → IsConstruct f → option_map_or (construct_of_node spellings) o construct.Other ≡ f
+    → (n : Node) × (o ≡ Some n) × (construct_of_node spellings n ≡ f)
+node-there spellings None f is e = absurd (subst (λ g. IsConstruct g) (sym e) is)
 node-there spellings (Some n) f is e = (n, refl, e)
 
-node-of : (tree : Built) (id : ℕ) (f : Form) → IsForm f → form_of tree id ≡ f → (n : Node) × (slice_get tree.nodes id ≡ Some n) × (form_of_node tree.spellings n ≡ f)
-unfolding form_of
+node-of : (tree : Built) (id : ℕ) (f : Construct) → IsConstruct f → construct_of tree id ≡ f → (n : Node) × (slice_get tree.nodes id ≡ Some n) × (construct_of_node tree.spellings n ≡ f)
+unfolding construct_of
 node-of tree id f is e = node-there tree.spellings (slice_get tree.nodes id) f is e
 
 -- the note of a node of a form, of which something is asked
-abbrev pub note_as : Form → Goal → (spelling : Option (List ℕ)) (definition : Option ℕ) (slot slots : ℕ) → Note
+abbrev pub note_as : Construct → Purpose → (spelling : Option (List ℕ)) (definition : Option ℕ) (slot slots : ℕ) → Note
 note_as f g spelling definition slot slots = record {
   mode = mode_of f g;
   path = path_of f g;
@@ -71,7 +71,7 @@ note_as f g spelling definition slot slots = record {
 }
 
 -- a node of a form, of which something is asked
-pub record Known (program : Annotated) (id : ℕ) (f : Form) (g : Goal) : Type 0 where
+pub record Known (program : Annotated) (id : ℕ) (f : Construct) (g : Purpose) : Type 0 where
   pub node : Node
   pub definition : Option ℕ
   pub slot : ℕ
@@ -86,7 +86,7 @@ pub record IsGiven (program : Annotated) : Type 0 where
   pub annotated : IsAnnotated program
   pub sound : IsSound program.tree.nodes (length program.tree.spellings)
 
-pub known : (program : Annotated) → IsGiven program → (id : ℕ) (f : Form) (g : Goal) → IsForm f → form_of program.tree id ≡ f → goal_at (goals_of program.tree) id ≡ g
+pub known : (program : Annotated) → IsGiven program → (id : ℕ) (f : Construct) (g : Purpose) → IsConstruct f → construct_of program.tree id ≡ f → goal_at (goals_of program.tree) id ≡ g
     → Known program id f g
 known program h id f g is e a =
     let tree = program.tree in
@@ -96,9 +96,9 @@ known program h id f g is e a =
     let there : slice_get tree.nodes id ≡ Some node = found.1 in
     let spelling = slice_get tree.spellings node.name in
     let same : spelling_at tree id ≡ spelling = ap (λ m. slice_get tree.spellings m) (name_of_node tree id node there) in
-    let d = applied (form_of tree id) (found_at tree id) in
+    let d = applied (construct_of tree id) (found_at tree id) in
     let slot = slot_of (found_at tree id) in
-    let slots = slots_of tree (form_of tree id) (parts_at tree id) in
+    let slots = slots_of tree (construct_of tree id) (parts_at tree id) in
     let note = note_as f g spelling d slot slots in
     let is_note : note_of tree goals id ≡ note =
     ap (λ x. note_as x (goal_at goals id) (spelling_at tree id) d slot slots) e
@@ -119,11 +119,11 @@ known program h id f g is e a =
           ∙ ap (λ m. unit m tree.spellings node note (trees_at (tree_at program) node.parts)) h.annotated.modes;
     }
 
-abbrev pub note_in : (program : Annotated) (id : ℕ) (f : Form) (g : Goal) → Known program id f g → Note
+abbrev pub note_in : (program : Annotated) (id : ℕ) (f : Construct) (g : Purpose) → Known program id f g → Note
 note_in program id f g k = note_as f g (slice_get program.tree.spellings k.node.name) k.definition k.slot k.slots
 
 -- the tree of a node whose kind and parts are known
-pub made-as : (program : Annotated) (id : ℕ) (f : Form) (g : Goal) (k : Known program id f g) (kind : NodeKind) (ids : List ℕ) → k.node.kind ≡ kind → k.node.parts ≡ ids
+pub made-as : (program : Annotated) (id : ℕ) (f : Construct) (g : Purpose) (k : Known program id f g) (kind : NodeKind) (ids : List ℕ) → k.node.kind ≡ kind → k.node.parts ≡ ids
     → tree_at program id
     ≡ coerced standard_shapes k.node.span.from (mode_of f g) (path_of f g)
     (made standard_shapes program.tree.spellings k.node (note_in program id f g k) kind (trees_at (tree_at program) ids))

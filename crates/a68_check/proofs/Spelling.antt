@@ -5,9 +5,9 @@ use Rattle.std.specs.Option.{option_map_or, option_and_then}
 use Rattle.std.specs.Str.{bytes_eq}
 use Rattle.std.specs.declared.option.Option.{Option}
 use Rattle.a68_check.specs.Spelled.{is_standard, is_print, is_int, row_of}
-use Rattle.a68_check.specs.Forms.{leaf, single, pair, triple, many, by_parts, definition, formula, tag}
-use Rattle.a68_check.specs.declared.form.Form.{Form}
-use Rattle.a68_check.specs.declared.form.Form.TheVariants as form
+use Rattle.a68_check.specs.Constructs.{leaf, single, pair, triple, many, by_parts, definition, formula, tag}
+use Rattle.a68_check.specs.declared.construct.Construct.{Construct}
+use Rattle.a68_check.specs.declared.construct.Construct.TheVariants as construct
 use Rattle.a68_denote.specs.Numbers.{int_in}
 use Rattle.a68_tree.specs.declared.kind.NodeKind.{NodeKind}
 use Rattle.a68_tree.specs.declared.kind.NodeKind.TheVariants as kind
@@ -52,56 +52,56 @@ pub record IsNumber (k : NodeKind) (s : Option (List ℕ)) : Type 0 where
   pub is : option_and_then int_in s ≡ Some value
 
 -- what a node of a form is
-abbrev pub Spelt : Form → NodeKind → Option (List ℕ) → List ℕ → Type 0
-Spelt form.Number k s ids = IsNumber k s
-Spelt form.Variable k s ids = k ≡ kind.Tag
-Spelt (form.Sum l r) k s ids = IsDyadic l r k s ids
-Spelt (form.Test l r) k s ids = IsDyadic l r k s ids
-Spelt (form.Assignation d u) k s ids = (k ≡ kind.Assignation) × (ids ≡ d ∷ u ∷ [])
-Spelt (form.Call p u) k s ids = (k ≡ kind.Call) × (ids ≡ p ∷ u ∷ [])
-Spelt (form.Choice q a) k s ids = (k ≡ kind.Conditional) × (ids ≡ q ∷ a ∷ [])
-Spelt (form.FullChoice q a b) k s ids = (k ≡ kind.Conditional) × (ids ≡ q ∷ a ∷ b ∷ [])
-Spelt (form.Loop w b) k s ids = (k ≡ kind.Loop) × (ids ≡ w ∷ b ∷ [])
-Spelt (form.While q) k s ids = (k ≡ kind.While) × (ids ≡ q ∷ [])
-Spelt form.Serial k s ids = k ≡ kind.Serial
-Spelt (form.Plain d) k s ids = (k ≡ kind.Variable) × (ids ≡ d ∷ [])
-Spelt (form.Set d u) k s ids = (k ≡ kind.Variable) × (ids ≡ d ∷ u ∷ [])
-Spelt (form.Closed c) k s ids = (k ≡ kind.Closed) × (ids ≡ c ∷ [])
+abbrev pub Spelt : Construct → NodeKind → Option (List ℕ) → List ℕ → Type 0
+Spelt construct.Number k s ids = IsNumber k s
+Spelt construct.Variable k s ids = k ≡ kind.Tag
+Spelt (construct.Sum l r) k s ids = IsDyadic l r k s ids
+Spelt (construct.Test l r) k s ids = IsDyadic l r k s ids
+Spelt (construct.Assignation d u) k s ids = (k ≡ kind.Assignation) × (ids ≡ d ∷ u ∷ [])
+Spelt (construct.Call p u) k s ids = (k ≡ kind.Call) × (ids ≡ p ∷ u ∷ [])
+Spelt (construct.Choice q a) k s ids = (k ≡ kind.Conditional) × (ids ≡ q ∷ a ∷ [])
+Spelt (construct.FullChoice q a b) k s ids = (k ≡ kind.Conditional) × (ids ≡ q ∷ a ∷ b ∷ [])
+Spelt (construct.Loop w b) k s ids = (k ≡ kind.Loop) × (ids ≡ w ∷ b ∷ [])
+Spelt (construct.While q) k s ids = (k ≡ kind.While) × (ids ≡ q ∷ [])
+Spelt construct.Serial k s ids = k ≡ kind.Serial
+Spelt (construct.Plain d) k s ids = (k ≡ kind.Variable) × (ids ≡ d ∷ [])
+Spelt (construct.Set d u) k s ids = (k ≡ kind.Variable) × (ids ≡ d ∷ u ∷ [])
+Spelt (construct.Closed c) k s ids = (k ≡ kind.Closed) × (ids ≡ c ∷ [])
 Spelt _ k s ids = Unit {0}
 
-spelt-if : (k : NodeKind) (s : Option (List ℕ)) (ids : List ℕ) (b : Bool) (x y : Form) → Spelt x k s ids → Spelt y k s ids → Spelt (if b then x else y) k s ids
+spelt-if : (k : NodeKind) (s : Option (List ℕ)) (ids : List ℕ) (b : Bool) (x y : Construct) → Spelt x k s ids → Spelt y k s ids → Spelt (if b then x else y) k s ids
 spelt-if k s ids true x y p q = p
 spelt-if k s ids false x y p q = q
 
-spelt-definition : (k : NodeKind) (s : Option (List ℕ)) (ids : List ℕ) (t : Option (List ℕ)) (x : Form) → Spelt x k s ids → Spelt (definition t x) k s ids
+spelt-definition : (k : NodeKind) (s : Option (List ℕ)) (ids : List ℕ) (t : Option (List ℕ)) (x : Construct) → Spelt x k s ids → Spelt (definition t x) k s ids
 spelt-definition k s ids None x p = tt
-spelt-definition k s ids (Some t) x p = spelt-if k s ids (is_standard t) form.Other x tt p
+spelt-definition k s ids (Some t) x p = spelt-if k s ids (is_standard t) construct.Other x tt p
 
 spelt-formula : (s : Option (List ℕ)) (r : Option ℕ) (x y : ℕ) → option_and_then row_of s ≡ r → IsRow r → Spelt (formula r x y) kind.Dyadic s (x ∷ y ∷ [])
 spelt-formula s None x y e p = tt
 spelt-formula s (Some r) x y e p =
     let is : IsDyadic x y kind.Dyadic s (x ∷ y ∷ []) = record { row = r; kind = refl; parts = refl; is = e; fits = p } in
-    spelt-if kind.Dyadic s (x ∷ y ∷ []) (nat_le 15 r) (form.Sum x y) (form.Test x y) is is
+    spelt-if kind.Dyadic s (x ∷ y ∷ []) (nat_le 15 r) (construct.Sum x y) (construct.Test x y) is is
 
 spelt-tag : (s : Option (List ℕ)) (t : List ℕ) → Spelt (tag t) kind.Tag s []
 spelt-tag s t =
-    spelt-if kind.Tag s [] (is_print t) form.Print (if is_standard t then form.Other else form.Variable) tt
-    (spelt-if kind.Tag s [] (is_standard t) form.Other form.Variable tt refl)
+    spelt-if kind.Tag s [] (is_print t) construct.Print (if is_standard t then construct.Other else construct.Variable) tt
+    (spelt-if kind.Tag s [] (is_standard t) construct.Other construct.Variable tt refl)
 
-spelt-number : (s : Option (List ℕ)) (v : Option ℤ) → option_and_then int_in s ≡ v → Spelt (option_map_or (λ n. form.Number) v form.Other) kind.Denotation s []
+spelt-number : (s : Option (List ℕ)) (v : Option ℤ) → option_and_then int_in s ≡ v → Spelt (option_map_or (λ n. construct.Number) v construct.Other) kind.Denotation s []
 spelt-number s None e = tt
 spelt-number s (Some v) e = record { kind = refl; value = v; is = e }
 
 spelt-leaf : (k : NodeKind) (s : Option (List ℕ)) → Spelt (leaf k s) k s []
 spelt-leaf kind.Denotation (Some t) = spelt-number (Some t) (int_in t) refl
 spelt-leaf kind.Tag (Some t) = spelt-tag (Some t) t
-spelt-leaf kind.Declarer (Some t) = spelt-if kind.Declarer (Some t) [] (is_int t) form.Int form.Other tt tt
+spelt-leaf kind.Declarer (Some t) = spelt-if kind.Declarer (Some t) [] (is_int t) construct.Int construct.Other tt tt
 spelt-leaf _ _ = tt
 
 spelt-single : (k : NodeKind) (s : Option (List ℕ)) (x : ℕ) → Spelt (single k s x) k s (x ∷ [])
 spelt-single kind.Closed s x = (refl, refl)
 spelt-single kind.While s x = (refl, refl)
-spelt-single kind.Variable s x = spelt-definition kind.Variable s (x ∷ []) s (form.Plain x) (refl, refl)
+spelt-single kind.Variable s x = spelt-definition kind.Variable s (x ∷ []) s (construct.Plain x) (refl, refl)
 spelt-single kind.Serial s x = refl
 spelt-single _ s x = tt
 
@@ -111,7 +111,7 @@ spelt-pair kind.Assignation s x y = (refl, refl)
 spelt-pair kind.Call s x y = (refl, refl)
 spelt-pair kind.Conditional s x y = (refl, refl)
 spelt-pair kind.Loop s x y = (refl, refl)
-spelt-pair kind.Variable s x y = spelt-definition kind.Variable s (x ∷ y ∷ []) s (form.Set x y) (refl, refl)
+spelt-pair kind.Variable s x y = spelt-definition kind.Variable s (x ∷ y ∷ []) s (construct.Set x y) (refl, refl)
 spelt-pair kind.Serial s x y = refl
 spelt-pair _ s x y = tt
 
@@ -132,5 +132,5 @@ spelt k s (x ∷ y ∷ z ∷ []) = spelt-triple k s x y z
 spelt k s (x ∷ y ∷ z ∷ w ∷ rest) = spelt-many k s (x ∷ y ∷ z ∷ w ∷ rest)
 
 -- the kind and the parts of a node of a form
-pub spelt-as : (f : Form) (k : NodeKind) (s : Option (List ℕ)) (ids : List ℕ) → by_parts k s ids ≡ f → Spelt f k s ids
+pub spelt-as : (f : Construct) (k : NodeKind) (s : Option (List ℕ)) (ids : List ℕ) → by_parts k s ids ≡ f → Spelt f k s ids
 spelt-as f k s ids e = subst (λ g. Spelt g k s ids) e (spelt k s ids)

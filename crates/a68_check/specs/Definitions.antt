@@ -2,16 +2,16 @@
 use Rattle.std.specs.Prelude.{◌≡◌, ℕ, zero, suc, ◌+◌, ◌-◌, ◌<◌, Bool, true, false, nat_eq, List, [], ◌∷◌, ◌++◌, length, None, Some, IsSome, slice_get, if◌then◌else◌}
 use Rattle.std.specs.Option.{option_map, option_map_or}
 use Rattle.std.specs.declared.option.Option.{Option}
-use Rattle.a68_check.specs.Forms.{form_of}
+use Rattle.a68_check.specs.Constructs.{construct_of}
 use Rattle.a68_check.specs.declared.definitions.Definition.{Definition}
-use Rattle.a68_check.specs.declared.form.Form.{Form}
-use Rattle.a68_check.specs.declared.form.Form.TheVariants as form
+use Rattle.a68_check.specs.declared.construct.Construct.{Construct}
+use Rattle.a68_check.specs.declared.construct.Construct.TheVariants as construct
 use Rattle.a68_tree.specs.Trees.{Built}
 use Rattle.a68_tree.specs.declared.node.Node.{Node}
 
-abbrev pub defines : Form → Bool
-defines (form.Plain d) = true
-defines (form.Set d s) = true
+abbrev pub defines : Construct → Bool
+defines (construct.Plain d) = true
+defines (construct.Set d s) = true
 defines _ = false
 
 -- the name of a node
@@ -27,7 +27,7 @@ in_text tree n = length tree.nodes - 1 - n
 abbrev pub defined_before : Built → (count : ℕ) → List (ℕ × ℕ)
 defined_before tree zero = []
 defined_before tree (suc n) =
-    if defines (form_of tree (in_text tree n)) then defined_before tree n ++ (name_at tree (in_text tree n), in_text tree n) ∷ [] else defined_before tree n
+    if defines (construct_of tree (in_text tree n)) then defined_before tree n ++ (name_at tree (in_text tree n), in_text tree n) ∷ [] else defined_before tree n
 
 abbrev pub one_more : Definition → Definition
 one_more d = record { slot = d.slot + 1; id = d.id }
@@ -42,7 +42,7 @@ definition_of tree name = find name (defined_before tree (length tree.nodes))
 
 -- the n-th node in order of text defines a tag that an earlier one defines
 abbrev pub Repeats : Built → (n : ℕ) → Type 0
-Repeats tree n = (defines (form_of tree (in_text tree n)) ≡ true) × IsSome (find (name_at tree (in_text tree n)) (defined_before tree n))
+Repeats tree n = (defines (construct_of tree (in_text tree n)) ≡ true) × IsSome (find (name_at tree (in_text tree n)) (defined_before tree n))
 
 -- the first node in order of text that does
 pub record FirstRepeat (tree : Built) (n : ℕ) : Type 0 where
@@ -50,13 +50,13 @@ pub record FirstRepeat (tree : Built) (n : ℕ) : Type 0 where
   pub repeats : Repeats tree n
   pub first : (k : ℕ) → k < n → Repeats tree k → ⊥
 
-abbrev pub is_variable : Form → Bool
-is_variable form.Variable = true
+abbrev pub is_variable : Construct → Bool
+is_variable construct.Variable = true
 is_variable _ = false
 
 -- the n-th node in order of text is a tag that nothing defines
 abbrev pub Undefined : Built → (n : ℕ) → Type 0
-Undefined tree n = (is_variable (form_of tree (in_text tree n)) ≡ true) × (definition_of tree (name_at tree (in_text tree n)) ≡ None)
+Undefined tree n = (is_variable (construct_of tree (in_text tree n)) ≡ true) × (definition_of tree (name_at tree (in_text tree n)) ≡ None)
 
 -- the first node in order of text that is
 pub record FirstUndefined (tree : Built) (n : ℕ) : Type 0 where

@@ -1,6 +1,6 @@
 pub mod Annotates
 pub mod Definitions
-pub mod Forms
+pub mod Constructs
 pub mod Goals
 pub mod Misfits
 pub mod Notes

@@ -5,64 +5,64 @@ use Rattle.std.specs.Option.{option_map, option_map_or, option_and_then}
 use Rattle.std.specs.declared.option.Option.{Option}
 use Rattle.a68_annot.specs.declared.note.Note.{Note}
 use Rattle.a68_check.specs.Definitions.{defines, defined_before, name_at, definition_of}
-use Rattle.a68_check.specs.Forms.{form_of, parts_at}
+use Rattle.a68_check.specs.Constructs.{construct_of, parts_at}
 use Rattle.a68_check.specs.Goals.{goals_of}
 use Rattle.a68_check.specs.Small.{goal_at}
 use Rattle.a68_check.specs.Spelled.{row_of}
 use Rattle.a68_check.specs.declared.definitions.Definition.{Definition}
-use Rattle.a68_check.specs.declared.form.Form.{Form}
-use Rattle.a68_check.specs.declared.form.Form.TheVariants as form
-use Rattle.a68_check.specs.declared.goals.Goal.{Goal}
-use Rattle.a68_check.specs.declared.goals.Goal.TheVariants as goal
+use Rattle.a68_check.specs.declared.construct.Construct.{Construct}
+use Rattle.a68_check.specs.declared.construct.Construct.TheVariants as construct
+use Rattle.a68_check.specs.declared.goals.Purpose.{Purpose}
+use Rattle.a68_check.specs.declared.goals.Purpose.TheVariants as goal
 use Rattle.a68_modes.specs.declared.coercion.Coercion.{Coercion}
 use Rattle.a68_modes.specs.declared.coercion.Coercion.TheVariants as coercion
 use Rattle.a68_tree.specs.Trees.{Built}
 
 -- the mode of a serial clause: an enquiry yields BOOL, another one nothing
-abbrev pub serial_mode : Goal → ℕ
+abbrev pub serial_mode : Purpose → ℕ
 serial_mode goal.Enquiry = 2
 serial_mode _ = 0
 
 -- the mode of a unit: 1 is INT, 2 BOOL and 9 REF INT
-abbrev pub mode_of : Form → Goal → ℕ
-mode_of form.Number g = 1
-mode_of form.Variable g = 9
-mode_of (form.Sum l r) g = 1
-mode_of (form.Test l r) g = 2
-mode_of (form.Assignation d s) g = 9
-mode_of form.Serial g = serial_mode g
-mode_of (form.While q) g = 2
-mode_of form.Int g = 1
-mode_of (form.Plain d) g = 9
-mode_of (form.Set d s) g = 9
+abbrev pub mode_of : Construct → Purpose → ℕ
+mode_of construct.Number g = 1
+mode_of construct.Variable g = 9
+mode_of (construct.Sum l r) g = 1
+mode_of (construct.Test l r) g = 2
+mode_of (construct.Assignation d s) g = 9
+mode_of construct.Serial g = serial_mode g
+mode_of (construct.While q) g = 2
+mode_of construct.Int g = 1
+mode_of (construct.Plain d) g = 9
+mode_of (construct.Set d s) g = 9
 mode_of _ g = 0
 
 -- a variable is dereferenced but where something is assigned to it
-abbrev pub variable_path : Goal → List Coercion
+abbrev pub variable_path : Purpose → List Coercion
 variable_path goal.Destination = []
 variable_path _ = coercion.Deref ∷ []
 
-abbrev pub path_of : Form → Goal → List Coercion
-path_of form.Variable g = variable_path g
-path_of (form.Assignation d s) g = coercion.Drop ∷ []
+abbrev pub path_of : Construct → Purpose → List Coercion
+path_of construct.Variable g = variable_path g
+path_of (construct.Assignation d s) g = coercion.Drop ∷ []
 path_of _ g = []
 
 -- the row of a formula's sign
-abbrev pub op_of : Form → Option (List ℕ) → Option ℕ
-op_of (form.Sum l r) spelling = option_and_then row_of spelling
-op_of (form.Test l r) spelling = option_and_then row_of spelling
+abbrev pub op_of : Construct → Option (List ℕ) → Option ℕ
+op_of (construct.Sum l r) spelling = option_and_then row_of spelling
+op_of (construct.Test l r) spelling = option_and_then row_of spelling
 op_of _ spelling = None
 
 -- the definition of the tag that a node applies, or that it defines
-abbrev pub definition_by : Form → Option Definition → Option Definition
-definition_by form.Variable found = found
-definition_by (form.Plain d) found = found
-definition_by (form.Set d s) found = found
+abbrev pub definition_by : Construct → Option Definition → Option Definition
+definition_by construct.Variable found = found
+definition_by (construct.Plain d) found = found
+definition_by (construct.Set d s) found = found
 definition_by _ found = None
 
 -- where the tag that a node applies was defined
-abbrev pub applied : Form → Option Definition → Option ℕ
-applied form.Variable found = option_map (λ (d : Definition). d.id) found
+abbrev pub applied : Construct → Option Definition → Option ℕ
+applied construct.Variable found = option_map (λ (d : Definition). d.id) found
 applied _ found = None
 
 abbrev pub slot_of : Option Definition → ℕ
@@ -71,32 +71,32 @@ slot_of found = option_map_or (λ (d : Definition). d.slot) found 0
 -- How many slots the frame of a range has. All definitions stand in one range, at its front.
 abbrev pub slots_in : Built → List ℕ → ℕ
 slots_in tree [] = 0
-slots_in tree (p ∷ ps) = if defines (form_of tree p) then length (defined_before tree (length tree.nodes)) else 0
+slots_in tree (p ∷ ps) = if defines (construct_of tree p) then length (defined_before tree (length tree.nodes)) else 0
 
-abbrev pub slots_of : Built → Form → List ℕ → ℕ
-slots_of tree form.Serial parts = slots_in tree parts
+abbrev pub slots_of : Built → Construct → List ℕ → ℕ
+slots_of tree construct.Serial parts = slots_in tree parts
 slots_of tree _ parts = 0
 
 abbrev pub spelling_at : Built → (id : ℕ) → Option (List ℕ)
 spelling_at tree id = slice_get tree.spellings (name_at tree id)
 
 abbrev pub found_at : Built → (id : ℕ) → Option Definition
-found_at tree id = definition_by (form_of tree id) (definition_of tree (name_at tree id))
+found_at tree id = definition_by (construct_of tree id) (definition_of tree (name_at tree id))
 
 -- what is known of a node, by what its surroundings ask of it
-abbrev pub note_of : Built → List Goal → (id : ℕ) → Note
+abbrev pub note_of : Built → List Purpose → (id : ℕ) → Note
 note_of tree goals id = record {
-  mode = mode_of (form_of tree id) (goal_at goals id);
-  path = path_of (form_of tree id) (goal_at goals id);
-  op = op_of (form_of tree id) (spelling_at tree id);
-  definition = applied (form_of tree id) (found_at tree id);
+  mode = mode_of (construct_of tree id) (goal_at goals id);
+  path = path_of (construct_of tree id) (goal_at goals id);
+  op = op_of (construct_of tree id) (spelling_at tree id);
+  definition = applied (construct_of tree id) (found_at tree id);
   step = record { hops = 0; slot = slot_of (found_at tree id) };
-  slots = slots_of tree (form_of tree id) (parts_at tree id);
+  slots = slots_of tree (construct_of tree id) (parts_at tree id);
   need = None;
 }
 
 -- the notes of the first nodes
-abbrev pub notes_before : Built → List Goal → (count : ℕ) → List Note
+abbrev pub notes_before : Built → List Purpose → (count : ℕ) → List Note
 notes_before tree goals zero = []
 notes_before tree goals (suc n) = notes_before tree goals n ++ note_of tree goals n ∷ []
 

@@ -3,7 +3,7 @@ ghost use Rattle.std.specs.Prelude.{◌≡◌, ◌<◌, ◌≤◌, ◌+◌, ◌-
 ghost use Rattle.a68_check.specs.Definitions as definitions_spec;
 ghost use Rattle.a68_check.specs.Definitions.{in_text, defined_before, Repeats, FirstRepeat, Undefined, FirstUndefined, Tells};
 
-use crate::form::{Form, form_of};
+use crate::construct::{Construct, construct_of};
 use a68_base::NoMemory;
 use a68_tree::{NodeId, Tree};
 use std::alloc::Global;
@@ -16,16 +16,16 @@ pub struct Definition {
 }
 
 /// Does a node of this form define a tag?
-pub fn defines(form: Form) -> bool
+pub fn defines(form: Construct) -> bool
     ensures { result ≡ definitions_spec.defines form }
 {
-    matches!(form, Form::Plain(_) | Form::Set(_, _))
+    matches!(form, Construct::Plain(_) | Construct::Set(_, _))
 }
 
-fn is_variable(form: Form) -> bool
+fn is_variable(form: Construct) -> bool
     ensures { result ≡ definitions_spec.is_variable form }
 {
-    matches!(form, Form::Variable)
+    matches!(form, Construct::Variable)
 }
 
 /// The node that is so many-th in order of text.
@@ -50,7 +50,7 @@ fn define(tree: &Tree, n: u32, table: &mut Vec<Option<Definition>>, count: u32) 
     ensures new { IfSome result (λ c. Repeats tree.now n → ⊥) }
 {
     let id = in_text(tree, n);
-    if !defines(form_of(tree, id)) {
+    if !defines(construct_of(tree, id)) {
         return Some(count);
     }
     let name = tree.node(id).name as usize;
@@ -88,7 +88,7 @@ pub fn count_of(tree: &Tree) -> u32
 {
     let mut count = 0;
     for n in 0..tree.len() {
-        if defines(form_of(tree, in_text(tree, n))) {
+        if defines(construct_of(tree, in_text(tree, n))) {
             count += 1;
         }
     }
@@ -102,7 +102,7 @@ fn is_undefined(tree: &Tree, table: &[Option<Definition>], n: u32) -> bool
     ensures { IsTrue result ↔ Undefined tree.now n }
 {
     let id = in_text(tree, n);
-    is_variable(form_of(tree, id)) && table[tree.node(id).name as usize].is_none()
+    is_variable(construct_of(tree, id)) && table[tree.node(id).name as usize].is_none()
 }
 
 /// The number, in order of text, of the first node that is a tag which nothing defines.

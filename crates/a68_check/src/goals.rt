@@ -2,14 +2,14 @@
 ghost use Rattle.std.specs.Prelude.{◌≡◌, IfOk};
 ghost use Rattle.a68_check.specs.Goals as goals_spec;
 
-use crate::form::{Form, form_of};
+use crate::construct::{Construct, construct_of};
 use a68_base::NoMemory;
 use a68_tree::{NodeId, Tree};
 use std::alloc::Global;
 
 /// What a node asks of a part (Report, 6.1.1).
 #[derive(Clone, Copy)]
-pub enum Goal {
+pub enum Purpose {
     /// A value of mode INT, or a phrase.
     Plain,
     /// A name, to which something is assigned.
@@ -21,20 +21,20 @@ pub enum Goal {
 }
 
 // The part of which something is asked, and what.
-fn asks(form: Form) -> Option<(NodeId, Goal)>
+fn asks(form: Construct) -> Option<(NodeId, Purpose)>
     ensures { result ≡ goals_spec.asks form }
 {
     match form {
-        Form::Assignation(destination, _) => Some((destination, Goal::Destination)),
-        Form::Call(called, _) => Some((called, Goal::Called)),
-        Form::Choice(enquiry, _) => Some((enquiry, Goal::Enquiry)),
-        Form::FullChoice(enquiry, _, _) => Some((enquiry, Goal::Enquiry)),
-        Form::While(enquiry) => Some((enquiry, Goal::Enquiry)),
+        Construct::Assignation(destination, _) => Some((destination, Purpose::Destination)),
+        Construct::Call(called, _) => Some((called, Purpose::Called)),
+        Construct::Choice(enquiry, _) => Some((enquiry, Purpose::Enquiry)),
+        Construct::FullChoice(enquiry, _, _) => Some((enquiry, Purpose::Enquiry)),
+        Construct::While(enquiry) => Some((enquiry, Purpose::Enquiry)),
         _ => None,
     }
 }
 
-fn ask(goals: &mut Vec<Goal>, asked: Option<(NodeId, Goal)>)
+fn ask(goals: &mut Vec<Purpose>, asked: Option<(NodeId, Purpose)>)
     ensures { goals.new.items ≡ goals_spec.asked asked goals.old.items }
 {
     let Some((part, goal)) = asked else {
@@ -47,12 +47,12 @@ fn ask(goals: &mut Vec<Goal>, asked: Option<(NodeId, Goal)>)
 
 /// What is asked of each node.
 #[tactic(auto, unfolding(crate::specs::Goals::goals_of))]
-pub fn goals(alloc: Global, tree: &Tree) -> Result<Vec<Goal>, NoMemory>
+pub fn goals(alloc: Global, tree: &Tree) -> Result<Vec<Purpose>, NoMemory>
     ensures { IfOk result (λ goals. goals.items ≡ goals_spec.goals_of tree.now) }
 {
-    let mut goals = vec![in alloc; Goal::Plain; tree.len() as usize]?;
+    let mut goals = vec![in alloc; Purpose::Plain; tree.len() as usize]?;
     for id in 0..tree.len() {
-        ask(&mut goals, asks(form_of(tree, id)));
+        ask(&mut goals, asks(construct_of(tree, id)));
     }
     Ok(goals)
 }

@@ -2,8 +2,8 @@
 #![tactic(auto)]
 
 mod annotation;
+mod construct;
 mod definitions;
-mod form;
 mod goals;
 mod laws;
 mod notes;
@@ -11,7 +11,7 @@ mod small;
 mod spelled;
 
 pub use annotation::annotate;
+pub use construct::Construct;
 pub use definitions::Definition;
-pub use form::Form;
-pub use goals::Goal;
+pub use goals::Purpose;
 pub use laws::{annotated_trees_fit, annotations_are_one};

@@ -2,13 +2,13 @@
 ghost use Rattle.std.specs.Prelude.{◌≡◌, ◌<◌, ℕ, IfOk, length, Some, slice_get};
 ghost use Rattle.std.specs.Option.{option_map};
 ghost use Rattle.a68_check.specs.Definitions.{defined_before, name_at, definition_of, Tells};
-ghost use Rattle.a68_check.specs.Forms.{parts_at};
-ghost use Rattle.a68_check.specs.Forms as forms;
+ghost use Rattle.a68_check.specs.Constructs.{parts_at};
+ghost use Rattle.a68_check.specs.Constructs as constructs;
 ghost use Rattle.a68_check.specs.Notes as notes_spec;
 
+use crate::construct::{Construct, construct_of};
 use crate::definitions::{Definition, count_of, defines};
-use crate::form::{Form, form_of};
-use crate::goals::Goal;
+use crate::goals::Purpose;
 use crate::small::{goal_at, parts_of};
 use crate::spelled::row_of;
 use a68_annot::{Note, Notes};
@@ -26,65 +26,68 @@ const BOOL: ModeId = 2;
 
 const REF_INT: ModeId = 9;
 
-fn serial_mode(goal: Goal) -> ModeId
+fn serial_mode(goal: Purpose) -> ModeId
     ensures { result ≡ notes_spec.serial_mode goal }
 {
     match goal {
-        Goal::Enquiry => BOOL,
+        Purpose::Enquiry => BOOL,
         _ => VOID,
     }
 }
 
-fn mode_of(form: Form, goal: Goal) -> ModeId
+fn mode_of(form: Construct, goal: Purpose) -> ModeId
     ensures { result ≡ notes_spec.mode_of form goal }
 {
     match form {
-        Form::Number | Form::Sum(_, _) | Form::Int => INT,
-        Form::Test(_, _) | Form::While(_) => BOOL,
-        Form::Variable | Form::Assignation(_, _) | Form::Plain(_) | Form::Set(_, _) => REF_INT,
-        Form::Serial => serial_mode(goal),
+        Construct::Number | Construct::Sum(_, _) | Construct::Int => INT,
+        Construct::Test(_, _) | Construct::While(_) => BOOL,
+        Construct::Variable
+        | Construct::Assignation(_, _)
+        | Construct::Plain(_)
+        | Construct::Set(_, _) => REF_INT,
+        Construct::Serial => serial_mode(goal),
         _ => VOID,
     }
 }
 
-fn path_of(alloc: Global, form: Form, goal: Goal) -> Result<Path, NoMemory>
+fn path_of(alloc: Global, form: Construct, goal: Purpose) -> Result<Path, NoMemory>
     ensures { IfOk result (λ path. path ≡ notes_spec.path_of form goal) }
 {
     let items = match form {
-        Form::Variable => match goal {
-            Goal::Destination => Vec::new(alloc),
+        Construct::Variable => match goal {
+            Purpose::Destination => Vec::new(alloc),
             _ => vec![in alloc; Coercion::Deref]?,
         },
-        Form::Assignation(_, _) => vec![in alloc; Coercion::Drop]?,
+        Construct::Assignation(_, _) => vec![in alloc; Coercion::Drop]?,
         _ => Vec::new(alloc),
     };
     Ok(Path { items })
 }
 
-fn op_of(form: Form, spelling: &[u8]) -> Option<u32>
+fn op_of(form: Construct, spelling: &[u8]) -> Option<u32>
     ensures { result ≡ notes_spec.op_of form (Some spelling.now) }
 {
     match form {
-        Form::Sum(_, _) | Form::Test(_, _) => row_of(spelling),
+        Construct::Sum(_, _) | Construct::Test(_, _) => row_of(spelling),
         _ => None,
     }
 }
 
 // The definition of the tag that a node applies, or that it defines.
-fn definition_by(form: Form, found: Option<Definition>) -> Option<Definition>
+fn definition_by(form: Construct, found: Option<Definition>) -> Option<Definition>
     ensures { result ≡ notes_spec.definition_by form found }
 {
     match form {
-        Form::Variable | Form::Plain(_) | Form::Set(_, _) => found,
+        Construct::Variable | Construct::Plain(_) | Construct::Set(_, _) => found,
         _ => None,
     }
 }
 
-fn applied(form: Form, found: Option<Definition>) -> Option<NodeId>
+fn applied(form: Construct, found: Option<Definition>) -> Option<NodeId>
     ensures { result ≡ notes_spec.applied form found }
 {
     match form {
-        Form::Variable => found.map(|definition| definition.id),
+        Construct::Variable => found.map(|definition| definition.id),
         _ => None,
     }
 }
@@ -104,20 +107,20 @@ fn slots_in(tree: &Tree, parts: &[NodeId], count: u32) -> u32
     requires count { count ≡ length (defined_before tree.now (length tree.now.nodes)) }
     ensures { result ≡ notes_spec.slots_in tree.now parts.now }
 {
-    if parts.len() > 0 && defines(form_of(tree, parts[0])) {
+    if parts.len() > 0 && defines(construct_of(tree, parts[0])) {
         count
     } else {
         0
     }
 }
 
-fn slots_of(tree: &Tree, form: Form, id: NodeId, count: u32) -> u32
+fn slots_of(tree: &Tree, form: Construct, id: NodeId, count: u32) -> u32
     requires there { id < length tree.now.nodes }
     requires count { count ≡ length (defined_before tree.now (length tree.now.nodes)) }
     ensures { result ≡ notes_spec.slots_of tree.now form (parts_at tree.now id) }
 {
     match form {
-        Form::Serial => slots_in(tree, parts_of(tree, id), count),
+        Construct::Serial => slots_in(tree, parts_of(tree, id), count),
         _ => 0,
     }
 }
@@ -125,7 +128,7 @@ fn slots_of(tree: &Tree, form: Form, id: NodeId, count: u32) -> u32
 fn note(
     alloc: Global,
     tree: &Tree,
-    goals: &[Goal],
+    goals: &[Purpose],
     table: &[Option<Definition>],
     count: u32,
     id: NodeId,
@@ -135,7 +138,7 @@ fn note(
     requires count { count ≡ length (defined_before tree.now (length tree.now.nodes)) }
     ensures { IfOk result (λ note. note ≡ notes_spec.note_of tree.now goals.now id) }
 {
-    let form = form_of(tree, id);
+    let form = construct_of(tree, id);
     let goal = goal_at(goals, id);
     let name = tree.node(id).name;
     let found = definition_by(form, table[name as usize]);
@@ -157,7 +160,7 @@ fn note(
 pub fn notes(
     alloc: Global,
     tree: &Tree,
-    goals: &[Goal],
+    goals: &[Purpose],
     table: &[Option<Definition>],
 ) -> Result<Notes, NoMemory>
     requires { Tells table.now (length tree.now.spellings) (defined_before tree.now (length tree.now.nodes)) }

@@ -1,46 +1,46 @@
 //! Which programs run: each function answers the first node that it finds to be of another form.
 ghost use Rattle.std.specs.Prelude.{◌≡◌, ◌<◌, ◌≤◌, ◌↔◌, ℕ, IfOk, IfErr, IsTrue, length, take, drop};
 ghost use Rattle.a68_check.specs.Misfits.{FirstMisfit, FirstAmong, FirstOther, ◌is_to_be◌, all_to_be, outermost, definition, declarer, statement, body, condition, enquiry, comparison, formula, destination, called};
-ghost use Rattle.a68_check.specs.Forms.{parts_at};
-ghost use Rattle.a68_check.specs.Forms as forms;
+ghost use Rattle.a68_check.specs.Constructs.{parts_at};
+ghost use Rattle.a68_check.specs.Constructs as constructs;
 ghost use Rattle.a68_check.specs.Small as small;
 ghost use Rattle.a68_check.specs.Small.{IsFormula, IsComparison, IsEnquiry, IsStatement, IsBody, IsDefinition, IsOutermost, IsWhile, IsProgram, AllDefinitions, AllStatements, Leads};
-ghost use Rattle.a68_check.specs.declared.form.Form.TheVariants as form;
-ghost use Rattle.a68_check.specs.declared.goals.Goal.TheVariants as goal;
+ghost use Rattle.a68_check.specs.declared.construct.Construct.TheVariants as construct;
+ghost use Rattle.a68_check.specs.declared.goals.Purpose.TheVariants as goal;
 ghost use Rattle.a68_tree.specs.Trees.{AllBetween};
 
+use crate::construct::{Construct, construct_of};
 use crate::definitions::defines;
-use crate::form::{Form, form_of};
-use crate::goals::Goal;
+use crate::goals::Purpose;
 use a68_tree::{NodeId, Tree};
 
 /// What is asked of a node.
-pub fn goal_at(goals: &[Goal], id: NodeId) -> Goal
+pub fn goal_at(goals: &[Purpose], id: NodeId) -> Purpose
     ensures { result ≡ small.goal_at goals.now id }
 {
     match goals.get(id as usize) {
         Some(goal) => *goal,
-        None => Goal::Plain,
+        None => Purpose::Plain,
     }
 }
 
 fn is_serial(tree: &Tree, id: NodeId) -> bool
     requires { id < length tree.now.nodes }
-    ensures { IsTrue result ↔ (forms.form_of tree.now id ≡ form.Serial) }
+    ensures { IsTrue result ↔ (constructs.construct_of tree.now id ≡ construct.Serial) }
 {
-    matches!(form_of(tree, id), Form::Serial)
+    matches!(construct_of(tree, id), Construct::Serial)
 }
 
-fn is_plain(goals: &[Goal], id: NodeId) -> bool
+fn is_plain(goals: &[Purpose], id: NodeId) -> bool
     ensures { IsTrue result ↔ (small.goal_at goals.now id ≡ goal.Plain) }
 {
-    matches!(goal_at(goals, id), Goal::Plain)
+    matches!(goal_at(goals, id), Purpose::Plain)
 }
 
-fn is_enquiry(goals: &[Goal], id: NodeId) -> bool
+fn is_enquiry(goals: &[Purpose], id: NodeId) -> bool
     ensures { IsTrue result ↔ (small.goal_at goals.now id ≡ goal.Enquiry) }
 {
-    matches!(goal_at(goals, id), Goal::Enquiry)
+    matches!(goal_at(goals, id), Purpose::Enquiry)
 }
 
 /// The parts of a node.
@@ -52,19 +52,19 @@ pub fn parts_of(tree: &Tree, id: NodeId) -> &[NodeId]
     tree.parts(id)
 }
 
-fn formula(tree: &Tree, goals: &[Goal], id: NodeId) -> Result<(), NodeId>
+fn formula(tree: &Tree, goals: &[Purpose], id: NodeId) -> Result<(), NodeId>
     requires { id < length tree.now.nodes }
     ensures is { IfOk result (λ u. IsFormula tree.now goals.now id) }
     ensures first { IfErr result (λ misfit. FirstMisfit tree.now goals.now (id is_to_be formula) misfit) }
     ensures there { IfErr result (λ id. id < length tree.now.nodes) }
 {
-    match form_of(tree, id) {
-        Form::Number => Ok(()),
-        Form::Variable => match goal_at(goals, id) {
-            Goal::Plain => Ok(()),
+    match construct_of(tree, id) {
+        Construct::Number => Ok(()),
+        Construct::Variable => match goal_at(goals, id) {
+            Purpose::Plain => Ok(()),
             _ => Err(id),
         },
-        Form::Sum(left, right) => {
+        Construct::Sum(left, right) => {
             formula(tree, goals, left)?;
             formula(tree, goals, right)
         }
@@ -72,14 +72,14 @@ fn formula(tree: &Tree, goals: &[Goal], id: NodeId) -> Result<(), NodeId>
     }
 }
 
-fn comparison(tree: &Tree, goals: &[Goal], id: NodeId) -> Result<(), NodeId>
+fn comparison(tree: &Tree, goals: &[Purpose], id: NodeId) -> Result<(), NodeId>
     requires { id < length tree.now.nodes }
     ensures is { IfOk result (λ u. IsComparison tree.now goals.now id) }
     ensures first { IfErr result (λ misfit. FirstMisfit tree.now goals.now (id is_to_be comparison) misfit) }
     ensures there { IfErr result (λ id. id < length tree.now.nodes) }
 {
-    match form_of(tree, id) {
-        Form::Test(left, right) => {
+    match construct_of(tree, id) {
+        Construct::Test(left, right) => {
             formula(tree, goals, left)?;
             formula(tree, goals, right)
         }
@@ -87,7 +87,7 @@ fn comparison(tree: &Tree, goals: &[Goal], id: NodeId) -> Result<(), NodeId>
     }
 }
 
-fn enquiry(tree: &Tree, goals: &[Goal], id: NodeId) -> Result<(), NodeId>
+fn enquiry(tree: &Tree, goals: &[Purpose], id: NodeId) -> Result<(), NodeId>
     requires { id < length tree.now.nodes }
     ensures is { IfOk result (λ u. IsEnquiry tree.now goals.now id) }
     ensures first { IfErr result (λ misfit. FirstMisfit tree.now goals.now (id is_to_be enquiry) misfit) }
@@ -102,15 +102,15 @@ fn enquiry(tree: &Tree, goals: &[Goal], id: NodeId) -> Result<(), NodeId>
 }
 
 // What is assigned to: a tag.
-fn destination(tree: &Tree, goals: &[Goal], id: NodeId) -> Result<(), NodeId>
+fn destination(tree: &Tree, goals: &[Purpose], id: NodeId) -> Result<(), NodeId>
     requires { id < length tree.now.nodes }
-    ensures is { IfOk result (λ u. (forms.form_of tree.now id ≡ form.Variable) × (small.goal_at goals.now id ≡ goal.Destination)) }
+    ensures is { IfOk result (λ u. (constructs.construct_of tree.now id ≡ construct.Variable) × (small.goal_at goals.now id ≡ goal.Destination)) }
     ensures first { IfErr result (λ misfit. FirstMisfit tree.now goals.now (id is_to_be destination) misfit) }
     ensures there { IfErr result (λ id. id < length tree.now.nodes) }
 {
-    match form_of(tree, id) {
-        Form::Variable => match goal_at(goals, id) {
-            Goal::Destination => Ok(()),
+    match construct_of(tree, id) {
+        Construct::Variable => match goal_at(goals, id) {
+            Purpose::Destination => Ok(()),
             _ => Err(id),
         },
         _ => Err(id),
@@ -118,57 +118,57 @@ fn destination(tree: &Tree, goals: &[Goal], id: NodeId) -> Result<(), NodeId>
 }
 
 // What is called: print.
-fn called(tree: &Tree, goals: &[Goal], id: NodeId) -> Result<(), NodeId>
+fn called(tree: &Tree, goals: &[Purpose], id: NodeId) -> Result<(), NodeId>
     requires { id < length tree.now.nodes }
-    ensures is { IfOk result (λ u. forms.form_of tree.now id ≡ form.Print) }
+    ensures is { IfOk result (λ u. constructs.construct_of tree.now id ≡ construct.Print) }
     ensures first { IfErr result (λ misfit. FirstMisfit tree.now goals.now (id is_to_be called) misfit) }
     ensures there { IfErr result (λ id. id < length tree.now.nodes) }
 {
-    match form_of(tree, id) {
-        Form::Print => Ok(()),
+    match construct_of(tree, id) {
+        Construct::Print => Ok(()),
         _ => Err(id),
     }
 }
 
 // What a WHILE asks.
-fn test(tree: &Tree, goals: &[Goal], id: NodeId) -> Result<(), NodeId>
+fn test(tree: &Tree, goals: &[Purpose], id: NodeId) -> Result<(), NodeId>
     requires { id < length tree.now.nodes }
     ensures is { IfOk result (λ u. IsWhile tree.now goals.now id) }
     ensures first { IfErr result (λ misfit. FirstMisfit tree.now goals.now (id is_to_be condition) misfit) }
     ensures there { IfErr result (λ id. id < length tree.now.nodes) }
 {
-    match form_of(tree, id) {
-        Form::While(asked) => enquiry(tree, goals, asked),
+    match construct_of(tree, id) {
+        Construct::While(asked) => enquiry(tree, goals, asked),
         _ => Err(id),
     }
 }
 
 #[cycle(statement)]
-fn statement(tree: &Tree, goals: &[Goal], id: NodeId) -> Result<(), NodeId>
+fn statement(tree: &Tree, goals: &[Purpose], id: NodeId) -> Result<(), NodeId>
     requires { id < length tree.now.nodes }
     ensures is { IfOk result (λ u. IsStatement tree.now goals.now id) }
     ensures first { IfErr result (λ misfit. FirstMisfit tree.now goals.now (id is_to_be statement) misfit) }
     ensures there { IfErr result (λ id. id < length tree.now.nodes) }
 {
-    match form_of(tree, id) {
-        Form::Assignation(to, source) => {
+    match construct_of(tree, id) {
+        Construct::Assignation(to, source) => {
             destination(tree, goals, to)?;
             formula(tree, goals, source)
         }
-        Form::Call(function, item) => {
+        Construct::Call(function, item) => {
             called(tree, goals, function)?;
             formula(tree, goals, item)
         }
-        Form::Choice(asked, part) => {
+        Construct::Choice(asked, part) => {
             enquiry(tree, goals, asked)?;
             body(tree, goals, part)
         }
-        Form::FullChoice(asked, part, other) => {
+        Construct::FullChoice(asked, part, other) => {
             enquiry(tree, goals, asked)?;
             body(tree, goals, part)?;
             body(tree, goals, other)
         }
-        Form::Loop(asked, part) => {
+        Construct::Loop(asked, part) => {
             test(tree, goals, asked)?;
             body(tree, goals, part)
         }
@@ -178,7 +178,7 @@ fn statement(tree: &Tree, goals: &[Goal], id: NodeId) -> Result<(), NodeId>
 
 // All parts of a node from one on are statements.
 #[cycle(statement)]
-fn statements(tree: &Tree, goals: &[Goal], id: NodeId, first: usize) -> Result<(), NodeId>
+fn statements(tree: &Tree, goals: &[Purpose], id: NodeId, first: usize) -> Result<(), NodeId>
     requires there { id < length tree.now.nodes }
     requires first { first ≤ length (parts_at tree.now id) }
     ensures is { IfOk result (λ u. AllStatements tree.now goals.now (parts_at tree.now id) first) }
@@ -193,7 +193,7 @@ fn statements(tree: &Tree, goals: &[Goal], id: NodeId, first: usize) -> Result<(
 }
 
 #[cycle(statement)]
-fn body(tree: &Tree, goals: &[Goal], id: NodeId) -> Result<(), NodeId>
+fn body(tree: &Tree, goals: &[Purpose], id: NodeId) -> Result<(), NodeId>
     requires { id < length tree.now.nodes }
     ensures is { IfOk result (λ u. IsBody tree.now goals.now id) }
     ensures first { IfErr result (λ misfit. FirstMisfit tree.now goals.now (id is_to_be body) misfit) }
@@ -207,27 +207,27 @@ fn body(tree: &Tree, goals: &[Goal], id: NodeId) -> Result<(), NodeId>
 }
 
 // INT as a declarer.
-fn declarer(tree: &Tree, goals: &[Goal], id: NodeId) -> Result<(), NodeId>
+fn declarer(tree: &Tree, goals: &[Purpose], id: NodeId) -> Result<(), NodeId>
     requires { id < length tree.now.nodes }
-    ensures is { IfOk result (λ u. forms.form_of tree.now id ≡ form.Int) }
+    ensures is { IfOk result (λ u. constructs.construct_of tree.now id ≡ construct.Int) }
     ensures first { IfErr result (λ misfit. FirstMisfit tree.now goals.now (id is_to_be declarer) misfit) }
     ensures there { IfErr result (λ id. id < length tree.now.nodes) }
 {
-    match form_of(tree, id) {
-        Form::Int => Ok(()),
+    match construct_of(tree, id) {
+        Construct::Int => Ok(()),
         _ => Err(id),
     }
 }
 
-fn definition(tree: &Tree, goals: &[Goal], id: NodeId) -> Result<(), NodeId>
+fn definition(tree: &Tree, goals: &[Purpose], id: NodeId) -> Result<(), NodeId>
     requires { id < length tree.now.nodes }
     ensures is { IfOk result (λ u. IsDefinition tree.now goals.now id) }
     ensures first { IfErr result (λ misfit. FirstMisfit tree.now goals.now (id is_to_be definition) misfit) }
     ensures there { IfErr result (λ id. id < length tree.now.nodes) }
 {
-    match form_of(tree, id) {
-        Form::Plain(declared) => declarer(tree, goals, declared),
-        Form::Set(declared, source) => {
+    match construct_of(tree, id) {
+        Construct::Plain(declared) => declarer(tree, goals, declared),
+        Construct::Set(declared, source) => {
             declarer(tree, goals, declared)?;
             formula(tree, goals, source)
         }
@@ -236,7 +236,7 @@ fn definition(tree: &Tree, goals: &[Goal], id: NodeId) -> Result<(), NodeId>
 }
 
 // All parts of a node before one are definitions.
-fn definitions(tree: &Tree, goals: &[Goal], id: NodeId, end: usize) -> Result<(), NodeId>
+fn definitions(tree: &Tree, goals: &[Purpose], id: NodeId, end: usize) -> Result<(), NodeId>
     requires there { id < length tree.now.nodes }
     requires end { end ≤ length (parts_at tree.now id) }
     ensures is { IfOk result (λ u. AllDefinitions tree.now goals.now (parts_at tree.now id) end) }
@@ -257,7 +257,7 @@ fn leading(tree: &Tree, id: NodeId) -> usize
 {
     let parts = parts_of(tree, id);
     for k in 0..parts.len() {
-        if !defines(form_of(tree, parts[k])) {
+        if !defines(construct_of(tree, parts[k])) {
             return k;
         }
     }
@@ -265,7 +265,7 @@ fn leading(tree: &Tree, id: NodeId) -> usize
 }
 
 // The range of the whole program.
-fn outermost(tree: &Tree, goals: &[Goal], id: NodeId) -> Result<(), NodeId>
+fn outermost(tree: &Tree, goals: &[Purpose], id: NodeId) -> Result<(), NodeId>
     requires { id < length tree.now.nodes }
     ensures is { IfOk result (λ u. IsOutermost tree.now goals.now id) }
     ensures first { IfErr result (λ misfit. FirstMisfit tree.now goals.now (id is_to_be outermost) misfit) }
@@ -286,14 +286,14 @@ fn outermost(tree: &Tree, goals: &[Goal], id: NodeId) -> Result<(), NodeId>
 }
 
 /// Does the tree run? If not, the first node of another form.
-pub fn program(tree: &Tree, goals: &[Goal]) -> Result<(), NodeId>
+pub fn program(tree: &Tree, goals: &[Purpose]) -> Result<(), NodeId>
     ensures is { IfOk result (λ u. IsProgram tree.now goals.now) }
     ensures first { IfErr result (λ misfit. FirstOther tree.now goals.now misfit) }
     ensures there { IfErr result (λ id. id < length tree.now.nodes) }
 {
     let root = tree.root();
-    match form_of(tree, root) {
-        Form::Closed(clause) => outermost(tree, goals, clause),
+    match construct_of(tree, root) {
+        Construct::Closed(clause) => outermost(tree, goals, clause),
         _ => Err(root),
     }
 }

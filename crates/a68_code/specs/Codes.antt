@@ -1,3 +1,4 @@
+-- Inner: the headline does not rest on this file.
 -- How the logic tells instructions apart: a code for each, which is one to one.
 use Rattle.std.specs.Prelude.{◌≡◌, ℕ, cond, ◌==◌, refl}
 use Rattle.std.specs.Coded.{Coded, code_by, coded×, coded_ℕ}

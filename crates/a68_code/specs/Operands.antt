@@ -1,3 +1,4 @@
+-- Inner: the headline does not rest on this file.
 -- Which operands an instruction may have.
 use Rattle.std.specs.Prelude.{ℕ, Bool, true, ◌&&◌, ◌||◌, ◌==◌, nat_lt, nat_le, List}
 use Rattle.a68_modes.specs.Nodes.{shape_at, is_plain, is_void}

@@ -1,3 +1,4 @@
+-- Inner: the headline does not rest on this file.
 -- Jumps go forward, but for the end of a loop.
 use Rattle.std.specs.Prelude.{◌≡◌, ◌<◌, ◌+◌, ⊤, ℕ, List, Some}
 use Rattle.a68_code.specs.Flow.{does_at}

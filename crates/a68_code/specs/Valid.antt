@@ -1,3 +1,4 @@
+-- Inner: the headline does not rest on this file.
 -- Which codes the machine runs (own).
 use Rattle.std.specs.Prelude.{◌≡◌, ◌≢◌, ◌<◌, ◌≤◌, ℕ, [], length, IsTrue, Some}
 use Rattle.a68_code.specs.Flow.{does_at, takes, Reaches}

@@ -1,3 +1,4 @@
+-- Inner: the headline does not rest on this file.
 -- For the two passes that decide which codes are valid. The second is a walk, which keeps a table of the heights found
 -- so far, by places, and the places at which it has yet to go on, with their heights.
 use Rattle.std.specs.Prelude.{◌≡◌, ◌≢◌, ◌<◌, ◌≤◌, ◌+◌, ◌⊎◌, IsTrue, ℕ, suc, List, [], ◌∷◌, ◌++◌, length, Some, None, Contains, slice_index_or, slice_set}

@@ -4,7 +4,7 @@ use Rattle.a68_modes.specs.declared.shape.Shape.{Shape}
 use Rattle.a68_equiv.specs.declared.mode.Mode.{Mode}
 use Rattle.a68_equiv.specs.Unfolding.{IsPart, Alike}
 use Rattle.a68_equiv.specs.Graph.{number_of, IsGraphOf}
-use Rattle.a68_refine.specs.Rounds.{AlikeIn, IsRefined}
+use Rattle.a68_partition.specs.Rounds.{AlikeIn, IsRefined}
 use Rattle.a68_equiv.specs.Classes.{AreExact}
 use Rattle.a68_equiv.proofs.Numbers.{bit_low, number_below}
 

@@ -10,11 +10,11 @@ use Rattle.a68_equiv.specs.declared.mode.Mode.{Mode}
 use Rattle.a68_equiv.specs.declared.steps.Steps.TheVariants.{WithinUnions}
 use Rattle.a68_equiv.specs.Ways.{steps_of}
 use Rattle.a68_equiv.specs.Unfolding.{unfolded, is_union, SameConstructor}
-use Rattle.a68_refine.specs.Rows.{Stands, row_at}
+use Rattle.a68_partition.specs.Rows.{Stands, row_at}
 use Rattle.a68_equiv.specs.Graph.{number_of, mode_of, AreBehind, code_of, HasCode, IsRowOf, IsShapeRow, AreRows, IsGraphOf}
-use Rattle.a68_refine.specs.Rounds.{ByFirst, IsWired}
+use Rattle.a68_partition.specs.Rounds.{ByFirst, IsWired}
 use Rattle.a68_equiv.proofs.Grasp.{behind_below}
-use Rattle.a68_refine.proofs.Numbering.{OneKey}
+use Rattle.a68_partition.proofs.Numbering.{OneKey}
 use Rattle.a68_equiv.proofs.Parting.{row_here}
 use Rattle.a68_equiv.proofs.Numbers.{mode_number, number_below, mode_below}
 use Rattle.a68_equiv.proofs.Coding.{from_code, to_code, union_made}

@@ -72,7 +72,7 @@ step_below nodes holds which a b h i =
     let lt = All-contains (λ m. m < length (map (steps_of which) nodes)) (row (map (steps_of which) nodes) a) b (closed which nodes holds a (omega arith)) i in
     omega arith
 
-way_below : (nodes : List Shape) → HoldsNodes nodes → (which : Steps) (a b : ℕ) → a < length nodes → Way (map (steps_of which) nodes) a b → b < length nodes
+pub way_below : (nodes : List Shape) → HoldsNodes nodes → (which : Steps) (a b : ℕ) → a < length nodes → Way (map (steps_of which) nodes) a b → b < length nodes
 way_below nodes holds which a b h (last_step i) = step_below nodes holds which a b h i
 way_below nodes holds which a b h (more_steps {b = c} i w) = way_below nodes holds which c b (step_below nodes holds which a c h i) w
 
@@ -101,7 +101,7 @@ module _ (nodes : List Shape) (s : Shape) (holds : HoldsNodes nodes) (formed : A
   old_shape : (m : ℕ) → m < length nodes → shape_at (nodes ++ s ∷ []) m ≡ shape_at nodes m
   old_shape m h = get_or-append nodes (s ∷ []) Blank m h
 
-  new_shape : shape_at (nodes ++ s ∷ []) (length nodes) ≡ s
+  pub new_shape : shape_at (nodes ++ s ∷ []) (length nodes) ≡ s
   new_shape = get_or-append_seam nodes s [] Blank
 
   same_behind : (k m : ℕ) → m < length nodes → behind (nodes ++ s ∷ []) k m ≡ behind nodes k m
@@ -175,12 +175,12 @@ module _ (nodes : List Shape) (s : Shape) (holds : HoldsNodes nodes) (formed : A
   still_formed m h = each_formed m (place m (let l = longer in omega arith))
 
   -- members
-  member_out : (m x : ℕ) → m < length nodes → IsMember (nodes ++ s ∷ []) m x → IsMember nodes m x
+  pub member_out : (m x : ℕ) → m < length nodes → IsMember (nodes ++ s ∷ []) m x → IsMember nodes m x
   member_out m x h is =
       let w = way_out WithinUnions m x h is.way in
       record { way = w; last = subst (λ (t : Shape). leads_within t ≡ false) (old_shape x (way_below nodes holds WithinUnions m x h w)) is.last }
 
-  member_in : (m x : ℕ) → m < length nodes → IsMember nodes m x → IsMember (nodes ++ s ∷ []) m x
+  pub member_in : (m x : ℕ) → m < length nodes → IsMember nodes m x → IsMember (nodes ++ s ∷ []) m x
   member_in m x h is = record { way = way_in WithinUnions m x h is.way; last = rw (old_shape x (way_below nodes holds WithinUnions m x h is.way)) is.last }
 
   new_member : (x : ℕ) → IsMember (nodes ++ s ∷ []) (length nodes) x ↔ IsSpread nodes (steps_of WithinUnions s) x

@@ -13,18 +13,18 @@ use Rattle.a68_equiv.specs.declared.mode.Mode.{Mode}
 use Rattle.a68_equiv.specs.Ways.{AreWellFormed}
 use Rattle.a68_equiv.specs.Related.{as_it_stands, without_flex}
 use Rattle.a68_equiv.specs.Unfolding.{unfolded, passes_on, is_union, IsPart, Alike, Equivalent}
-use Rattle.a68_refine.specs.Rows.{row_at}
+use Rattle.a68_partition.specs.Rows.{row_at}
 use Rattle.a68_equiv.specs.Graph.{number_of, mode_of, AreBehind, IsShapeRow, IsRowOf, IsGraphOf}
-use Rattle.a68_refine.specs.Rounds.{at_key, Shares, ByFirst, SoFar, IsNumbered}
+use Rattle.a68_partition.specs.Rounds.{at_key, Shares, ByFirst, SoFar, IsNumbered}
 use Rattle.a68_equiv.specs.ModeKeys.{IsKeyOf, IsModeKey, HasModeKey, IsNewKey}
 use Rattle.a68_equiv.specs.Classes.{class_of, AreExact, AreKept, AreSame, FindsSame, Classified, IsAlready, IsOldNode}
 use Rattle.a68_equiv.specs.declared.interning.NewKeys.{NewKeys}
 use Rattle.a68_equiv.specs.NewNodes.{AreNewKeys, IsJoined}
 use Rattle.a68_equiv.proofs.Growing.{part_below, longer, old_unfolded, new_unfolded, inside, grows, shrinks, row_in, new_row}
 use Rattle.a68_equiv.proofs.Graphing.{stands_at}
-use Rattle.a68_refine.proofs.Numbering.{more, complete}
+use Rattle.a68_partition.proofs.Numbering.{more, complete}
 use Rattle.a68_equiv.proofs.Numbers.{mode_number, number_mode, number_below, mode_below}
-use Rattle.a68_refine.proofs.RowKeys.{row_key_on}
+use Rattle.a68_partition.proofs.RowKeys.{row_key_on}
 use Rattle.a68_equiv.proofs.Rowing.{from_map}
 use Rattle.a68_equiv.proofs.Telling.{LikeBy, key_tells, key_made, one_mode_key, like_equivalent, alike_like}
 

@@ -12,5 +12,6 @@ pub mod Coding
 pub mod Graphing
 pub mod Carrying
 pub mod Chains
+pub mod Dimensions
 pub mod Meekly
 pub mod Pushing

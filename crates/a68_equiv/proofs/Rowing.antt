@@ -12,7 +12,7 @@ use Rattle.a68_equiv.specs.declared.steps.Steps.TheVariants.{WithinUnions}
 use Rattle.a68_equiv.specs.Ways.{steps_of, row, Way}
 use Rattle.a68_equiv.specs.Ways.Way.{last_step, more_steps}
 use Rattle.a68_equiv.specs.Unfolding.{unfolded, leads_within, passes_on, is_union, IsMember}
-use Rattle.a68_refine.specs.Rows.{Stands}
+use Rattle.a68_partition.specs.Rows.{Stands}
 use Rattle.a68_equiv.specs.Graph.{number_of, AreAt, IsRowOf}
 
 pub at_parts : (nodes : List Shape) (m : ℕ) (s : Shape) → is_union s ≡ false → AreAt nodes m s (parts_of s)

@@ -4,11 +4,11 @@ use Rattle.a68_modes.specs.declared.shape.Shape.{Shape}
 use Rattle.a68_equiv.specs.declared.mode.Mode.{Mode}
 use Rattle.a68_equiv.specs.Unfolding.{unfolded, is_union, IsPart, SameParts, SameConstructor, Alike, Equivalent}
 use Rattle.a68_equiv.specs.Graph.{number_of, code_of, IsRowOf}
-use Rattle.a68_refine.specs.Rounds.{IsRowKey}
+use Rattle.a68_partition.specs.Rounds.{IsRowKey}
 use Rattle.a68_equiv.specs.Classes.{class_of, AreExact}
 use Rattle.a68_equiv.specs.ModeKeys.{marked, IsModeKey}
 use Rattle.a68_equiv.proofs.Coding.{from_code, to_code, union_made}
-use Rattle.a68_refine.proofs.RowKeys.{SameIn, Covers, begins, one_key, from_key}
+use Rattle.a68_partition.proofs.RowKeys.{SameIn, Covers, begins, one_key, from_key}
 
 -- two modes have one constructor, and parts of one class
 pub record LikeBy (nodes : List Shape) (classes : List ℕ) (a b : Mode) : Type 0 where

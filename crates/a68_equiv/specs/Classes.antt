@@ -1,3 +1,4 @@
+-- Inner: the headline does not rest on this file.
 -- Classes of modes.
 use Rattle.std.specs.Prelude.{◌≡◌, ◌<◌, ◌*◌, ◌↔◌, ◌++◌, ◌⊎◌, ℕ, List, [], ◌∷◌, Vec, length, slice_index}
 use Rattle.std.specs.Global.{Global}
@@ -7,7 +8,7 @@ use Rattle.a68_equiv.specs.Unfolding.{Alike, Equivalent}
 use Rattle.a68_equiv.specs.Graph.{number_of}
 use Rattle.a68_equiv.specs.ModeKeys.{IsModeKey, HasModeKey}
 use Rattle.a68_equiv.specs.Related.{as_it_stands}
-use Rattle.a68_refine.specs.Rounds.{at_key, SoFar}
+use Rattle.a68_partition.specs.Rounds.{at_key, SoFar}
 
 -- the class of a mode
 abbrev pub class_of : List ℕ → Mode → ℕ

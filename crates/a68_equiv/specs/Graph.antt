@@ -1,3 +1,4 @@
+-- Inner: the headline does not rest on this file.
 -- The graph in which modes are compared: a number for each mode with and without its FLEX.
 use Rattle.std.specs.Prelude.{◌≡◌, ◌<◌, ◌≤◌, ◌+◌, ◌*◌, ◌/◌, ◌%◌, nat_eq, ◌↔◌, ℕ, List, [], ◌∷◌, length, map, slice_index, Bool, true, false}
 use Rattle.std.specs.List.{All, Contains}
@@ -5,7 +6,7 @@ use Rattle.a68_modes.specs.declared.shape.Shape.{Shape}
 use Rattle.a68_modes.specs.declared.shape.Shape.TheVariants.{Void, Int, Bool as bool_shape, Char, Bits, Sema, Layout, Ref, Rows, Struct, Union, Proc, Same, Blank}
 use Rattle.a68_modes.specs.Nodes.{shape_at, parts_of}
 use Rattle.a68_equiv.specs.declared.mode.Mode.{Mode}
-use Rattle.a68_refine.specs.Rows.{row_at, Stands}
+use Rattle.a68_partition.specs.Rows.{row_at, Stands}
 use Rattle.a68_equiv.specs.Spread.{IsSpread}
 use Rattle.a68_equiv.specs.Unfolding.{behind, unfolded, leads_within, flex_left, passes_on, SameConstructor, is_union, IsAt, IsPart}
 

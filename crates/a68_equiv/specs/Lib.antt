@@ -1,4 +1,5 @@
 pub mod Classes
+pub mod Dimensions
 pub mod Graph
 pub mod ModeKeys
 pub mod NewNodes

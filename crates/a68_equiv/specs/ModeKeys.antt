@@ -1,3 +1,4 @@
+-- Inner: the headline does not rest on this file.
 -- The keys of modes: equal exactly where the modes are equivalent.
 use Rattle.std.specs.Prelude.{◌≡◌, ℕ, List, [], ◌∷◌, ◌++◌, Bool}
 use Rattle.a68_modes.specs.declared.shape.Shape.{Shape}
@@ -7,7 +8,7 @@ use Rattle.a68_equiv.specs.declared.steps.Steps.TheVariants.{WithinUnions}
 use Rattle.a68_equiv.specs.Ways.{steps_of}
 use Rattle.a68_equiv.specs.Unfolding.{unfolded, is_union}
 use Rattle.a68_equiv.specs.Graph.{mode_of, code_of, IsRowOf, IsShapeRow}
-use Rattle.a68_refine.specs.Rounds.{IsRowKey}
+use Rattle.a68_partition.specs.Rounds.{IsRowKey}
 
 -- a code, written so that it shows where it ends: 1 before each of its numbers
 abbrev pub marked : List ℕ → List ℕ

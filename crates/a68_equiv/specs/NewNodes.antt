@@ -1,3 +1,4 @@
+-- Inner: the headline does not rest on this file.
 -- What is found of a shape over nodes that are there, and what a new node adds to the classes.
 use Rattle.std.specs.Prelude.{◌≡◌, ◌<◌, ◌+◌, ◌*◌, ◌++◌, ◌∷◌, [], ℕ, List, Vec, true, false, length}
 use Rattle.std.specs.Global.{Global}
@@ -7,7 +8,7 @@ use Rattle.a68_equiv.specs.declared.interning.Found.{Found}
 use Rattle.a68_equiv.specs.declared.interning.Found.TheVariants.{Old, New}
 use Rattle.a68_equiv.specs.Classes.{IsAlready, IsOldNode}
 use Rattle.a68_equiv.specs.ModeKeys.{IsNewKey}
-use Rattle.a68_refine.specs.Rounds.{IsNumbered}
+use Rattle.a68_partition.specs.Rounds.{IsNumbered}
 
 -- the keys of a new node of this shape, where no old one is equivalent
 pub record AreNewKeys (nodes : List Shape) (classes : List ℕ) (shape : Shape) (keys : NewKeys) : Type 0 where

@@ -1,3 +1,4 @@
+-- Inner: the headline does not rest on this file.
 -- What a walk through a graph has reached.
 use Rattle.std.specs.Prelude.{◌≡◌, ◌≤◌, ◌+◌, ◌*◌, ◌⊎◌, ◌↔◌, ℕ, suc, List, [], ◌∷◌, Bool, true, false, length, slice_index_or}
 use Rattle.std.specs.List.{Contains}

@@ -1,3 +1,4 @@
+-- Inner: the headline does not rest on this file.
 -- What mode words and unions lead to.
 use Rattle.std.specs.Prelude.{◌≡◌, ◌<◌, ◌≤◌, ◌⊎◌, ◌↔◌, ℕ, List, length, map, slice_index, false, nat_eq}
 use Rattle.std.specs.List.{Contains, IsDistinct, list_any}

@@ -4,7 +4,7 @@ ghost use Rattle.a68_modes.specs.declared.shape.Shape.{Shape};
 ghost use Rattle.a68_equiv.specs.Unfolding.{Equivalent};
 ghost use Rattle.a68_equiv.specs.Related.{as_it_stands};
 ghost use Rattle.a68_equiv.specs.Graph.{AreBehind, IsGraphOf};
-ghost use Rattle.a68_refine.specs.Rounds.{IsWired};
+ghost use Rattle.a68_partition.specs.Rounds.{IsWired};
 ghost use Rattle.a68_equiv.specs.Classes.{class_of, AreExact, AreKept};
 
 use crate::Mode;
@@ -12,7 +12,7 @@ use crate::graph::ModeGraph;
 use crate::keys::{classes_by_key, nodes_by_key};
 use a68_base::NoMemory;
 use a68_modes::{ModeId, Modes};
-use a68_refine::{Table, refine};
+use a68_partition::{Table, refine};
 use std::alloc::Global;
 use std::marker::Model;
 

@@ -38,7 +38,7 @@ pub fn related(
 }
 
 /// The members of a union, or the mode itself.
-fn among(alloc: Global, modes: &Modes, mode: ModeId) -> Result<Members, NoMemory>
+pub fn among(alloc: Global, modes: &Modes, mode: ModeId) -> Result<Members, NoMemory>
     requires { mode < length modes.now }
     ensures among { IfOk result (λ among. (x : ℕ) → Contains among x ↔ IsAmong modes.now mode (unfolded modes.now mode) x) }
     ensures below { IfOk result (λ among. All (λ m. m < length modes.now) among) }
@@ -109,7 +109,7 @@ fn leads(modes: &Modes, classes: &Classes, from: ModeId, to: ModeId) -> bool
 }
 
 /// The mode to which the next meek coercion leads.
-fn meek(modes: &Modes, mode: Mode) -> Option<Mode>
+pub fn meek(modes: &Modes, mode: Mode) -> Option<Mode>
     requires { mode.id < length modes.now }
     ensures step { result ≡ meek_step (unfolded modes.now mode.id) }
     ensures there { IfSome result (λ next. next.id < length modes.now) }

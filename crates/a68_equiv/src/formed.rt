@@ -1,12 +1,13 @@
 //! Well-formed modes.
 ghost use Rattle.std.specs.Prelude.{◌≡◌, ◌<◌, ◌^◌, ◌↔◌, ℕ, length, slice_index, IfOk, IsTrue};
 ghost use Rattle.std.specs.List.{All};
+ghost use Rattle.a68_equiv.specs.Dimensions.{HasDimensions, HaveDimensions};
 ghost use Rattle.a68_equiv.specs.Ways.{AreWellFormed, IsClosed, IsFirstIllFormed, Way};
 
 use crate::steps::{Steps, graph};
 use crate::walk::reached;
 use a68_base::NoMemory;
-use a68_modes::{Members, ModeId, Modes};
+use a68_modes::{Members, ModeId, Modes, Shape};
 use std::alloc::Global;
 
 /// The place in `roots` of the first mode that is not well formed; None exactly where all are (7.4).
@@ -45,6 +46,31 @@ pub fn all_well_formed(alloc: Global, modes: &Modes) -> Result<bool, NoMemory>
     match ill_formed(alloc, modes, &roots)? {
         None => Ok(true),
         Some(_) => Ok(false),
+    }
+}
+
+/// Has each row a dimension?
+pub fn all_have_dimensions(modes: &Modes) -> bool
+    ensures { IsTrue result ↔ HaveDimensions modes.now }
+{
+    for id in 0..modes.len() {
+        if !has_dimensions(modes.shape(id)) {
+            return false;
+        }
+    }
+    true
+}
+
+fn has_dimensions(shape: &Shape) -> bool
+    ensures { IsTrue result ↔ HasDimensions shape.now }
+{
+    match shape {
+        Shape::Rows {
+            dims,
+            flex: _,
+            of: _,
+        } => *dims > 0,
+        _ => true,
     }
 }
 

@@ -1,7 +1,7 @@
 //! The graph in which modes are compared.
 ghost use Rattle.std.specs.Prelude.{◌≡◌, ◌<◌, ◌*◌, ◌^◌, IfOk, OnOk, length};
 ghost use Rattle.a68_equiv.specs.Unfolding.{behind as behind_lem};
-ghost use Rattle.a68_refine.specs.Rounds.{ByFirst, IsWired, SoFar};
+ghost use Rattle.a68_partition.specs.Rounds.{ByFirst, IsWired, SoFar};
 ghost use Rattle.a68_equiv.specs.Graph.{mode_of, AreBehind, HasCode, AreRows, IsGraphOf};
 
 use crate::Mode;
@@ -10,7 +10,7 @@ use crate::rows::both_rows;
 use crate::steps::{Steps, row};
 use a68_base::NoMemory;
 use a68_modes::{ModeId, Modes, Shape};
-use a68_refine::{Row, Table, numbered};
+use a68_partition::{Row, Table, numbered};
 use std::alloc::Global;
 use std::collections::HashMap;
 

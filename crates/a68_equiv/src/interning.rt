@@ -5,20 +5,21 @@ ghost use Rattle.std.specs.HashMap.{spare};
 ghost use Rattle.a68_modes.specs.Nodes.{IsWithin, HoldsNodes};
 ghost use Rattle.a68_modes.specs.declared.modes.ModeStop.TheVariants.{Full, NoMemory as no_memory};
 ghost use Rattle.a68_equiv.specs.Classes.{AreKept, AreSame, FindsSame, IsAlready, IsNodeOf, IsNewNode};
+ghost use Rattle.a68_equiv.specs.Dimensions.{HasDimensions, HaveDimensions};
 ghost use Rattle.a68_equiv.specs.NewNodes.{AreNewKeys, IsFound, IsJoined};
-ghost use Rattle.a68_refine.specs.Rounds.{IsNumbered};
+ghost use Rattle.a68_partition.specs.Rounds.{IsNumbered};
 ghost use Rattle.a68_equiv.specs.Ways.{AreWellFormed};
 
 use crate::classes::Classes;
 use crate::keys::shape_key;
-use a68_base::NoMemory;
+use a68_base::{MOST_MODES, NoMemory};
 use a68_modes::{ModeId, ModeStop, Modes, Shape};
-use a68_refine::{Table, numbered};
+use a68_partition::{Table, numbered};
 use std::alloc::Global;
 
 /// The node of a shape over nodes that are there: the first that is equivalent, or a new one behind the others where
-/// none is. The classes stay those of the modes. Full where a new node is one too many; an error leaves the modes as they
-/// were, and the same classes at the same keys.
+/// none is. The classes stay those of the modes, and rows keep their dimensions. Full where a new node is one too many;
+/// an error leaves the modes as they were, and the same classes at the same keys.
 pub fn intern(
     alloc: Global,
     modes: &mut Modes,
@@ -30,8 +31,9 @@ pub fn intern(
     requires kept { AreKept modes.old classes.old }
     ensures node { IfOk result (λ id. IsNodeOf modes.old modes.new shape id) }
     ensures formed { AreWellFormed modes.new }
+    ensures rows { HaveDimensions modes.old → HasDimensions shape → HaveDimensions modes.new }
     ensures kept { AreKept modes.new classes.new }
-    ensures full { result ≢ Err no_memory → (result ≡ Err Full) ↔ ((length modes.old ≡ 16777216) × ((a : ℕ) → a < length modes.old → IsAlready modes.old shape a → ⊥)) }
+    ensures full { result ≢ Err no_memory → (result ≡ Err Full) ↔ ((length modes.old ≡ MOST_MODES) × ((a : ℕ) → a < length modes.old → IsAlready modes.old shape a → ⊥)) }
     ensures modes_stay { OnErr result (modes.new ≡ modes.old) }
     ensures classes_stay { OnErr result (AreSame classes.new classes.old) }
 {
@@ -99,8 +101,9 @@ fn add(
     requires keys { AreNewKeys modes.old classes.old.of shape keys }
     ensures node { IfOk result (λ id. IsNewNode modes.old modes.new shape id) }
     ensures formed { AreWellFormed modes.new }
+    ensures rows { HaveDimensions modes.old → HasDimensions shape → HaveDimensions modes.new }
     ensures kept { AreKept modes.new classes.new }
-    ensures full { result ≢ Err no_memory → (result ≡ Err Full) ↔ (length modes.old ≡ 16777216) }
+    ensures full { result ≢ Err no_memory → (result ≡ Err Full) ↔ (length modes.old ≡ MOST_MODES) }
     ensures modes_stay { OnErr result (modes.new ≡ modes.old) }
     ensures classes_stay { OnErr result (AreSame classes.new classes.old) }
 {
@@ -121,7 +124,7 @@ fn add(
 
 /// A node of these keys joins the classes and the tables.
 fn join(classes: &mut Vec<u32>, by_key: &mut Table, nodes: &mut Table, keys: NewKeys, id: ModeId)
-    requires few { id < 16777216 }
+    requires few { id < MOST_MODES }
     requires room { vec_len classes.old + 2 ≤ vec_capacity classes.old }
     requires keys_room { 2 ≤ spare by_key.old }
     requires nodes_room { 1 ≤ spare nodes.old }

@@ -6,7 +6,7 @@ ghost use Rattle.a68_equiv.specs.Classes.{AreExact};
 ghost use Rattle.a68_equiv.specs.Graph.{AreBehind, IsGraphOf};
 ghost use Rattle.a68_equiv.specs.ModeKeys.{bare, marked, IsKeyOf, IsModeKey, HasModeKey, IsNewKey};
 ghost use Rattle.a68_equiv.specs.Related.{as_it_stands};
-ghost use Rattle.a68_refine.specs.Rounds.{SoFar};
+ghost use Rattle.a68_partition.specs.Rounds.{SoFar};
 
 use crate::Mode;
 use crate::codes::code;
@@ -15,7 +15,7 @@ use crate::rows::{number, row_of};
 use crate::steps::{Steps, row};
 use a68_base::NoMemory;
 use a68_modes::{Modes, Shape};
-use a68_refine::{Row, Table, numbered, row_key};
+use a68_partition::{Row, Table, numbered, row_key};
 use std::alloc::Global;
 use std::collections::HashMap;
 

@@ -15,7 +15,8 @@ mod steps;
 mod walk;
 
 pub use classes::{Classes, settle};
-pub use firm::related;
-pub use formed::{all_well_formed, ill_formed};
+pub use firm::{among, meek, related};
+pub use formed::{all_have_dimensions, all_well_formed, ill_formed};
+pub use graph::behind;
 pub use interning::intern;
 pub use mode::Mode;

@@ -9,7 +9,7 @@ use crate::Mode;
 use crate::spread::{is_union, spread};
 use a68_base::NoMemory;
 use a68_modes::{Members, ModeId, Modes, Shape};
-use a68_refine::Row;
+use a68_partition::Row;
 use std::alloc::Global;
 
 /// Is FLEX taken away from the modes within a shape, where it is from the shape?

@@ -1,3 +1,4 @@
+-- Inner: the headline does not rest on this file.
 -- The instructions of coercions, and of formulas.
 use Rattle.std.specs.Prelude.{ℕ, pos, Bool, true, false, List, [], ◌∷◌, ◌++◌, None, Some}
 use Rattle.std.specs.List.{list_all}

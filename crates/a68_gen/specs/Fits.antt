@@ -1,3 +1,4 @@
+-- Inner: the headline does not rest on this file.
 -- Trees whose parts leave what is taken of them.
 use Rattle.std.specs.Prelude.{◌≡◌, Bool, true, false, List}
 use Rattle.a68_acts.specs.Operations.{leaves}

@@ -1,3 +1,4 @@
+-- Inner: the headline does not rest on this file.
 -- What a translation that is refused says.
 use Rattle.std.specs.Prelude.{List, Ok, Err}
 use Rattle.std.specs.declared.result.Result.{Result}

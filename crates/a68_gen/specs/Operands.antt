@@ -1,3 +1,4 @@
+-- Inner: the headline does not rest on this file.
 -- Trees whose operations have operands that the instructions may have.
 use Rattle.std.specs.Prelude.{⊤, IsTrue, List}
 use Rattle.a68_code.specs.Operands.{is_well_made}

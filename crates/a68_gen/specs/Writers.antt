@@ -1,3 +1,4 @@
+-- Inner: the headline does not rest on this file.
 -- Writers before and behind a call.
 use Rattle.std.specs.Prelude.{List}
 use Rattle.a68_code.specs.declared.code.Instr.{Instr}

@@ -1,6 +1,7 @@
 -- What a call says that writes instructions behind those that are there.
 use Rattle.std.specs.Prelude.{◌≡◌, ℕ, List, ◌++◌, map, None, Some, slice_get}
 use Rattle.std.specs.declared.option.Option.{Option}
+use Rattle.a68_base.specs.declared.limits.TheConstants.{MOST_INSTRUCTIONS}
 use Rattle.a68_base.specs.declared.refusal.Refusal.{Refusal}
 use Rattle.a68_base.specs.declared.refusal.Rule.TheVariants.{L7}
 use Rattle.a68_base.specs.declared.refusal.Stop.{Stop}
@@ -9,7 +10,7 @@ use Rattle.a68_code.specs.declared.code.Instr.{Instr}
 
 -- the most instructions that a program may have
 abbrev pub most : ℕ
-most = 1048576
+most = MOST_INSTRUCTIONS
 
 abbrev pub places : List Instr → List ℕ
 places list = map (λ (i : Instr). i.place) list

@@ -7,14 +7,11 @@ ghost use Rattle.a68_values.specs.Content.{plain};
 ghost use Rattle.a68_values.specs.declared.plain.Plain.TheVariants as value_of;
 
 use crate::writer::Writer;
-use a68_base::{Refusal, Rule, Stop};
+use a68_base::{MOST_INSTRUCTIONS, Refusal, Rule, Stop};
 use a68_code::{Does, Instr};
 use a68_values::{Plain, Value};
 use std::alloc::Global;
 use std::mem;
-
-/// The most instructions that a program may have.
-const MOST: usize = 1_048_576;
 
 impl Writer {
     /// No instructions.
@@ -41,7 +38,7 @@ impl Writer {
     {
         if self.stop.is_some() {
             drop(does);
-        } else if self.list.len() == MOST {
+        } else if self.list.len() == MOST_INSTRUCTIONS {
             drop(does);
             self.stop = Some(Stop::Refused(Refusal {
                 rule: Rule::L7,

@@ -1,3 +1,4 @@
+-- Inner: the headline does not rest on this file.
 -- States of a store.
 use Rattle.std.specs.Prelude.{[], ◌∷◌, None, Some, pos}
 use Rattle.a68_acts.specs.Store.{Store, standard_frame}

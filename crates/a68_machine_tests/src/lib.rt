@@ -12,6 +12,8 @@ mod layout;
 #[cfg(test)]
 mod operations;
 #[cfg(test)]
+mod ops;
+#[cfg(test)]
 mod shown;
 #[cfg(test)]
 mod stack;

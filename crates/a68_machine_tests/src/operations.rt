@@ -1,10 +1,9 @@
 //! Operations on the values of their parts, by hand.
 use crate::shown;
 use crate::table::{agrees, cut, holds};
-use a68_acts::{Doing, Next, Reply};
+use a68_acts::{Doing, Next, Reply, *};
 use a68_modes::Modes;
-use a68_operations::*;
-use a68_values::{Chain, Environ, Node, Parts, Plain, Value};
+use a68_values::{Chain, Environ, Plain, Value, ValueNode, Values};
 use std::alloc::Global;
 use std::panic::Expect;
 use std::process::Abort;
@@ -87,7 +86,7 @@ fn is_shown(rt: &impl Abort, alloc: Global, doing: Doing, told: &str, case: &str
 
 fn is_void(doing: &Doing) -> bool {
     match doing {
-        Doing::Yields(value) => matches!(value.node, Node::Void),
+        Doing::Yields(value) => matches!(value.node, ValueNode::Void),
         _ => false,
     }
 }
@@ -97,7 +96,7 @@ fn is_void(doing: &Doing) -> bool {
 fn values_are_printed(rt: HostRuntime) {
     let alloc = rt.alloc();
     let items = vec![in alloc; int(&rt, "3")].expect(&rt, "memory");
-    let printed = print_next(alloc, Parts { items }).expect(&rt, "memory");
+    let printed = print_next(alloc, Values { items }).expect(&rt, "memory");
     is_shown(&rt, alloc, printed, "Print \"                  +3\"", "3");
 }
 
@@ -106,7 +105,7 @@ fn values_are_printed(rt: HostRuntime) {
 fn all_is_printed(rt: HostRuntime) {
     let alloc = rt.alloc();
     let items = Vec::new(alloc);
-    let next = Next::Printing(Parts { items });
+    let next = Next::Printing(Values { items });
     let doing = resumed(alloc, next, Reply::Go).expect(&rt, "memory");
     holds(&rt, is_void(&doing), "all is printed");
     drop(doing);

@@ -1,7 +1,7 @@
 //! Copies and scopes.
 use crate::shown::plain;
 use crate::table::holds;
-use a68_values::{Bounds, Name, Node, Parts, Plain, Routine, Value};
+use a68_values::{Bounds, Name, Plain, Routine, Value, ValueNode, Values};
 use std::alloc::Global;
 use std::panic::Expect;
 use std::process::Abort;
@@ -20,14 +20,14 @@ fn structure(rt: &impl Abort, alloc: Global) -> Value {
     let items = vec![in alloc; Value::of(Plain::Int(1)), Value::of(Plain::Int(2)), name];
     let items = items.expect(rt, "memory");
     Value {
-        node: Node::Structure(Parts { items }),
+        node: ValueNode::Structure(Values { items }),
     }
 }
 
 // The fields of a structure.
 fn fields(structure: &Value) -> &[Value] {
     match &structure.node {
-        Node::Structure(parts) => &parts.items,
+        ValueNode::Structure(parts) => &parts.items,
         _ => &[],
     }
 }
@@ -50,9 +50,9 @@ fn row(rt: &impl Abort, alloc: Global) -> Value {
     let items = vec![in alloc; structure(rt, alloc)].expect(rt, "memory");
     let bounds = Vec::new(alloc);
     Value {
-        node: Node::Row {
+        node: ValueNode::Row {
             bounds: Bounds { items: bounds },
-            parts: Parts { items },
+            parts: Values { items },
         },
     }
 }

@@ -49,8 +49,8 @@ f10 26: no
 7 11: no
 ";
 
-// The mode that a word names, which is there.
-fn mode(rt: &impl Abort, modes: &Modes, word: &str) -> Mode
+/// The mode that a word names, which is there.
+pub fn mode(rt: &impl Abort, modes: &Modes, word: &str) -> Mode
     ensures { result.id < length modes.now }
 {
     match word.strip_prefix("f") {
@@ -193,8 +193,8 @@ fn are_related(rt: &impl Abort, alloc: Global, modes: &Modes, classes: &Classes)
     }
 }
 
-// The modes of this text, which are well formed.
-fn formed(rt: &impl Abort, alloc: Global, text: &str) -> Modes
+/// The modes of this text, which are well formed.
+pub fn formed(rt: &impl Abort, alloc: Global, text: &str) -> Modes
     ensures { AreWellFormed result }
 {
     let modes = modes_of(rt, alloc, text);

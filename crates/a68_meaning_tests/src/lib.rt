@@ -6,6 +6,8 @@ mod annot;
 #[cfg(test)]
 mod check;
 #[cfg(test)]
+mod coerce;
+#[cfg(test)]
 mod equiv;
 #[cfg(test)]
 mod modes;

@@ -4,7 +4,7 @@ use crate::trees::tree_of;
 use a68_check::{annotate, annotated_trees_fit};
 use a68_code::{Does, Instr};
 use a68_gen::generate;
-use a68_values::{Node, Plain, Value};
+use a68_values::{Plain, Value, ValueNode};
 use std::panic::Expect;
 use std::process::Abort;
 
@@ -18,7 +18,7 @@ Denotation 12 13 1
 ";
 
 fn is_one(value: &Value) -> bool {
-    matches!(value.node, Node::Plain(Plain::Int(1)))
+    matches!(value.node, ValueNode::Plain(Plain::Int(1)))
 }
 
 // The instructions in words.

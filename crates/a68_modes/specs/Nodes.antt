@@ -1,6 +1,7 @@
 -- The nodes of the modes.
 use Rattle.std.specs.Prelude.{◌≡◌, ◌<◌, ◌≤◌, ℕ, Bool as Truth, List, [], ◌∷◌, ◌++◌, length, take, map, true, false, slice_index_or}
 use Rattle.std.specs.List.{All}
+use Rattle.a68_base.specs.declared.limits.TheConstants.{MOST_MODES}
 use Rattle.a68_modes.specs.declared.shape.Shape.{Shape}
 use Rattle.a68_modes.specs.declared.shape.Shape.TheVariants.{Void, Int, Bool, Char, Bits, Sema, Layout, Ref, Rows, Struct, Union, Proc, Same, Blank}
 
@@ -50,4 +51,4 @@ pub record HoldsNodes (nodes : List Shape) : Type 0 where
   -- a mode within a shape is one of its nodes
   pub within : (m : ℕ) → m < length nodes → IsWithin (length nodes) (shape_at nodes m)
   -- it has room for no more than 16,777,216
-  pub few : length nodes ≤ 16777216
+  pub few : length nodes ≤ MOST_MODES

@@ -6,12 +6,9 @@ ghost use Rattle.a68_modes.specs.declared.shape.Shape.TheVariants.{Blank};
 
 use crate::standard::{STANDARD, standard_shape};
 use crate::{ModeId, Shape};
-use a68_base::NoMemory;
+use a68_base::{MOST_MODES, NoMemory};
 use std::alloc::Global;
 use std::marker::Model;
-
-/// As many nodes as there may be.
-const MOST: u32 = 16_777_216;
 
 /// Why no node is added.
 #[derive(Clone, Copy, Debug, PartialEq, Eq)]
@@ -85,10 +82,10 @@ impl Modes {
         requires within { IsWithin (length self.old) shape }
         ensures id { IfOk result (λ id. id ≡ length self.old) }
         ensures added { IfOk result (λ id. self.new ≡ self.old ++ shape ∷ []) }
-        ensures full { (result ≡ Err Full) ↔ (length self.old ≡ MOST) }
+        ensures full { (result ≡ Err Full) ↔ (length self.old ≡ MOST_MODES) }
         ensures stays { OnErr result (self.new ≡ self.old) }
     {
-        if self.items.len() >= MOST as usize {
+        if self.items.len() >= MOST_MODES as usize {
             return Err(ModeStop::Full);
         }
         let id = self.items.len() as u32;

@@ -1,3 +1,4 @@
+-- Inner: the headline does not rest on this file.
 -- The texts of a shelf in memory, as it keeps them.
 use Rattle.std.specs.Prelude.{ℕ, zero, suc, List, [], ◌∷◌, None, Some, map, length, string_bytes, Bool, true, nat_lt}
 use Rattle.std.specs.declared.option.Option.{Option}

@@ -1,3 +1,4 @@
+-- Inner: the headline does not rest on this file.
 -- What a shelf and a sink in memory hold, as their callers see it.
 use Rattle.std.specs.Prelude.{ℕ, Bool, nat_eq, List, [], ◌∷◌, None, Some, is_ok, if◌then◌else◌}
 use Rattle.std.specs.List.{list_any}

@@ -1,3 +1,5 @@
 pub mod Bounds
-pub mod Places
+pub mod Beginnings
+pub mod Sound
 pub mod Trees
+pub mod Turning

@@ -12,9 +12,9 @@ use Rattle.a68_tree.specs.Nodes.{Entry, node_of}
 use Rattle.a68_tree.specs.Spellings.{syms_of, sym_in}
 use Rattle.a68_tree.specs.Trees.{entries}
 use Rattle.a68_tree.proofs.Three.{entries_few}
-use Rattle.a68_ahead.proofs.Firsts.{first_enclosed}
+use Rattle.a68_lookahead.proofs.Firsts.{first_enclosed}
 use Rattle.a68_read.specs.Readings.{HasNoTree, ReadProgram}
-use Rattle.a68_turn.specs.Drafted.{AreDrafted}
+use Rattle.a68_parse.specs.Drafted.{AreDrafted}
 use Rattle.a68_words.specs.declared.class.Class.{Class}
 use Rattle.a68_parse.specs.Texts.{text_of, classed}
 use Rattle.a68_parse.specs.Parses.{IsTree}

@@ -1,2 +1,4 @@
+pub mod Drafted
 pub mod Parses
+pub mod Places
 pub mod Texts

@@ -7,7 +7,7 @@ use Rattle.a68_symbols.specs.Names.{Named}
 use Rattle.a68_tree.specs.declared.node.Node.{Node}
 use Rattle.a68_tree.specs.Derived.{IsDerived}
 use Rattle.a68_tree.specs.Trees.{Built}
-use Rattle.a68_turn.specs.Places.{IsPlace}
+use Rattle.a68_parse.specs.Places.{IsPlace}
 use Rattle.a68_words.specs.declared.class.Class.{Class}
 use Rattle.a68_parse.specs.Texts.{text_of}
 

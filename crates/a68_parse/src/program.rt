@@ -5,18 +5,19 @@ ghost use Rattle.a68_symbols.specs.declared.symbol.Symbol.{Symbol};
 ghost use Rattle.a68_symbols.specs.Limits.{most_symbols};
 ghost use Rattle.a68_symbols.specs.Names.{Named};
 ghost use Rattle.a68_symbols.specs.Symbols.{SymbolsAre, IsRefused, piece_of};
-ghost use Rattle.a68_turn.specs.Drafted.{SpellsAlike};
+ghost use Rattle.a68_parse.specs.Drafted.{SpellsAlike};
 ghost use Rattle.a68_parse.specs.Parses.{Parses, IsTree};
 ghost use Rattle.a68_tree.specs.declared.node.Node.{Node};
 ghost use Rattle.a68_words.specs.declared.class.Class.{Class};
 ghost use Rattle.std.specs.declared.option.Option.{Option};
 
+use crate::places::place;
 use crate::text::text;
+use crate::whole::tree;
 use a68_base::{Refusal, Rule, Stop};
-use a68_read::{Fault, read};
+use a68_read::{Unread, read};
 use a68_symbols::Symbols;
 use a68_tree::Tree;
-use a68_turn::{place, tree};
 use a68_words::Classed;
 use std::alloc::Global;
 
@@ -30,8 +31,8 @@ pub fn parse(alloc: Global, symbols: &Symbols, classes: &Classed, end: u32) -> R
     let list = text(alloc, symbols, classes)?;
     match read(alloc, &list) {
         Ok(drafts) => Ok(tree(alloc, symbols, drafts)?),
-        Err(Fault::Memory) => Err(Stop::NoMemory),
-        Err(Fault::NoTree(left)) => Err(Stop::Refused(Refusal {
+        Err(Unread::Memory) => Err(Stop::NoMemory),
+        Err(Unread::NoTree(left)) => Err(Stop::Refused(Refusal {
             rule: Rule::S6,
             place: place(symbols, left, end),
         })),

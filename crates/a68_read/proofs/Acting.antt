@@ -7,11 +7,11 @@ use Rattle.a68_tree.specs.declared.sym.Bracket.{Bracket}
 use Rattle.a68_tree.specs.declared.sym.Sym.{Sym}
 use Rattle.a68_tree.specs.Forest.{Forest, end, part, aside, shared, forget, spells}
 use Rattle.a68_tree.specs.Grammar.{IsEnclosed}
-use Rattle.a68_draft.specs.Stack.{Layer, node, put}
-use Rattle.a68_draft.specs.Views.{State}
-use Rattle.a68_draft.specs.Built.{Built}
-use Rattle.a68_goals.specs.declared.goal.Goal.{Goal}
-use Rattle.a68_goals.specs.declared.goal.Goal.TheVariants as g
+use Rattle.a68_nodes.specs.Stack.{Layer, node, put}
+use Rattle.a68_nodes.specs.Views.{State}
+use Rattle.a68_nodes.specs.Built.{Built}
+use Rattle.a68_unit_productions.specs.declared.goal.Goal.{Goal}
+use Rattle.a68_unit_productions.specs.declared.goal.Goal.TheVariants as g
 use Rattle.a68_read.specs.Fits as f
 use Rattle.a68_read.specs.Fits.{Shape, all_fit, names_first}
 use Rattle.a68_read.specs.Awaits as a

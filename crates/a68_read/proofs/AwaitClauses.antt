@@ -8,19 +8,19 @@ use Rattle.a68_tree.specs.declared.sym.Sym.{Sym}
 use Rattle.a68_tree.specs.declared.sym.Sym.TheVariants.{Opens, Closes, Is}
 use Rattle.a68_tree.specs.Forest.{Forest, end, mark, group, part, spells}
 use Rattle.a68_tree.specs.Grammar as gr
-use Rattle.a68_draft.specs.Stack.{Layer, node}
-use Rattle.a68_ahead.specs.Symbols.{Follows, next, starts}
-use Rattle.a68_ahead.specs.Sets as set
-use Rattle.a68_ahead.proofs.Firsts as first
-use Rattle.a68_ahead.proofs.Firsts.{no_first, no_next, no_first_pair, clause_unit, closes_clause, closes_unit, unit_tertiary, tertiary_secondary, secondary_base, definition_unit, declaration_definition}
-use Rattle.a68_ahead.proofs.Told as told
-use Rattle.a68_goals.specs.declared.goal.Goal.TheVariants as g
+use Rattle.a68_nodes.specs.Stack.{Layer, node}
+use Rattle.a68_lookahead.specs.Symbols.{Follows, next, starts}
+use Rattle.a68_lookahead.specs.Sets as set
+use Rattle.a68_lookahead.proofs.Firsts as first
+use Rattle.a68_lookahead.proofs.Firsts.{no_first, no_next, no_first_pair, clause_unit, closes_clause, closes_unit, unit_tertiary, tertiary_secondary, secondary_base, definition_unit, declaration_definition}
+use Rattle.a68_lookahead.proofs.Told as told
+use Rattle.a68_unit_productions.specs.declared.goal.Goal.TheVariants as g
 use Rattle.a68_read.specs.Middles as m
 use Rattle.a68_read.specs.Fits as f
 use Rattle.a68_read.specs.Fits.{Shape, fits}
 use Rattle.a68_read.specs.Awaits as a
 use Rattle.a68_read.specs.Awaits.{Run, awaits, all_await}
-use Rattle.a68_expand.specs.Clauses as clauses
+use Rattle.a68_productions.specs.Clauses as clauses
 use Rattle.a68_tree.proofs.Joining.{joined_assoc, spells_joined}
 use Rattle.a68_read.proofs.Forms as forms
 use Rattle.a68_read.proofs.Behind as behind

@@ -9,15 +9,15 @@ use Rattle.a68_tree.specs.declared.sym.Sym.TheVariants.{Closes, Is}
 use Rattle.a68_tree.specs.Forest.{Forest, end, mark, part, shared, joined, spells}
 use Rattle.a68_tree.specs.Grammar as gr
 use Rattle.a68_tree.specs.Grammar.{IsElse, IsElseBrief, IsOut, IsOutBrief, IsOutC, IsOutCBrief, IsUnit, IsDeclarer, IsDefinitions, IsDeclared, IsDeclaration, IsModes, IsPriorities, IsOps, IsPlanned, IsIdentities, IsProcs, IsVariables, IsVariable}
-use Rattle.a68_ahead.specs.Symbols.{starts, Follows, next}
-use Rattle.a68_ahead.specs.Sets as set
-use Rattle.a68_ahead.specs.Ahead.{behind, phrase_ahead, spec_ahead}
-use Rattle.a68_ahead.specs.declared.look.Due.TheVariants as due
-use Rattle.a68_ahead.specs.declared.look.Sought.TheVariants as lm
-use Rattle.a68_ahead.proofs.Firsts.{here, first_unit, first_declarer, no_first, closes_clause, closes_unit, clause_unit}
-use Rattle.a68_ahead.proofs.Told.{behind_declarer, plain_ahead, declarer_unspecced}
-use Rattle.a68_goals.specs.declared.goal.Defining.{Defining}
-use Rattle.a68_goals.specs.declared.goal.Defining.TheVariants as d
+use Rattle.a68_lookahead.specs.Symbols.{starts, Follows, next}
+use Rattle.a68_lookahead.specs.Sets as set
+use Rattle.a68_lookahead.specs.Ahead.{behind, phrase_ahead, spec_ahead}
+use Rattle.a68_lookahead.specs.declared.look.Due.TheVariants as due
+use Rattle.a68_lookahead.specs.declared.look.Sought.TheVariants as lm
+use Rattle.a68_lookahead.proofs.Firsts.{here, first_unit, first_declarer, no_first, closes_clause, closes_unit, clause_unit}
+use Rattle.a68_lookahead.proofs.Told.{behind_declarer, plain_ahead, declarer_unspecced}
+use Rattle.a68_unit_productions.specs.declared.goal.Defining.{Defining}
+use Rattle.a68_unit_productions.specs.declared.goal.Defining.TheVariants as d
 use Rattle.a68_read.specs.Middles as m
 use Rattle.a68_read.specs.Middles.{IsRun, run, IsTail, tail_end, tail_on, IsMore, more_same, more_anew, IsDefinition, IsInitial, IsSerialTail, IsCommaTail}
 use Rattle.a68_read.specs.Awaits as a
@@ -67,7 +67,7 @@ comma_tail_unit m.comma_end f = clause_unit f
 comma_tail_unit (m.comma_on p) f = next refl
 
 pub tail_definition : {y : Defining} {x : Forest} {r : List Sym} → IsTail y x → Follows set.ends_declaration r → Follows set.ends_definition (spells x r)
-tail_definition tail_end f = Rattle.a68_ahead.proofs.Firsts.declaration_definition f
+tail_definition tail_end f = Rattle.a68_lookahead.proofs.Firsts.declaration_definition f
 tail_definition (tail_on p) f = next refl
 
 -- ---- declarations by their definitions

@@ -6,8 +6,8 @@ use Rattle.a68_tree.specs.declared.sym.Token.TheVariants as t
 use Rattle.a68_tree.specs.Forest.{Forest, end, mark, part, aside, shared, forget, joined}
 use Rattle.a68_tree.specs.Grammar as gr
 use Rattle.a68_tree.specs.Grammar.{IsDeclarer, IsDefinitions, IsDeclared, IsModes, IsPriorities, IsOps, IsPlan, IsPlanned, IsIdentities, IsProcs, IsVariables, IsVariable}
-use Rattle.a68_goals.specs.declared.goal.Defining.{Defining}
-use Rattle.a68_goals.specs.declared.goal.Defining.TheVariants as d
+use Rattle.a68_unit_productions.specs.declared.goal.Defining.{Defining}
+use Rattle.a68_unit_productions.specs.declared.goal.Defining.TheVariants as d
 use Rattle.a68_read.specs.Middles.{IsInitial, no_initial, an_initial, IsDefinition, defines_mode, defines_priority, defines_operator, defines_planned, defines_identity, defines_procedure, defines_procedure_variable, defines_variable, run, IsTail, tail_end, tail_on, more_same, more_anew}
 
 -- the definitions of one declaration

@@ -7,8 +7,8 @@ use Rattle.a68_tree.specs.declared.sym.Sym.{Sym}
 use Rattle.a68_tree.specs.declared.sym.Sym.TheVariants.{Is}
 use Rattle.a68_tree.specs.Grammar as gr
 use Rattle.a68_tree.specs.Grammar.{IsMonadic, IsSign, IsDenotation, IsPlain}
-use Rattle.a68_ahead.specs.Symbols.{same, is_monadic, is_comparison, is_operator, is_denotation, is_plain}
-use Rattle.a68_ahead.proofs.Firsts.{same_is}
+use Rattle.a68_lookahead.specs.Symbols.{same, is_monadic, is_comparison, is_operator, is_denotation, is_plain}
+use Rattle.a68_lookahead.proofs.Firsts.{same_is}
 use Rattle.a68_read.proofs.Tests.{monadic_first, operator_first}
 use Rattle.a68_read.specs.Readings.{LacksAny, FirstOf}
 

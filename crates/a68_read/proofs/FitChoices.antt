@@ -5,15 +5,15 @@ use Rattle.a68_tree.specs.declared.sym.Token.TheVariants as t
 use Rattle.a68_tree.specs.declared.sym.Bracket.TheVariants as b
 use Rattle.a68_tree.specs.declared.sym.Sym.{Sym}
 use Rattle.a68_tree.specs.Grammar as gr
-use Rattle.a68_draft.specs.Stack.{Layer}
-use Rattle.a68_goals.specs.declared.goal.Goal.TheVariants as g
+use Rattle.a68_nodes.specs.Stack.{Layer}
+use Rattle.a68_unit_productions.specs.declared.goal.Goal.TheVariants as g
 use Rattle.a68_read.specs.Middles as m
 use Rattle.a68_read.specs.Fits.{Shape, fits, all_fit}
 use Rattle.a68_read.proofs.Joins.{back, back3, stay}
 use Rattle.a68_read.proofs.Forms as forms
-use Rattle.a68_expand.specs.Choices as choices
+use Rattle.a68_productions.specs.Choices as choices
 use Rattle.a68_tree.specs.declared.sym.Sym.TheVariants.{Is}
-use Rattle.a68_ahead.specs.Symbols.{starts}
+use Rattle.a68_lookahead.specs.Symbols.{starts}
 
 else_part_by : (K : Shape) (l : Layer) (S : List Layer) (c1 c2 : Bool) → fits g.ElsePart K (l ∷ S) → all_fit (if c1 then (g.Begin ∷ g.Take t.Elif ∷ g.SerialNode ∷ g.Take t.Then ∷ g.SerialNode ∷ g.ElsePart ∷ g.Close k.Conditional ∷ []) else (if c2 then (g.Take t.Else ∷ g.SerialNode ∷ []) else (([])))) K (l ∷ S)
 else_part_by K l S true c2 h = λ a p e q x r. (refl, refl, h _ (gr.elif (forms.as_enquiry p) q r))

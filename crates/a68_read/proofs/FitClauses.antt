@@ -5,15 +5,15 @@ use Rattle.a68_tree.specs.declared.sym.Token.TheVariants as t
 use Rattle.a68_tree.specs.declared.sym.Bracket.TheVariants as b
 use Rattle.a68_tree.specs.declared.sym.Sym.{Sym}
 use Rattle.a68_tree.specs.Grammar as gr
-use Rattle.a68_draft.specs.Stack.{Layer}
-use Rattle.a68_goals.specs.declared.goal.Goal.TheVariants as g
+use Rattle.a68_nodes.specs.Stack.{Layer}
+use Rattle.a68_unit_productions.specs.declared.goal.Goal.TheVariants as g
 use Rattle.a68_read.specs.Fits as f
 use Rattle.a68_read.specs.Fits.{Shape, fits, all_fit}
 use Rattle.a68_read.proofs.Forms as forms
-use Rattle.a68_expand.specs.Clauses as clauses
+use Rattle.a68_productions.specs.Clauses as clauses
 use Rattle.a68_tree.specs.declared.sym.Sym.TheVariants.{Opens, Closes, Is}
-use Rattle.a68_ahead.specs.Ahead.{phrase_ahead, spec_ahead}
-use Rattle.a68_ahead.specs.Symbols.{starts}
+use Rattle.a68_lookahead.specs.Ahead.{phrase_ahead, spec_ahead}
+use Rattle.a68_lookahead.specs.Symbols.{starts}
 
 enclosed_by : (K : Shape) (S : List Layer) (c1 c2 c3 c4 c5 c6 : Bool) → fits g.Enclosed K S → all_fit (if c1 then (g.Opens b.Round ∷ g.Brief ∷ []) else (if c2 then (g.Opens b.Begin ∷ g.Block ∷ []) else (if c3 then (g.Take t.Par ∷ g.Parallel ∷ []) else (if c4 then (g.Opens b.If ∷ g.SerialNode ∷ g.Take t.Then ∷ g.SerialNode ∷ g.ElsePart ∷ g.Closes b.If ∷ g.Wrap k.Conditional ∷ []) else (if c5 then (g.Opens b.Case ∷ g.SerialNode ∷ g.Take t.In ∷ g.CaseChoice ∷ []) else (if c6 then (g.Take t.For ∷ g.Begin ∷ g.Take t.Tag ∷ g.Close k.For ∷ g.LoopFrom ∷ g.Wrap k.Loop ∷ []) else ((g.LoopFrom ∷ g.Wrap k.Loop ∷ [])))))))) K S
 enclosed_by K _ true c2 c3 c4 c5 c6 (f.fresh ends) = f.within ends

@@ -5,18 +5,18 @@ use Rattle.a68_tree.specs.declared.sym.Token.TheVariants as t
 use Rattle.a68_tree.specs.declared.sym.Bracket.TheVariants as b
 use Rattle.a68_tree.specs.declared.sym.Sym.{Sym}
 use Rattle.a68_tree.specs.Grammar as gr
-use Rattle.a68_draft.specs.Stack.{Layer}
-use Rattle.a68_goals.specs.declared.goal.Goal.TheVariants as g
-use Rattle.a68_goals.specs.declared.goal.Defining.{Defining}
-use Rattle.a68_goals.specs.declared.goal.Defining.TheVariants as d
+use Rattle.a68_nodes.specs.Stack.{Layer}
+use Rattle.a68_unit_productions.specs.declared.goal.Goal.TheVariants as g
+use Rattle.a68_unit_productions.specs.declared.goal.Defining.{Defining}
+use Rattle.a68_unit_productions.specs.declared.goal.Defining.TheVariants as d
 use Rattle.a68_read.specs.Middles as m
 use Rattle.a68_read.specs.Fits as f
 use Rattle.a68_read.specs.Fits.{Shape, fits, all_fit}
 use Rattle.a68_read.proofs.Joins.{back, back3, back4, stay}
 use Rattle.a68_read.proofs.Forms as forms
-use Rattle.a68_goals.specs.Declarations as declarations
+use Rattle.a68_unit_productions.specs.Declarations as declarations
 use Rattle.a68_tree.specs.declared.sym.Sym.TheVariants.{Opens, Is}
-use Rattle.a68_ahead.specs.Symbols.{starts, starts_pair}
+use Rattle.a68_lookahead.specs.Symbols.{starts, starts_pair}
 use Rattle.a68_read.proofs.Definings as defs
 
 pub declaration_fits : (K : Shape) (l : Layer) (S : List Layer) → fits g.Declaration K (l ∷ S) → all_fit declarations.declaration K (l ∷ S)

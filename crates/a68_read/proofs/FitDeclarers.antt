@@ -5,16 +5,16 @@ use Rattle.a68_tree.specs.declared.sym.Token.TheVariants as t
 use Rattle.a68_tree.specs.declared.sym.Bracket.TheVariants as b
 use Rattle.a68_tree.specs.declared.sym.Sym.{Sym}
 use Rattle.a68_tree.specs.Grammar as gr
-use Rattle.a68_draft.specs.Stack.{Layer}
-use Rattle.a68_goals.specs.declared.goal.Goal.TheVariants as g
+use Rattle.a68_nodes.specs.Stack.{Layer}
+use Rattle.a68_unit_productions.specs.declared.goal.Goal.TheVariants as g
 use Rattle.a68_read.specs.Middles as m
 use Rattle.a68_read.specs.Fits as f
 use Rattle.a68_read.specs.Fits.{Shape, fits, all_fit}
 use Rattle.a68_read.proofs.Joins.{back, back3, stay}
 use Rattle.a68_read.proofs.Forms as forms
-use Rattle.a68_goals.specs.Declarers as declarers
+use Rattle.a68_unit_productions.specs.Declarers as declarers
 use Rattle.a68_tree.specs.declared.sym.Sym.TheVariants.{Opens, Is}
-use Rattle.a68_ahead.specs.Symbols.{starts, ends_bound}
+use Rattle.a68_lookahead.specs.Symbols.{starts, ends_bound}
 
 pub fields_fits : (K : Shape) (l : Layer) (S : List Layer) → fits g.Fields K (l ∷ S) → all_fit declarers.fields K (l ∷ S)
 fields_fits K l S h = λ e p x q. back K l S _ _ (h _ (gr.params p q))

@@ -5,17 +5,17 @@ use Rattle.a68_tree.specs.declared.sym.Token.TheVariants as t
 use Rattle.a68_tree.specs.declared.sym.Bracket.TheVariants as b
 use Rattle.a68_tree.specs.declared.sym.Sym.{Sym}
 use Rattle.a68_tree.specs.Grammar as gr
-use Rattle.a68_draft.specs.Stack.{Layer}
-use Rattle.a68_goals.specs.declared.goal.Goal.TheVariants as g
+use Rattle.a68_nodes.specs.Stack.{Layer}
+use Rattle.a68_unit_productions.specs.declared.goal.Goal.TheVariants as g
 use Rattle.a68_read.specs.Middles as m
 use Rattle.a68_read.specs.Fits as f
 use Rattle.a68_read.specs.Fits.{Shape, fits, all_fit}
 use Rattle.a68_read.proofs.Joins.{back, back3, stay}
 use Rattle.a68_read.proofs.Forms as forms
-use Rattle.a68_goals.specs.Units as units
+use Rattle.a68_unit_productions.specs.Units as units
 use Rattle.a68_tree.specs.declared.sym.Sym.TheVariants.{Opens, Is}
-use Rattle.a68_ahead.specs.Ahead.{routine_ahead, phrase_ahead}
-use Rattle.a68_ahead.specs.Symbols.{starts, is_monadic, is_operator}
+use Rattle.a68_lookahead.specs.Ahead.{routine_ahead, phrase_ahead}
+use Rattle.a68_lookahead.specs.Symbols.{starts, is_monadic, is_operator}
 
 pub serial_node_fits : (K : Shape) (l : Layer) (S : List Layer) → fits g.SerialNode K (l ∷ S) → all_fit units.serial_node K (l ∷ S)
 serial_node_fits K l S h = λ x p. (refl, refl, h x p)

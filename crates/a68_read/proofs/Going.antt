@@ -3,10 +3,10 @@ use Rattle.std.proofs.Common.{◌≡◌, ℕ, ◌+◌, ◌<◌, Bool, true, fals
 use Rattle.std.proofs.lemmas.Bool.{false≢true, ltb-true}
 use Rattle.std.proofs.lemmas.List.{reverse-append}
 use Rattle.a68_tree.specs.declared.sym.Sym.{Sym}
-use Rattle.a68_draft.specs.Views.{State}
-use Rattle.a68_goals.specs.declared.goal.Goal.{Goal}
-use Rattle.a68_goals.specs.declared.goal.Goal.TheVariants as g
-use Rattle.a68_expand.specs.Expand.{expand}
+use Rattle.a68_nodes.specs.Views.{State}
+use Rattle.a68_unit_productions.specs.declared.goal.Goal.{Goal}
+use Rattle.a68_unit_productions.specs.declared.goal.Goal.TheVariants as g
+use Rattle.a68_productions.specs.Expand.{expand}
 use Rattle.a68_read.specs.Fits.{Shape, fits, all_fit}
 use Rattle.a68_read.specs.Awaits.{Run, awaits, all_await}
 use Rattle.a68_read.specs.Weights.{weight, weights, is_sure, has_sure, is_lighter}

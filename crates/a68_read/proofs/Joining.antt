@@ -5,11 +5,11 @@ use Rattle.a68_tree.specs.declared.kind.NodeKind.TheVariants as k
 use Rattle.a68_tree.specs.declared.sym.Sym.{Sym}
 use Rattle.a68_tree.specs.Forest.{Forest, end, part, forget, Single, Several}
 use Rattle.a68_tree.proofs.Phrases as phrases
-use Rattle.a68_draft.specs.Stack.{Layer, node, put}
-use Rattle.a68_draft.specs.Views.{State}
-use Rattle.a68_draft.specs.Built.{Built}
-use Rattle.a68_goals.specs.declared.goal.Goal.{Goal}
-use Rattle.a68_goals.specs.declared.goal.Goal.TheVariants as g
+use Rattle.a68_nodes.specs.Stack.{Layer, node, put}
+use Rattle.a68_nodes.specs.Views.{State}
+use Rattle.a68_nodes.specs.Built.{Built}
+use Rattle.a68_unit_productions.specs.declared.goal.Goal.{Goal}
+use Rattle.a68_unit_productions.specs.declared.goal.Goal.TheVariants as g
 use Rattle.a68_read.specs.Fits as f
 use Rattle.a68_read.specs.Fits.{all_fit}
 use Rattle.a68_read.specs.Awaits as a

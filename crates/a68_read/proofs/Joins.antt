@@ -2,7 +2,7 @@
 use Rattle.std.proofs.Common.{List, ◌∷◌, sym, subst}
 use Rattle.a68_tree.specs.Forest.{Forest, end, joined}
 use Rattle.a68_tree.proofs.Joining.{joined_assoc, joined_end}
-use Rattle.a68_draft.specs.Stack.{Layer, put}
+use Rattle.a68_nodes.specs.Stack.{Layer, put}
 
 -- what is put in pieces
 pub back : (K : List Layer → Type 0) (l : Layer) (S : List Layer) (a b : Forest) → K (put l (joined a b) ∷ S) → K (put (put l a) b ∷ S)

@@ -5,14 +5,14 @@ use Rattle.a68_tree.specs.declared.sym.Bracket.TheVariants as b
 use Rattle.a68_tree.specs.declared.sym.Token.TheVariants as t
 use Rattle.a68_tree.specs.declared.sym.Sym.{Sym}
 use Rattle.a68_tree.specs.declared.sym.Sym.TheVariants.{Opens, Closes, Is}
-use Rattle.a68_ahead.specs.Ahead.{routine_ahead, phrase_ahead, spec_ahead}
-use Rattle.a68_ahead.specs.Symbols.{starts, starts_pair, is_monadic, is_operator, is_denotation, is_declarer, ends_trimmer, ends_bound}
-use Rattle.a68_goals.specs.declared.goal.Goal.{Goal}
-use Rattle.a68_goals.specs.declared.goal.Goal.TheVariants as g
-use Rattle.a68_goals.specs.declared.goal.Defining.{Defining}
-use Rattle.a68_goals.specs.declared.goal.Defining.TheVariants as d
-use Rattle.a68_goals.specs.Declarations as declarations
-use Rattle.a68_expand.specs.Expand.{expand}
+use Rattle.a68_lookahead.specs.Ahead.{routine_ahead, phrase_ahead, spec_ahead}
+use Rattle.a68_lookahead.specs.Symbols.{starts, starts_pair, is_monadic, is_operator, is_denotation, is_declarer, ends_trimmer, ends_bound}
+use Rattle.a68_unit_productions.specs.declared.goal.Goal.{Goal}
+use Rattle.a68_unit_productions.specs.declared.goal.Goal.TheVariants as g
+use Rattle.a68_unit_productions.specs.declared.goal.Defining.{Defining}
+use Rattle.a68_unit_productions.specs.declared.goal.Defining.TheVariants as d
+use Rattle.a68_unit_productions.specs.Declarations as declarations
+use Rattle.a68_productions.specs.Expand.{expand}
 use Rattle.a68_read.specs.Weights.{is_lighter}
 use Rattle.a68_read.proofs.Steps.{OnGoals}
 

@@ -2,7 +2,7 @@
 use Rattle.std.proofs.Common.{List, ◌∷◌}
 use Rattle.a68_tree.specs.declared.sym.Sym.{Sym}
 use Rattle.a68_tree.specs.Forest.{Forest, end, joined}
-use Rattle.a68_draft.specs.Stack.{Layer, put}
+use Rattle.a68_nodes.specs.Stack.{Layer, put}
 use Rattle.a68_read.specs.Awaits.{Run}
 use Rattle.a68_read.proofs.Joins as joins
 

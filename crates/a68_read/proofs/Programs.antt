@@ -2,18 +2,18 @@
 use Rattle.std.proofs.Common.{◌≡◌, Bool, true, false, nat_eq, length, Option, None, Some, List, [], ◌∷◌, refl, sym, ap, subst, ◌∙◌}
 use Rattle.std.proofs.lemmas.List.{nil_from_length}
 use Rattle.std.proofs.lemmas.Bool.{eqb-true}
-use Rattle.a68_goals.specs.declared.goal.Goal.{Goal}
-use Rattle.a68_read.specs.declared.fault.Fault.{Fault}
-use Rattle.a68_read.specs.declared.fault.Fault.TheVariants.{Memory, NoTree}
+use Rattle.a68_unit_productions.specs.declared.goal.Goal.{Goal}
+use Rattle.a68_read.specs.declared.unread.Unread.{Unread}
+use Rattle.a68_read.specs.declared.unread.Unread.TheVariants.{Memory, NoTree}
 use Rattle.a68_tree.specs.declared.kind.NodeKind.{NodeKind}
 use Rattle.a68_tree.specs.declared.sym.Sym.{Sym}
 use Rattle.a68_tree.specs.Forest.{Forest, end, part, spells}
 use Rattle.a68_tree.specs.Grammar.{IsEnclosed}
 use Rattle.a68_tree.specs.Nodes.{Entry, with_node}
-use Rattle.a68_draft.specs.Stack.{Layer, node}
-use Rattle.a68_draft.specs.Views.{State}
-use Rattle.a68_draft.specs.Built.{Built}
-use Rattle.a68_goals.specs.declared.goal.Goal.TheVariants as g
+use Rattle.a68_nodes.specs.Stack.{Layer, node}
+use Rattle.a68_nodes.specs.Views.{State}
+use Rattle.a68_nodes.specs.Built.{Built}
+use Rattle.a68_unit_productions.specs.declared.goal.Goal.TheVariants as g
 use Rattle.a68_read.specs.Fits as f
 use Rattle.a68_read.specs.Awaits as a
 use Rattle.a68_read.specs.Readings.{IsWhole, is_whole, IsEnd, Reading, HasNoTree, Stands, OnFault, Fails, ReadProgram}
@@ -82,6 +82,6 @@ pub one_left : (text rest : List Sym) (s : State) (goals : List Goal) (next : Op
 one_left text rest s goals next goal e r = subst (Stands text rest s goals) e r
 
 -- a symbol that cannot be taken
-pub failed : (goal : Goal) (text rest : List Sym) (old : State) (goals : List Goal) (e : Fault) → OnFault e (Fails goal rest old) → Reading text (goal ∷ goals) rest old → OnFault e (HasNoTree text)
+pub failed : (goal : Goal) (text rest : List Sym) (old : State) (goals : List Goal) (e : Unread) → OnFault e (Fails goal rest old) → Reading text (goal ∷ goals) rest old → OnFault e (HasNoTree text)
 failed goal text rest old goals Memory t r = tt
 failed goal text rest old goals (NoTree left) t r = t text goals r

@@ -2,9 +2,9 @@
 use Rattle.std.proofs.Common.{◌≡◌, Bool, true, false, Option, None, Some, List, refl}
 use Rattle.std.proofs.lemmas.Bool.{true≢false}
 use Rattle.a68_tree.specs.declared.sym.Sym.{Sym}
-use Rattle.a68_goals.specs.declared.goal.Goal.{Goal}
-use Rattle.a68_goals.specs.declared.goal.Goal.TheVariants as g
-use Rattle.a68_expand.specs.Expand.{expand}
+use Rattle.a68_unit_productions.specs.declared.goal.Goal.{Goal}
+use Rattle.a68_unit_productions.specs.declared.goal.Goal.TheVariants as g
+use Rattle.a68_productions.specs.Expand.{expand}
 use Rattle.a68_read.specs.Weights.{is_taking}
 use Rattle.a68_read.specs.Acts.{is_acting}
 

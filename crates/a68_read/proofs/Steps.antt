@@ -2,10 +2,10 @@
 -- made of.
 use Rattle.std.proofs.Common.{Option, Some, None, List, [], ◌∷◌}
 use Rattle.a68_tree.specs.declared.sym.Sym.{Sym}
-use Rattle.a68_draft.specs.Stack.{Layer}
-use Rattle.a68_goals.specs.declared.goal.Goal.{Goal}
-use Rattle.a68_goals.specs.declared.goal.Goal.TheVariants as g
-use Rattle.a68_expand.specs.Expand.{expand}
+use Rattle.a68_nodes.specs.Stack.{Layer}
+use Rattle.a68_unit_productions.specs.declared.goal.Goal.{Goal}
+use Rattle.a68_unit_productions.specs.declared.goal.Goal.TheVariants as g
+use Rattle.a68_productions.specs.Expand.{expand}
 use Rattle.a68_read.specs.Fits.{Shape, fits, all_fit}
 use Rattle.a68_read.specs.Awaits.{Run, awaits, all_await}
 use Rattle.a68_read.proofs.FitClauses as fit_clauses

@@ -7,12 +7,12 @@ use Rattle.a68_tree.specs.declared.sym.Sym.{Sym}
 use Rattle.a68_tree.specs.declared.sym.Sym.TheVariants.{Opens, Closes, Is}
 use Rattle.a68_tree.specs.Forest.{Forest, end, mark, group, sign, spells}
 use Rattle.a68_tree.specs.Grammar.{IsEnclosed, IsMonadic, IsSign, IsDenotation, IsPlain}
-use Rattle.a68_draft.specs.Stack.{Layer, inside, put}
-use Rattle.a68_draft.specs.Views.{State}
-use Rattle.a68_draft.specs.Built.{Built}
-use Rattle.a68_draft.proofs.Steps.{mark_built}
-use Rattle.a68_goals.specs.declared.goal.Goal.{Goal}
-use Rattle.a68_goals.specs.declared.goal.Goal.TheVariants as g
+use Rattle.a68_nodes.specs.Stack.{Layer, inside, put}
+use Rattle.a68_nodes.specs.Views.{State}
+use Rattle.a68_nodes.specs.Built.{Built}
+use Rattle.a68_nodes.proofs.Steps.{mark_built}
+use Rattle.a68_unit_productions.specs.declared.goal.Goal.{Goal}
+use Rattle.a68_unit_productions.specs.declared.goal.Goal.TheVariants as g
 use Rattle.a68_read.specs.Fits as f
 use Rattle.a68_read.specs.Fits.{Shape, all_fit}
 use Rattle.a68_read.specs.Awaits as a

@@ -8,12 +8,12 @@ use Rattle.a68_tree.specs.declared.sym.Sym.{Sym}
 use Rattle.a68_tree.specs.declared.sym.Sym.TheVariants.{Opens, Closes, Is}
 use Rattle.a68_tree.specs.Forest.{Forest, spells}
 use Rattle.a68_tree.specs.Grammar as gr
-use Rattle.a68_ahead.specs.Symbols.{Follows, next, starts, starts_pair, is_monadic, is_operator, is_denotation, is_declarer, ends_trimmer, ends_bound}
-use Rattle.a68_ahead.specs.Sets as set
-use Rattle.a68_ahead.proofs.Firsts as first
-use Rattle.a68_ahead.proofs.Firsts.{no_first, no_next, no_first_pair}
-use Rattle.a68_goals.specs.declared.goal.Defining.{Defining}
-use Rattle.a68_goals.specs.declared.goal.Defining.TheVariants as d
+use Rattle.a68_lookahead.specs.Symbols.{Follows, next, starts, starts_pair, is_monadic, is_operator, is_denotation, is_declarer, ends_trimmer, ends_bound}
+use Rattle.a68_lookahead.specs.Sets as set
+use Rattle.a68_lookahead.proofs.Firsts as first
+use Rattle.a68_lookahead.proofs.Firsts.{no_first, no_next, no_first_pair}
+use Rattle.a68_unit_productions.specs.declared.goal.Defining.{Defining}
+use Rattle.a68_unit_productions.specs.declared.goal.Defining.TheVariants as d
 use Rattle.a68_read.specs.Middles as m
 use Rattle.a68_read.specs.Middles.{IsDefinition, IsRun, run}
 use Rattle.a68_read.specs.Awaits as a
@@ -165,7 +165,7 @@ declarer_no_procedure (gr.proc gr.yield_void) r = refl
 declarer_no_procedure (gr.proc_params p q) r = refl
 
 -- one more definition of the same declaration
-pub goes_on : {y : Defining} {j : NodeKind} {u : Forest} → IsDefinition y j u → (r : List Sym) → Rattle.a68_goals.specs.Declarations.goes_on y (spells u r) ≡ true
+pub goes_on : {y : Defining} {j : NodeKind} {u : Forest} → IsDefinition y j u → (r : List Sym) → Rattle.a68_unit_productions.specs.Declarations.goes_on y (spells u r) ≡ true
 goes_on (m.defines_mode p) r = refl
 goes_on (m.defines_priority s) r = operator_first s (Is t.Equals ∷ Is t.Digit ∷ r)
 goes_on (m.defines_operator {r = z} s p) r = operator_first s (Is t.Equals ∷ spells z r)
@@ -234,7 +234,7 @@ anew_tag (a.declares_named (gr.union_ v w) n) r = refl
 anew_tag (a.declares_named (gr.proc v) n) r = refl
 anew_tag (a.declares_named (gr.proc_params v w) n) r = refl
 
-pub anew : (y : Defining) {f : Forest} → IsDeclaring f → (r : List Sym) → Rattle.a68_goals.specs.Declarations.goes_on y (spells f r) ≡ false
+pub anew : (y : Defining) {f : Forest} → IsDeclaring f → (r : List Sym) → Rattle.a68_unit_productions.specs.Declarations.goes_on y (spells f r) ≡ false
 anew d.Mode p r = anew_mode p r
 anew d.Priority p r = anew_operator p r
 anew d.Operator p r = anew_operator p r

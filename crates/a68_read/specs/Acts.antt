@@ -1,7 +1,8 @@
+-- Inner: the headline does not rest on this file.
 -- Goals that are to do something with what was read.
 use Rattle.std.specs.Prelude.{Bool, true, false}
-use Rattle.a68_goals.specs.declared.goal.Goal.{Goal}
-use Rattle.a68_goals.specs.declared.goal.Goal.TheVariants as g
+use Rattle.a68_unit_productions.specs.declared.goal.Goal.{Goal}
+use Rattle.a68_unit_productions.specs.declared.goal.Goal.TheVariants as g
 
 abbrev pub is_acting : Goal → Bool
 is_acting g.Begin = true

@@ -1,3 +1,4 @@
+-- Inner: the headline does not rest on this file.
 -- What goals stand for in a text: the forms that stand at its front one after another, up to the end.
 use Rattle.std.specs.Prelude.{Bool, List, [], ◌∷◌}
 use Rattle.a68_tree.specs.declared.kind.NodeKind.{NodeKind}
@@ -10,12 +11,12 @@ use Rattle.a68_tree.specs.declared.sym.Sym.{Sym}
 use Rattle.a68_tree.specs.declared.sym.Sym.TheVariants.{Opens, Closes, Is}
 use Rattle.a68_tree.specs.Forest.{Forest, end, mark, group, part, sign, aside, shared, forget, joined, spells, Single, Several}
 use Rattle.a68_tree.specs.Grammar.{IsMonadic, IsSign, IsDenotation, IsPlain, IsClosing, IsEnclosed, IsElse, IsElseBrief, IsOut, IsOutBrief, IsOutC, IsOutCBrief, IsFrom, IsBy, IsTo, IsWhile, IsChoices, IsSpec, IsSerial, IsUnits, IsUnit, IsRoutine, IsResult, IsParams, IsTags, IsTertiary, IsOperands, IsSecondary, IsIndexes, IsIndex, IsTrimmer, IsAt, IsDeclarer, IsYield, IsDeclarers, IsBounds, IsBound, IsDeclaration, IsPlan}
-use Rattle.a68_ahead.specs.Symbols.{Follows}
-use Rattle.a68_ahead.specs.Sets as set
-use Rattle.a68_draft.specs.Stack.{Layer, node, inside, put}
-use Rattle.a68_goals.specs.declared.goal.Goal.{Goal}
-use Rattle.a68_goals.specs.declared.goal.Goal.TheVariants as g
-use Rattle.a68_goals.specs.declared.goal.Defining.TheVariants as d
+use Rattle.a68_lookahead.specs.Symbols.{Follows}
+use Rattle.a68_lookahead.specs.Sets as set
+use Rattle.a68_nodes.specs.Stack.{Layer, node, inside, put}
+use Rattle.a68_unit_productions.specs.declared.goal.Goal.{Goal}
+use Rattle.a68_unit_productions.specs.declared.goal.Goal.TheVariants as g
+use Rattle.a68_unit_productions.specs.declared.goal.Defining.TheVariants as d
 use Rattle.a68_read.specs.Middles.{IsCommaTail, IsSerialTail, IsOperandsTail, IsSpecTag, IsInitial, IsPlanTail, IsTagsMore, IsProcedurePlan, IsBase, InChoice, AfterSerial, InBrief, InBlock, InCase, UnitRest, IsDefinition, IsRun, IsTail, IsMore}
 
 -- what is said of a stack of layers and of the text that is left

@@ -1,3 +1,4 @@
+-- Inner: the headline does not rest on this file.
 -- What goals lead to, whatever text is read: behind all forms that a goal stands for, what was opened is of that shape.
 use Rattle.std.specs.Prelude.{◌≡◌, Bool, true, false, List, [], ◌∷◌, None, Some}
 use Rattle.a68_tree.specs.declared.kind.NodeKind.{NodeKind}
@@ -8,9 +9,9 @@ use Rattle.a68_tree.specs.declared.sym.Token.{Token}
 use Rattle.a68_tree.specs.declared.sym.Token.TheVariants as t
 use Rattle.a68_tree.specs.Forest.{Forest, end, mark, group, part, sign, aside, shared, forget, Single, Several}
 use Rattle.a68_tree.specs.Grammar.{IsMonadic, IsSign, IsDenotation, IsPlain, IsEnclosed, IsElse, IsElseBrief, IsOut, IsOutBrief, IsOutC, IsOutCBrief, IsFrom, IsBy, IsTo, IsWhile, IsChoices, IsSpec, IsSerial, IsUnits, IsUnit, IsRoutine, IsResult, IsParams, IsTags, IsTertiary, IsOperands, IsSecondary, IsPrimary, IsIndexes, IsIndex, IsTrimmer, IsAt, IsDeclarer, IsYield, IsDeclarers, IsBounds, IsBound, IsDeclaration, IsDefinitions, IsPlan}
-use Rattle.a68_draft.specs.Stack.{Layer, node, inside, put}
-use Rattle.a68_goals.specs.declared.goal.Goal.{Goal}
-use Rattle.a68_goals.specs.declared.goal.Goal.TheVariants as g
+use Rattle.a68_nodes.specs.Stack.{Layer, node, inside, put}
+use Rattle.a68_unit_productions.specs.declared.goal.Goal.{Goal}
+use Rattle.a68_unit_productions.specs.declared.goal.Goal.TheVariants as g
 use Rattle.a68_read.specs.Middles.{IsCommaTail, IsSerialTail, IsOperandsTail, IsSpecTag, IsInitial, IsPlanTail, IsTagsMore, IsProcedurePlan, IsBase, IsDefinition, IsTail, IsMore}
 
 -- what is said of a stack of layers

@@ -1,3 +1,4 @@
+-- Inner: the headline does not rest on this file.
 -- What is known while a text is read.
 use Rattle.std.specs.Prelude.{◌≡◌, List, [], ◌∷◌, Option, Some, None, Result, Ok, Err}
 use Rattle.a68_tree.specs.declared.kind.NodeKind.{NodeKind}
@@ -7,14 +8,14 @@ use Rattle.a68_tree.specs.declared.sym.Token.{Token}
 use Rattle.a68_tree.specs.Forest.{Forest, end, part, spells}
 use Rattle.a68_tree.specs.Grammar.{IsEnclosed}
 use Rattle.a68_tree.specs.Nodes.{Entry, with_node}
-use Rattle.a68_draft.specs.Stack.{Layer, node}
-use Rattle.a68_draft.specs.Views.{State}
-use Rattle.a68_draft.specs.Built.{Built}
-use Rattle.a68_goals.specs.declared.goal.Goal.{Goal}
+use Rattle.a68_nodes.specs.Stack.{Layer, node}
+use Rattle.a68_nodes.specs.Views.{State}
+use Rattle.a68_nodes.specs.Built.{Built}
+use Rattle.a68_unit_productions.specs.declared.goal.Goal.{Goal}
 use Rattle.a68_read.specs.Fits.{all_fit}
 use Rattle.a68_read.specs.Awaits.{all_await}
-use Rattle.a68_read.specs.declared.fault.Fault.{Fault}
-use Rattle.a68_read.specs.declared.fault.Fault.TheVariants.{Memory, NoTree}
+use Rattle.a68_read.specs.declared.unread.Unread.{Unread}
+use Rattle.a68_read.specs.declared.unread.Unread.TheVariants.{Memory, NoTree}
 
 -- a program has been read, and nothing is open
 pub data IsWhole : List Layer → Type 0 where
@@ -45,12 +46,12 @@ abbrev pub Fails : Goal → List Sym → State → Type 0
 Fails goal rest old = (whole : List Sym) (goals : List Goal) → Reading whole (goal ∷ goals) rest old → HasNoTree whole
 
 -- where memory was there
-abbrev pub OnFault : Fault → Type 0 → Type 0
+abbrev pub OnFault : Unread → Type 0 → Type 0
 OnFault Memory P = Unit {0}
 OnFault (NoTree left) P = P
 
 -- a symbol is taken, or it does not stand there
-abbrev pub Takes : {X : Type 0} → (X → List Sym) → Goal → List Sym → State → State → Result X Fault → Type 0
+abbrev pub Takes : {X : Type 0} → (X → List Sym) → Goal → List Sym → State → State → Result X Unread → Type 0
 Takes view goal rest old new (Ok x) = Does goal rest (view x) old new
 Takes view goal rest old new (Err e) = OnFault e (Fails goal rest old)
 
@@ -82,6 +83,6 @@ pub record ReadProgram (text : List Sym) (new : List Entry) : Type 0 where
   pub only : (j : NodeKind) (g : Forest) → IsEnclosed j g → text ≡ spells g [] → (j ≡ kind) × (g ≡ under)
   pub added : new ≡ with_node [] [] kind under []
 
-abbrev pub ReadsProgram : {X : Type 0} → (X → List Entry) → List Sym → Result X Fault → Type 0
+abbrev pub ReadsProgram : {X : Type 0} → (X → List Entry) → List Sym → Result X Unread → Type 0
 ReadsProgram view text (Ok x) = ReadProgram text (view x)
 ReadsProgram view text (Err e) = OnFault e (HasNoTree text)

@@ -1,7 +1,8 @@
+-- Inner: the headline does not rest on this file.
 -- How much is to be done for goals before a symbol is taken.
 use Rattle.std.specs.Prelude.{ℕ, ◌+◌, Bool, true, false, List, [], ◌∷◌, nat_lt, not, ◌&&◌, ◌||◌, if◌then◌else◌}
-use Rattle.a68_goals.specs.declared.goal.Goal.{Goal}
-use Rattle.a68_goals.specs.declared.goal.Goal.TheVariants as g
+use Rattle.a68_unit_productions.specs.declared.goal.Goal.{Goal}
+use Rattle.a68_unit_productions.specs.declared.goal.Goal.TheVariants as g
 
 abbrev pub weight : Goal → ℕ
 weight g.Enclosed = 6

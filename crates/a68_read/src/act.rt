@@ -1,13 +1,13 @@
 //! What is done with what was read.
 ghost use Rattle.std.specs.Prelude.{◌≡◌, true, OnOk};
-ghost use Rattle.a68_goals.specs.declared.goal.Goal.TheVariants as g;
+ghost use Rattle.a68_unit_productions.specs.declared.goal.Goal.TheVariants as g;
 ghost use Rattle.a68_read.specs.Acts.{is_acting};
 ghost use Rattle.a68_read.specs.Readings.{Does};
 
 use a68_base::NoMemory;
-use a68_draft::Drafting;
-use a68_goals::Goal;
+use a68_nodes::Drafting;
 use a68_tree::{NodeKind, Sym};
+use a68_unit_productions::Goal;
 use std::alloc::Global;
 
 // A node, and it is left.

@@ -2,7 +2,7 @@
 ghost use Rattle.std.specs.Prelude.{◌≡◌};
 ghost use Rattle.a68_read.specs.Weights as weights;
 
-use a68_goals::Goal;
+use a68_unit_productions::Goal;
 
 /// Whether the goal is to take a symbol.
 pub fn is_taking(goal: Goal) -> bool

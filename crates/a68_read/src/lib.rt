@@ -2,11 +2,11 @@
 #![tactic(auto)]
 
 mod act;
-mod fault;
 mod kinds;
 mod program;
 mod ready;
 mod take;
+mod unread;
 
-pub use fault::Fault;
 pub use program::read;
+pub use unread::Unread;

@@ -1,19 +1,19 @@
 //! Whole texts.
 ghost use Rattle.std.specs.Prelude.{◌≡◌};
-ghost use Rattle.a68_draft.specs.Views.{views};
+ghost use Rattle.a68_nodes.specs.Views.{views};
 ghost use Rattle.a68_read.specs.Readings.{ReadsProgram};
 
-use crate::fault::Fault;
 use crate::ready::ready;
 use crate::take::take;
-use a68_draft::{Draft, Drafting};
-use a68_goals::Goal;
+use crate::unread::Unread;
+use a68_nodes::{Draft, Drafting};
 use a68_tree::Sym;
+use a68_unit_productions::Goal;
 use std::alloc::Global;
 
 /// The nodes of the one derivation of all the symbols by the grammar, each behind its parts. A text that has none is
 /// refused at the symbol that does not go on the form that was chosen.
-pub fn read(alloc: Global, text: &[Sym]) -> Result<Vec<Draft>, Fault>
+pub fn read(alloc: Global, text: &[Sym]) -> Result<Vec<Draft>, Unread>
     ensures { ReadsProgram (λ drafts. views drafts.items) text.now result }
 {
     let mut drafting = Drafting::new(alloc, text)?;
@@ -24,7 +24,7 @@ pub fn read(alloc: Global, text: &[Sym]) -> Result<Vec<Draft>, Fault>
         rest = take(goal, rest, &mut drafting)?;
     }
     if !rest.is_empty() {
-        return Err(Fault::NoTree(rest.len()));
+        return Err(Unread::NoTree(rest.len()));
     }
     Ok(drafting.finish())
 }

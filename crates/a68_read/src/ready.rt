@@ -7,10 +7,10 @@ ghost use Rattle.a68_read.specs.Readings.{Reading, Stands};
 use crate::act::act;
 use crate::kinds::is_taking;
 use a68_base::NoMemory;
-use a68_draft::Drafting;
-use a68_expand::expand;
-use a68_goals::Goal;
+use a68_nodes::Drafting;
+use a68_productions::expand;
 use a68_tree::Sym;
+use a68_unit_productions::Goal;
 use std::alloc::Global;
 
 // These goals, the first one first.

@@ -11,32 +11,32 @@ use Rattle.a68_code.specs.declared.does.Does.{Does}
 use Rattle.a68_code.specs.declared.does.Does.TheVariants as does
 use Rattle.a68_elab.specs.Rows.{Then, goes, acts, meets}
 use Rattle.a68_strand.specs.Machine.{State, stack_of, exec, at_end, does_one, silently, told_by, place_at}
-use Rattle.a68_strand.specs.declared.ask.Mode.{Mode}
-use Rattle.a68_strand.specs.declared.ask.Mode.TheVariants.{Idle, Asking, Failed}
+use Rattle.a68_strand.specs.declared.ask.Stance.{Stance}
+use Rattle.a68_strand.specs.declared.ask.Stance.TheVariants.{Idle, Asking, Failed}
 use Rattle.a68_stack.specs.declared.stack.Item.{Item}
 use Rattle.a68_values.specs.declared.chain.Environ.{Environ}
 
 -- a strand that stands before an instruction
 abbrev pub idle : ℕ → List Item → List Environ → State
-idle at items chain = record { at = at; stack = stack_of items; chain = chain; mode = Idle }
+idle at items chain = record { at = at; stack = stack_of items; chain = chain; stance = Idle }
 
 -- what a strand is about
-abbrev pub seen_in : Code → Mode → State → Then State
+abbrev pub seen_in : Code → Stance → State → Then State
 seen_in code Idle st = goes st
 seen_in code (Asking w wait) st = acts (place_at code.list st.at) w (told_by code st wait)
 seen_in code (Failed why) st = meets why (place_at code.list st.at)
 
 abbrev pub seen : Code → State → Then State
-seen code st = seen_in code st.mode st
+seen code st = seen_in code st.stance st
 
 -- what comes next for a strand: its next step shows it, or the strand itself
-abbrev pub ask_in : Code → Mode → State → Option (Then State)
+abbrev pub ask_in : Code → Stance → State → Option (Then State)
 ask_in code Idle st = option_map (seen code) (silently code Idle st)
 ask_in code (Asking w wait) st = Some (seen_in code (Asking w wait) st)
 ask_in code (Failed why) st = Some (seen_in code (Failed why) st)
 
 abbrev pub ask : Code → State → Option (Then State)
-ask code st = ask_in code st.mode st
+ask code st = ask_in code st.stance st
 
 -- the instruction at the strand's place
 abbrev found : Code → State → Option Instr → Option (Then State)

@@ -18,7 +18,7 @@ use Rattle.a68_strand.specs.Ends as run
 use Rattle.a68_strand.specs.Machine.{State, stack_of, settle}
 use Rattle.a68_strand.specs.RunOf.{RunOf}
 use Rattle.a68_strand.specs.Runs.{World, IfNext, acted}
-use Rattle.a68_strand.specs.declared.ask.Mode.TheVariants.{Idle, Asking}
+use Rattle.a68_strand.specs.declared.ask.Stance.TheVariants.{Idle, Asking}
 use Rattle.a68_strand.specs.declared.ask.Waiting.TheVariants as waiting
 use Rattle.a68_values.specs.Content.{plain}
 use Rattle.a68_values.specs.declared.act.Act.TheVariants as act
@@ -177,12 +177,12 @@ last_store = record {
 }
 
 abbrev last_state : State
-last_state = record { at = 30; stack = stack_of []; chain = record { frame = 0; scope = 0 } ∷ []; mode = Idle }
+last_state = record { at = 30; stack = stack_of []; chain = record { frame = 0; scope = 0 } ∷ []; stance = Idle }
 
 abbrev before_print : List ℕ → World
 before_print printed = record {
   store = record last_store { text = [] };
-  strands = record last_state { at = 28; chain = record { frame = 1; scope = 1 } ∷ record { frame = 0; scope = 0 } ∷ []; mode = Asking (want.Print printed) (waiting.Operation (next.Printing [])) } ∷ [];
+  strands = record last_state { at = 28; chain = record { frame = 1; scope = 1 } ∷ record { frame = 0; scope = 0 } ∷ []; stance = Asking (want.Print printed) (waiting.Operation (next.Printing [])) } ∷ [];
 }
 
 printed_three : printed_int (pos 3) ≡ text

@@ -25,7 +25,7 @@ use Rattle.a68_strand.specs.Ends as run
 use Rattle.a68_strand.specs.Machine.{State, stack_of, settle}
 use Rattle.a68_strand.specs.RunOf.{RunOf}
 use Rattle.a68_strand.specs.Runs.{World, IfNext, acted}
-use Rattle.a68_strand.specs.declared.ask.Mode.TheVariants.{Idle, Asking, Failed}
+use Rattle.a68_strand.specs.declared.ask.Stance.TheVariants.{Idle, Asking, Failed}
 use Rattle.a68_strand.specs.declared.ask.Waiting.TheVariants as waiting
 use Rattle.a68_values.specs.Content.{Content, plain}
 use Rattle.a68_values.specs.declared.act.Act.{Act}
@@ -120,13 +120,13 @@ last_store = record {
 }
 
 abbrev last_state : State
-last_state = record { at = 9; stack = stack_of []; chain = record { frame = 0; scope = 0 } ∷ []; mode = Idle }
+last_state = record { at = 9; stack = stack_of []; chain = record { frame = 0; scope = 0 } ∷ []; stance = Idle }
 
 -- the world in which a text is about to be printed
 abbrev before_print : List ℕ → World
 before_print printed = record {
   store = record last_store { text = [] };
-  strands = record last_state { at = 7; chain = record { frame = 1; scope = 1 } ∷ record { frame = 0; scope = 0 } ∷ []; mode = Asking (want.Print printed) (waiting.Operation (next.Printing [])) } ∷ [];
+  strands = record last_state { at = 7; chain = record { frame = 1; scope = 1 } ∷ record { frame = 0; scope = 0 } ∷ []; stance = Asking (want.Print printed) (waiting.Operation (next.Printing [])) } ∷ [];
 }
 
 printed_five : printed_int (pos 5) ≡ text
@@ -234,7 +234,7 @@ kept_unset = record {
 }
 
 abbrev unset_state : State
-unset_state = record { at = 5; stack = stack_of []; chain = record { frame = 1; scope = 1 } ∷ record { frame = 0; scope = 0 } ∷ []; mode = Failed fault.Unset }
+unset_state = record { at = 5; stack = stack_of []; chain = record { frame = 1; scope = 1 } ∷ record { frame = 0; scope = 0 } ∷ []; stance = Failed fault.Unset }
 
 unset_ran : RunOf unset_code 100 kept_unset
 unfolding does settle start resumed chain_of
@@ -312,7 +312,7 @@ kept_newer = record {
 }
 
 abbrev newer_state : State
-newer_state = record { at = 4; stack = stack_of []; chain = record { frame = 1; scope = 1 } ∷ record { frame = 0; scope = 0 } ∷ []; mode = Failed fault.Scope }
+newer_state = record { at = 4; stack = stack_of []; chain = record { frame = 1; scope = 1 } ∷ record { frame = 0; scope = 0 } ∷ []; stance = Failed fault.Scope }
 
 newer_ran : RunOf newer_code 100 kept_newer
 unfolding does settle start resumed chain_of

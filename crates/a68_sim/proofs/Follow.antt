@@ -18,7 +18,7 @@ use Rattle.a68_sim.proofs.Jobs.{Done, row_done, misled_sim, operating_done, resu
 use Rattle.a68_sim.proofs.Quiet.{still, quiet_in, Hole, Tells, moves_in, Progress, moves, finishes, progress_after, progress_row, moves_act, moves_fault}
 use Rattle.a68_sim.proofs.Relation.{count_terms, AllTodo, doing_of, posed, parts_give, inner, OperationAt, LoopAt, Tail, Begins, DoesParts, Sim, yields, left, does_yields, does_todos, does_first, same_count, left_none, todos_all, count_todos}
 use Rattle.a68_strand.specs.Machine.{State, asks_for, told_by}
-use Rattle.a68_strand.specs.declared.ask.Mode.TheVariants.{Asking}
+use Rattle.a68_strand.specs.declared.ask.Stance.TheVariants.{Asking}
 use Rattle.a68_strand.specs.declared.ask.Waiting.TheVariants as waiting
 use Rattle.a68_stack.specs.declared.stack.Item.{Item}
 use Rattle.a68_values.specs.Content.{Content}

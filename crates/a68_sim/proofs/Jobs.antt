@@ -27,7 +27,7 @@ use Rattle.a68_sim.proofs.Quiet.{still, quietly, outwards, Tells, Progress, move
 use Rattle.a68_sim.proofs.Relation.{push, count_terms, doing_of, posed, parts_give, inner, LoopAt, Tail, Sim, yields, left, onto, size, values_yields, pops_left, count_yields, left_none, does_yields}
 use Rattle.a68_strand.specs.Machine.{State, exec, follows, fails, goes_on, goes_to, branches, with_counter, told_by, asks_for}
 use Rattle.a68_stack.specs.Values.{pop_values}
-use Rattle.a68_strand.specs.declared.ask.Mode.TheVariants.{Asking}
+use Rattle.a68_strand.specs.declared.ask.Stance.TheVariants.{Asking}
 use Rattle.a68_strand.specs.declared.ask.Waiting.TheVariants as waiting
 use Rattle.a68_stack.specs.declared.stack.Item.{Item}
 use Rattle.a68_stack.specs.declared.stack.Item.TheVariants as item

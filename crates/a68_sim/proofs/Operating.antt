@@ -23,7 +23,7 @@ use Rattle.a68_gen.proofs.Forward.{next_is}
 use Rattle.a68_sim.proofs.Quiet.{still, quietly, Progress, finishes, moves_on, moves_act, moves_fault}
 use Rattle.a68_sim.proofs.Relation.{push, OperationAt, Continues, Sim}
 use Rattle.a68_strand.specs.Machine.{State, exec, operates, follows, at_end, does_leave, leaves_at, asks_for, told_by}
-use Rattle.a68_strand.specs.declared.ask.Mode.TheVariants.{Asking}
+use Rattle.a68_strand.specs.declared.ask.Stance.TheVariants.{Asking}
 use Rattle.a68_strand.specs.declared.ask.Waiting.TheVariants as waiting
 use Rattle.a68_stack.specs.declared.stack.Item.{Item}
 use Rattle.a68_values.specs.Content.{Content}

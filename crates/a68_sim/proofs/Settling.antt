@@ -24,16 +24,16 @@ use Rattle.a68_sim.proofs.Relation.{Sim}
 use Rattle.a68_sim.proofs.Soundness.{Sound, step_sound}
 use Rattle.a68_strand.specs.Machine.{State, Stack, at_end, does_one, silently, settle_in, steps, goes_on, goes_to, fails, told_by, place_at}
 use Rattle.a68_stack.specs.Values.{top_counter}
-use Rattle.a68_strand.specs.declared.ask.Mode.{Mode}
-use Rattle.a68_strand.specs.declared.ask.Mode.TheVariants.{Idle, Asking, Failed}
+use Rattle.a68_strand.specs.declared.ask.Stance.{Stance}
+use Rattle.a68_strand.specs.declared.ask.Stance.TheVariants.{Idle, Asking, Failed}
 use Rattle.a68_strand.specs.declared.ask.Waiting.{Waiting}
 use Rattle.a68_values.specs.Content.{Content}
 use Rattle.a68_values.specs.declared.act.FaultKind.{FaultKind}
 use Rattle.a68_values.specs.declared.act.FaultKind.TheVariants as fault
 use Rattle.a68_values.specs.declared.chain.Environ.{Environ}
 
-abbrev pub state : ℕ → Stack → List Environ → Mode → State
-state at stack ch mode = record { at = at; stack = stack; chain = ch; mode = mode }
+abbrev pub state : ℕ → Stack → List Environ → Stance → State
+state at stack ch stance = record { at = at; stack = stack; chain = ch; stance = stance }
 
 module _ (code : Code) where
   -- n steps are enough from a place: it lies so far from the end of the list; or it is the Step to which the end of a
@@ -59,14 +59,14 @@ module _ (code : Code) where
 
   -- a silent step leaves enough
   enough_left : (n at : ℕ) (stack : Stack) (ch : List Environ) (next : State) → Enough (suc n) at → silently code Idle (state at stack ch Idle) ≡ Some next
-      → next.mode ≡ Idle → Forth code at (goes next) → Enough n next.at
+      → next.stance ≡ Idle → Forth code at (goes next) → Enough n next.at
   enough_left n at stack ch next (inl far) e idles (inl on) = inl (omega arith)
   enough_left n at stack ch next (inl far) e idles (inr back) =
       let a = back.leaves in inr (inl (record { behind = back.behind; step = back.step; turn = back.turn; inside = back.inside; enough = omega arith }))
   enough_left n at stack ch next (inr (inr t)) e idles forth =
       let x = sym (ap (stepped (state at stack ch Idle)) t.0) ∙ e in
       let y = same_Some _ next x in
-      let z = ap (λ (s : State). s.mode) y ∙ idles in
+      let z = ap (λ (s : State). s.stance) y ∙ idles in
       absurd (cc)
   enough_left n at stack ch next (inr (inl s)) e idles forth = by_counter (top_counter stack.items) (sym (ap (stepped st) s.step) ∙ e)
     where
@@ -84,18 +84,18 @@ module _ (code : Code) where
           subst (Enough n) y (inl (omega arith))
 
       by_counter : (o : Option Counter) → Some (steps st s.behind o) ≡ Some next → Enough n next.at
-      by_counter None q = let z = ap (λ (s : State). s.mode) (same_Some _ next q) ∙ idles in absurd (cc)
+      by_counter None q = let z = ap (λ (s : State). s.stance) (same_Some _ next q) ∙ idles in absurd (cc)
       by_counter (Some c) q = by_test c (has_turn c) q
 
 -- where a strand has settled, the term has followed it: it yields silently where the strand has come to its end
-abbrev pub SettledIn : Program → Code → (Term → State → Type 0) → Mode → List Frame → Term → State → Type 0
+abbrev pub SettledIn : Program → Code → (Term → State → Type 0) → Stance → List Frame → Term → State → Type 0
 SettledIn program code K Idle frames t st = (v : Content) × Quiet program t (yielded v)
 SettledIn program code K (Asking w wait) frames t st =
     Sound frames st × (home : List Environ) × Hangs frames home × Follows program K home t (acts (place_at code.list st.at) w (told_by code st wait))
 SettledIn program code K (Failed why) frames t st = (t' : Term) × Quiet program t t' × HasOpen program 0 t' 0 (meets why (place_at code.list st.at))
 
 abbrev pub Settled : Program → Code → (Term → State → Type 0) → List Frame → Term → State → Type 0
-Settled program code K frames t st = SettledIn program code K st.mode frames t st
+Settled program code K frames t st = SettledIn program code K st.stance frames t st
 
 module _ (program : Program) (code : Code) (same : code.modes ≡ program.modes) (b p : ℕ) (home : List Environ) (end : slice_get code.list b ≡ Some (record { place = p; does = does.End })) where
   abbrev K : Term → State → Type 0
@@ -118,24 +118,24 @@ module _ (program : Program) (code : Code) (same : code.modes ≡ program.modes)
   stays_failed (suc n) at stack ch why = refl
 
   -- a step on which the strand asks, fails or goes on
-  by_next : (frames : List Frame) (n : ℕ) (t : Term) (from : List Environ) (at : ℕ) (stack : Stack) (ch : List Environ) (mode : Mode)
-      → Hangs frames from → Sound frames (state at stack ch mode) → Follows program K from t (seen code (state at stack ch mode))
-      → ((t' : Term) → mode ≡ Idle → K t' (state at stack ch mode) → Comes frames t' (settle_in n code (state at stack ch mode)))
-      → Comes frames t (settle_in n code (state at stack ch mode))
+  by_next : (frames : List Frame) (n : ℕ) (t : Term) (from : List Environ) (at : ℕ) (stack : Stack) (ch : List Environ) (stance : Stance)
+      → Hangs frames from → Sound frames (state at stack ch stance) → Follows program K from t (seen code (state at stack ch stance))
+      → ((t' : Term) → stance ≡ Idle → K t' (state at stack ch stance) → Comes frames t' (settle_in n code (state at stack ch stance)))
+      → Comes frames t (settle_in n code (state at stack ch stance))
   by_next frames n t from at stack ch Idle h s f more = let x = more f.0 refl f.2 in (x.0, quiet_on f.1 x.1, x.2)
   by_next frames n t from at stack ch (Asking w wait) h s f more = subst (Comes frames t) (sym (stays_asking n at stack ch w wait)) (t, still, (s, from, h, f))
   by_next frames n t from at stack ch (Failed why) h s f more = subst (Comes frames t) (sym (stays_failed n at stack ch why)) (t, still, f)
 
-  by_mode : (frames : List Frame) (n : ℕ) (t : Term) (at : ℕ) (stack : Stack) (ch : List Environ) (mode : Mode)
-      → Sound frames (state at stack ch mode) → Enough code n at → Moves program code K t (state at stack ch mode)
+  by_stance : (frames : List Frame) (n : ℕ) (t : Term) (at : ℕ) (stack : Stack) (ch : List Environ) (stance : Stance)
+      → Sound frames (state at stack ch stance) → Enough code n at → Moves program code K t (state at stack ch stance)
       → ((k : ℕ) (t' : Term) (next : State) → n ≡ suc k → K t' next → Sound frames next → Enough code k next.at → Comes frames t' (settle_in k code next))
-      → Comes frames t (settle_in n code (state at stack ch mode))
-  by_mode frames n t at stack ch (Asking w wait) s enough m more =
+      → Comes frames t (settle_in n code (state at stack ch stance))
+  by_stance frames n t at stack ch (Asking w wait) s enough m more =
       subst (Comes frames t) (sym (stays_asking n at stack ch w wait))
       (t, still, (s, ch, s.0, subst (Follows program K ch t) (sym (same_Some _ m.what m.asks)) m.follows))
-  by_mode frames n t at stack ch (Failed why) s enough m more =
+  by_stance frames n t at stack ch (Failed why) s enough m more =
       subst (Comes frames t) (sym (stays_failed n at stack ch why)) (t, still, subst (Follows program K ch t) (sym (same_Some _ m.what m.asks)) m.follows)
-  by_mode frames n t at stack ch Idle s enough m more = by_step n enough (silently code Idle st) refl m.asks more
+  by_stance frames n t at stack ch Idle s enough m more = by_step n enough (silently code Idle st) refl m.asks more
     where
       st : State
       st = state at stack ch Idle
@@ -153,14 +153,14 @@ module _ (program : Program) (code : Code) (same : code.modes ≡ program.modes)
           let w : seen code next ≡ m.what = same_Some _ m.what a in
           let sound = next_sound (at_end (does_at code.list at)) next e in
           subst (λ (o : Option State). Comes frames t (option_map_or (settle_in k code) o st)) (sym e)
-          (by_next frames k t ch next.at next.stack next.chain next.mode s.0 sound (subst (Follows program K ch t) (sym w) m.follows)
+          (by_next frames k t ch next.at next.stack next.chain next.stance s.0 sound (subst (Follows program K ch t) (sym w) m.follows)
           (λ t' idles kt. more k t' next refl kt sound
-          (enough_left code k at stack ch next enough e idles (subst (Forth code at) (sym w ∙ ap (λ (md : Mode). seen_in code md next) idles) m.forth))))
+          (enough_left code k at stack ch next enough e idles (subst (Forth code at) (sym w ∙ ap (λ (md : Stance). seen_in code md next) idles) m.forth))))
 
   by_progress : (frames : List Frame) (n : ℕ) (t : Term) (st : State) → Sound frames st → Enough code n st.at → Progress program code K t st
       → ((k : ℕ) (t' : Term) (next : State) → n ≡ suc k → K t' next → Sound frames next → Enough code k next.at → Comes frames t' (settle_in k code next))
       → Comes frames t (settle_in n code st)
-  by_progress frames n t st s enough (moves m) more = by_mode frames n t st.at st.stack st.chain st.mode s enough m more
+  by_progress frames n t st s enough (moves m) more = by_stance frames n t st.at st.stack st.chain st.stance s enough m more
   by_progress frames n t st s enough (finishes v q k) more =
       subst (Comes frames t) (sym (ap (settle_in n code) k ∙ settle_end n)) (yielded v, q, (v, still))
 

@@ -21,8 +21,8 @@ use Rattle.a68_modes.specs.declared.shape.Shape.{Shape}
 use Rattle.a68_sim.proofs.Chains.{Hangs, act_hangs, frame_told}
 use Rattle.a68_strand.specs.Machine.{State, Stack, exec, does_one, follows, operates, fails, enters, leaves_frame, yields_to, branches, unless, with_counter, counts, steps, advances, forgets, goes_on, goes_to, told_by, leaves_at}
 use Rattle.a68_stack.specs.Values.{pop_values, top_counter, top_value}
-use Rattle.a68_strand.specs.declared.ask.Mode.{Mode}
-use Rattle.a68_strand.specs.declared.ask.Mode.TheVariants.{Idle, Asking}
+use Rattle.a68_strand.specs.declared.ask.Stance.{Stance}
+use Rattle.a68_strand.specs.declared.ask.Stance.TheVariants.{Idle, Asking}
 use Rattle.a68_strand.specs.declared.ask.Waiting.{Waiting}
 use Rattle.a68_strand.specs.declared.ask.Waiting.TheVariants as waiting
 use Rattle.a68_stack.specs.declared.stack.Item.{Item}
@@ -38,12 +38,12 @@ abbrev IsInner : Want → List Environ → Type 0
 IsInner (want.Enter about scope slots) (e ∷ outer) = about ≡ e.frame
 IsInner w ch = ⊥
 
-abbrev AsksWell : Mode → List Environ → Type 0
+abbrev AsksWell : Stance → List Environ → Type 0
 AsksWell (Asking w waiting.Frame) ch = IsInner w ch
-AsksWell mode ch = ⊤
+AsksWell stance ch = ⊤
 
 abbrev pub Sound : List Frame → State → Type 0
-Sound frames st = Hangs frames st.chain × AsksWell st.mode st.chain
+Sound frames st = Hangs frames st.chain × AsksWell st.stance st.chain
 
 module _ (frames : List Frame) where
   follows_sound : (st : State) (g : Bool) (items : List Item) (d : Doing) → Hangs frames st.chain → Sound frames (follows st g items d)
@@ -105,29 +105,29 @@ module _ (frames : List Frame) where
     forgets_sound (item.Value v ∷ items) = (h, tt)
     forgets_sound (item.Counter c ∷ items) = (h, tt)
 
-  enters_sound : (at : ℕ) (stack : Stack) (ch : List Environ) (mode : Mode) (slots : ℕ) → Hangs frames ch
-      → Sound frames (enters (record { at = at; stack = stack; chain = ch; mode = mode }) slots ch)
-  enters_sound at stack [] mode slots h = (h, tt)
-  enters_sound at stack (e ∷ outer) mode slots h = (h, refl)
+  enters_sound : (at : ℕ) (stack : Stack) (ch : List Environ) (stance : Stance) (slots : ℕ) → Hangs frames ch
+      → Sound frames (enters (record { at = at; stack = stack; chain = ch; stance = stance }) slots ch)
+  enters_sound at stack [] stance slots h = (h, tt)
+  enters_sound at stack (e ∷ outer) stance slots h = (h, refl)
 
-  leaves_sound : (at : ℕ) (stack : Stack) (ch : List Environ) (mode : Mode) (kept : ℕ) → Hangs frames ch
-      → Sound frames (leaves_frame (record { at = at; stack = stack; chain = ch; mode = mode }) kept ch)
-  leaves_sound at stack [] mode kept h = (h, tt)
-  leaves_sound at stack (e ∷ []) mode kept h = (h, tt)
-  leaves_sound at stack (inner ∷ (e ∷ outer)) mode kept h = by_kept (nat_eq kept 0)
+  leaves_sound : (at : ℕ) (stack : Stack) (ch : List Environ) (stance : Stance) (kept : ℕ) → Hangs frames ch
+      → Sound frames (leaves_frame (record { at = at; stack = stack; chain = ch; stance = stance }) kept ch)
+  leaves_sound at stack [] stance kept h = (h, tt)
+  leaves_sound at stack (e ∷ []) stance kept h = (h, tt)
+  leaves_sound at stack (inner ∷ (e ∷ outer)) stance kept h = by_kept (nat_eq kept 0)
     where
       st : State
-      st = record { at = at; stack = stack; chain = inner ∷ (e ∷ outer); mode = mode }
+      st = record { at = at; stack = stack; chain = inner ∷ (e ∷ outer); stance = stance }
 
       by_value : (o : Option Content) → Sound frames (yields_to st (e ∷ outer) e.scope o)
       by_value None = (h, tt)
       by_value (Some v) = by_test (nat_lt e.scope (scope_of v))
         where
-          by_test : (x : Bool) → Sound frames (if x then fails st fault.Scope else record st { at = suc st.at; chain = e ∷ outer; mode = Idle })
+          by_test : (x : Bool) → Sound frames (if x then fails st fault.Scope else record st { at = suc st.at; chain = e ∷ outer; stance = Idle })
           by_test true = (h, tt)
           by_test false = (h.5, tt)
 
-      by_kept : (x : Bool) → Sound frames (if x then record st { at = suc st.at; chain = e ∷ outer; mode = Idle } else yields_to st (e ∷ outer) e.scope (top_value stack.items))
+      by_kept : (x : Bool) → Sound frames (if x then record st { at = suc st.at; chain = e ∷ outer; stance = Idle } else yields_to st (e ∷ outer) e.scope (top_value stack.items))
       by_kept true = (h.5, tt)
       by_kept false = by_value (top_value stack.items)
 
@@ -135,8 +135,8 @@ module _ (frames : List Frame) where
   exec_sound modes (does.Push v) st s = operates_sound modes st s.0 (constant v) 0
   exec_sound modes (does.Skip mode) st s = operates_sound modes st s.0 (skip mode) 0
   exec_sound modes (does.Tag hops slot) st s = operates_sound modes st s.0 (tag hops slot) 0
-  exec_sound modes (does.Enter slots) st s = enters_sound st.at st.stack st.chain st.mode slots s.0
-  exec_sound modes (does.Leave kept) st s = leaves_sound st.at st.stack st.chain st.mode kept s.0
+  exec_sound modes (does.Enter slots) st s = enters_sound st.at st.stack st.chain st.stance slots s.0
+  exec_sound modes (does.Leave kept) st s = leaves_sound st.at st.stack st.chain st.stance kept s.0
   exec_sound modes (does.Bind slot) st s = operates_sound modes st s.0 (bind slot) 1
   exec_sound modes (does.Make mode bounds) st s = operates_sound modes st s.0 (make mode bounds) bounds
   exec_sound modes (does.Deref mode) st s = operates_sound modes st s.0 (deref mode) 1
@@ -163,13 +163,13 @@ module _ (code : Code) (w : Want) (store after : Store) (done : Act) (r : Reply)
   keeps : (ch : List Environ) → Hangs store.frames ch → Hangs after.frames ch
   keeps = act_hangs w store after done r did_it
 
-  pub told_sound : (at : ℕ) (stack : Stack) (ch : List Environ) (wait : Waiting) → Sound store.frames (record { at = at; stack = stack; chain = ch; mode = Asking w wait })
-      → Sound after.frames (told_by code (record { at = at; stack = stack; chain = ch; mode = Asking w wait }) wait r)
+  pub told_sound : (at : ℕ) (stack : Stack) (ch : List Environ) (wait : Waiting) → Sound store.frames (record { at = at; stack = stack; chain = ch; stance = Asking w wait })
+      → Sound after.frames (told_by code (record { at = at; stack = stack; chain = ch; stance = Asking w wait }) wait r)
   told_sound at stack ch (waiting.Operation next) s =
-      follows_sound after.frames (record { at = at; stack = stack; chain = ch; mode = Asking w (waiting.Operation next) }) (leaves_at code at) stack.items (resumed next r) (keeps ch s.0)
+      follows_sound after.frames (record { at = at; stack = stack; chain = ch; stance = Asking w (waiting.Operation next) }) (leaves_at code at) stack.items (resumed next r) (keeps ch s.0)
   told_sound at stack ch waiting.Turn s = by_reply r
     where
-      by_reply : (x : Reply) → Sound after.frames (told_by code (record { at = at; stack = stack; chain = ch; mode = Asking w waiting.Turn }) waiting.Turn x)
+      by_reply : (x : Reply) → Sound after.frames (told_by code (record { at = at; stack = stack; chain = ch; stance = Asking w waiting.Turn }) waiting.Turn x)
       by_reply reply.Go = (keeps ch s.0, tt)
       by_reply (reply.Frame chain) = (keeps ch s.0, tt)
       by_reply (reply.Value v) = (keeps ch s.0, tt)
@@ -181,7 +181,7 @@ module _ (code : Code) (w : Want) (store after : Store) (done : Act) (r : Reply)
       by_want (want.Enter about scope slots) (e ∷ outer) chain is told inner h = (frame_told w store after done r did_it about scope slots e outer chain is inner told h).0
       by_want x c chain is told inner h = absurd inner
 
-      by_reply : (x : Reply) → r ≡ x → Sound after.frames (told_by code (record { at = at; stack = stack; chain = ch; mode = Asking w waiting.Frame }) waiting.Frame x)
+      by_reply : (x : Reply) → r ≡ x → Sound after.frames (told_by code (record { at = at; stack = stack; chain = ch; stance = Asking w waiting.Frame }) waiting.Frame x)
       by_reply (reply.Frame chain) told = (by_want w ch chain refl told s.1 s.0, tt)
       by_reply reply.Go told = (keeps ch s.0, tt)
       by_reply (reply.Value v) told = (keeps ch s.0, tt)

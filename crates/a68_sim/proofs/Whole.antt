@@ -26,8 +26,8 @@ use Rattle.a68_strand.specs.Ends as run
 use Rattle.a68_strand.specs.Machine.{State, Stack, beginning, settle, told_by, replied, place_at}
 use Rattle.a68_strand.specs.RunOf.{RunOf}
 use Rattle.a68_strand.specs.Runs.{World, Machine, opening, IfNext, acted, after}
-use Rattle.a68_strand.specs.declared.ask.Mode.{Mode}
-use Rattle.a68_strand.specs.declared.ask.Mode.TheVariants.{Idle, Asking, Failed}
+use Rattle.a68_strand.specs.declared.ask.Stance.{Stance}
+use Rattle.a68_strand.specs.declared.ask.Stance.TheVariants.{Idle, Asking, Failed}
 use Rattle.a68_strand.specs.declared.ask.Waiting.{Waiting}
 use Rattle.a68_values.specs.declared.act.Act.{Act}
 use Rattle.a68_values.specs.declared.act.Entry.{Entry}
@@ -71,12 +71,12 @@ module _ (program : Program) (code : Code) (same : code.modes ≡ program.modes)
   Runs es t w w2 = (t2 : Term) × Elaborates program t w.store es t2 w2.store × AsFar t2 w2
 
   -- one entry, and those behind it
-  one_entry : (n : ℕ) (act : Act) (es : List Entry) (t : Term) (store : Store) (at : ℕ) (stack : Stack) (ch : List Environ) (mode : Mode) (w2 : World)
-      → SettledIn program code K mode store.frames t (state at stack ch mode)
-      → IfNext (acted code (world store (state at stack ch mode)) n) act (λ behind. Machine code behind es w2)
+  one_entry : (n : ℕ) (act : Act) (es : List Entry) (t : Term) (store : Store) (at : ℕ) (stack : Stack) (ch : List Environ) (stance : Stance) (w2 : World)
+      → SettledIn program code K stance store.frames t (state at stack ch stance)
+      → IfNext (acted code (world store (state at stack ch stance)) n) act (λ behind. Machine code behind es w2)
       → ((t' : Term) (w' : World) → AsFar t' w' → Machine code w' es w2 → Runs es t' w' w2)
-      → Runs (record { strand = n; act = act } ∷ es) t (world store (state at stack ch mode)) w2
-  one_entry (suc n) act es t store at stack ch mode w2 s m more = absurd m
+      → Runs (record { strand = n; act = act } ∷ es) t (world store (state at stack ch stance)) w2
+  one_entry (suc n) act es t store at stack ch stance w2 s m more = absurd m
   one_entry zero act es t store at stack ch Idle w2 s m more = absurd m
   one_entry zero act es t store at stack ch (Failed why) w2 s m more = absurd m
   one_entry zero act es t store at stack ch (Asking w wait) w2 s m more = by_outcome (does w store) refl m
@@ -96,7 +96,7 @@ module _ (program : Program) (code : Code) (same : code.modes ≡ program.modes)
   follow_run : (es : List Entry) (t : Term) (w w2 : World) → AsFar t w → Machine code w es w2 → Runs es t w w2
   follow_run [] t w w2 far m = (t, subst (λ (x : World). Elaborates program t w.store [] t x.store) m stays, subst (AsFar t) m far)
   follow_run (e ∷ es) t w w2 far m =
-      let x = one_entry e.strand e.act es t w.store far.0.at far.0.stack far.0.chain far.0.mode w2 far.2
+      let x = one_entry e.strand e.act es t w.store far.0.at far.0.stack far.0.chain far.0.stance w2 far.2
       (subst (λ (v : World). IfNext (acted code v e.strand) e.act (λ behind. Machine code behind es w2)) far.1 m) (λ t' w' f m'. follow_run es t' w' w2 f m') in
       x
 
@@ -107,16 +107,16 @@ module _ (program : Program) (code : Code) (same : code.modes ≡ program.modes)
     abbrev Ends : End → Type 0
     Ends k = (t' : Term) × Quiet program t t' × EndsWith program fuel n t' store k
 
-    abbrev Stands : Mode → Type 0
-    Stands mode = SettledIn program code K mode store.frames t (state at stack ch mode)
+    abbrev Stands : Stance → Type 0
+    Stands stance = SettledIn program code K stance store.frames t (state at stack ch stance)
 
-    abbrev at_world : Mode → World
-    at_world mode = world store (state at stack ch mode)
+    abbrev at_world : Stance → World
+    at_world stance = world store (state at stack ch stance)
 
-    done_too : (mode : Mode) → Stands mode → mode ≡ Idle → Ends ends.Done
-    done_too mode s e = let x : Stands Idle = subst Stands e s in (yielded x.0, x.1, done x.0 refl)
+    done_too : (stance : Stance) → Stands stance → stance ≡ Idle → Ends ends.Done
+    done_too stance s e = let x : Stands Idle = subst Stands e s in (yielded x.0, x.1, done x.0 refl)
 
-    fault_too : (mode : Mode) (why : FaultKind) → Stands mode → fault_in mode store ≡ Some why → Ends (ends.Fault why (place_at code.list at) 0)
+    fault_too : (stance : Stance) (why : FaultKind) → Stands stance → fault_in stance store ≡ Some why → Ends (ends.Fault why (place_at code.list at) 0)
     fault_too Idle why s e = absurd (cc)
     fault_too (Failed found) why s e = (s.0, s.1, fault (meets found (place_at code.list at)) s.2 (same_Some found why e, refl))
     fault_too (Asking w wait) why s e = by_outcome (does w store) refl e
@@ -127,7 +127,7 @@ module _ (program : Program) (code : Code) (same : code.modes ≡ program.modes)
             let f : ActsNext program K s.1 t (place_at code.list at) w (told_by code (state at stack ch (Asking w wait)) wait) = s.3 in
             (f.now, f.quiet, fault (acts (place_at code.list at) w f.next) f.open_at (d ∙ ap (λ (x : FaultKind). refuses x) (same_Some found why e), refl))
 
-    spent_too : (mode : Mode) → Stands mode → n ≡ fuel → CanAct code (at_world mode) 0 → Ends ends.Spent
+    spent_too : (stance : Stance) → Stands stance → n ≡ fuel → CanAct code (at_world stance) 0 → Ends ends.Spent
     spent_too Idle s e can = absurd (can refl)
     spent_too (Failed why) s e can = absurd (can refl)
     spent_too (Asking w wait) s e can = by_outcome (does w store) refl
@@ -142,7 +142,7 @@ module _ (program : Program) (code : Code) (same : code.modes ≡ program.modes)
             (t, still, spent f.now 0 (acts (place_at code.list at) w f.next) e (quiet_elaborates f.quiet stays) f.open_at (act, r, next, d))
 
     -- a single strand never waits
-    never_halted : (mode : Mode) → (HasEnded (at_world mode) 0 → ⊥) → (CanAct code (at_world mode) 0 → ⊥) → fault_of (at_world mode) 0 ≡ None → ⊥
+    never_halted : (stance : Stance) → (HasEnded (at_world stance) 0 → ⊥) → (CanAct code (at_world stance) 0 → ⊥) → fault_of (at_world stance) 0 ≡ None → ⊥
     never_halted Idle not_ended no_act no_fault = not_ended (record { st = state at stack ch Idle; there = refl; idle = refl })
     never_halted (Failed why) not_ended no_act no_fault = absurd (cc)
     never_halted (Asking w wait) not_ended no_act no_fault = by_outcome (does w store) refl no_fault
@@ -154,15 +154,15 @@ module _ (program : Program) (code : Code) (same : code.modes ≡ program.modes)
         by_outcome (refuses why) d none = absurd (cc)
         by_outcome (did act r next) d none = no_act (λ q. let x = sym (ap (after code (world store st) 0 st) d) ∙ q in absurd (cc))
 
-    ends_too : (es : List Entry) (mode : Mode) (k : End) → n ≡ length es → Stands mode → run.EndsWith code fuel es (at_world mode) k → Ends k
-    ends_too es mode k e s (run.done h) = done_too mode s (ap (λ (x : State). x.mode) (same_Some _ h.st h.there) ∙ h.idle)
-    ends_too es mode k e s (run.fault {strand = zero} {place = place} {kind = why} {st = st} f there is) =
+    ends_too : (es : List Entry) (stance : Stance) (k : End) → n ≡ length es → Stands stance → run.EndsWith code fuel es (at_world stance) k → Ends k
+    ends_too es stance k e s (run.done h) = done_too stance s (ap (λ (x : State). x.stance) (same_Some _ h.st h.there) ∙ h.idle)
+    ends_too es stance k e s (run.fault {strand = zero} {place = place} {kind = why} {st = st} f there is) =
         let same_at : at ≡ st.at = ap (λ (x : State). x.at) (same_Some _ st there) in
-        subst (λ (x : ℕ). Ends (ends.Fault why x 0)) (ap (place_at code.list) same_at ∙ sym is) (fault_too mode why s f)
-    ends_too es mode k e s (run.fault {strand = suc x} f there is) = absurd (cc)
-    ends_too es mode k e s (run.all_halted not_ended no_act no_fault) = absurd (never_halted mode not_ended (no_act 0) (no_fault 0))
-    ends_too es mode k e s (run.spent zero full can) = spent_too mode s (e ∙ full) can
-    ends_too es mode k e s (run.spent (suc x) full can) = absurd (can refl)
+        subst (λ (x : ℕ). Ends (ends.Fault why x 0)) (ap (place_at code.list) same_at ∙ sym is) (fault_too stance why s f)
+    ends_too es stance k e s (run.fault {strand = suc x} f there is) = absurd (cc)
+    ends_too es stance k e s (run.all_halted not_ended no_act no_fault) = absurd (never_halted stance not_ended (no_act 0) (no_fault 0))
+    ends_too es stance k e s (run.spent zero full can) = spent_too stance s (e ∙ full) can
+    ends_too es stance k e s (run.spent (suc x) full can) = absurd (can refl)
 
 pub law : (program : Program) (code : Code) (fuel : ℕ) (kept : Kept) → Translates program code → RunOf code fuel kept → Permitted program fuel kept
 unfolding settle
@@ -175,7 +175,7 @@ law program code fuel kept tr r =
     let all = follow_run program code tr.modes b p home tr.ends.0 kept.journal.entries first.0 (opening code) r.world (settle code (beginning 0 home), refl, first.2) r.runs in
     let far = all.2 in
     let st = far.0 in
-    let last = ends_too program code tr.modes b p home tr.ends.0 fuel (length kept.journal.entries) all.0 r.world.store st.at st.stack st.chain kept.journal.entries st.mode kept.end refl far.2
+    let last = ends_too program code tr.modes b p home tr.ends.0 fuel (length kept.journal.entries) all.0 r.world.store st.at st.stack st.chain kept.journal.entries st.stance kept.end refl far.2
     (subst (λ (w : World). run.EndsWith code fuel kept.journal.entries w kept.end) far.1 r.ends) in
     record {
       term = last.0;

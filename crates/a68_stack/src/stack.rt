@@ -7,7 +7,7 @@ ghost use Rattle.a68_stack.specs.Values.{plain_in, pop_values, top_counter, top_
 
 use a68_acts::Counter;
 use a68_base::NoMemory;
-use a68_values::{Parts, Plain, Value};
+use a68_values::{Plain, Value, Values};
 use std::alloc::Global;
 use std::marker::Model;
 
@@ -186,7 +186,7 @@ impl Stack {
 
     /// Takes the topmost values off, so many, the topmost first; none where there are fewer, and then items may be
     /// gone.
-    pub fn pop_many(&mut self, alloc: Global, count: u32) -> Result<Option<Parts>, NoMemory>
+    pub fn pop_many(&mut self, alloc: Global, count: u32) -> Result<Option<Values>, NoMemory>
         ensures { IfOk result (λ popped. MatchOption popped (pop_values count self.old [] ≡ None) (λ values. pop_values count self.old [] ≡ Some (reverse values, self.new))) }
     {
         let mut items = Vec::new(alloc);
@@ -196,7 +196,7 @@ impl Stack {
                 Some(value) => items.push(value)?,
             }
         }
-        Ok(Some(Parts { items }))
+        Ok(Some(Values { items }))
     }
 
     /// The counter on top; none where there is none.

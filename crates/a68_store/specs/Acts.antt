@@ -1,3 +1,4 @@
+-- Inner: the headline does not rest on this file.
 -- What a call of the store says of the act that it does.
 use Rattle.std.specs.Prelude.{◌≡◌, Ok, Err}
 use Rattle.std.specs.declared.result.Result.{Result}
@@ -10,7 +11,7 @@ use Rattle.a68_values.specs.declared.act.Act.{Act}
 
 -- The call did the act: an Ok is the act done, with what the strand is told, a fault is the one that the act meets,
 -- and an error leaves the store as it was.
-abbrev pub Does : {T : Type 0} → Result T StoreStop → (T → Act) → (T → Reply) → Outcome → Store → Store → Type 0
-Does (Ok x) act told outcome old new = outcome ≡ did (act x) (told x) new
-Does (Err (Fault kind)) act told outcome old new = (outcome ≡ refuses kind) × (new ≡ old)
-Does (Err NoMemory) act told outcome old new = new ≡ old
+abbrev pub DoesAct : {T : Type 0} → Result T StoreStop → (T → Act) → (T → Reply) → Outcome → Store → Store → Type 0
+DoesAct (Ok x) act told outcome old new = outcome ≡ did (act x) (told x) new
+DoesAct (Err (Fault kind)) act told outcome old new = (outcome ≡ refuses kind) × (new ≡ old)
+DoesAct (Err NoMemory) act told outcome old new = new ≡ old

@@ -1,3 +1,4 @@
+-- Inner: the headline does not rest on this file.
 -- How the logic tells stores apart.
 use Rattle.std.specs.Prelude.{ℕ, List, refl}
 use Rattle.std.specs.Coded.{Coded, code_by, coded×, coded_ℕ, coded_list, coded_option}

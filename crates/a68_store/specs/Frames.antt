@@ -1,3 +1,4 @@
+-- Inner: the headline does not rest on this file.
 -- The frames of the store as contracts see them.
 use Rattle.std.specs.Prelude.{◌≡◌, ◌<◌, ℕ, List, None, Some, map, slice_get, length}
 use Rattle.std.specs.Option.{option_and_then}

@@ -1,3 +1,4 @@
+-- Inner: the headline does not rest on this file.
 -- The store as contracts see it, and what it keeps.
 use Rattle.std.specs.Prelude.{◌≡◌, ◌<◌, ◌≤◌, length}
 use Rattle.a68_acts.specs.Store as store

@@ -3,7 +3,7 @@ ghost use Rattle.std.specs.Prelude.{◌≡◌, ◌<◌, ◌-◌, ◌^◌, [], fa
 ghost use Rattle.std.specs.Option.{option_copied, option_map_or};
 ghost use Rattle.a68_acts.specs.Does.{does, did, refused};
 ghost use Rattle.a68_acts.specs.Store.{opening_store};
-ghost use Rattle.a68_store.specs.Acts.{Does};
+ghost use Rattle.a68_store.specs.Acts.{DoesAct};
 ghost use Rattle.a68_store.specs.Frames.{HasSlot, frame_of, plain_bound, plain_held, slot_in};
 
 use crate::chains::chain_behind;
@@ -11,18 +11,12 @@ use crate::frame::Frame;
 use crate::stop::StoreStop;
 use crate::weight::{slot_weight, weight};
 use a68_acts::{Reply, Want};
-use a68_base::{NoMemory, Span, Text};
+use a68_base::{MOST_COUNTED, MOST_PRINTED, NoMemory, Span, Text};
 use a68_layout::Plan;
 use a68_values::{Act, Cells, Chain, Environ, FaultKind, Held, Plain, Slots, Value};
 use std::alloc::Global;
 use std::marker::Model;
 use std::mem;
-
-// The most that a store counts: cells, slots, and the values within those that slots are bound to.
-const MOST_COUNTED: u32 = 4_194_304;
-
-// The most bytes that a run prints.
-const MOST_PRINTED: usize = 16_777_216;
 
 /// The store of a run. Cells, frames and printed bytes are numbered from 0 in the order made, the slots of a frame
 /// from 0. Frame 0 is that of the standard environ and has no slots.
@@ -178,7 +172,7 @@ impl Store {
     ) -> Result<Chain, StoreStop>
         requires there { outer < length self.old.frames }
         requires few { length self.old.frames < 2 ^ 32 - 1 }
-        ensures { Does result (λ chain. Act.Enter (length self.old.frames)) (λ chain. Reply.Frame chain)
+        ensures { DoesAct result (λ chain. Act.Enter (length self.old.frames)) (λ chain. Reply.Frame chain)
             (does (Want.Enter outer scope slots) self.old) self.old self.new }
     {
         if slots > MOST_COUNTED - self.counted {
@@ -200,7 +194,7 @@ impl Store {
     pub fn bind(&mut self, frame: u32, slot: u32, value: Value) -> Result<(), StoreStop>
         requires frame { frame < length self.old.frames }
         requires slot { HasSlot self.old frame slot }
-        ensures { Does result (λ u. Act.Bind frame slot) (λ u. Reply.Go)
+        ensures { DoesAct result (λ u. Act.Bind frame slot) (λ u. Reply.Go)
             (does (Want.Bind frame slot value) self.old) self.old self.new }
     {
         let added = weight(&value).saturating_add(1);
@@ -218,7 +212,7 @@ impl Store {
     pub fn look(&self, alloc: Global, frame: u32, slot: u32) -> Result<Value, StoreStop>
         requires frame { frame < length self.now.frames }
         requires slot { HasSlot self.now frame slot }
-        ensures { Does result (λ value. Act.Look frame slot) (λ value. Reply.Value value)
+        ensures { DoesAct result (λ value. Act.Look frame slot) (λ value. Reply.Value value)
             (does (Want.Look frame slot) self.now) self.now self.now }
     {
         match &self.frames[frame as usize].slots[slot as usize] {
@@ -244,7 +238,7 @@ impl Store {
     /// New cells, as planned. The number of the first comes back.
     pub fn make(&mut self, alloc: Global, plan: &Plan) -> Result<u32, StoreStop>
         requires { plan.now.shifted ≡ false }
-        ensures { Does result (λ base. Act.Make base (length plan.now.cells)) (λ base. Reply.Base base)
+        ensures { DoesAct result (λ base. Act.Make base (length plan.now.cells)) (λ base. Reply.Base base)
             (does (Want.Make plan.now) self.old) self.old self.new }
     {
         let base = self.cells.len() as u32;
@@ -284,7 +278,7 @@ impl Store {
 
     /// Prints bytes behind those printed before. Which they are comes back.
     pub fn print(&mut self, piece: &[u8]) -> Result<Span, StoreStop>
-        ensures { Does result (λ span. Act.Print span.from span.to) (λ span. Reply.Go)
+        ensures { DoesAct result (λ span. Act.Print span.from span.to) (λ span. Reply.Go)
             (does (Want.Print piece.now) self.old) self.old self.new }
     {
         let from = self.text.len();

@@ -3,7 +3,7 @@ ghost use Rattle.std.specs.Prelude.{◌≡◌, ◌-◌, ◌^◌, min};
 ghost use Rattle.a68_acts.specs.Store.{further_parts, all_parts, slot_weight};
 ghost use Rattle.a68_values.specs.Content.{contents_of};
 
-use a68_values::{Node, Parts, Value};
+use a68_values::{Value, ValueNode, Values};
 
 /// How many values are within a value, its parts and theirs; at the last value of u64 it stands still.
 #[cycle(weight)]
@@ -11,17 +11,17 @@ pub fn weight(value: &Value) -> u64
     ensures { result ≡ min (further_parts value.now) (2 ^ 64 - 1) }
 {
     match &value.node {
-        Node::Void => 0,
-        Node::Plain(_) => 0,
-        Node::Layout(_) => 0,
-        Node::Structure(parts) => weight_of_all(parts),
-        Node::Row { parts, .. } => weight_of_all(parts),
-        Node::United { value, .. } => weight(value).saturating_add(1),
+        ValueNode::Void => 0,
+        ValueNode::Plain(_) => 0,
+        ValueNode::Layout(_) => 0,
+        ValueNode::Structure(parts) => weight_of_all(parts),
+        ValueNode::Row { parts, .. } => weight_of_all(parts),
+        ValueNode::United { value, .. } => weight(value).saturating_add(1),
     }
 }
 
 #[cycle(weight)]
-fn weight_of_all(parts: &Parts) -> u64
+fn weight_of_all(parts: &Values) -> u64
     ensures { result ≡ min (all_parts (contents_of parts.now)) (2 ^ 64 - 1) }
 {
     let mut all: u64 = 0;

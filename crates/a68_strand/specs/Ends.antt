@@ -6,28 +6,28 @@ use Rattle.a68_acts.specs.Does.{refused, does}
 use Rattle.a68_acts.specs.Store.{Store}
 use Rattle.a68_code.specs.declared.code.Code.{Code}
 use Rattle.a68_strand.specs.Machine.{State, place_at}
-use Rattle.a68_strand.specs.declared.ask.Mode.{Mode}
-use Rattle.a68_strand.specs.declared.ask.Mode.TheVariants.{Idle, Asking, Failed}
+use Rattle.a68_strand.specs.declared.ask.Stance.{Stance}
+use Rattle.a68_strand.specs.declared.ask.Stance.TheVariants.{Idle, Asking, Failed}
 use Rattle.a68_values.specs.declared.act.Entry.{Entry}
 use Rattle.a68_values.specs.declared.act.FaultKind.{FaultKind}
 use Rattle.a68_values.specs.declared.kept.End.{End}
 use Rattle.a68_values.specs.declared.kept.End.TheVariants as ends
 use Rattle.a68_strand.specs.Runs.{World, acted}
 
-abbrev pub fault_in : Mode → Store → Option FaultKind
+abbrev pub fault_in : Stance → Store → Option FaultKind
 fault_in Idle store = None
 fault_in (Asking want waiting) store = refused (does want store)
 fault_in (Failed why) store = Some why
 
 -- the fault before which a strand stands: its own, or one that its act would meet
 abbrev pub fault_of : World → ℕ → Option FaultKind
-fault_of w n = option_and_then (λ (st : State). fault_in st.mode w.store) (slice_get w.strands n)
+fault_of w n = option_and_then (λ (st : State). fault_in st.stance w.store) (slice_get w.strands n)
 
 -- the strand has come to its end
 pub record HasEnded (w : World) (n : ℕ) : Type 0 where
   pub st : State
   pub there : slice_get w.strands n ≡ Some st
-  pub idle : st.mode ≡ Idle
+  pub idle : st.stance ≡ Idle
 
 -- the strand can act: its next act meets no fault
 abbrev pub CanAct : Code → World → ℕ → Type 0

@@ -15,7 +15,7 @@ pub enum Waiting {
 
 /// What a strand is about.
 #[derive(Drop)]
-pub enum Mode {
+pub enum Stance {
     /// It stands before an instruction.
     Idle,
     /// It has asked for an act.

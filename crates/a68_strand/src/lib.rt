@@ -11,5 +11,5 @@ mod instructions;
 mod reply;
 mod strand;
 
-pub use ask::{Ask, Mode, PlainReply, Waiting};
+pub use ask::{Ask, PlainReply, Stance, Waiting};
 pub use strand::Strand;

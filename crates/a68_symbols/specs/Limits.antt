@@ -1,8 +1,9 @@
 -- The most that a text may have.
 use Rattle.std.specs.Prelude.{ℕ}
+use Rattle.a68_base.specs.declared.limits.TheConstants.{MOST_BYTES, MOST_SYMBOLS}
 
 abbrev pub most_bytes : ℕ
-most_bytes = 1048576
+most_bytes = MOST_BYTES
 
 abbrev pub most_symbols : ℕ
-most_symbols = 262144
+most_symbols = MOST_SYMBOLS

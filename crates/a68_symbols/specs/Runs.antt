@@ -1,3 +1,4 @@
+-- Inner: the headline does not rest on this file.
 -- What the functions that measure one form give.
 use Rattle.std.specs.Prelude.{◌≡◌, ◌≢◌, ℕ, ◌-◌, ◌<◌, ◌≤◌, ◌⊎◌, true, false, ◌||◌, List, [], ◌∷◌, length, slice_index, take, drop, nat_eq, if◌then◌else◌}
 use Rattle.a68_denote.specs.Strings.{StandFor}

@@ -1,3 +1,4 @@
+-- Inner: the headline does not rest on this file.
 -- What one stretch does to the symbols so far.
 use Rattle.std.specs.Prelude.{◌≡◌, ℕ, ◌<◌, ◌≤◌, List, length, Result, Ok, Err}
 use Rattle.a68_base.specs.declared.refusal.Span.{Span}

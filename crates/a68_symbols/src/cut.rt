@@ -12,14 +12,8 @@ use crate::collector::Collector;
 use crate::form::{Form, Given};
 use crate::judge::judge;
 use crate::stretch::longest;
-use a68_base::{Refusal, Rule, Span, Stop};
+use a68_base::{MOST_BYTES, MOST_SYMBOLS, Refusal, Rule, Span, Stop};
 use std::alloc::Global;
-
-// The most bytes that a text may have.
-const MOST_BYTES: usize = 1_048_576;
-
-// The most symbols that a text may have.
-const MOST_SYMBOLS: u32 = 262_144;
 
 fn refused(rule: Rule, place: u32) -> Stop
     ensures { result ≡ Stop.Refused (record { rule = rule; place = place }) }

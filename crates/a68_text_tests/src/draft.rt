@@ -1,7 +1,7 @@
 //! Calls as a parser makes them, and the nodes by hand.
 use crate::table::{agrees, holds};
 use a68_base::{NoMemory, find};
-use a68_draft::{Draft, Drafting};
+use a68_nodes::{Draft, Drafting};
 use a68_tree::{NodeKind, Sym, Token};
 use std::alloc::Global;
 use std::panic::Expect;

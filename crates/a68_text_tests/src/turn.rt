@@ -1,7 +1,7 @@
 //! The symbol at which a number of symbols from the end begins.
 use crate::table::holds;
+use a68_parse::place;
 use a68_symbols::symbols;
-use a68_turn::place;
 use std::panic::Expect;
 
 #[test]

@@ -14,10 +14,10 @@ use Rattle.a68_op_ident.specs.Shapes.{Shaped}
 use Rattle.a68_parse.specs.Parses.{IsTree}
 use Rattle.a68_symbols.specs.Names.{Named, AreNamed}
 use Rattle.a68_symbols.specs.Symbols.{SymbolsAre, RefusalIs, Piece, piece_of}
-use Rattle.a68_top.specs.Compiles.{IsTreeOf, IsProgramOf, RefusedAs, unlike_symbols, empty, unclassed, no_tree, no_meaning, too_long}
+use Rattle.a68_top.specs.Compiles.{IsTreeOf, IsProgramOf, RefusedAs, unlike_symbols, unclassed, no_tree, no_meaning, too_long}
 use Rattle.a68_tree.specs.Trees.{Built}
 use Rattle.a68_tree.specs.declared.node.Node.{Node}
-use Rattle.a68_turn.specs.Drafted.{SpellsAlike}
+use Rattle.a68_parse.specs.Drafted.{SpellsAlike}
 use Rattle.a68_words.specs.Classes.{IsClassed, IsRefused}
 use Rattle.a68_words.specs.declared.class.Class.{Class}
 use Rattle.std.specs.declared.option.Option.{Option}
@@ -28,7 +28,6 @@ pub record Laws : Type 0 where
   pub classes : (found : Named) (classes others : List (Option Class)) → IsClassed found classes → IsClassed found others → others ≡ classes
   pub unclassed : (found : Named) (rule other : Rule) (place at : ℕ) → IsRefused found rule place → IsRefused found other at → (other ≡ rule) × (at ≡ place)
   pub apart : (found : Named) (rule : Rule) (place : ℕ) (classes : List (Option Class)) → IsRefused found rule place → IsClassed found classes → ⊥
-  pub filled : (found : Named) (classes : List (Option Class)) (list : List Node) → IsTree found classes list → 0 < length found.symbols
   pub shapes : (flat one other : Built) → Shaped flat one → Shaped flat other → other ≡ one
   pub breaks : (tree : Built) (r s : Refusal) → Breaks tree r → Breaks tree s → (r.rule ≡ s.rule) × (r.place ≡ s.place)
   pub unbroken : (program : Annotated) (r : Refusal) → IsAnnotated program → Breaks program.tree r → ⊥
@@ -40,12 +39,6 @@ AreOne r s = (r.rule ≡ s.rule) × ((r.rule ≡ S6) ⊎ (r.place ≡ s.place))
 module _ (laws : Laws) (text : List ℕ) where
   same_found : (a b : Named) → SymbolsAre text (map piece_of a.symbols) → AreNamed text a → SymbolsAre text (map piece_of b.symbols) → AreNamed text b → a ≡ b
   same_found a b p n q m = laws.named text b a (q.only (map piece_of a.symbols) p.has) m n
-
-  has_some : (found : Named) (rule : Rule) (place : ℕ) → SymbolsAre text [] → SymbolsAre text (map piece_of found.symbols) → 0 < length found.symbols → ⊥
-  has_some found rule place none some lt =
-      let e : map piece_of found.symbols ≡ [] = none.only (map piece_of found.symbols) some.has in
-      let l = sym (length-map found.symbols piece_of) ∙ ap (λ (ps : List Piece). length ps) e in
-      omega (arith, l, lt)
 
   pub same_tree : (a b : Built) → IsTreeOf text a → IsTreeOf text b → a ≡ b
   same_tree a b p q =
@@ -67,9 +60,6 @@ module _ (laws : Laws) (text : List ℕ) where
       laws.notes a b tree p.annotated q.annotated
 
   -- a tree of the text, and no symbols, classes or tree
-  tree_filled : (tree : Built) → IsTreeOf text tree → SymbolsAre text [] → ⊥
-  tree_filled tree is none = has_some is.found S6 0 none is.symbols (laws.filled is.found is.classes tree.nodes is.derived)
-
   tree_symbols : (tree : Built) (rule : Rule) (place : ℕ) → IsTreeOf text tree → RefusalIs text rule place → ⊥
   tree_symbols tree rule place is r = r.none (map piece_of is.found.symbols) is.symbols.has
 
@@ -94,7 +84,6 @@ module _ (laws : Laws) (text : List ℕ) where
 
   late : (tree : Built) (r : Refusal) → IsTreeOf text tree → RefusedAs text r → Late r
   late tree r is (unlike_symbols u) = absurd (tree_symbols tree r.rule r.place is u)
-  late tree r is (empty none e p) = absurd (tree_filled tree is none)
   late tree r is (unclassed found s n u) = absurd (tree_classed tree found r.rule r.place is s n u)
   late tree r is (no_tree found classes s n c u) = absurd (tree_parsed tree found classes is s n c u.2)
   late tree r is (no_meaning t i u) = late_meaning t i u
@@ -115,9 +104,6 @@ module _ (laws : Laws) (text : List ℕ) where
       let same : p.shaped ≡ program.tree = laws.shapes q.tree program.tree p.shaped q.shaped shaped in
       laws.unbroken program r q.annotated (subst (λ x. Breaks x r) same p.breaks)
 
-  some_symbol : (found : Named) (rule : Rule) (place : ℕ) → IsRefused found rule place → 0 < length found.symbols
-  some_symbol found rule place u = let lt = slice_get_within found.symbols u.at u.symbol u.is in omega (arith, lt)
-
   long_once : (p q : Annotated) (r s : Refusal) → IsProgramOf text p → IsProgramOf text q → IsTooLong (listing (program_of p)) r → IsTooLong (listing (program_of q)) s → AreOne r s
   long_once p q r s i j u v =
       let same = same_program p q i j in
@@ -129,19 +115,11 @@ module _ (laws : Laws) (text : List ℕ) where
   -- two refusals of a text are one
   pub one_refusal : (r s : Refusal) → RefusedAs text r → RefusedAs text s → AreOne r s
   one_refusal r s (unlike_symbols u) (unlike_symbols v) = let e = v.only r.rule r.place u.refused in (e.0, inr e.1)
-  one_refusal r s (unlike_symbols u) (empty none e p) = absurd (u.none [] none.has)
   one_refusal r s (unlike_symbols u) (unclassed f symbols n v) = absurd (u.none (map piece_of f.symbols) symbols.has)
   one_refusal r s (unlike_symbols u) (no_tree f c symbols n cl v) = absurd (u.none (map piece_of f.symbols) symbols.has)
   one_refusal r s (unlike_symbols u) (no_meaning t i v) = absurd (tree_symbols t r.rule r.place i u)
   one_refusal r s (unlike_symbols u) (too_long p i v) = absurd (tree_symbols i.tree r.rule r.place i.is u)
-  one_refusal r s (empty none e p) (unlike_symbols v) = absurd (v.none [] none.has)
-  one_refusal r s (empty none e p) (empty also f q) = (e ∙ sym f, inl e)
-  one_refusal r s (empty none e p) (unclassed f symbols n v) = absurd (has_some f S6 0 none symbols (some_symbol f s.rule s.place v))
-  one_refusal r s (empty none e p) (no_tree f c symbols n cl v) = (e ∙ sym v.0, inl e)
-  one_refusal r s (empty none e p) (no_meaning t i v) = absurd (tree_filled t i none)
-  one_refusal r s (empty none e p) (too_long q i v) = absurd (tree_filled i.tree i.is none)
   one_refusal r s (unclassed f symbols n u) (unlike_symbols v) = absurd (v.none (map piece_of f.symbols) symbols.has)
-  one_refusal r s (unclassed f symbols n u) (empty none e p) = absurd (has_some f S6 0 none symbols (some_symbol f r.rule r.place u))
   one_refusal r s (unclassed f symbols n u) (unclassed g also m v) =
       let same : f ≡ g = same_found f g symbols n also m in
       let e = laws.unclassed g s.rule r.rule s.place r.place v (subst (λ x. IsRefused x r.rule r.place) same u) in
@@ -152,7 +130,6 @@ module _ (laws : Laws) (text : List ℕ) where
   one_refusal r s (unclassed f symbols n u) (no_meaning t i v) = absurd (tree_classed t f r.rule r.place i symbols n u)
   one_refusal r s (unclassed f symbols n u) (too_long p i v) = absurd (tree_classed i.tree f r.rule r.place i.is symbols n u)
   one_refusal r s (no_tree f c symbols n cl u) (unlike_symbols v) = absurd (v.none (map piece_of f.symbols) symbols.has)
-  one_refusal r s (no_tree f c symbols n cl u) (empty none e p) = (u.0 ∙ sym e, inl u.0)
   one_refusal r s (no_tree f c symbols n cl u) (unclassed g also m v) =
       let same : g ≡ f = same_found g f also m symbols n in
       absurd (laws.apart f s.rule s.place c (subst (λ x. IsRefused x s.rule s.place) same v) cl)

@@ -19,23 +19,17 @@ use Rattle.std.specs.declared.option.Option.{Option}
 use Rattle.a68_tree.specs.Trees.{Built}
 
 pub unparsed : (text : List ℕ) (found : Named) (classes : List (Option Class)) (end : ℕ) → end ≡ length text → SymbolsAre text (map piece_of found.symbols) → AreNamed text found → IsClassed found classes
-    → (r : Result Built Stop) → Parses found classes end r → IfErr r (λ why. StopsBy (RefusedAs text) why)
-unparsed text found classes end e symbols named classed (Ok t) p = tt
-unparsed text found classes end e symbols named classed (Err NoMemory) p = tt
-unparsed text found classes end e symbols named classed (Err (Refused f)) p = no_tree found classes symbols named classed (subst (λ x. Parses found classes x (Err (Refused f))) e p)
+    → (s : Stop) → Parses found classes end (Err s) → StopsBy (RefusedAs text) s
+unparsed text found classes end e symbols named classed NoMemory p = tt
+unparsed text found classes end e symbols named classed (Refused f) p = no_tree found classes symbols named classed (subst (λ x. Parses found classes x (Err (Refused f))) e p)
 
 pub unsorted : (text : List ℕ) (found : Named) → SymbolsAre text (map piece_of found.symbols) → AreNamed text found → (s : Stop) → Answers found (Err s) → StopsBy (RefusedAs text) s
 unsorted text found symbols named NoMemory p = tt
 unsorted text found symbols named (Refused f) p = unclassed found symbols named p
 
-stopped : (text : List ℕ) (tree : Built) → IsTreeOf text tree → (s : Stop) → StopsBy (λ f. Refuses tree f) s → StopsBy (RefusedAs text) s
+pub stopped : (text : List ℕ) (tree : Built) → IsTreeOf text tree → (s : Stop) → StopsBy (λ f. Refuses tree f) s → StopsBy (RefusedAs text) s
 stopped text tree is NoMemory p = tt
 stopped text tree is (Refused f) p = no_meaning tree is p
-
-pub meaningless : (text : List ℕ) (tree : Built) → IsTreeOf text tree → (r : Result Annotated Stop)
-    → IfErr r (λ why. StopsBy (λ f. Refuses tree f) why) → IfErr r (λ why. StopsBy (RefusedAs text) why)
-meaningless text tree is (Ok p) e = tt
-meaningless text tree is (Err s) e = stopped text tree is s e
 
 pub overlong : (text : List ℕ) (program : Annotated) → IsProgramOf text program → (s : Stop) → Stops s (listing (program_of program)) → StopsBy (RefusedAs text) s
 overlong text program is NoMemory p = tt

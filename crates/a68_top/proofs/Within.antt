@@ -18,10 +18,10 @@ use Rattle.a68_symbols.specs.Names.{Named}
 use Rattle.a68_symbols.specs.Symbols.{SymbolsAre, piece_of, IsRefused as IsBroken}
 use Rattle.a68_symbols.specs.declared.symbol.Symbol.{Symbol}
 use Rattle.a68_top.proofs.Beginning.{begun}
-use Rattle.a68_top.specs.Compiles.{IsTreeOf, RefusedAs, unlike_symbols, empty, unclassed, no_tree, no_meaning, too_long}
+use Rattle.a68_top.specs.Compiles.{IsTreeOf, RefusedAs, unlike_symbols, unclassed, no_tree, no_meaning, too_long}
 use Rattle.a68_tree.specs.Trees.{Built}
 use Rattle.a68_tree.specs.declared.node.Node.{Node}
-use Rattle.a68_turn.specs.Places.{IsPlace}
+use Rattle.a68_parse.specs.Places.{IsPlace}
 use Rattle.a68_words.specs.declared.class.Class.{Class}
 
 -- what the laws of the lower crates say of places, as these give it
@@ -60,7 +60,6 @@ module _ (laws : Bounds) (text : List ℕ) where
 
   pub place_within : (r : Refusal) → RefusedAs text r → r.place ≤ length text
   place_within r (unlike_symbols v) = laws.broken text r.rule r.place v.refused
-  place_within r (empty none rule place) = omega arith
   place_within r (unclassed found symbols named v) = let e = v.here in let w = laws.symbols text found symbols v.at v.symbol v.is in omega arith
   place_within r (no_tree found classes symbols named classed v) = at_place found.symbols (length text) r.place (laws.symbols text found symbols) v.1
   place_within r (no_meaning tree is v) = breaks_within tree v.shaped r is v.is_shaped v.breaks

@@ -1,6 +1,7 @@
 -- What a call owes: the relation between the task, the text of the file, the finish, and the bytes on out and notes.
 use Rattle.std.specs.Prelude.{◌≡◌, ℕ, List, [], ◌∷◌, take, None, Some}
 use Rattle.std.specs.declared.option.Option.{Option}
+use Rattle.a68_base.specs.declared.limits.TheConstants.{MOST_READ}
 use Rattle.a68_base.specs.declared.refusal.Refusal.{Refusal}
 use Rattle.a68_base.specs.declared.status.Status.{Status}
 use Rattle.a68_base.specs.declared.status.Status.TheVariants.{Done, Refused, Usage, Fault, AllHalted, Spent}
@@ -57,7 +58,7 @@ pub data IsRunOf (text : List ℕ) (fuel : ℕ) (finish : Finish) (out notes : L
 
 -- as much of a program's text as is read: one byte above the limit
 abbrev pub read_of : List ℕ → List ℕ
-read_of text = take 1048577 text
+read_of text = take MOST_READ text
 
 -- The answer, where every read and write succeeds and memory suffices. The texts are those of the files, in order.
 abbrev pub Answer : Option Task → List (List ℕ) → Finish → List ℕ → List ℕ → Type 0

@@ -1,5 +1,7 @@
+-- Inner: the headline does not rest on this file.
 -- A command as a task.
 use Rattle.std.specs.Prelude.{◌≤◌}
+use Rattle.a68_base.specs.declared.limits.TheConstants.{MOST_FUEL}
 use Rattle.a68_top.specs.Words.{Task, run}
 use Rattle.a68_top.specs.declared.words.Command.{Command}
 use Rattle.a68_top.specs.declared.words.Command.TheVariants.{Run}
@@ -9,4 +11,4 @@ task_of (Run file fuel) = run file fuel
 
 -- the fuel that a command names is one that a run may have
 abbrev pub HasFuel : Command → Type 0
-HasFuel (Run file fuel) = (1 ≤ fuel) × (fuel ≤ 16000000)
+HasFuel (Run file fuel) = (1 ≤ fuel) × (fuel ≤ MOST_FUEL)

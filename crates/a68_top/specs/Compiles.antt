@@ -2,7 +2,6 @@
 use Rattle.std.specs.Prelude.{◌≡◌, ◌≤◌, ℕ, List, [], length, map, Err}
 use Rattle.a68_annot.specs.declared.annotated.Annotated.{Annotated}
 use Rattle.a68_base.specs.declared.refusal.Refusal.{Refusal}
-use Rattle.a68_base.specs.declared.refusal.Rule.TheVariants.{S6}
 use Rattle.a68_base.specs.declared.refusal.Stop.TheVariants.{Refused}
 use Rattle.a68_check.specs.Annotates.{IsAnnotated, Refuses}
 use Rattle.a68_elab.specs.Made.{program_of}
@@ -19,7 +18,7 @@ use Rattle.a68_words.specs.declared.class.Class.{Class}
 use Rattle.std.specs.declared.option.Option.{Option}
 use Rattle.a68_tree.specs.Trees.{Built}
 use Rattle.a68_tree.specs.declared.node.Node.{Node}
-use Rattle.a68_turn.specs.Drafted.{SpellsAlike}
+use Rattle.a68_parse.specs.Drafted.{SpellsAlike}
 
 -- the tree of the text's symbols, by the grammar, with their spellings; each bold word has its class
 pub record IsTreeOf (text : List ℕ) (tree : Built) : Type 0 where
@@ -45,10 +44,9 @@ pub record Compiles (text : List ℕ) (made : Made) : Type 0 where
   pub translated : Translates (program_of made.program) made.code
   pub short : length made.code.list ≤ most
 
--- The rule that the text breaks: of symbols; that there is one; of words and nesting; of the grammar; of the meaning; or the limit of code.
+-- The rule that the text breaks: of symbols; of words and nesting; of the grammar; of the meaning; or the limit of code.
 pub data RefusedAs (text : List ℕ) (refusal : Refusal) : Type 0 where
   unlike_symbols : RefusalIs text refusal.rule refusal.place → RefusedAs text refusal
-  empty : SymbolsAre text [] → refusal.rule ≡ S6 → refusal.place ≡ length text → RefusedAs text refusal
   unclassed : (found : Named) → SymbolsAre text (map piece_of found.symbols) → AreNamed text found → IsRefused found refusal.rule refusal.place → RefusedAs text refusal
   no_tree : (found : Named) (classes : List (Option Class)) → SymbolsAre text (map piece_of found.symbols) → AreNamed text found → IsClassed found classes → Parses found classes (length text) (Err (Refused refusal)) → RefusedAs text refusal
   no_meaning : (tree : Built) → IsTreeOf text tree → Refuses tree refusal → RefusedAs text refusal

@@ -30,7 +30,7 @@ pub struct Finish {
 
 /// What a call owes where every write succeeds: its finish, and the bytes for `out` and for `notes`.
 #[derive(Drop)]
-pub struct Due {
+pub struct Owed {
     pub finish: Finish,
     pub out: Text,
     pub notes: Text,

@@ -13,20 +13,17 @@ ghost use Rattle.a68_world.specs.Run.{most_fuel};
 ghost use Rattle.a68_top.specs.declared.prepare.Early.TheVariants as early;
 
 use crate::compile::compile;
-use crate::finish::{Due, Finish, Made, bare, status_of};
+use crate::finish::{Finish, Made, Owed, bare, status_of};
 use crate::lines::{USAGE, end_line_of, refusal_line_of};
 use crate::words::{Command, command_of};
 use a68_annot::Annotated;
-use a68_base::{NoMemory, Refusal, Status, Stop, Text};
+use a68_base::{MOST_READ, NoMemory, Refusal, Status, Stop, Text};
 use a68_code::Code;
 use a68_outside::{ReadStop, Shelf, read_at_most};
 use a68_sim::permitted_law;
 use a68_values::{End, Kept};
 use a68_world::run;
 use std::alloc::Global;
-
-// How much of a text is read: one byte more than a text may have.
-const MOST_READ: usize = 1_048_577;
 
 /// Why nothing could be prepared.
 #[derive(Clone, Copy)]
@@ -47,7 +44,7 @@ impl From<NoMemory> for Early {
 fn fetch<F: Shelf>(alloc: Global, name: &str, shelf: &mut F) -> Result<Text, Early>
     requires { F.may_ask name.now }
     ensures text { IfOk result (λ text. IfSome (F.under shelf.old name.now) (λ all. text ≡ read_of all)) }
-    ensures length { IfOk result (λ text. length text ≤ 1048577) }
+    ensures length { IfOk result (λ text. length text ≤ MOST_READ) }
     ensures calm { OnOk result (F.faults shelf.new ≡ F.faults shelf.old) }
     ensures memory { IsErrOf result Early.NoMemory → F.faults shelf.new ≡ F.faults shelf.old }
     ensures failed { IsErrOf result Early.ReadFault → Rose (F.faults shelf.old) (F.faults shelf.new) }
@@ -63,13 +60,13 @@ fn fetch<F: Shelf>(alloc: Global, name: &str, shelf: &mut F) -> Result<Text, Ear
 }
 
 // What is owed where the words are no command.
-fn usage(alloc: Global) -> Result<Due, NoMemory>
+fn usage(alloc: Global) -> Result<Owed, NoMemory>
     ensures status { IfOk result (λ due. IsAnswer due.finish.status) }
     ensures answer { IfOk result (λ due. IsUsage due.finish due.out due.notes) }
 {
     let out = Text::from_slice(alloc, b"")?;
     let notes = Text::from_slice(alloc, USAGE.as_bytes())?;
-    Ok(Due {
+    Ok(Owed {
         finish: bare(Status::Usage),
         out,
         notes,
@@ -77,13 +74,13 @@ fn usage(alloc: Global) -> Result<Due, NoMemory>
 }
 
 // What the refusal of a text owes.
-fn refused(alloc: Global, refusal: Refusal) -> Result<Due, NoMemory>
+fn refused(alloc: Global, refusal: Refusal) -> Result<Owed, NoMemory>
     ensures status { IfOk result (λ due. IsAnswer due.finish.status) }
     ensures answer { IfOk result (λ due. IsRefusal refusal due.finish due.out due.notes) }
 {
     let out = Text::from_slice(alloc, b"")?;
     let notes = refusal_line_of(alloc, refusal)?;
-    Ok(Due {
+    Ok(Owed {
         finish: Finish {
             status: Status::Refused,
             refusal: Some(refusal),
@@ -129,7 +126,7 @@ fn finished(alloc: Global, code: Code, fuel: u32) -> Result<(Code, Kept, (Text, 
 }
 
 // What the run of a program owes.
-fn ran(alloc: Global, program: Annotated, code: Code, fuel: u32) -> Result<Due, NoMemory>
+fn ran(alloc: Global, program: Annotated, code: Code, fuel: u32) -> Result<Owed, NoMemory>
     requires valid { IsValid code }
     requires short { length code.list < 2 ^ 32 }
     requires some_fuel { 1 ≤ fuel }
@@ -138,7 +135,7 @@ fn ran(alloc: Global, program: Annotated, code: Code, fuel: u32) -> Result<Due, 
     ensures answer { IfOk result (λ due. HasRun (record { program = program; code = code }) fuel due.finish due.out due.notes) }
 {
     match finished(alloc, code, fuel) {
-        Ok((code, kept, (out, notes))) => Ok(Due {
+        Ok((code, kept, (out, notes))) => Ok(Owed {
             finish: Finish {
                 status: status_of(kept.end),
                 refusal: None,
@@ -156,7 +153,7 @@ fn ran(alloc: Global, program: Annotated, code: Code, fuel: u32) -> Result<Due, 
 }
 
 // What a run of a text owes.
-fn run_text(alloc: Global, text: &[u8], fuel: u32) -> Result<Due, NoMemory>
+fn run_text(alloc: Global, text: &[u8], fuel: u32) -> Result<Owed, NoMemory>
     requires length { length text.now < 2 ^ 32 }
     requires some_fuel { 1 ≤ fuel }
     requires little_fuel { fuel ≤ most_fuel }
@@ -172,7 +169,7 @@ fn run_text(alloc: Global, text: &[u8], fuel: u32) -> Result<Due, NoMemory>
 }
 
 // What `run` owes.
-fn run_file<F: Shelf>(alloc: Global, name: &str, fuel: u32, shelf: &mut F) -> Result<Due, Early>
+fn run_file<F: Shelf>(alloc: Global, name: &str, fuel: u32, shelf: &mut F) -> Result<Owed, Early>
     requires may_ask { F.may_ask name.now }
     requires some_fuel { 1 ≤ fuel }
     requires little_fuel { fuel ≤ most_fuel }
@@ -188,7 +185,7 @@ fn run_file<F: Shelf>(alloc: Global, name: &str, fuel: u32, shelf: &mut F) -> Re
 }
 
 // What a command owes.
-fn due_of<F: Shelf>(alloc: Global, command: &Command, shelf: &mut F) -> Result<Due, Early>
+fn due_of<F: Shelf>(alloc: Global, command: &Command, shelf: &mut F) -> Result<Owed, Early>
     requires may_ask { MayAskFor F.may_ask (Some (task_of command.now)) }
     requires fuel { HasFuel command.now }
     ensures status { IfOk result (λ due. IsAnswer due.finish.status) }
@@ -205,7 +202,7 @@ fn due_of<F: Shelf>(alloc: Global, command: &Command, shelf: &mut F) -> Result<D
 }
 
 /// Reads the words and the file, and finds what is owed. It takes all the memory that the call needs.
-pub fn prepare<F: Shelf>(alloc: Global, words: &[String], shelf: &mut F) -> Result<Due, Early>
+pub fn prepare<F: Shelf>(alloc: Global, words: &[String], shelf: &mut F) -> Result<Owed, Early>
     requires { MayAskFor F.may_ask (task_in (map string_bytes words.now)) }
     ensures status { IfOk result (λ due. IsAnswer due.finish.status) }
     ensures answer { IfOk result (λ due. Owes (task_in (map string_bytes words.now))

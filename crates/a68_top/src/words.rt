@@ -4,7 +4,7 @@ ghost use Rattle.std.specs.Option.{option_map};
 ghost use Rattle.a68_top.specs.Words.{task_in, is_operand, fuel_in, run_of};
 ghost use Rattle.a68_top.specs.Commands.{task_of, HasFuel};
 
-use a68_base::NoMemory;
+use a68_base::{MOST_FUEL, NoMemory, USUAL_FUEL};
 use a68_denote::int_of;
 use std::alloc::Global;
 use std::marker::Model;
@@ -49,19 +49,16 @@ fn names_file(word: &str) -> bool
     }
 }
 
-/// The fuel of a run where the words name none.
-const USUAL_FUEL: u32 = 4_000_000;
-
 // A number of fuel: one to eight digits, of 1 to 16,000,000.
 fn fuel_of(word: &str) -> Option<u32>
     ensures fuel { result ≡ fuel_in word.now }
-    ensures range { IfSome result (λ fuel. (1 ≤ fuel) × (fuel ≤ 16000000)) }
+    ensures range { IfSome result (λ fuel. (1 ≤ fuel) × (fuel ≤ MOST_FUEL)) }
 {
     if word.len() > 8 {
         return None;
     }
     match int_of(word.as_bytes()) {
-        Some(value) if value >= 1 && value <= 16_000_000 => Some(value as u32),
+        Some(value) if value >= 1 && value <= i64::from(MOST_FUEL) => Some(value as u32),
         _ => None,
     }
 }
@@ -73,7 +70,7 @@ fn run_of(
     file: &str,
     fuel: Option<u32>,
 ) -> Result<Option<Command>, NoMemory>
-    requires { IfSome fuel (λ fuel. (1 ≤ fuel) × (fuel ≤ 16000000)) }
+    requires { IfSome fuel (λ fuel. (1 ≤ fuel) × (fuel ≤ MOST_FUEL)) }
     ensures task { IfOk result (λ command. option_map task_of command ≡ run_of verb.now file.now fuel) }
     ensures fuel { IfOk result (λ command. IfSome command HasFuel) }
 {

@@ -13,4 +13,4 @@ pub use chain::{Chain, Entrances, Environ};
 pub use held::{Cells, Descriptor, Dim, Dims, Held, Slots};
 pub use kept::{End, Journal, Kept};
 pub use plain::{Layout, Name, Plain, Routine};
-pub use value::{Bounds, Node, Parts, Value};
+pub use value::{Bounds, Value, ValueNode, Values};

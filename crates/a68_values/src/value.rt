@@ -32,7 +32,7 @@ impl Model for Bounds {
 /// A value. Contracts see it as a tree of contents.
 #[cycle(value)]
 pub struct Value {
-    pub node: Node,
+    pub node: ValueNode,
 }
 
 impl Drop for Value {
@@ -44,46 +44,46 @@ impl Drop for Value {
 
 /// What a value is made of.
 #[cycle(value)]
-pub enum Node {
+pub enum ValueNode {
     /// The value of a construct that yields none (Report, 2.1.3.1).
     Void,
     Plain(Plain),
     Layout(Layout),
     /// The fields in order (2.1.3.3).
-    Structure(Parts),
+    Structure(Values),
     /// The elements in order, the last subscript running fastest (2.1.3.4).
-    Row { bounds: Bounds, parts: Parts },
+    Row { bounds: Bounds, parts: Values },
     /// A value united to a union, with the mode of the member that it has (2.1.3.6).
     United { mode: u32, value: Box<Value> },
 }
 
-impl Drop for Node {
+impl Drop for ValueNode {
     #[cycle(value)]
     fn drop(self) {
         match self {
-            Node::Void
-            | Node::Plain(_)
-            | Node::Layout(_)
-            | Node::Structure(_)
-            | Node::Row {
+            ValueNode::Void
+            | ValueNode::Plain(_)
+            | ValueNode::Layout(_)
+            | ValueNode::Structure(_)
+            | ValueNode::Row {
                 bounds: _,
                 parts: _,
             }
-            | Node::United { mode: _, value: _ } => {}
+            | ValueNode::United { mode: _, value: _ } => {}
         }
     }
 }
 
 /// The fields of a structure or the elements of a row, in order.
 #[cycle(value)]
-pub struct Parts {
+pub struct Values {
     pub items: Vec<Value>,
 }
 
-impl Drop for Parts {
+impl Drop for Values {
     #[cycle(value)]
     fn drop(self) {
-        let Parts { items: _ } = self;
+        let Values { items: _ } = self;
     }
 }
 
@@ -106,7 +106,7 @@ impl Model for Value {
     ghost size_decreases = { λ a h. depth_le-size_of a.node };
 }
 
-impl Model for Parts {
+impl Model for Values {
     ghost use Rattle.std.specs.Coded.{coded_list};
     ghost use Rattle.std.specs.Prelude.{List};
     ghost use Rattle.a68_values.specs.Codes.{content_code};
@@ -142,7 +142,7 @@ impl Value {
         ensures { result ≡ plain held }
     {
         Value {
-            node: Node::Plain(held),
+            node: ValueNode::Plain(held),
         }
     }
 
@@ -152,7 +152,7 @@ impl Value {
         ensures { MatchOption result (as_plain self.now ≡ None) (λ held. self.now ≡ plain held) }
     {
         match &self.node {
-            Node::Plain(held) => Some(*held),
+            ValueNode::Plain(held) => Some(*held),
             _ => None,
         }
     }
@@ -163,15 +163,15 @@ impl Value {
         ensures { IfOk result (λ value. value ≡ self.now) }
     {
         let node = match &self.node {
-            Node::Void => Node::Void,
-            Node::Plain(plain) => Node::Plain(*plain),
-            Node::Layout(layout) => Node::Layout(*layout),
-            Node::Structure(parts) => Node::Structure(parts.copy(alloc)?),
-            Node::Row { bounds, parts } => Node::Row {
+            ValueNode::Void => ValueNode::Void,
+            ValueNode::Plain(plain) => ValueNode::Plain(*plain),
+            ValueNode::Layout(layout) => ValueNode::Layout(*layout),
+            ValueNode::Structure(parts) => ValueNode::Structure(parts.copy(alloc)?),
+            ValueNode::Row { bounds, parts } => ValueNode::Row {
                 bounds: bounds.copy(alloc)?,
                 parts: parts.copy(alloc)?,
             },
-            Node::United { mode, value } => Node::United {
+            ValueNode::United { mode, value } => ValueNode::United {
                 mode: *mode,
                 value: Box::new(alloc, value.copy(alloc)?)?,
             },
@@ -185,27 +185,27 @@ impl Value {
         ensures { result ≡ scope_of self.now }
     {
         match &self.node {
-            Node::Void => 0,
-            Node::Layout(_) => 0,
-            Node::Plain(plain) => plain.scope(),
-            Node::Structure(parts) => parts.scope(),
-            Node::Row { parts, .. } => parts.scope(),
-            Node::United { value, .. } => value.scope(),
+            ValueNode::Void => 0,
+            ValueNode::Layout(_) => 0,
+            ValueNode::Plain(plain) => plain.scope(),
+            ValueNode::Structure(parts) => parts.scope(),
+            ValueNode::Row { parts, .. } => parts.scope(),
+            ValueNode::United { value, .. } => value.scope(),
         }
     }
 }
 
-impl Parts {
+impl Values {
     /// Equal parts.
     #[cycle(copy)]
-    pub fn copy(&self, alloc: Global) -> Result<Parts, NoMemory>
+    pub fn copy(&self, alloc: Global) -> Result<Values, NoMemory>
         ensures { IfOk result (λ parts. parts ≡ self.now) }
     {
         let mut items = Vec::with_capacity(alloc, self.items.len())?;
         for part in &self.items {
             items.push(part.copy(alloc)?)?;
         }
-        Ok(Parts { items })
+        Ok(Values { items })
     }
 
     /// The newest of the parts' scopes; 0 where there is none.

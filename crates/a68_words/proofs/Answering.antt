@@ -6,7 +6,7 @@ use Rattle.a68_symbols.specs.declared.symbol.Symbol.{Symbol}
 use Rattle.a68_symbols.specs.Names.{Named}
 use Rattle.a68_words.specs.declared.class.Class.{Class}
 use Rattle.a68_words.specs.declared.role.Role.{Role}
-use Rattle.a68_words.specs.declared.known.Fault.{Fault}
+use Rattle.a68_words.specs.declared.known.BrokenRule.{BrokenRule}
 use Rattle.a68_words.specs.Classes.{AreClasses, IsClassed, IsRefused}
 use Rattle.a68_words.specs.Known.{IsFirstFault, Outline}
 use Rattle.a68_words.specs.Spellings.{names_of, role_in, roles_of}
@@ -22,13 +22,13 @@ outline_is found o roles names e p q = rw (e, p, q) refl
 pub roles_length : (found : Named) (o : Outline) → o ≡ outline_of found → length o.roles ≡ length found.symbols
 roles_length found o e = ap (λ (o : Outline). length o.roles) e ∙ length-map found.symbols (role_in found)
 
-pub symbol_within : (found : Named) (o : Outline) (fault : Fault) → o ≡ outline_of found → IsFirstFault o (Some fault) → fault.symbol < length found.symbols
+pub symbol_within : (found : Named) (o : Outline) (fault : BrokenRule) → o ≡ outline_of found → IsFirstFault o (Some fault) → fault.symbol < length found.symbols
 symbol_within found o fault e first =
     let lt : fault.symbol < length o.roles = breaks_within o fault.symbol fault.rule first.0 in
     let same : length o.roles ≡ length found.symbols = roles_length found o e in
     omega arith
 
-pub is_refused : (found : Named) (o : Outline) (fault : Fault) (s : Symbol) → o ≡ outline_of found → IsFirstFault o (Some fault)
+pub is_refused : (found : Named) (o : Outline) (fault : BrokenRule) (s : Symbol) → o ≡ outline_of found → IsFirstFault o (Some fault)
     → slice_get found.symbols fault.symbol ≡ Some s → IsRefused found fault.rule s.span.from
 is_refused found o fault s e first is =
     let there : IsFirstFault (outline_of found) (Some fault) = subst (λ (o : Outline). IsFirstFault o (Some fault)) e first in

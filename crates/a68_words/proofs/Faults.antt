@@ -6,7 +6,7 @@ use Rattle.a68_base.specs.declared.refusal.Rule.{Rule}
 use Rattle.a68_base.specs.declared.refusal.Rule.TheVariants.{S4, N2, L3}
 use Rattle.a68_words.specs.declared.role.Role.TheVariants.{Other}
 use Rattle.a68_words.specs.declared.role.Role.{Role}
-use Rattle.a68_words.specs.declared.known.Fault.{Fault}
+use Rattle.a68_words.specs.declared.known.BrokenRule.{BrokenRule}
 use Rattle.std.proofs.lemmas.List.{get_or_past}
 use Rattle.a68_words.specs.declared.class.Class.TheVariants.{ModeWord}
 use Rattle.a68_words.specs.Levels.{IsTooDeep, role_at}
@@ -17,7 +17,7 @@ use Rattle.a68_words.specs.Steps.{IsFirst}
 use Rattle.a68_words.proofs.Judging.{defines_within}
 
 -- the first fault of a family
-abbrev pub FirstOf : (ℕ → Rule → Type 0) → Option Fault → Type 0
+abbrev pub FirstOf : (ℕ → Rule → Type 0) → Option BrokenRule → Type 0
 FirstOf P None = (j : ℕ) (rule : Rule) → P j rule → ⊥
 FirstOf P (Some fault) = P fault.symbol fault.rule × ((j : ℕ) (other : Rule) → P j other → IsBefore fault.symbol fault.rule j other)
 
@@ -39,7 +39,7 @@ single rule P n (Some k) within f = (
   ],
 )
 
-sooner : (P Q : ℕ → Rule → Type 0) (a b : Fault) (t : Bool) → nat_lt b.symbol a.symbol ≡ t → FirstOf P (Some a) → FirstOf Q (Some b)
+sooner : (P Q : ℕ → Rule → Type 0) (a b : BrokenRule) (t : Bool) → nat_lt b.symbol a.symbol ≡ t → FirstOf P (Some a) → FirstOf Q (Some b)
     → ((i j : ℕ) (r s : Rule) → P i r → Q j s → rank r ≤ rank s)
     → FirstOf (λ i r. P i r ⊎ Q i r) (if t then Some b else Some a)
 sooner P Q a b true e p q ranks =
@@ -73,7 +73,7 @@ sooner P Q a b false e p q ranks =
       ],
     )
 
-earlier_is : (P Q : ℕ → Rule → Type 0) (a b : Option Fault) → FirstOf P a → FirstOf Q b
+earlier_is : (P Q : ℕ → Rule → Type 0) (a b : Option BrokenRule) → FirstOf P a → FirstOf Q b
     → ((i j : ℕ) (r s : Rule) → P i r → Q j s → rank r ≤ rank s)
     → FirstOf (λ i r. P i r ⊎ Q i r) (earlier a b)
 earlier_is P Q None None p q ranks = λ j r at. elim at [ inl here ↦ p j r here | inr here ↦ q j r here ]
@@ -81,7 +81,7 @@ earlier_is P Q None (Some b) p q ranks = (inr q.0, λ j r at. elim at [ inl here
 earlier_is P Q (Some a) None p q ranks = (inl p.0, λ j r at. elim at [ inl here ↦ p.1 j r here | inr here ↦ absurd (q j r here) ])
 earlier_is P Q (Some a) (Some b) p q ranks = sooner P Q a b (nat_lt b.symbol a.symbol) refl p q ranks
 
-weaken : (P Q : ℕ → Rule → Type 0) (o : Option Fault) → ((i : ℕ) (r : Rule) → P i r → Q i r) → ((i : ℕ) (r : Rule) → Q i r → P i r) → FirstOf P o → FirstOf Q o
+weaken : (P Q : ℕ → Rule → Type 0) (o : Option BrokenRule) → ((i : ℕ) (r : Rule) → P i r → Q i r) → ((i : ℕ) (r : Rule) → Q i r → P i r) → FirstOf P o → FirstOf Q o
 weaken P Q None to from f = λ j r q. f j r (from j r q)
 weaken P Q (Some a) to from f = (to a.symbol a.rule f.0, λ j r q. f.1 j r (from j r q))
 
@@ -120,7 +120,7 @@ deep_first : (o : Outline) (t : Option ℕ) → IsFirst (IsTooDeep o.roles) (len
 deep_first o None f = λ k h b. f k h (deep_within o k b).1
 deep_first o (Some k) f = (f.0, too_deep f.0 f.1, λ j lt b. f.2 j lt (deep_within o j b).1)
 
-is_first : (o : Outline) (f : Option Fault) → FirstOf (Breaks o.roles o.names) f → IsFirstFault o f
+is_first : (o : Outline) (f : Option BrokenRule) → FirstOf (Breaks o.roles o.names) f → IsFirstFault o f
 is_first o None f = f
 is_first o (Some fault) f = f
 

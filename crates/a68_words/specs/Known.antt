@@ -1,3 +1,4 @@
+-- Inner: the headline does not rest on this file.
 -- What is known of a symbol before it is judged, and what is the first thing broken.
 use Rattle.std.specs.Prelude.{◌≡◌, ℕ, ◌↔◌, Bool, true, not, nat_lt, ◌||◌, ◌&&◌, List, length, Option, Some, None, if◌then◌else◌}
 use Rattle.std.specs.Option.{is_some}
@@ -8,7 +9,7 @@ use Rattle.a68_words.specs.declared.class.Class.{Class}
 use Rattle.a68_words.specs.declared.class.Class.TheVariants.{Reserved, ModeWord, OperatorWord}
 use Rattle.a68_words.specs.declared.role.Role.{Role}
 use Rattle.a68_words.specs.declared.known.Known.{Known}
-use Rattle.a68_words.specs.declared.known.Fault.{Fault}
+use Rattle.a68_words.specs.declared.known.BrokenRule.{BrokenRule}
 use Rattle.a68_words.specs.Levels.{role_at}
 use Rattle.a68_words.specs.Definitions.{Defines}
 use Rattle.a68_words.specs.Classes.{IsDefinedAt, Breaks, IsBefore}
@@ -57,18 +58,18 @@ class_in Word known = Some (class_of known)
 class_in _ known = None
 
 -- the one that comes first, and the left one where both stand at one symbol
-abbrev pub earlier : Option Fault → Option Fault → Option Fault
+abbrev pub earlier : Option BrokenRule → Option BrokenRule → Option BrokenRule
 earlier None other = other
 earlier (Some fault) None = Some fault
 earlier (Some fault) (Some other) = if nat_lt other.symbol fault.symbol then Some other else Some fault
 
 -- a rule's first symbol as a fault
-abbrev pub fault_of : Rule → Option ℕ → Option Fault
+abbrev pub fault_of : Rule → Option ℕ → Option BrokenRule
 fault_of rule (Some symbol) = Some (record { rule = rule; symbol = symbol })
 fault_of rule None = None
 
 -- the first thing broken, if anything is
-abbrev pub IsFirstFault : Outline → Option Fault → Type 0
+abbrev pub IsFirstFault : Outline → Option BrokenRule → Type 0
 IsFirstFault outline (Some fault) =
     Breaks outline.roles outline.names fault.symbol fault.rule
     × ((j : ℕ) (other : Rule) → Breaks outline.roles outline.names j other → IsBefore fault.symbol fault.rule j other)

@@ -1,3 +1,4 @@
+-- Inner: the headline does not rest on this file.
 -- What the walk over the levels of a text keeps.
 use Rattle.std.specs.Prelude.{◌≡◌, ℕ, zero, suc, ◌+◌, ◌<◌, ◌↔◌, Bool, true, false, ◌||◌, ◌&&◌, List, [], ◌∷◌, length, slice_index_or, slice_index, nat_le, Option, Some, None, if◌then◌else◌}
 use Rattle.a68_words.specs.declared.class.Class.{Class}

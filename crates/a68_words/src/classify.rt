@@ -10,7 +10,7 @@ ghost use Rattle.a68_words.specs.Known.{IsFine};
 ghost use Rattle.a68_words.specs.Spellings.{names_of, roles_of};
 
 use crate::definitions::Definitions;
-use crate::known::Fault;
+use crate::known::BrokenRule;
 use crate::places::walk;
 use crate::spelling::{names, roles};
 use crate::{Class, Classed};
@@ -19,7 +19,7 @@ use a68_symbols::Symbols;
 use std::alloc::Global;
 
 // The refusal of a text by a rule that a symbol breaks.
-fn refused(symbols: &Symbols, fault: Fault) -> Stop
+fn refused(symbols: &Symbols, fault: BrokenRule) -> Stop
     requires { fault.symbol < length symbols.now.symbols }
     ensures { (s : Symbol) × (slice_get symbols.now.symbols fault.symbol ≡ Some s) × (result ≡ Refused (record { rule = fault.rule; place = s.span.from })) }
 {

@@ -8,7 +8,7 @@ ghost use Rattle.a68_words.specs.Known as known;
 ghost use Rattle.a68_words.specs.Levels.{IsTooDeep};
 ghost use Rattle.a68_words.specs.Steps as steps;
 
-use crate::known::{Fault, Known, earlier};
+use crate::known::{BrokenRule, Known, earlier};
 use crate::places::{Places, first};
 use crate::role::Role;
 use a68_base::{NoMemory, Rule};
@@ -68,11 +68,11 @@ fn firsts(
 }
 
 // A rule's first symbol as a fault.
-fn fault_of(rule: Rule, symbol: Option<usize>) -> Option<Fault>
+fn fault_of(rule: Rule, symbol: Option<usize>) -> Option<BrokenRule>
     ensures { result ≡ known.fault_of rule symbol }
 {
     match symbol {
-        Some(symbol) => Some(Fault { rule, symbol }),
+        Some(symbol) => Some(BrokenRule { rule, symbol }),
         None => None,
     }
 }
@@ -141,7 +141,7 @@ impl Definitions {
     }
 
     /// The first thing broken in a text whose first symbol that is too deep is that one.
-    pub fn first_fault(&self, too_deep: Option<usize>) -> Option<Fault>
+    pub fn first_fault(&self, too_deep: Option<usize>) -> Option<BrokenRule>
         requires { steps.IsFirst (IsTooDeep self.now.roles) (length self.now.roles) too_deep }
         ensures { known.IsFirstFault self.now result }
     {

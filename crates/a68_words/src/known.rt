@@ -22,7 +22,7 @@ pub struct Known {
 
 /// A rule, and the number of the symbol that breaks it.
 #[derive(Clone, Copy)]
-pub struct Fault {
+pub struct BrokenRule {
     pub rule: Rule,
     pub symbol: usize,
 }
@@ -81,7 +81,7 @@ impl Known {
 }
 
 /// The one that comes first, and the left one where both stand at one symbol.
-pub fn earlier(fault: Option<Fault>, other: Option<Fault>) -> Option<Fault>
+pub fn earlier(fault: Option<BrokenRule>, other: Option<BrokenRule>) -> Option<BrokenRule>
     ensures { result ≡ known.earlier fault other }
 {
     match (fault, other) {

@@ -11,8 +11,8 @@ use Rattle.a68_strand.specs.Cyclic.{HasTurn, Sooner, IsFirstBehind, TakeTurns, I
 use Rattle.a68_strand.specs.Ends.{fault_of, fault_in, CanAct}
 use Rattle.a68_strand.specs.Machine.{State}
 use Rattle.a68_strand.specs.Runs.{World, Machine, IfNext, opening, acted, acts_in, after}
-use Rattle.a68_strand.specs.declared.ask.Mode.{Mode}
-use Rattle.a68_strand.specs.declared.ask.Mode.TheVariants.{Idle, Asking, Failed}
+use Rattle.a68_strand.specs.declared.ask.Stance.{Stance}
+use Rattle.a68_strand.specs.declared.ask.Stance.TheVariants.{Idle, Asking, Failed}
 use Rattle.a68_values.specs.declared.act.Act.{Act}
 use Rattle.a68_values.specs.declared.act.Entry.{Entry}
 use Rattle.a68_values.specs.declared.kept.End.{End}
@@ -117,15 +117,15 @@ calm_outcome : (code : Code) (w : World) (n : ℕ) (st : State) (o : Outcome) �
 calm_outcome code w n st (did act reply store) can = refl
 calm_outcome code w n st (refuses why) can = absurd (can refl)
 
-calm_in : (code : Code) (w : World) (n : ℕ) (st : State) (m : Mode) → acts_in m code w n st ≢ None → fault_in m w.store ≡ None
+calm_in : (code : Code) (w : World) (n : ℕ) (st : State) (m : Stance) → acts_in m code w n st ≢ None → fault_in m w.store ≡ None
 calm_in code w n st Idle can = absurd (can refl)
 calm_in code w n st (Asking want waiting) can = calm_outcome code w n st (does want w.store) can
 calm_in code w n st (Failed why) can = absurd (can refl)
 
 calm_found : (code : Code) (w : World) (n : ℕ) (o : Option State)
-    → option_and_then (λ (st : State). acts_in st.mode code w n st) o ≢ None → option_and_then (λ (st : State). fault_in st.mode w.store) o ≡ None
+    → option_and_then (λ (st : State). acts_in st.stance code w n st) o ≢ None → option_and_then (λ (st : State). fault_in st.stance w.store) o ≡ None
 calm_found code w n None can = refl
-calm_found code w n (Some st) can = calm_in code w n st st.mode can
+calm_found code w n (Some st) can = calm_in code w n st st.stance can
 
 pub calm : (code : Code) (w : World) (n : ℕ) → CanAct code w n → fault_of w n ≡ None
 calm code w n can = calm_found code w n (slice_get w.strands n) can
@@ -230,8 +230,8 @@ cyclic run handed kept i f = record {
 -- ---- a strand whose turn it is, is there
 
 turn_is_there : (code : Code) (w : World) (n : ℕ) → HasTurn code w n → slice_get w.strands n ≡ None → ⊥
-turn_is_there code w n (inl can) gone = can (ap (λ o. option_and_then (λ (st : State). acts_in st.mode code w n st) o) gone)
-turn_is_there code w n (inr fault) gone = fault (ap (λ o. option_and_then (λ (st : State). fault_in st.mode w.store) o) gone)
+turn_is_there code w n (inl can) gone = can (ap (λ o. option_and_then (λ (st : State). acts_in st.stance code w n st) o) gone)
+turn_is_there code w n (inr fault) gone = fault (ap (λ o. option_and_then (λ (st : State). fault_in st.stance w.store) o) gone)
 
 first_is_there : (code : Code) (w : World) (n : ℕ) → opening code ≡ w → n ≡ 0 → slice_get w.strands n ≡ None → ⊥
 first_is_there code w n is first gone =

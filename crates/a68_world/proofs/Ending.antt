@@ -6,7 +6,7 @@ use Rattle.a68_acts.specs.Does.{Outcome, did, refuses, refused, does}
 use Rattle.a68_acts.specs.Store.{Store}
 use Rattle.a68_acts.specs.declared.want.Want.{Want}
 use Rattle.a68_code.specs.declared.code.Code.{Code}
-use Rattle.a68_strand.specs.Bodies.{mode_in}
+use Rattle.a68_strand.specs.Bodies.{stance_in}
 use Rattle.a68_strand.specs.Cyclic.{HasTurn}
 use Rattle.a68_strand.specs.Ends.{fault_in, fault_of, HasEnded, EndsWith, done, all_halted}
 use Rattle.a68_strand.specs.Machine.{State, asked, place_at}
@@ -14,8 +14,8 @@ use Rattle.a68_strand.specs.Runs.{World, after, acts_in, acted}
 use Rattle.a68_strand.specs.Strands.{standing}
 use Rattle.a68_strand.specs.declared.ask.Ask.{Ask}
 use Rattle.a68_strand.specs.declared.ask.Ask.TheVariants as ask
-use Rattle.a68_strand.specs.declared.ask.Mode.{Mode}
-use Rattle.a68_strand.specs.declared.ask.Mode.TheVariants.{Idle, Asking, Failed}
+use Rattle.a68_strand.specs.declared.ask.Stance.{Stance}
+use Rattle.a68_strand.specs.declared.ask.Stance.TheVariants.{Idle, Asking, Failed}
 use Rattle.a68_strand.specs.declared.ask.Waiting.{Waiting}
 use Rattle.a68_strand.specs.declared.strand.Strand.{Strand}
 use Rattle.a68_values.specs.declared.act.Entry.{Entry}
@@ -32,31 +32,31 @@ alone store st = record { store = store; strands = st ∷ [] }
 -- ---- what a strand shows
 
 -- a strand that shows an act has asked for it
-pub asking : (code : Code) (strand : Strand) (w : Want) → Shows code strand → strand.about.ask ≡ ask.Want w → (x : Waiting) × ((standing strand).mode ≡ Asking w x)
-asking code strand w shows e = (strand.about.waiting, ap (λ (a : Ask). mode_in a strand.about.waiting) e)
+pub asking : (code : Code) (strand : Strand) (w : Want) → Shows code strand → strand.about.ask ≡ ask.Want w → (x : Waiting) × ((standing strand).stance ≡ Asking w x)
+asking code strand w shows e = (strand.about.waiting, ap (λ (a : Ask). stance_in a strand.about.waiting) e)
 
 -- ---- the next act and the fault of the one strand
 
-pub next-act : (code : Code) (store : Store) (st : State) (w : Want) (x : Waiting) → st.mode ≡ Asking w x → acted code (alone store st) 0 ≡ after code (alone store st) 0 st (does w store)
-next-act code store st w x e = ap (λ (m : Mode). acts_in m code (alone store st) 0 st) e
+pub next-act : (code : Code) (store : Store) (st : State) (w : Want) (x : Waiting) → st.stance ≡ Asking w x → acted code (alone store st) 0 ≡ after code (alone store st) 0 st (does w store)
+next-act code store st w x e = ap (λ (m : Stance). acts_in m code (alone store st) 0 st) e
 
-pub next-fault : (store : Store) (st : State) → fault_of (alone store st) 0 ≡ fault_in st.mode store
+pub next-fault : (store : Store) (st : State) → fault_of (alone store st) 0 ≡ fault_in st.stance store
 next-fault store st = refl
 
 -- a strand that has not ended has a turn
-pub has-turn : (code : Code) (store : Store) (st : State) → (st.mode ≡ Idle → ⊥) → HasTurn code (alone store st) 0
-has-turn code store st open_ = by_mode st.mode refl
+pub has-turn : (code : Code) (store : Store) (st : State) → (st.stance ≡ Idle → ⊥) → HasTurn code (alone store st) 0
+has-turn code store st open_ = by_stance st.stance refl
   where
-    by_act : (w : Want) (x : Waiting) → st.mode ≡ Asking w x → (o : Outcome) → does w store ≡ o → HasTurn code (alone store st) 0
+    by_act : (w : Want) (x : Waiting) → st.stance ≡ Asking w x → (o : Outcome) → does w store ≡ o → HasTurn code (alone store st) 0
     by_act w x e (did act told behind) f =
         inl (λ n. let some = next-act code store st w x e ∙ ap (after code (alone store st) 0 st) f in absurd (cc))
     by_act w x e (refuses why) f =
-        inr (λ n. let some = ap (λ (m : Mode). fault_in m store) e ∙ ap refused f in absurd (cc))
+        inr (λ n. let some = ap (λ (m : Stance). fault_in m store) e ∙ ap refused f in absurd (cc))
 
-    by_mode : (m : Mode) → st.mode ≡ m → HasTurn code (alone store st) 0
-    by_mode Idle e = absurd (open_ e)
-    by_mode (Asking w x) e = by_act w x e (does w store) refl
-    by_mode (Failed why) e = inr (λ n. let some = ap (λ (m : Mode). fault_in m store) e in absurd (cc))
+    by_stance : (m : Stance) → st.stance ≡ m → HasTurn code (alone store st) 0
+    by_stance Idle e = absurd (open_ e)
+    by_stance (Asking w x) e = by_act w x e (does w store) refl
+    by_stance (Failed why) e = inr (λ n. let some = ap (λ (m : Stance). fault_in m store) e in absurd (cc))
 
 -- no strand but the one has a turn
 pub one-turn : (code : Code) (store : Store) (st : State) (n : ℕ) → HasTurn code (alone store st) n → n ≡ 0
@@ -66,21 +66,21 @@ one-turn code store st (suc n) (inr h) = absurd (h refl)
 
 -- ---- the end without a further turn
 
-ends-without-in : (code : Code) (store : Store) (st : State) (place : ℕ) (a : Ask) → a ≡ asked place st.mode → EndsWithoutTurn code (alone store st) (end_shown a)
-ends-without-in code store st place a is = by_mode st.mode refl
+ends-without-in : (code : Code) (store : Store) (st : State) (place : ℕ) (a : Ask) → a ≡ asked place st.stance → EndsWithoutTurn code (alone store st) (end_shown a)
+ends-without-in code store st place a is = by_stance st.stance refl
   where
-    open_ : (m : Mode) → st.mode ≡ m → (m ≡ Idle → ⊥) → HasEnded (alone store st) 0 → ⊥
+    open_ : (m : Stance) → st.stance ≡ m → (m ≡ Idle → ⊥) → HasEnded (alone store st) 0 → ⊥
     open_ m e f h =
         let same : h.st ≡ st = cc (h.there) in
-        f (sym e ∙ sym (ap (λ (x : State). x.mode) same) ∙ h.idle)
+        f (sym e ∙ sym (ap (λ (x : State). x.stance) same) ∙ h.idle)
 
-    shown : (m : Mode) → st.mode ≡ m → a ≡ asked place m
+    shown : (m : Stance) → st.stance ≡ m → a ≡ asked place m
     shown m e = is ∙ ap (asked place) e
 
-    by_mode : (m : Mode) → st.mode ≡ m → EndsWithoutTurn code (alone store st) (end_shown a)
-    by_mode Idle e = rw (shown Idle e) (record { st = st; there = refl; idle = e })
-    by_mode (Asking w x) e = rw (shown (Asking w x) e) (open_ (Asking w x) e (λ f. absurd (cc)), (0, has-turn code store st (λ f. absurd (cc))))
-    by_mode (Failed why) e = rw (shown (Failed why) e) (open_ (Failed why) e (λ f. absurd (cc)), (0, has-turn code store st (λ f. absurd (cc))))
+    by_stance : (m : Stance) → st.stance ≡ m → EndsWithoutTurn code (alone store st) (end_shown a)
+    by_stance Idle e = rw (shown Idle e) (record { st = st; there = refl; idle = e })
+    by_stance (Asking w x) e = rw (shown (Asking w x) e) (open_ (Asking w x) e (λ f. absurd (cc)), (0, has-turn code store st (λ f. absurd (cc))))
+    by_stance (Failed why) e = rw (shown (Failed why) e) (open_ (Failed why) e (λ f. absurd (cc)), (0, has-turn code store st (λ f. absurd (cc))))
 
 pub ends-without : (code : Code) (store : Store) (strand : Strand) → Shows code strand → EndsWithoutTurn code (alone store (standing strand)) (end_shown strand.about.ask)
 ends-without code store strand shows = ends-without-in code store (standing strand) (place_at code.list strand.body.at) strand.about.ask shows.ask

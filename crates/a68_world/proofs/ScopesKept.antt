@@ -21,8 +21,8 @@ use Rattle.a68_modes.specs.declared.shape.Shape.{Shape}
 use Rattle.a68_strand.specs.Machine.{State, goes_on, goes_to, fails, follows, operates, enters, yields_to, leaves_frame, branches, unless, with_counter, counts, steps, advances, forgets, exec, at_end, does_one, silently, next_state, settle_in, settle, leaves_at, told_by, replied_in, replied}
 use Rattle.a68_strand.specs.Room.{has_room, brings_room}
 use Rattle.a68_stack.specs.Values.{pop_values, top_counter, top_value}
-use Rattle.a68_strand.specs.declared.ask.Mode.{Mode}
-use Rattle.a68_strand.specs.declared.ask.Mode.TheVariants.{Idle, Asking, Failed}
+use Rattle.a68_strand.specs.declared.ask.Stance.{Stance}
+use Rattle.a68_strand.specs.declared.ask.Stance.TheVariants.{Idle, Asking, Failed}
 use Rattle.a68_strand.specs.declared.ask.Waiting.{Waiting}
 use Rattle.a68_strand.specs.declared.ask.Waiting.TheVariants as waiting
 use Rattle.a68_stack.specs.declared.stack.Item.{Item}
@@ -31,26 +31,26 @@ use Rattle.a68_values.specs.Content.{Content, scope_of}
 use Rattle.a68_values.specs.declared.act.FaultKind.{FaultKind}
 use Rattle.a68_values.specs.declared.act.FaultKind.TheVariants as fault
 use Rattle.a68_values.specs.declared.chain.Environ.{Environ}
-use Rattle.a68_world.specs.Scopes.{ChainBelow, WantBelow, DoingBelow, ModeBelow, ReplyBelow, StateBelow}
+use Rattle.a68_world.specs.Scopes.{ChainBelow, WantBelow, DoingBelow, StanceBelow, ReplyBelow, StateBelow}
 use Rattle.a68_world.proofs.Asked.{start-below, resumed-below}
 
-idle : (n : ℕ) (st : State) → ChainBelow n st.chain → st.mode ≡ Idle → StateBelow n st
-idle n st p e = record { chain = p; mode = rw e tt }
+idle : (n : ℕ) (st : State) → ChainBelow n st.chain → st.stance ≡ Idle → StateBelow n st
+idle n st p e = record { chain = p; stance = rw e tt }
 
 failed : (n : ℕ) (st : State) (why : FaultKind) → ChainBelow n st.chain → StateBelow n (fails st why)
-failed n st why p = record { chain = p; mode = tt }
+failed n st why p = record { chain = p; stance = tt }
 
 on : (n : ℕ) (st : State) (items : List Item) → ChainBelow n st.chain → StateBelow n (goes_on st items)
-on n st items p = record { chain = p; mode = tt }
+on n st items p = record { chain = p; stance = tt }
 
 to-place : (n : ℕ) (st : State) (at : ℕ) (items : List Item) → ChainBelow n st.chain → StateBelow n (goes_to st at items)
-to-place n st at items p = record { chain = p; mode = tt }
+to-place n st at items p = record { chain = p; stance = tt }
 
 follows-below : (n : ℕ) (st : State) (b : Bool) (items : List Item) (doing : Doing) → ChainBelow n st.chain → DoingBelow n doing → StateBelow n (follows st b items doing)
-follows-below n st true items (Yields v) p q = record { chain = p; mode = tt }
-follows-below n st false items (Yields v) p q = record { chain = p; mode = tt }
-follows-below n st b items (Asks w go) p q = record { chain = p; mode = q }
-follows-below n st b items (Meets why) p q = record { chain = p; mode = tt }
+follows-below n st true items (Yields v) p q = record { chain = p; stance = tt }
+follows-below n st false items (Yields v) p q = record { chain = p; stance = tt }
+follows-below n st b items (Asks w go) p q = record { chain = p; stance = q }
+follows-below n st b items (Meets why) p q = record { chain = p; stance = tt }
 
 operates-below : (n : ℕ) (modes : List Shape) (st : State) (op : Operation) (k : ℕ) → ChainBelow n st.chain → StateBelow n (operates modes st op k)
 operates-below n modes st op k p = popped (pop_values k st.stack.items [])
@@ -62,23 +62,23 @@ operates-below n modes st op k p = popped (pop_values k st.stack.items [])
 
 enters-below : (n : ℕ) (st : State) (slots : ℕ) (chain : List Environ) → ChainBelow n st.chain → ChainBelow n chain → StateBelow n (enters st slots chain)
 enters-below n st slots [] p q = failed n st fault.Kind p
-enters-below n st slots (e ∷ chain) p q = record { chain = p; mode = omega (arith, q.0) }
+enters-below n st slots (e ∷ chain) p q = record { chain = p; stance = omega (arith, q.0) }
 
 yields_to-below : (n : ℕ) (st : State) (outwards : List Environ) (scope : ℕ) (o : Option Content) → ChainBelow n st.chain → ChainBelow n outwards
     → StateBelow n (yields_to st outwards scope o)
 yields_to-below n st outwards scope None p q = failed n st fault.Kind p
 yields_to-below n st outwards scope (Some v) p q = test (nat_lt scope (scope_of v))
   where
-    test : (b : Bool) → StateBelow n (if b then fails st fault.Scope else record st { at = suc st.at; chain = outwards; mode = Idle })
+    test : (b : Bool) → StateBelow n (if b then fails st fault.Scope else record st { at = suc st.at; chain = outwards; stance = Idle })
     test true = failed n st fault.Scope p
-    test false = record { chain = q; mode = tt }
+    test false = record { chain = q; stance = tt }
 
 leaves-below : (n : ℕ) (st : State) (kept : ℕ) (chain : List Environ) → ChainBelow n st.chain → ChainBelow n chain → StateBelow n (leaves_frame st kept chain)
 leaves-below n st kept (inner ∷ e ∷ chain) p q = test (nat_eq kept 0)
   where
     test : (b : Bool)
-        → StateBelow n (if b then record st { at = suc st.at; chain = e ∷ chain; mode = Idle } else yields_to st (e ∷ chain) e.scope (top_value st.stack.items))
-    test true = record { chain = q.1; mode = tt }
+        → StateBelow n (if b then record st { at = suc st.at; chain = e ∷ chain; stance = Idle } else yields_to st (e ∷ chain) e.scope (top_value st.stack.items))
+    test true = record { chain = q.1; stance = tt }
     test false = yields_to-below n st (e ∷ chain) e.scope (top_value st.stack.items) p q.1
 leaves-below n st kept [] p q = failed n st fault.Kind p
 leaves-below n st kept (inner ∷ []) p q = failed n st fault.Kind p
@@ -137,7 +137,7 @@ exec-below n modes (does.Jump to) st p = to-place n st to st.stack.items p.chain
 exec-below n modes (does.Unless to) st p = unless-below n st to st.stack.items p.chain
 exec-below n modes does.Counter st p = counts-below n st st.stack.items p.chain
 exec-below n modes (does.Step to) st p = steps-below n st to (top_counter st.stack.items) p.chain
-exec-below n modes does.Turn st p = record { chain = p.chain; mode = tt }
+exec-below n modes does.Turn st p = record { chain = p.chain; stance = tt }
 exec-below n modes (does.Advance to) st p = advances-below n st to st.stack.items p.chain
 exec-below n modes does.Forget st p = forgets-below n st st.stack.items p.chain
 exec-below n modes does.End st p = p
@@ -146,7 +146,7 @@ does_one-below : (n : ℕ) (modes : List Shape) (o : Option Does) (st : State) �
 does_one-below n modes None st p = failed n st fault.Kind p.chain
 does_one-below n modes (Some d) st p = exec-below n modes d st p
 
-silently-below : (n : ℕ) (code : Code) (m : Mode) (st : State) → StateBelow n st → IfSome (silently code m st) (StateBelow n)
+silently-below : (n : ℕ) (code : Code) (m : Stance) (st : State) → StateBelow n st → IfSome (silently code m st) (StateBelow n)
 silently-below n code Idle st p = test (at_end (does_at code.list st.at))
   where
     test : (b : Bool) → IfSome (if b then None else Some (does_one code.modes (does_at code.list st.at) st)) (StateBelow n)
@@ -161,7 +161,7 @@ settle_in-below n zero code st p = late (next_state code st)
     late : (o : Option State) → StateBelow n (option_map_or (λ (next : State). fails st fault.Kind) o st)
     late None = p
     late (Some next) = failed n st fault.Kind p.chain
-settle_in-below n (suc k) code st p = on_from (next_state code st) (silently-below n code st.mode st p) (settle_in-below n k code)
+settle_in-below n (suc k) code st p = on_from (next_state code st) (silently-below n code st.stance st p) (settle_in-below n k code)
   where
     on_from : (o : Option State) → IfSome o (StateBelow n) → ((next : State) → StateBelow n next → StateBelow n (settle_in k code next)) → StateBelow n (option_map_or (settle_in k code) o st)
     on_from None q more = p
@@ -173,14 +173,14 @@ settle-below n code st p = settle_in-below n (length code.list) code st p
 
 told_by-below : (n : ℕ) (code : Code) (st : State) (wait : Waiting) (r : Reply) → ChainBelow n st.chain → ReplyBelow n r → StateBelow n (told_by code st wait r)
 told_by-below n code st (waiting.Operation go) r p q = follows-below n st (leaves_at code st.at) st.stack.items (resumed go r) p (resumed-below n go r)
-told_by-below n code st waiting.Frame (reply.Frame chain) p q = record { chain = q; mode = tt }
-told_by-below n code st waiting.Turn reply.Go p q = record { chain = p; mode = tt }
+told_by-below n code st waiting.Frame (reply.Frame chain) p q = record { chain = q; stance = tt }
+told_by-below n code st waiting.Turn reply.Go p q = record { chain = p; stance = tt }
 told_by-below n code st _ _ p q = failed n st fault.Kind p
 
 pub replied-below : (n : ℕ) (code : Code) (st : State) (r : Reply) → StateBelow n st → ReplyBelow n r → StateBelow n (replied code st r)
-replied-below n code st r p q = told st.mode p.mode
+replied-below n code st r p q = told st.stance p.stance
   where
-    told : (m : Mode) → ModeBelow n m → StateBelow n (replied_in m code st r)
+    told : (m : Stance) → StanceBelow n m → StateBelow n (replied_in m code st r)
     told Idle h = p
     told (Failed why) h = p
     told (Asking w wait) h = told_by-below n code st wait r p.chain q
@@ -203,10 +203,10 @@ want-more : (m n : ℕ) (w : Want) → m ≤ n → WantBelow m w → WantBelow n
 want-more m n (want.Enter outer scope slots) h p = omega (arith, p)
 want-more m n _ h p = tt
 
-mode-more : (m n : ℕ) (x : Mode) → m ≤ n → ModeBelow m x → ModeBelow n x
-mode-more m n (Asking w wait) h p = want-more m n w h p
-mode-more m n Idle h p = tt
-mode-more m n (Failed why) h p = tt
+stance-more : (m n : ℕ) (x : Stance) → m ≤ n → StanceBelow m x → StanceBelow n x
+stance-more m n (Asking w wait) h p = want-more m n w h p
+stance-more m n Idle h p = tt
+stance-more m n (Failed why) h p = tt
 
 pub state-more : (m n : ℕ) (st : State) → m ≤ n → StateBelow m st → StateBelow n st
-state-more m n st h p = record { chain = chain-more m n st.chain h p.chain; mode = mode-more m n st.mode h p.mode }
+state-more m n st h p = record { chain = chain-more m n st.chain h p.chain; stance = stance-more m n st.stance h p.stance }

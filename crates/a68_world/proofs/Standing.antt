@@ -18,8 +18,8 @@ use Rattle.a68_strand.specs.Runs.{World, opening}
 use Rattle.a68_strand.specs.Strands.{standing, is_spent, HasSettled}
 use Rattle.a68_strand.specs.declared.ask.Ask.{Ask}
 use Rattle.a68_strand.specs.declared.ask.Ask.TheVariants as ask
-use Rattle.a68_strand.specs.declared.ask.Mode.{Mode}
-use Rattle.a68_strand.specs.declared.ask.Mode.TheVariants.{Idle, Asking, Failed}
+use Rattle.a68_strand.specs.declared.ask.Stance.{Stance}
+use Rattle.a68_strand.specs.declared.ask.Stance.TheVariants.{Idle, Asking, Failed}
 use Rattle.a68_strand.specs.declared.strand.Strand.{Strand}
 use Rattle.a68_values.specs.declared.act.Entry.{Entry}
 use Rattle.a68_values.specs.declared.act.FaultKind.{FaultKind}
@@ -48,7 +48,7 @@ pub record Made (code : Code) (fuel : ℕ) (journal : Vec Entry Global) (store :
   pub settled : HasSettled code (beginning 0 (record { frame = 0; scope = 0 } ∷ [])) strand
   pub end_is : end ≡ end_shown strand.about.ask
 
-shown : (place : ℕ) (b : Ask) (m : Mode) → b ≡ asked place m → is_spent b ≡ false
+shown : (place : ℕ) (b : Ask) (m : Stance) → b ≡ asked place m → is_spent b ≡ false
 shown place b Idle e = ap is_spent e
 shown place b (Asking v x) e = ap is_spent e
 shown place b (Failed why) e = ap is_spent e
@@ -63,7 +63,7 @@ pub made-sound : (code : Code) (fuel : ℕ) (journal : Vec Entry Global) (store 
 made-sound code fuel journal store strand end m valid short some little =
     let shows : Shows code strand = record { ask = m.settled.ask; place = m.settled.place } in
     let without : EndsWithoutTurn code (alone store (standing strand)) end = rw m.end_is (ends-without code store strand shows) in
-    let spent : is_spent strand.about.ask ≡ false = shown (place_at code.list (standing strand).at) strand.about.ask (standing strand).mode shows.ask in
+    let spent : is_spent strand.about.ask ≡ false = shown (place_at code.list (standing strand).at) strand.about.ask (standing strand).stance shows.ask in
     record {
       run = record {
         valid = valid;
@@ -81,14 +81,14 @@ made-sound code fuel journal store strand end m valid short some little =
       shows = λ e. shows;
       few = rw (m.store_is, m.items) (omega arith);
       frames = rw m.store_is opening-frames;
-      strand = λ e. rw (m.store_is, m.settled.state) (settle-below 1 code (beginning 0 (record { frame = 0; scope = 0 } ∷ [])) (record { chain = (omega arith, tt); mode = tt }));
+      strand = λ e. rw (m.store_is, m.settled.state) (settle-below 1 code (beginning 0 (record { frame = 0; scope = 0 } ∷ [])) (record { chain = (omega arith, tt); stance = tt }));
     }
 
 pub made-is : (code : Code) (fuel : ℕ) (journal : Vec Entry Global) (store : Store) (strand : Strand) (end : Option End) → Made code fuel journal store strand end
     → Begins code fuel (run_of (record { code = code; fuel = fuel; journal = journal; store = store; strand = strand; lost = false; end = end }))
 made-is code fuel journal store strand end m =
     let shows : Shows code strand = record { ask = m.settled.ask; place = m.settled.place } in
-    let spent : is_spent strand.about.ask ≡ false = shown (place_at code.list (standing strand).at) strand.about.ask (standing strand).mode shows.ask in
+    let spent : is_spent strand.about.ask ≡ false = shown (place_at code.list (standing strand).at) strand.about.ask (standing strand).stance shows.ask in
     let same = opened code store strand m.store_is m.settled in
     let run_at : List Entry → World → Bool → Run = λ entries w b. record { code = code; fuel = fuel; entries = entries; world = w; spent = b; lost = false; end = end } in
     record {
@@ -100,18 +100,18 @@ made-is code fuel journal store strand end m =
 
 -- the strand asks for an act or stands before a fault
 pub not-idle : (s : Inside) → IsSound s → GoesOn (run_of s) → ((w : Want) → s.strand.about.ask ≡ ask.Want w → ⊥) → ((why : FaultKind) (place : ℕ) → s.strand.about.ask ≡ ask.Fault why place → ⊥) → ⊥
-not-idle s sound goes no_want no_fault = by_mode (standing s.strand).mode refl
+not-idle s sound goes no_want no_fault = by_stance (standing s.strand).stance refl
   where
     spent : is_spent s.strand.about.ask ≡ false
     spent = not-spent s sound goes.kept
 
-    ask_is : (m : Mode) → (standing s.strand).mode ≡ m → s.strand.about.ask ≡ asked (place_at s.code.list s.strand.body.at) m
+    ask_is : (m : Stance) → (standing s.strand).stance ≡ m → s.strand.about.ask ≡ asked (place_at s.code.list s.strand.body.at) m
     ask_is m e = (sound.shows spent).ask ∙ ap (asked (place_at s.code.list s.strand.body.at)) e
 
-    by_mode : (m : Mode) → (standing s.strand).mode ≡ m → ⊥
-    by_mode Idle e = (sound.run.goes_on spent goes.unended).0 (record { st = standing s.strand; there = refl; idle = e })
-    by_mode (Asking w x) e = no_want w (ask_is (Asking w x) e)
-    by_mode (Failed why) e = no_fault why (place_at s.code.list s.strand.body.at) (ask_is (Failed why) e)
+    by_stance : (m : Stance) → (standing s.strand).stance ≡ m → ⊥
+    by_stance Idle e = (sound.run.goes_on spent goes.unended).0 (record { st = standing s.strand; there = refl; idle = e })
+    by_stance (Asking w x) e = no_want w (ask_is (Asking w x) e)
+    by_stance (Failed why) e = no_fault why (place_at s.code.list s.strand.body.at) (ask_is (Failed why) e)
 
 pub none-from : (o : Option End) (b : Bool) → b ≡ is_some o → b ≡ false → o ≡ None
 none-from None b e f = refl

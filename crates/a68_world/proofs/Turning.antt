@@ -18,8 +18,8 @@ use Rattle.a68_strand.specs.Runs.{World, Machine, opening, after, acted}
 use Rattle.a68_strand.specs.Strands.{standing, is_spent, HasSettled}
 use Rattle.a68_strand.specs.declared.ask.Ask.{Ask}
 use Rattle.a68_strand.specs.declared.ask.Ask.TheVariants as ask
-use Rattle.a68_strand.specs.declared.ask.Mode.{Mode}
-use Rattle.a68_strand.specs.declared.ask.Mode.TheVariants.{Idle, Asking, Failed}
+use Rattle.a68_strand.specs.declared.ask.Stance.{Stance}
+use Rattle.a68_strand.specs.declared.ask.Stance.TheVariants.{Idle, Asking, Failed}
 use Rattle.a68_strand.specs.declared.ask.Waiting.{Waiting}
 use Rattle.a68_strand.specs.declared.strand.Strand.{Strand}
 use Rattle.a68_values.specs.declared.act.Act.{Act}
@@ -28,7 +28,7 @@ use Rattle.a68_values.specs.declared.kept.End.{End}
 use Rattle.a68_values.specs.declared.kept.End.TheVariants as ends
 use Rattle.a68_world.specs.Inside.{run_of, IsSound, Shows, end_shown}
 use Rattle.a68_world.specs.Run.{Run, EndsWithoutTurn}
-use Rattle.a68_world.specs.Scopes.{WantBelow, ModeBelow, StateBelow}
+use Rattle.a68_world.specs.Scopes.{WantBelow, StanceBelow, StateBelow}
 use Rattle.a68_world.specs.Turns.{GoesOn, EndsAt, IsDue, Acts, FindsNoMemory}
 use Rattle.a68_world.specs.declared.world.World.TheInside.{Inside}
 use Rattle.a68_world.proofs.Ending.{alone, asking, next-act, ends-without, is-end}
@@ -126,14 +126,14 @@ asked-from s self w a d r store view sound goes due shown is does_it = record {
   does_it = does_it;
 }
 
-asks-mode : (s : Inside) (w : Want) → IsSound s → s.lost ≡ false → s.strand.about.ask ≡ ask.Want w → (x : Waiting) × ((standing s.strand).mode ≡ Asking w x)
-asks-mode s w sound kept e = asking s.code s.strand w (sound.shows (not-spent s sound kept)) e
+asks-stance : (s : Inside) (w : Want) → IsSound s → s.lost ≡ false → s.strand.about.ask ≡ ask.Want w → (x : Waiting) × ((standing s.strand).stance ≡ Asking w x)
+asks-stance s w sound kept e = asking s.code s.strand w (sound.shows (not-spent s sound kept)) e
 
 pub next-world : (s : Inside) (w : Want) (d : Act) (r : Reply) (store : Store) → Asked s w d r store
     → acted s.code (run_of s).world 0 ≡ Some (d, alone store (settle s.code (replied s.code (standing s.strand) r)))
 next-world s w d r store a =
-    let mode = asks-mode s w a.sound a.goes.kept a.asks in
-    next-act s.code s.store (standing s.strand) w mode.0 mode.1 ∙ ap (after s.code (run_of s).world 0 (standing s.strand)) a.does_it
+    let stance = asks-stance s w a.sound a.goes.kept a.asks in
+    next-act s.code s.store (standing s.strand) w stance.0 stance.1 ∙ ap (after s.code (run_of s).world 0 (standing s.strand)) a.does_it
 
 abbrev world_of : Store → List State → World
 world_of store strands = record { store = store; strands = strands }
@@ -148,9 +148,9 @@ machine-here s sound kept =
 
 pub room-behind : (s : Inside) (w : Want) (d : Act) (r : Reply) (store : Store) → Asked s w d r store → RoomAfter (length s.store.frames) r store
 room-behind s w d r store a =
-    let mode = asks-mode s w a.sound a.goes.kept a.asks in
+    let stance = asks-stance s w a.sound a.goes.kept a.asks in
     let st = a.sound.strand (not-spent s a.sound a.goes.kept) in
-    let want : WantBelow (length s.store.frames) w = subst (λ (m : Mode). ModeBelow (length s.store.frames) m) mode.1 st.mode in
+    let want : WantBelow (length s.store.frames) w = subst (λ (m : Stance). StanceBelow (length s.store.frames) m) stance.1 st.stance in
     subst (λ (o : Outcome). RoomBehind (length s.store.frames) o) a.does_it (does-room w s.store a.sound.frames want)
 
 few-frames : (s : Inside) (w : Want) (d : Act) (r : Reply) (store : Store) → Asked s w d r store → length store.frames < 2 ^ 32
@@ -222,7 +222,7 @@ acted-sound s w d r store journal strand end a noted told ends =
         ended = is-end s.code s.fuel journal.items (alone store (standing strand)) end without;
         goes_on = λ e none. rw none at without;
         lost = λ lost. let kept = a.goes.kept in absurd (cc);
-        spent = λ e. absurd (not-both strand.about.ask (place_at s.code.list (standing strand).at) (standing strand).mode shows.ask e);
+        spent = λ e. absurd (not-both strand.about.ask (place_at s.code.list (standing strand).at) (standing strand).stance shows.ask e);
       };
       room = noted.room;
       shows = λ e. shows;
@@ -231,7 +231,7 @@ acted-sound s w d r store journal strand end a noted told ends =
       strand = λ e. rw told.state (settled-below s w d r store a);
     }
   where
-    not-both : (b : Ask) (place : ℕ) (m : Mode) → b ≡ asked place m → is_spent b ≡ true → ⊥
+    not-both : (b : Ask) (place : ℕ) (m : Stance) → b ≡ asked place m → is_spent b ≡ true → ⊥
     not-both b place Idle e f = let is = ap is_spent e in absurd (cc)
     not-both b place (Asking v x) e f = let is = ap is_spent e in absurd (cc)
     not-both b place (Failed why) e f = let is = ap is_spent e in absurd (cc)
@@ -241,7 +241,7 @@ pub acted-is : (s : Inside) (w : Want) (d : Act) (r : Reply) (store : Store) (jo
     → Acts (run_of s) 0 (run_of (record s { journal = journal; store = store; strand = strand; end = end }))
 acted-is s w d r store journal strand end a noted told ends =
     let shows : Shows s.code strand = record { ask = told.ask; place = told.place } in
-    let spent : is_spent strand.about.ask ≡ false = shown (place_at s.code.list (standing strand).at) strand.about.ask (standing strand).mode shows.ask in
+    let spent : is_spent strand.about.ask ≡ false = shown (place_at s.code.list (standing strand).at) strand.about.ask (standing strand).stance shows.ask in
     let was : is_spent s.strand.about.ask ≡ false = not-spent s a.sound a.goes.kept in
     record {
       goes_on = a.goes;
@@ -252,7 +252,7 @@ acted-is s w d r store journal strand end a noted told ends =
       end = rw ends (ends-without s.code store strand shows);
     }
   where
-    shown : (place : ℕ) (b : Ask) (m : Mode) → b ≡ asked place m → is_spent b ≡ false
+    shown : (place : ℕ) (b : Ask) (m : Stance) → b ≡ asked place m → is_spent b ≡ false
     shown place b Idle e = ap is_spent e
     shown place b (Asking v x) e = ap is_spent e
     shown place b (Failed why) e = ap is_spent e
@@ -293,8 +293,8 @@ spent-sound s w d r store journal strand a noted none =
 
 pub due-here : (s : Inside) (w : Want) → IsSound s → GoesOn (run_of s) → s.strand.about.ask ≡ ask.Want w → length s.journal.items < s.fuel → IsDue (run_of s) 0
 due-here s w sound goes e fuel =
-    let mode = asks-mode s w sound goes.kept e in
-    record { st = standing s.strand; there = refl; want = w; wait = mode.0; asks = mode.1; fuel = fuel }
+    let stance = asks-stance s w sound goes.kept e in
+    record { st = standing s.strand; there = refl; want = w; wait = stance.0; asks = stance.1; fuel = fuel }
 
 pub spent-is : (s : Inside) (w : Want) (d : Act) (r : Reply) (store : Store) (journal : Vec Entry Global) (strand : Strand) → Asked s w d r store → Noted s d journal
     → strand.about.ask ≡ ask.NoMemory → FindsNoMemory (run_of s) 0 (run_of (record s { journal = journal; store = store; strand = strand; lost = true }))

@@ -1,3 +1,4 @@
+-- Inner: the headline does not rest on this file.
 -- Runs in which the strands take turns, while they go on.
 use Rattle.std.specs.Prelude.{◌≡◌, ◌+◌, ◌<◌, ℕ, false, length, None, Some}
 use Rattle.std.specs.declared.option.Option.{Option}

@@ -1,3 +1,4 @@
+-- Inner: the headline does not rest on this file.
 -- How the logic tells runs apart.
 use Rattle.std.specs.Prelude.{ℕ, Bool, List, refl}
 use Rattle.std.specs.Coded.{Coded, code_by, coded×, coded_ℕ, coded_bool, coded_list, coded_option}
@@ -8,9 +9,9 @@ use Rattle.a68_code.specs.declared.code.Code.{Code}
 use Rattle.a68_store.specs.Codes.{store_code}
 use Rattle.a68_strand.specs.Machine.{State, Stack}
 use Rattle.a68_strand.specs.Runs.{World}
-use Rattle.a68_strand.specs.contracts.ask.Mode as mode
+use Rattle.a68_strand.specs.contracts.ask.Stance as stance
 use Rattle.a68_stack.specs.contracts.stack.Item as item
-use Rattle.a68_strand.specs.declared.ask.Mode.{Mode}
+use Rattle.a68_strand.specs.declared.ask.Stance.{Stance}
 use Rattle.a68_stack.specs.declared.stack.Item.{Item}
 use Rattle.a68_values.specs.contracts.act.Entry as entry
 use Rattle.a68_values.specs.contracts.chain.Environ as environ
@@ -25,8 +26,8 @@ stack_code = code_by (List Item) (coded_list item.the_row.coded) (λ s. s.items)
 
 abbrev pub state_code : Coded State
 state_code =
-    code_by (ℕ × (Stack × (List Environ × Mode))) (coded× coded_ℕ (coded× stack_code (coded× (coded_list environ.the_row.coded) mode.the_row.coded)))
-    (λ s. (s.at, (s.stack, (s.chain, s.mode)))) (λ p. record { at = p.0; stack = p.1.0; chain = p.1.1.0; mode = p.1.1.1 }) (λ _. refl)
+    code_by (ℕ × (Stack × (List Environ × Stance))) (coded× coded_ℕ (coded× stack_code (coded× (coded_list environ.the_row.coded) stance.the_row.coded)))
+    (λ s. (s.at, (s.stack, (s.chain, s.stance)))) (λ p. record { at = p.0; stack = p.1.0; chain = p.1.1.0; stance = p.1.1.1 }) (λ _. refl)
 
 abbrev pub world_code : Coded World
 world_code =

@@ -1,3 +1,4 @@
+-- Inner: the headline does not rest on this file.
 -- The run as the code keeps it.
 use Rattle.std.specs.Prelude.{◌≡◌, ◌+◌, ◌≤◌, false, [], ◌∷◌, length, None, Some}
 use Rattle.std.specs.Vec.{vec_capacity}

@@ -1,6 +1,8 @@
+-- Inner: the headline does not rest on this file.
 -- A run as contracts see it, and what is known of every run.
 use Rattle.std.specs.Prelude.{◌≡◌, ◌<◌, ◌≤◌, ◌^◌, ℕ, Bool, true, false, List, [], length, None, Some, IfSome}
 use Rattle.std.specs.declared.option.Option.{Option}
+use Rattle.a68_base.specs.declared.limits.TheConstants.{MOST_FUEL}
 use Rattle.a68_code.specs.Valid.{IsValid}
 use Rattle.a68_code.specs.declared.code.Code.{Code}
 use Rattle.a68_strand.specs.Cyclic.{HasTurn}
@@ -24,7 +26,7 @@ pub record Run : Type 0 where
 
 -- the most entries that a journal may have
 abbrev pub most_fuel : ℕ
-most_fuel = 16000000
+most_fuel = MOST_FUEL
 
 -- The machine has these entries and comes to this store, and to these strands where none is spent.
 pub record Follows (run : Run) : Type 0 where

@@ -1,3 +1,4 @@
+-- Inner: the headline does not rest on this file.
 -- Scopes that are small enough for one more frame.
 use Rattle.std.specs.Prelude.{◌≡◌, ◌<◌, ◌≤◌, ⊤, ℕ, List, [], ◌∷◌, Some, slice_get}
 use Rattle.a68_acts.specs.Store.{Frame}
@@ -8,8 +9,8 @@ use Rattle.a68_acts.specs.declared.want.Reply.TheVariants as reply
 use Rattle.a68_acts.specs.declared.want.Want.{Want}
 use Rattle.a68_acts.specs.declared.want.Want.TheVariants as want
 use Rattle.a68_strand.specs.Machine.{State}
-use Rattle.a68_strand.specs.declared.ask.Mode.{Mode}
-use Rattle.a68_strand.specs.declared.ask.Mode.TheVariants.{Asking}
+use Rattle.a68_strand.specs.declared.ask.Stance.{Stance}
+use Rattle.a68_strand.specs.declared.ask.Stance.TheVariants.{Asking}
 use Rattle.a68_values.specs.declared.chain.Environ.{Environ}
 
 -- the scopes of a chain are below a number
@@ -30,9 +31,9 @@ abbrev pub DoingBelow : ℕ → Doing → Type 0
 DoingBelow n (Asks w next) = WantBelow n w
 DoingBelow n _ = ⊤
 
-abbrev pub ModeBelow : ℕ → Mode → Type 0
-ModeBelow n (Asking w wait) = WantBelow n w
-ModeBelow n _ = ⊤
+abbrev pub StanceBelow : ℕ → Stance → Type 0
+StanceBelow n (Asking w wait) = WantBelow n w
+StanceBelow n _ = ⊤
 
 abbrev pub ReplyBelow : ℕ → Reply → Type 0
 ReplyBelow n (reply.Frame chain) = ChainBelow n chain
@@ -41,4 +42,4 @@ ReplyBelow n _ = ⊤
 -- the strand stands in frames of such scopes, and asks for none of a greater one
 pub record StateBelow (n : ℕ) (st : State) : Type 0 where
   pub chain : ChainBelow n st.chain
-  pub mode : ModeBelow n st.mode
+  pub stance : StanceBelow n st.stance

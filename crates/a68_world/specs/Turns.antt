@@ -1,3 +1,4 @@
+-- Inner: the headline does not rest on this file.
 -- What a turn of a strand comes to.
 use Rattle.std.specs.Prelude.{◌≡◌, ◌<◌, ◌-◌, ◌++◌, ◌∷◌, [], ◌⊎◌, ℕ, true, false, List, length, None, Some, slice_get}
 use Rattle.std.specs.Option.{option_map, option_map_or}
@@ -8,7 +9,7 @@ use Rattle.a68_strand.specs.Ends.{fault_of, CanAct}
 use Rattle.a68_strand.specs.Machine.{State, place_at}
 use Rattle.a68_strand.specs.RunOf.{RunOf}
 use Rattle.a68_strand.specs.Runs.{World, acted}
-use Rattle.a68_strand.specs.declared.ask.Mode.TheVariants.{Asking}
+use Rattle.a68_strand.specs.declared.ask.Stance.TheVariants.{Asking}
 use Rattle.a68_strand.specs.declared.ask.Waiting.{Waiting}
 use Rattle.a68_values.specs.declared.act.Act.{Act}
 use Rattle.a68_values.specs.declared.act.Entry.{Entry}
@@ -79,7 +80,7 @@ pub record IsDue (run : Run) (n : ℕ) : Type 0 where
   pub there : slice_get run.world.strands n ≡ Some st
   pub want : Want
   pub wait : Waiting
-  pub asks : st.mode ≡ Asking want wait
+  pub asks : st.stance ≡ Asking want wait
   pub fuel : length run.entries < run.fuel
 
 -- There was no memory, and there is none from now on: an act was due, or no memory was found before. Nothing is done, or

@@ -31,4 +31,4 @@ pub returns-in_default-goal_at : goal.returns-in_default-goal_at
 returns-in_default-goal_at t c = record { is = tt; first = other_variable c.args.tree.now c.args.goals.now c.args.id c.goal_at.result c.in-Variable.ensures.form c.goal_at.ensures c.in_default-goal_at.not-Plain; there = c.requires }
 
 pub returns-in_default : goal.returns-in_default
-returns-in_default t c = record { is = tt; first = other_formula c.args.tree.now c.args.goals.now c.args.id c.form_of.result c.form_of.ensures.form c.in_default.not-Number c.in_default.not-Variable c.in_default.not-Sum; there = c.requires }
+returns-in_default t c = record { is = tt; first = other_formula c.args.tree.now c.args.goals.now c.args.id c.construct_of.result c.construct_of.ensures.form c.in_default.not-Number c.in_default.not-Variable c.in_default.not-Sum; there = c.requires }

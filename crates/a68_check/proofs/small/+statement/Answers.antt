@@ -1,5 +1,5 @@
 use Rattle.std.proofs.Common.{◌≡◌, ◌<◌, ◌≤◌, ℕ, length, slice_index_or, sym, refl, subst, ap, arith}
-use Rattle.a68_check.specs.Forms.{parts_at}
+use Rattle.a68_check.specs.Constructs.{parts_at}
 use Rattle.a68_check.specs.Small.{IsStatement, assigns, prints, chooses, chooses_fully, repeats, statements}
 use Rattle.a68_check.proofs.Answering.{if-ok, if-err}
 use Rattle.a68_check.proofs.Parts.{part-between, one-more-part, part-there, part-within}
@@ -104,7 +104,7 @@ statement-returns-in_ok-test-in-Loop-clause-first t c =
 pub statement-returns-in_default : goal.statement-returns-in_default
 statement-returns-in_default t c = record {
   is = tt;
-  first = other_statement c.args.tree.now c.args.goals.now c.args.id c.form_of.result c.form_of.ensures.form (record {
+  first = other_statement c.args.tree.now c.args.goals.now c.args.id c.construct_of.result c.construct_of.ensures.form (record {
     assignation = c.in_default.not-Assignation;
     call = c.in_default.not-Call;
     choice = c.in_default.not-Choice;

@@ -1,5 +1,5 @@
 use Rattle.std.proofs.Common.{ℕ, ◌-◌, ◌*◌, ◌+◌, ◌≡◌, ◌<◌, ◌≤◌, length, drop, Some, slice_get}
-use Rattle.a68_check.specs.Forms.{parts_at}
+use Rattle.a68_check.specs.Constructs.{parts_at}
 use Rattle.a68_check.specs.Misfits.{FirstAmong, all_to_be, statement}
 use Rattle.a68_check.specs.Small.{IsStatement}
 use Rattle.a68_check.proofs.small.+statement.Given as goal

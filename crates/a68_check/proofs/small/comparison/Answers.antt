@@ -22,4 +22,4 @@ returns-in_ok-formula-in-Test-clause-first c =
     if-err c.formula-in-Test.result (λ m misfit. below _ (ap comparison_asks (sym c.in-Test.ensures.form)) (later c.in_ok-formula-in-Test.ensures.is (this misfit))) c.formula-in-Test.ensures.first
 
 pub returns-in_default : goal.returns-in_default
-returns-in_default c = record { is = tt; first = other_comparison c.args.tree.now c.args.goals.now c.args.id c.form_of.result c.form_of.ensures.form c.in_default.not-Test; there = c.requires }
+returns-in_default c = record { is = tt; first = other_comparison c.args.tree.now c.args.goals.now c.args.id c.construct_of.result c.construct_of.ensures.form c.in_default.not-Test; there = c.requires }

@@ -30,4 +30,4 @@ returns-in_ok-declarer-in-Set-clause-first c =
     if-err c.formula.result (λ m misfit. below _ (ap definition_asks (sym c.in-Set.ensures.form)) (later c.in_ok-declarer-in-Set.ensures.is (this misfit))) c.formula.ensures.first
 
 pub returns-in_default : goal.returns-in_default
-returns-in_default c = record { is = tt; first = other_definition c.args.tree.now c.args.goals.now c.args.id c.form_of.result c.form_of.ensures.form c.in_default.not-Plain c.in_default.not-Set; there = c.requires }
+returns-in_default c = record { is = tt; first = other_definition c.args.tree.now c.args.goals.now c.args.id c.construct_of.result c.construct_of.ensures.form c.in_default.not-Plain c.in_default.not-Set; there = c.requires }

@@ -1,7 +1,7 @@
 use Rattle.std.proofs.lemmas.Result.{err_from_is_err_and}
 use Rattle.a68_check.specs.Misfits.{definition}
 use Rattle.std.proofs.Common.{◌≡◌, ◌<◌, length, take, ap, arith}
-use Rattle.a68_check.specs.Forms.{parts_at}
+use Rattle.a68_check.specs.Constructs.{parts_at}
 use Rattle.a68_check.specs.Small.{IsDefinition}
 use Rattle.a68_check.proofs.Missing.{at_part, past_part, in_front}
 use Rattle.a68_check.proofs.Parts.{part-between, one-more-part, part-there}

@@ -1,5 +1,5 @@
 use Rattle.std.proofs.Common.{ℕ, ◌≡◌, ◌<◌, drop, take, Some, slice_get}
-use Rattle.a68_check.specs.Forms.{parts_at}
+use Rattle.a68_check.specs.Constructs.{parts_at}
 use Rattle.a68_check.specs.Misfits.{FirstAmong, all_to_be, definition}
 use Rattle.a68_check.specs.Small.{IsDefinition}
 use Rattle.a68_check.proofs.small.definitions.Given as goal

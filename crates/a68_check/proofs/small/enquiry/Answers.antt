@@ -1,7 +1,7 @@
 use Rattle.std.proofs.Common.{arith}
 use Rattle.std.proofs.lemmas.Bool.{false≢true}
 use Rattle.std.proofs.Common.{◌≡◌, [], ◌∷◌, ◌∙◌, refl, get_or}
-use Rattle.a68_check.specs.Forms.{parts_at}
+use Rattle.a68_check.specs.Constructs.{parts_at}
 use Rattle.a68_check.specs.Small.{asks}
 use Rattle.a68_check.proofs.Answering.{if-ok, if-err}
 use Rattle.a68_check.proofs.Parts.{one_part}

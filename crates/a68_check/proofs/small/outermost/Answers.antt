@@ -2,7 +2,7 @@ use Rattle.std.proofs.Common.{◌<◌}
 use Rattle.std.proofs.lemmas.Bool.{false≢true}
 use Rattle.std.proofs.lemmas.Result.{err_from_is_err_and}
 use Rattle.std.proofs.Common.{◌≡◌, length, ap, refl, arith}
-use Rattle.a68_check.specs.Forms.{parts_at}
+use Rattle.a68_check.specs.Constructs.{parts_at}
 use Rattle.a68_check.specs.Small.{phrases}
 use Rattle.a68_check.proofs.Answering.{if-ok, if-err}
 use Rattle.a68_check.proofs.Missing.{other_outermost, no_phrase, in_definitions, in_statements}

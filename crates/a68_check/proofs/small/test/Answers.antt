@@ -14,4 +14,4 @@ returns-in-While-clause-first c =
     if-err c.enquiry.result (λ m misfit. below _ (ap condition_asks (sym c.in-While.ensures.form)) (this misfit)) c.enquiry.ensures.first
 
 pub returns-in_default : goal.returns-in_default
-returns-in_default c = record { is = tt; first = other_condition c.args.tree.now c.args.goals.now c.args.id c.form_of.result c.form_of.ensures.form c.in_default.not-While; there = c.requires }
+returns-in_default c = record { is = tt; first = other_condition c.args.tree.now c.args.goals.now c.args.id c.construct_of.result c.construct_of.ensures.form c.in_default.not-While; there = c.requires }

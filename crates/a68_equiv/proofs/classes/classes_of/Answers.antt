@@ -1,7 +1,7 @@
 use Rattle.std.proofs.Common.{◌≡◌, ◌*◌, ◌∙◌, refl, subst, ap, sym, ℕ, List, Bool, length, arith}
 use Rattle.a68_modes.specs.declared.shape.Shape.{Shape}
 use Rattle.a68_equiv.specs.Graph.{IsGraphOf}
-use Rattle.a68_refine.specs.Rounds.{IsRefined, SoFar}
+use Rattle.a68_partition.specs.Rounds.{IsRefined, SoFar}
 use Rattle.a68_equiv.specs.Classes.{AreExact}
 use Rattle.a68_equiv.specs.ModeKeys.{IsModeKey, HasModeKey}
 use Rattle.a68_equiv.specs.Related.{as_it_stands}

@@ -1,6 +1,6 @@
 use Rattle.std.proofs.Common.{◌*◌, refl, length}
 use Rattle.a68_equiv.specs.Graph.{HasCode}
-use Rattle.a68_refine.proofs.Numbering.{complete}
+use Rattle.a68_partition.proofs.Numbering.{complete}
 use Rattle.a68_equiv.proofs.Graphing.{one_code}
 use Rattle.a68_equiv.proofs.graph.constructors.Goals as goal
 

@@ -1,7 +1,7 @@
 use Rattle.std.proofs.Common.{◌<◌, ◌≡◌, ◌*◌, refl, arith, length, subst}
 use Rattle.a68_equiv.specs.Graph.{HasCode}
-use Rattle.a68_refine.specs.Rounds.{at_key, SoFar}
-use Rattle.a68_refine.proofs.Numbering.{more}
+use Rattle.a68_partition.specs.Rounds.{at_key, SoFar}
+use Rattle.a68_partition.proofs.Numbering.{more}
 use Rattle.a68_equiv.proofs.Graphing.{head_below, mode_there, has_code}
 use Rattle.a68_equiv.proofs.graph.number_constructors.Goals as goal
 

@@ -1,6 +1,7 @@
 use Rattle.std.proofs.Common.{List, ℕ, sym, subst}
 use Rattle.a68_equiv.specs.Classes.{Classified, AreSame}
 use Rattle.a68_equiv.specs.NewNodes.{AreNewKeys}
+use Rattle.a68_equiv.proofs.Dimensions.{one_more}
 use Rattle.a68_equiv.proofs.Growing.{still_formed}
 use Rattle.a68_equiv.proofs.Keeping.{same_kept, room_same, joined_kept}
 use Rattle.a68_equiv.proofs.interning.add.Goals as goal
@@ -33,3 +34,6 @@ returns-clause-kept c =
     let new = subst (λ (xs : List ℕ). AreNewKeys nodes xs c.args.shape c.args.keys) (sym same.of) c.requires.keys in
     rw c.in_ok-id.ensures.added (joined_kept nodes c.args.shape c.requires.nodes c.requires.formed c.requires.within seen (same_kept nodes seen _ same c.requires.kept) c.args.keys new
     c.in_ok-id.id c.join.new.classes.items c.join.new.by_key.entries c.join.new.nodes.entries c.in_ok-id.ensures.id c.join.ensures)
+
+pub returns-clause-rows : goal.returns-clause-rows
+returns-clause-rows c = λ have has. rw c.in_ok-id.ensures.added (one_more c.args.modes.now c.args.shape have has)

@@ -3,7 +3,7 @@ use Rattle.std.specs.Prelude.{Vec}
 use Rattle.std.specs.Global.{Global}
 use Rattle.a68_equiv.specs.Classes.{Classified, AreKept}
 use Rattle.a68_equiv.specs.ModeKeys.{IsNewKey}
-use Rattle.a68_refine.specs.Rounds.{at_key}
+use Rattle.a68_partition.specs.Rounds.{at_key}
 use Rattle.a68_equiv.proofs.Keeping.{old_found, none_found}
 use Rattle.a68_equiv.proofs.interning.looked_up.Goals as goal
 

@@ -2,7 +2,7 @@ use Rattle.std.proofs.Common.{◌≡◌, ◌<◌, ◌*◌, ◌∙◌, ℕ, List,
 use Rattle.std.specs.List.{All}
 use Rattle.std.proofs.lemmas.List.{get_or_default}
 use Rattle.a68_modes.specs.Nodes.{shape_at}
-use Rattle.a68_refine.specs.Rows.{row_at}
+use Rattle.a68_partition.specs.Rows.{row_at}
 use Rattle.a68_equiv.specs.Graph.{number_of}
 use Rattle.a68_equiv.specs.declared.mode.Mode.{Mode}
 use Rattle.a68_equiv.proofs.Graphing.{mode_there, row_below}

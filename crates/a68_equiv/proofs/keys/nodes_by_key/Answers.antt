@@ -2,9 +2,9 @@ use Rattle.std.proofs.Common.{ℕ, List, ◌≡◌, ◌∙◌, ◌++◌, ◌∷�
 use Rattle.a68_equiv.specs.Graph.{number_of, mode_of}
 use Rattle.a68_equiv.specs.ModeKeys.{IsModeKey}
 use Rattle.a68_equiv.specs.Related.{as_it_stands}
-use Rattle.a68_refine.specs.Rounds.{SoFar, at_key}
+use Rattle.a68_partition.specs.Rounds.{SoFar, at_key}
 use Rattle.a68_equiv.specs.declared.mode.Mode.{Mode}
-use Rattle.a68_refine.proofs.Numbering.{more}
+use Rattle.a68_partition.proofs.Numbering.{more}
 use Rattle.a68_equiv.proofs.Numbers.{mode_number}
 use Rattle.a68_equiv.proofs.keys.nodes_by_key.Goals as goal
 

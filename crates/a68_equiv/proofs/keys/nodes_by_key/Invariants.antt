@@ -1,7 +1,7 @@
 use Rattle.std.proofs.Common.{ℕ, List}
 use Rattle.a68_equiv.specs.ModeKeys.{IsModeKey}
 use Rattle.a68_equiv.specs.Related.{as_it_stands}
-use Rattle.a68_refine.specs.Rounds.{SoFar}
+use Rattle.a68_partition.specs.Rounds.{SoFar}
 use Rattle.a68_equiv.proofs.keys.nodes_by_key.Given as goal
 
 abbrev pub invariant-loop-id : goal.invariant-loop-id

@@ -1,5 +1,5 @@
 use Rattle.std.proofs.Common.{◌∙◌, arith}
-use Rattle.a68_turn.proofs.Sound.{draft_count}
+use Rattle.a68_parse.proofs.Sound.{draft_count}
 use Rattle.a68_parse.proofs.Trees.{drafted, filled, few, derived, only}
 use Rattle.a68_parse.proofs.program.parse.Goals as goal
 

@@ -1,6 +1,6 @@
 use Rattle.std.proofs.Common.{sym, ◌∙◌}
 use Rattle.a68_tree.specs.Grammar.{IsDenotation}
-use Rattle.a68_ahead.specs.Symbols.{is_denotation}
+use Rattle.a68_lookahead.specs.Symbols.{is_denotation}
 use Rattle.a68_read.proofs.Firsts.{known, denotation_of, no_denotation}
 use Rattle.a68_read.proofs.take.behind_denotation.Goals as goal
 

@@ -1,6 +1,6 @@
 use Rattle.std.proofs.Common.{sym, ◌∙◌}
 use Rattle.a68_tree.specs.Grammar.{IsMonadic}
-use Rattle.a68_ahead.specs.Symbols.{is_monadic}
+use Rattle.a68_lookahead.specs.Symbols.{is_monadic}
 use Rattle.a68_read.proofs.Firsts.{known, monadic_of, no_monadic}
 use Rattle.a68_read.proofs.take.behind_monadic.Goals as goal
 

@@ -1,6 +1,6 @@
 use Rattle.std.proofs.Common.{sym, ◌∙◌}
 use Rattle.a68_tree.specs.Grammar.{IsSign}
-use Rattle.a68_ahead.specs.Symbols.{is_operator}
+use Rattle.a68_lookahead.specs.Symbols.{is_operator}
 use Rattle.a68_read.proofs.Firsts.{known, operator_of, no_operator}
 use Rattle.a68_read.proofs.take.behind_operator.Goals as goal
 

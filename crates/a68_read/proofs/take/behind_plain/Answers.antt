@@ -1,6 +1,6 @@
 use Rattle.std.proofs.Common.{sym, ◌∙◌}
 use Rattle.a68_tree.specs.Grammar.{IsPlain}
-use Rattle.a68_ahead.specs.Symbols.{is_plain}
+use Rattle.a68_lookahead.specs.Symbols.{is_plain}
 use Rattle.a68_read.proofs.Firsts.{known, plain_of, no_plain}
 use Rattle.a68_read.proofs.take.behind_plain.Goals as goal
 

@@ -2,7 +2,7 @@ use Rattle.std.proofs.Common.{◌≡◌, ◌-◌, length}
 use Rattle.a68_strand.specs.Bodies.{state_of}
 use Rattle.a68_strand.specs.Machine.{settle_in, settle}
 use Rattle.a68_strand.specs.declared.ask.Ask.TheVariants as ask
-use Rattle.a68_strand.specs.declared.ask.Mode.TheVariants.{Idle}
+use Rattle.a68_strand.specs.declared.ask.Stance.TheVariants.{Idle}
 use Rattle.a68_strand.proofs.exec.run.Given as goal
 
 abbrev pub invariant-loop : goal.invariant-loop

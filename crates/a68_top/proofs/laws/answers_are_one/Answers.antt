@@ -9,7 +9,6 @@ laws c = record {
   classes = c.classes_are_one.ensures.list;
   unclassed = c.classes_are_one.ensures.refusal;
   apart = c.classes_are_one.ensures.apart;
-  filled = c.symbols_are_bounded.ensures.filled;
   shapes = c.shapes_are_one.ensures;
   breaks = c.annotations_are_one.ensures.refusal;
   unbroken = c.annotations_are_one.ensures.apart;

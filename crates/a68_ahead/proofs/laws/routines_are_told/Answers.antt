@@ -1,5 +1,0 @@
-use Rattle.a68_ahead.proofs.Told.{unit_decided}
-use Rattle.a68_ahead.proofs.laws.routines_are_told.Goals as goal
-
-pub returns : goal.returns
-returns c = λ k u r i. unit_decided i r

@@ -1,0 +1,10 @@
+pub mod Walking
+pub mod Going
+pub mod Orders
+pub mod Depth
+pub mod Uniting
+pub mod Members
+pub mod Rows
+pub mod Leaves
+pub mod Longer
+pub mod Ones

@@ -1,0 +1,7 @@
+use Rattle.std.proofs.Common.{◌<◌, ℕ}
+use Rattle.a68_equiv.specs.declared.mode.Mode.{Mode}
+use Rattle.a68_coerce.specs.Balanced.{SidesAt}
+use Rattle.a68_coerce.proofs.balancing.balance_sides.Given as goal
+
+abbrev pub invariant-loop-i : goal.invariant-loop-i
+invariant-loop-i l = (k : ℕ) → k < l.i → (to : Mode) → SidesAt l.modes to l.soft l.strong k → ⊥

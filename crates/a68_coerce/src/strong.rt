@@ -1,0 +1,254 @@
+//! Strong coercions.
+ghost use Rattle.std.specs.Prelude.{◌≡◌, ◌<◌, ◌↔◌, IfOk, IfSome, IsTrue, MatchOption, length};
+ghost use Rattle.a68_modes.specs.Nodes.{HoldsNodes};
+ghost use Rattle.a68_coerce.specs.Below.{IsGoalBelow, depth};
+ghost use Rattle.a68_coerce.specs.Goals.{IsRowOver, IsNameOver, IsVoid, IsVoidGoal, row_of, name_of_row_of};
+ghost use Rattle.a68_coerce.specs.Paths.{IsBools, WidenedTo, NamedTo, StrongTo};
+ghost use Rattle.a68_coerce.specs.Routes.{FindsRoute, FindsRowed, FindsUnrowed, LeadsToVoid};
+ghost use Rattle.a68_equiv.specs.Classes.{AreExact};
+ghost use Rattle.a68_equiv.specs.Dimensions.{HaveDimensions};
+ghost use Rattle.a68_equiv.specs.Unfolding.{flex_left};
+ghost use Rattle.a68_equiv.specs.Ways.{AreWellFormed};
+
+use crate::goal::Goal;
+use crate::route::{Route, Rowed};
+use crate::unite::firm;
+use crate::walk::meek;
+use a68_base::NoMemory;
+use a68_equiv::{Classes, Mode, behind};
+use a68_modes::{Coercion, Modes, Shape};
+use std::alloc::Global;
+
+/// Gives what a row of an element is a row of.
+fn fewer(dims: u32, flex: bool, of: Mode) -> Goal
+    requires { 0 < dims }
+    ensures { result ≡ row_of dims flex of }
+{
+    if dims == 1 {
+        Goal::Mode(of)
+    } else {
+        Goal::Row {
+            dims: dims - 1,
+            flex,
+            of,
+        }
+    }
+}
+
+/// Gives what the name of a row of an element is the name of, one dimension fewer.
+fn name_of_fewer(dims: u32, of: Mode) -> Goal
+    requires { 0 < dims }
+    ensures { result ≡ name_of_row_of dims of }
+{
+    if dims == 1 {
+        Goal::Name(of)
+    } else {
+        Goal::NameOfRow { dims: dims - 1, of }
+    }
+}
+
+/// Keeps FLEX, unless it is taken away.
+fn left(fixed: bool, flex: bool) -> bool
+    ensures { result ≡ flex_left fixed flex }
+{
+    !fixed && flex
+}
+
+/// Finds what the goal is a row of.
+fn row_over(modes: &Modes, goal: Goal) -> Option<Goal>
+    requires nodes { HoldsNodes modes.now }
+    requires formed { AreWellFormed modes.now }
+    requires rows { HaveDimensions modes.now }
+    requires goal { IsGoalBelow (length modes.now) goal }
+    ensures over { MatchOption result ((h : Goal) → IsRowOver modes.now goal h → ⊥) (IsRowOver modes.now goal) }
+    ensures below { IfSome result (IsGoalBelow (length modes.now)) }
+    ensures deep { IfSome result (λ h. depth modes.now h < depth modes.now goal) }
+{
+    match goal {
+        Goal::Mode(n) => match modes.shape(behind(modes, n.id)) {
+            Shape::Rows { dims, flex, of } => {
+                let element = Mode {
+                    id: *of,
+                    fixed: n.fixed,
+                };
+                Some(fewer(*dims, left(n.fixed, *flex), element))
+            }
+            _ => None,
+        },
+        Goal::Row { dims, flex, of } => Some(fewer(dims, flex, of)),
+        _ => None,
+    }
+}
+
+/// Finds what the name of a row without FLEX is the name of, one dimension fewer.
+fn name_over(modes: &Modes, goal: Goal) -> Option<Goal>
+    requires rows { HaveDimensions modes.now }
+    requires goal { IsGoalBelow (length modes.now) goal }
+    ensures over { MatchOption result ((h : Goal) → IsNameOver modes.now goal h → ⊥) (IsNameOver modes.now goal) }
+    ensures below { IfSome result (IsGoalBelow (length modes.now)) }
+{
+    let Goal::Mode(n) = goal else {
+        return None;
+    };
+    let Shape::Ref(a) = modes.shape(behind(modes, n.id)) else {
+        return None;
+    };
+    let Shape::Rows { dims, flex, of } = modes.shape(behind(modes, *a)) else {
+        return None;
+    };
+    if *flex {
+        return None;
+    }
+    Some(name_of_fewer(*dims, Mode::as_it_stands(*of)))
+}
+
+/// Is the goal a row of BOOL of one dimension?
+fn is_bools(modes: &Modes, classes: &Classes, goal: Goal) -> bool
+    requires exact { AreExact modes.now classes.now.of }
+    requires goal { IsGoalBelow (length modes.now) goal }
+    requires standard { 12 < length modes.now }
+    ensures { IsTrue result ↔ IsBools modes.now goal }
+{
+    match goal {
+        Goal::Mode(n) => classes.are_same(n, Mode::as_it_stands(11)),
+        Goal::Row { dims, flex, of } => {
+            dims == 1 && !flex && classes.are_same(of, Mode::as_it_stands(2))
+        }
+        _ => false,
+    }
+}
+
+/// Finds the coercions from BITS to a row of BOOL.
+fn widened(modes: &Modes, classes: &Classes, from: Mode, goal: Goal) -> Option<Route>
+    requires formed { AreWellFormed modes.now }
+    requires nodes { HoldsNodes modes.now }
+    requires exact { AreExact modes.now classes.now.of }
+    requires from { from.id < length modes.now }
+    requires goal { IsGoalBelow (length modes.now) goal }
+    ensures { FindsRoute modes.now from (WidenedTo modes.now from goal) result }
+{
+    if !is_bools(modes, classes, goal) {
+        return None;
+    }
+    let Some(meekly) = meek(modes, classes, from, Goal::Mode(Mode::as_it_stands(4))) else {
+        return None;
+    };
+    Some(Route {
+        meekly,
+        last: Some(Coercion::Widen),
+    })
+}
+
+/// Finds the coercions from a name to that of a row of it.
+fn named(modes: &Modes, classes: &Classes, from: Mode, goal: Goal) -> Option<Route>
+    requires formed { AreWellFormed modes.now }
+    requires rows { HaveDimensions modes.now }
+    requires exact { AreExact modes.now classes.now.of }
+    requires from { from.id < length modes.now }
+    requires goal { IsGoalBelow (length modes.now) goal }
+    ensures { FindsRoute modes.now from (NamedTo modes.now from goal) result }
+{
+    let Some(inner) = name_over(modes, goal) else {
+        return None;
+    };
+    let Some(meekly) = meek(modes, classes, from, inner) else {
+        return None;
+    };
+    Some(Route {
+        meekly,
+        last: Some(Coercion::RowUpName),
+    })
+}
+
+/// Is the mode VOID?
+fn is_void(modes: &Modes, mode: Mode) -> bool
+    requires { mode.id < length modes.now }
+    ensures void { IsTrue result ↔ IsVoid modes.now mode }
+    ensures nodes { HoldsNodes modes.now }
+{
+    matches!(modes.shape(behind(modes, mode.id)), Shape::Void)
+}
+
+/// Is the goal VOID?
+fn is_void_goal(modes: &Modes, goal: Goal) -> bool
+    requires { IsGoalBelow (length modes.now) goal }
+    ensures { IsTrue result ↔ IsVoidGoal modes.now goal }
+{
+    match goal {
+        Goal::Mode(n) => is_void(modes, n),
+        _ => false,
+    }
+}
+
+/// Gives the coercions to VOID.
+fn voided(modes: &Modes, from: Mode) -> Route
+    requires { from.id < length modes.now }
+    ensures void { LeadsToVoid modes.now from result }
+    ensures nodes { HoldsNodes modes.now }
+{
+    let last = if is_void(modes, from) {
+        None
+    } else {
+        Some(Coercion::Drop)
+    };
+    Route { meekly: 0, last }
+}
+
+/// Finds the strong coercions to a goal by the rules before rowing: to VOID, firm, widening.
+fn unrowed(
+    alloc: Global,
+    modes: &Modes,
+    classes: &Classes,
+    from: Mode,
+    to_void: Route,
+    goal: Goal,
+) -> Result<Option<Route>, NoMemory>
+    requires formed { AreWellFormed modes.now }
+    requires nodes { HoldsNodes modes.now }
+    requires exact { AreExact modes.now classes.now.of }
+    requires from { from.id < length modes.now }
+    requires void { LeadsToVoid modes.now from to_void }
+    requires goal { IsGoalBelow (length modes.now) goal }
+    ensures { IfOk result (FindsUnrowed modes.now from goal) }
+{
+    if is_void_goal(modes, goal) {
+        return Ok(Some(to_void));
+    }
+    if let Some(route) = firm(alloc, modes, classes, from, goal)? {
+        return Ok(Some(route));
+    }
+    Ok(widened(modes, classes, from, goal))
+}
+
+/// Finds the strong coercions to a mode, by the first rule that leads.
+pub fn strong(
+    alloc: Global,
+    modes: &Modes,
+    classes: &Classes,
+    from: Mode,
+    to: Mode,
+) -> Result<Option<Rowed>, NoMemory>
+    requires formed { AreWellFormed modes.now }
+    requires rows { HaveDimensions modes.now }
+    requires exact { AreExact modes.now classes.now.of }
+    requires from { from.id < length modes.now }
+    requires to { to.id < length modes.now }
+    ensures { IfOk result (FindsRowed modes.now from (StrongTo modes.now from (Goal.Mode to))) }
+{
+    let to_void = voided(modes, from);
+    let mut goal = Goal::Mode(to);
+    let mut rows = 0;
+    'rowing: loop {
+        if let Some(route) = unrowed(alloc, modes, classes, from, to_void, goal)? {
+            return Ok(Some(Rowed { route, rows }));
+        }
+        let Some(inner) = row_over(modes, goal) else {
+            return match named(modes, classes, from, goal) {
+                Some(route) => Ok(Some(Rowed { route, rows })),
+                None => Ok(None),
+            };
+        };
+        goal = inner;
+        rows += 1;
+    }
+}

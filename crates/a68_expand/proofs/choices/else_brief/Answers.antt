@@ -1,5 +1,0 @@
-use Rattle.std.proofs.Common.{rules}
-use Rattle.a68_expand.proofs.choices.else_brief.Goals as goal
-
-pub returns-then-starts : goal.returns-then-starts
-returns-then-starts c = search rules

@@ -1,5 +1,0 @@
-use Rattle.std.proofs.Common.{rules}
-use Rattle.a68_expand.proofs.clauses.enclosed.Goals as goal
-
-pub returns-then-starts-4 : goal.returns-then-starts-4
-returns-then-starts-4 c = search rules

@@ -1,5 +1,0 @@
-use Rattle.std.proofs.Common.{rules}
-use Rattle.a68_goals.proofs.units.serial.Goals as goal
-
-pub returns-else-phrase_ahead : goal.returns-else-phrase_ahead
-returns-else-phrase_ahead c = search rules

@@ -1,0 +1,43 @@
+-- Drafts turned into nodes, and the spellings of names.
+use Rattle.std.proofs.Common.{◌≡◌, ℕ, suc, ◌<◌, ◌≤◌, ◌⊎◌, inl, inr, List, [], ◌∷◌, Some, None, length, map, reverse, refl, sym, ◌∙◌, arith, slice_get}
+use Rattle.std.specs.Option.{option_map}
+use Rattle.a68_symbols.specs.declared.symbol.Symbol.{Symbol}
+use Rattle.std.proofs.lemmas.List.{length-map}
+use Rattle.std.proofs.lemmas.Option.{slice_get_past, slice_get-map}
+use Rattle.a68_parse.specs.Drafted.{SpellsAlike}
+use Rattle.a68_symbols.specs.Names.{Named, Spelled}
+use Rattle.a68_tree.specs.declared.node.Node.{Node}
+use Rattle.a68_tree.specs.Nodes.{Entry, turned_entry, node_of}
+
+-- the nodes of entries, backwards
+abbrev pub back : List Symbol → ℕ → List Entry → List Node
+back symbols last es = map (node_of symbols) (reverse (map (turned_entry last) es))
+
+-- ---- spellings
+
+-- the first names have their spellings
+pub record SpellFirst (found : Named) (list : List (List ℕ)) (count : ℕ) : Type 0 where
+  pub size : length list ≡ count
+  pub alike : (n : ℕ) → n < count → slice_get list n ≡ option_map (λ spelled. spelled.bytes) (slice_get found.spellings n)
+
+same_lists : {A : Type 0} (xs ys : List A) → ((i : ℕ) → slice_get xs i ≡ slice_get ys i) → xs ≡ ys
+same_lists [] [] same = refl
+same_lists [] (y ∷ ys) same = let e : None ≡ Some y = same 0 in absurd (cc e)
+same_lists (x ∷ xs) [] same = let e : Some x ≡ None = same 0 in absurd (cc e)
+same_lists (x ∷ xs) (y ∷ ys) same =
+    let head : Some x ≡ Some y = same 0 in
+    let tail = same_lists xs ys (λ i. same (suc i)) in
+    cc (head, tail)
+
+less_or_not : (a b : ℕ) → (a < b) ⊎ (b ≤ a)
+less_or_not a b = grind arith
+
+-- all names have their spellings
+pub all_alike : (found : Named) (list : List (List ℕ)) (count : ℕ) → count ≡ length found.spellings → SpellFirst found list count → SpellsAlike found list
+all_alike found list count all first =
+    let long = length-map found.spellings (λ (s : Spelled). s.bytes) in
+    let size = first.size in
+    same_lists list (map (λ (s : Spelled). s.bytes) found.spellings) (λ i. elim (less_or_not i count) [
+      | inl lt ↦ first.alike i lt ∙ sym (slice_get-map (λ (s : Spelled). s.bytes) found.spellings i)
+      | inr past ↦ slice_get_past list i (omega (arith, size, past)) ∙ sym (slice_get_past (map (λ (s : Spelled). s.bytes) found.spellings) i (omega (arith, long, all, past)))
+    ])

@@ -1,0 +1,93 @@
+//! What a goal is made of.
+ghost use Rattle.std.specs.Prelude.{◌≡◌};
+ghost use Rattle.std.specs.Option.{option_map};
+ghost use Rattle.a68_productions.specs.Expand as spec;
+
+use crate::{choices, clauses};
+use a68_tree::Sym;
+use a68_unit_productions::{Goal, declarations, declarers, primaries, units};
+
+/// The goals that a form is made of, the first one first; none where the goal is to take a symbol or to do something.
+pub fn expand(goal: Goal, text: &[Sym]) -> Option<&'static [Goal]>
+    ensures { option_map (λ goals. goals.now) result ≡ spec.expand goal text.now }
+{
+    let goals = match goal {
+        Goal::Enclosed => clauses::enclosed(text),
+        Goal::Brief => clauses::brief(text),
+        Goal::BriefUnit => clauses::brief_unit(text),
+        Goal::BriefEnd => clauses::brief_end(text),
+        Goal::BriefChoice => clauses::brief_choice(text),
+        Goal::BriefChosen => clauses::brief_chosen(text),
+        Goal::Block => clauses::block(text),
+        Goal::BlockUnit => clauses::block_unit(text),
+        Goal::Parallel => clauses::parallel(text),
+        Goal::CaseChoice => clauses::case_choice(text),
+        Goal::ElsePart => choices::else_part(text),
+        Goal::ElseBrief => choices::else_brief(text),
+        Goal::OutCase => choices::out_case(text),
+        Goal::OutCaseBrief => choices::out_case_brief(text),
+        Goal::OutConformity => choices::out_conformity(text),
+        Goal::OutConformityBrief => choices::out_conformity_brief(text),
+        Goal::LoopFrom => choices::loop_from(text),
+        Goal::LoopBy => choices::loop_by(text),
+        Goal::LoopTo => choices::loop_to(text),
+        Goal::LoopWhile => choices::loop_while(text),
+        Goal::Choices => choices::choices(),
+        Goal::ChoicesTail => choices::choices_tail(text),
+        Goal::ChoiceSpec => choices::choice_spec(),
+        Goal::SpecTag => choices::spec_tag(text),
+        Goal::SerialNode => units::serial_node(),
+        Goal::Serial => units::serial(text),
+        Goal::SerialTail => units::serial_tail(text),
+        Goal::Units => units::units(),
+        Goal::UnitsTail => units::units_tail(text),
+        Goal::Unit => units::unit(text),
+        Goal::UnitTail => units::unit_tail(text),
+        Goal::Routine => units::routine(text),
+        Goal::RoutineResult => units::routine_result(text),
+        Goal::Parameters => units::parameters(),
+        Goal::ParameterTags => units::parameter_tags(),
+        Goal::ParameterTail => units::parameter_tail(text),
+        Goal::ParameterMore => units::parameter_more(text),
+        Goal::Tertiary => units::tertiary(text),
+        Goal::TertiaryTail => units::tertiary_tail(text),
+        Goal::Operands => units::operands(text),
+        Goal::OperandsTail => units::operands_tail(text),
+        Goal::Secondary => primaries::secondary(text),
+        Goal::Base => primaries::base(text),
+        Goal::PrimaryTail => primaries::primary_tail(text),
+        Goal::Indexes => primaries::indexes(),
+        Goal::IndexesTail => primaries::indexes_tail(text),
+        Goal::Index => primaries::index(text),
+        Goal::IndexTail => primaries::index_tail(text),
+        Goal::Trimmer => primaries::trimmer(text),
+        Goal::AtPart => primaries::at_part(text),
+        Goal::DeclarerNode => declarers::declarer_node(),
+        Goal::Declarer => declarers::declarer(text),
+        Goal::ProcedurePlan => declarers::procedure_plan(text),
+        Goal::Yields => declarers::yields(text),
+        Goal::Declarers => declarers::declarers(),
+        Goal::DeclarersTail => declarers::declarers_tail(text),
+        Goal::Bounds => declarers::bounds(),
+        Goal::BoundsTail => declarers::bounds_tail(text),
+        Goal::Bound => declarers::bound(text),
+        Goal::BoundTail => declarers::bound_tail(text),
+        Goal::Fields => declarers::fields(),
+        Goal::FieldTags => declarers::field_tags(),
+        Goal::FieldTail => declarers::field_tail(text),
+        Goal::FieldMore => declarers::field_more(text),
+        Goal::Declaration => declarations::declaration(),
+        Goal::Definitions => declarations::definitions(text),
+        Goal::OperatorForm => declarations::operator_form(text),
+        Goal::ProcedureForm => declarations::procedure_form(text),
+        Goal::Named => declarations::named(text),
+        Goal::Plan => declarations::plan(),
+        Goal::PlanTail => declarations::plan_tail(text),
+        Goal::Initial => declarations::initial(text),
+        Goal::Definition(defining) => declarations::definition(defining),
+        Goal::Tail(defining) => declarations::tail(defining, text),
+        Goal::More(defining) => declarations::more(defining, text),
+        _ => return None,
+    };
+    Some(goals)
+}

@@ -1,5 +1,0 @@
-use Rattle.std.proofs.Common.{rules}
-use Rattle.a68_turn.proofs.nodes.node.Goals as goal
-
-pub returns : goal.returns
-returns c = search rules

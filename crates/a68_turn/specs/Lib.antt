@@ -1,2 +1,0 @@
-pub mod Drafted
-pub mod Places

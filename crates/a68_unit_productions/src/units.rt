@@ -1,0 +1,235 @@
+//! What is to be read: serial clauses, units and formulas.
+ghost use Rattle.std.specs.Prelude.{◌≡◌};
+ghost use Rattle.a68_unit_productions.specs.Units as spec;
+
+use crate::goal::Goal;
+use a68_lookahead::{is_monadic, is_operator, phrase_ahead, routine_ahead, starts};
+use a68_tree::{Bracket, NodeKind, Sym, Token};
+
+/// A serial clause, as a node.
+pub fn serial_node() -> &'static [Goal]
+    ensures { result.now ≡ spec.serial_node }
+{
+    &[Goal::Begin, Goal::Serial, Goal::Close(NodeKind::Serial)]
+}
+
+/// `{phrase ';'} unit`
+pub fn serial(text: &[Sym]) -> &'static [Goal]
+    ensures { result.now ≡ spec.serial text.now }
+{
+    if phrase_ahead(text) {
+        &[
+            Goal::Declaration,
+            Goal::Take(Token::Semicolon),
+            Goal::Serial,
+        ]
+    } else {
+        &[Goal::Unit, Goal::SerialTail]
+    }
+}
+
+/// `[';' serial]`
+pub fn serial_tail(text: &[Sym]) -> &'static [Goal]
+    ensures { result.now ≡ spec.serial_tail text.now }
+{
+    if starts(text, Sym::Is(Token::Semicolon)) {
+        &[Goal::Take(Token::Semicolon), Goal::Serial]
+    } else {
+        &[]
+    }
+}
+
+/// `unit {',' unit}`
+pub fn units() -> &'static [Goal]
+    ensures { result.now ≡ spec.units }
+{
+    &[Goal::Unit, Goal::UnitsTail]
+}
+
+/// `{',' unit}`
+pub fn units_tail(text: &[Sym]) -> &'static [Goal]
+    ensures { result.now ≡ spec.units_tail text.now }
+{
+    if starts(text, Sym::Is(Token::Comma)) {
+        &[Goal::Take(Token::Comma), Goal::Units]
+    } else {
+        &[]
+    }
+}
+
+/// A unit, as a node.
+pub fn unit(text: &[Sym]) -> &'static [Goal]
+    ensures { result.now ≡ spec.unit text.now }
+{
+    if starts(text, Sym::Is(Token::Skip)) {
+        &[
+            Goal::Begin,
+            Goal::Take(Token::Skip),
+            Goal::Close(NodeKind::Skip),
+        ]
+    } else if routine_ahead(text) {
+        &[
+            Goal::Begin,
+            Goal::Routine,
+            Goal::Close(NodeKind::RoutineText),
+        ]
+    } else {
+        &[Goal::Begin, Goal::Tertiary, Goal::UnitTail, Goal::Leave]
+    }
+}
+
+/// Behind a tertiary.
+pub fn unit_tail(text: &[Sym]) -> &'static [Goal]
+    ensures { result.now ≡ spec.unit_tail text.now }
+{
+    if starts(text, Sym::Is(Token::Becomes)) {
+        &[
+            Goal::Take(Token::Becomes),
+            Goal::Unit,
+            Goal::Wrap(NodeKind::Assignation),
+        ]
+    } else if starts(text, Sym::Is(Token::Is)) {
+        &[
+            Goal::Take(Token::Is),
+            Goal::Begin,
+            Goal::Tertiary,
+            Goal::Leave,
+            Goal::Relate,
+        ]
+    } else if starts(text, Sym::Is(Token::Isnt)) {
+        &[
+            Goal::Take(Token::Isnt),
+            Goal::Begin,
+            Goal::Tertiary,
+            Goal::Leave,
+            Goal::Relate,
+        ]
+    } else {
+        &[]
+    }
+}
+
+/// `['(' parameters ')'] (declarer | VOID) ':' unit`
+pub fn routine(text: &[Sym]) -> &'static [Goal]
+    ensures { result.now ≡ spec.routine text.now }
+{
+    if starts(text, Sym::Opens(Bracket::Round)) {
+        &[
+            Goal::Opens(Bracket::Round),
+            Goal::Parameters,
+            Goal::Closes(Bracket::Round),
+            Goal::RoutineResult,
+        ]
+    } else {
+        &[Goal::RoutineResult]
+    }
+}
+
+/// `(declarer | VOID) ':' unit`
+pub fn routine_result(text: &[Sym]) -> &'static [Goal]
+    ensures { result.now ≡ spec.routine_result text.now }
+{
+    if starts(text, Sym::Is(Token::Void)) {
+        &[
+            Goal::Begin,
+            Goal::Take(Token::Void),
+            Goal::Close(NodeKind::VoidWord),
+            Goal::Take(Token::Colon),
+            Goal::Unit,
+        ]
+    } else {
+        &[Goal::DeclarerNode, Goal::Take(Token::Colon), Goal::Unit]
+    }
+}
+
+/// `declarer tag {',' tag} {',' declarer tag {',' tag}}`
+pub fn parameters() -> &'static [Goal]
+    ensures { result.now ≡ spec.parameters }
+{
+    &[Goal::DeclarerNode, Goal::ParameterTags]
+}
+
+/// `tag {',' tag} {',' declarer tag {',' tag}}`
+pub fn parameter_tags() -> &'static [Goal]
+    ensures { result.now ≡ spec.parameter_tags }
+{
+    &[
+        Goal::Begin,
+        Goal::Take(Token::Tag),
+        Goal::Close(NodeKind::Parameter),
+        Goal::ParameterTail,
+    ]
+}
+
+/// `{',' tag} {',' declarer tag {',' tag}}`
+pub fn parameter_tail(text: &[Sym]) -> &'static [Goal]
+    ensures { result.now ≡ spec.parameter_tail text.now }
+{
+    if starts(text, Sym::Is(Token::Comma)) {
+        &[Goal::Take(Token::Comma), Goal::ParameterMore]
+    } else {
+        &[]
+    }
+}
+
+/// Behind the comma.
+pub fn parameter_more(text: &[Sym]) -> &'static [Goal]
+    ensures { result.now ≡ spec.parameter_more text.now }
+{
+    if starts(text, Sym::Is(Token::Tag)) {
+        &[Goal::ParameterTags]
+    } else {
+        &[Goal::Parameters]
+    }
+}
+
+/// A nihil, a formula or a secondary.
+pub fn tertiary(text: &[Sym]) -> &'static [Goal]
+    ensures { result.now ≡ spec.tertiary text.now }
+{
+    if starts(text, Sym::Is(Token::Nil)) {
+        &[Goal::Take(Token::Nil), Goal::Wrap(NodeKind::Nil)]
+    } else if is_monadic(text) {
+        &[Goal::Monadic, Goal::Operands, Goal::Wrap(NodeKind::Formula)]
+    } else {
+        &[Goal::Secondary, Goal::TertiaryTail]
+    }
+}
+
+/// Behind the first operand.
+pub fn tertiary_tail(text: &[Sym]) -> &'static [Goal]
+    ensures { result.now ≡ spec.tertiary_tail text.now }
+{
+    if is_operator(text) {
+        &[Goal::Dyadic, Goal::Operands, Goal::Wrap(NodeKind::Formula)]
+    } else {
+        &[]
+    }
+}
+
+/// `{sign} secondary {sign {sign} secondary}`
+pub fn operands(text: &[Sym]) -> &'static [Goal]
+    ensures { result.now ≡ spec.operands text.now }
+{
+    if is_monadic(text) {
+        &[Goal::Monadic, Goal::Operands]
+    } else {
+        &[
+            Goal::Begin,
+            Goal::Secondary,
+            Goal::Leave,
+            Goal::OperandsTail,
+        ]
+    }
+}
+
+/// `{sign {sign} secondary}`
+pub fn operands_tail(text: &[Sym]) -> &'static [Goal]
+    ensures { result.now ≡ spec.operands_tail text.now }
+{
+    if is_operator(text) {
+        &[Goal::Dyadic, Goal::Operands]
+    } else {
+        &[]
+    }
+}
