@@ -33,15 +33,20 @@ IsHalted store (acts place want next) =
     ((act : Act) (reply : Reply) (after : Store) → does want store ≢ did act reply after) × ((why : FaultKind) → does want store ≢ refuses why)
 IsHalted store _ = ⊥
 
+-- strand 0 has not ended: the program has not yielded
+abbrev pub IsUnended : Term → Type 0
+IsUnended t = (v : Content) → t ≢ yielded v
+
 -- An elaboration that has come to this term and store by so many entries has this end. Done: the program has yielded.
--- A fault: an open position of the strand meets it. All halted: strand 0, which is the only one, has to wait. Spent:
--- there are as many entries as there was fuel, and possibly after silent steps an act can be done (own).
+-- A fault: it has not, and an open position of the strand meets it. All halted: strand 0, which is the only one, has to
+-- wait. Spent: there are as many entries as there was fuel, and possibly after silent steps the program has not yielded
+-- and an act can be done (own).
 pub data EndsWith (program : Program) (fuel entries : ℕ) (t : Term) (store : Store) : End → Type 0 where
   done : (v : Content) → t ≡ yielded v → EndsWith program fuel entries t store ends.Done
-  fault : {kind : FaultKind} {place strand : ℕ} (what : Then Term) → HasOpen program 0 t strand what → Faults store what kind place
+  fault : {kind : FaultKind} {place strand : ℕ} (what : Then Term) → IsUnended t → HasOpen program 0 t strand what → Faults store what kind place
       → EndsWith program fuel entries t store (ends.Fault kind place strand)
   all_halted : (what : Then Term) → HasOpen program 0 t 0 what → IsHalted store what → EndsWith program fuel entries t store ends.AllHalted
-  spent : (t2 : Term) (x : ℕ) (what : Then Term) → entries ≡ fuel → Elaborates program t store [] t2 store → HasOpen program 0 t2 x what
+  spent : (t2 : Term) (x : ℕ) (what : Then Term) → entries ≡ fuel → Elaborates program t store [] t2 store → IsUnended t2 → HasOpen program 0 t2 x what
       → CanAct store what → EndsWith program fuel entries t store ends.Spent
 
 -- The rules of the language permit that a run of the program, with this fuel, leaves this: there is an elaboration of

@@ -44,9 +44,9 @@ misled place chain = part (resuming place (doing.Meets fault.Kind)) chain no_ter
 
 -- ---- frames
 
--- within the new frame of a serial clause
+-- within a new frame, which stands before those within which it was made (Report, 3.2.2.b)
 abbrev pub within_frame : (place : ℕ) → List Environ → (List Environ → Term) → Reply → Term
-within_frame place chain go (reply.Frame inner) = go inner
+within_frame place chain go (reply.Frame (e ∷ about)) = go (e ∷ chain)
 within_frame place chain go _ = misled place chain
 
 -- a serial clause makes its frame within the innermost one, newer in scope by one (Report, 3.2.2.b)

@@ -1,7 +1,8 @@
 -- Journals that were computed by hand.
 use Rattle.std.proofs.Common.{◌≡◌, ◌≢◌, ◌<◌, ◌+◌, ℕ, pos, true, false, List, [], ◌∷◌, Some, None, refl, sym, ap, ◌∙◌, subst, arith}
 use Rattle.std.proofs.lemmas.Fmt.{decimal_digit}
-use Rattle.std.specs.Prelude.{◌++◌, replicate}
+use Rattle.std.proofs.lemmas.Option.{same_Some}
+use Rattle.std.specs.Prelude.{◌++◌, replicate, slice_get}
 use Rattle.a68_acts.specs.Does.{did, does}
 use Rattle.a68_acts.specs.Operations.{constant, tag, make, bind, deref, store, apply, drop, print, start, resumed}
 use Rattle.a68_acts.specs.Printed.{printed_int, right_in_20}
@@ -56,6 +57,10 @@ digit_text d = replicate 18 32 ++ 43 ∷ (48 + d) ∷ []
 
 pub printed_digit : (d : ℕ) → d < 10 → printed_int (pos d) ≡ digit_text d
 printed_digit d less = ap (λ s. right_in_20 (43 ∷ s)) (decimal_digit d less)
+
+-- a strand that is about something has not ended
+pub not_ended : (w : World) (st : State) → slice_get w.strands 0 ≡ Some st → (st.stance ≡ Idle → ⊥) → run.HasEnded w 0 → ⊥
+not_ended w st there about h = about (ap (λ (x : State). x.stance) (same_Some st h.st (sym there ∙ h.there)) ∙ h.idle)
 
 -- BEGIN INT x := 5; print(x) END
 abbrev declaration : Tree
@@ -176,7 +181,7 @@ ran_at_six = record {
   runs = (refl, (refl, (refl, (refl, (refl, (refl, refl))))));
   keeps = record { text = refl; cells = refl; outer = refl };
   within = omega arith;
-  ends = run.spent 0 refl can_print;
+  ends = run.spent 0 (not_ended (before_print (printed_int (pos 5))) _ refl (λ e. absurd (cc))) refl can_print;
 }
 
 pub six : Permitted program 6 kept_at_six
@@ -236,21 +241,24 @@ kept_unset = record {
 abbrev unset_state : State
 unset_state = record { at = 5; stack = stack_of []; chain = record { frame = 1; scope = 1 } ∷ record { frame = 0; scope = 0 } ∷ []; stance = Failed fault.Unset }
 
+abbrev unset_world : World
+unset_world = record {
+  store = record {
+    cells = held.Plain value.Unset ∷ [];
+    frames = standard_frame ∷ record { outer = 0; scope = 1; slots = Some (plain (value.Name (record { cell = 0; scope = 1 }))) ∷ [] } ∷ [];
+    text = [];
+  };
+  strands = unset_state ∷ [];
+}
+
 unset_ran : RunOf unset_code 100 kept_unset
 unfolding does settle start resumed chain_of
 unset_ran = record {
-  world = record {
-    store = record {
-      cells = held.Plain value.Unset ∷ [];
-      frames = standard_frame ∷ record { outer = 0; scope = 1; slots = Some (plain (value.Name (record { cell = 0; scope = 1 }))) ∷ [] } ∷ [];
-      text = [];
-    };
-    strands = unset_state ∷ [];
-  };
+  world = unset_world;
   runs = (refl, (refl, (refl, (refl, (refl, refl)))));
   keeps = record { text = refl; cells = refl; outer = refl };
   within = omega arith;
-  ends = run.fault {strand = 0} {st = unset_state} refl refl refl;
+  ends = run.fault {strand = 0} {st = unset_state} (not_ended unset_world unset_state refl (λ e. absurd (cc))) refl refl refl;
 }
 
 pub unset : Permitted unset_program 100 kept_unset
@@ -314,21 +322,24 @@ kept_newer = record {
 abbrev newer_state : State
 newer_state = record { at = 4; stack = stack_of []; chain = record { frame = 1; scope = 1 } ∷ record { frame = 0; scope = 0 } ∷ []; stance = Failed fault.Scope }
 
+abbrev newer_world : World
+newer_world = record {
+  store = record {
+    cells = held.Plain value.Unset ∷ [];
+    frames = standard_frame ∷ record { outer = 0; scope = 1; slots = Some (plain (value.Name (record { cell = 0; scope = 1 }))) ∷ [] } ∷ [];
+    text = [];
+  };
+  strands = newer_state ∷ [];
+}
+
 newer_ran : RunOf newer_code 100 kept_newer
 unfolding does settle start resumed chain_of
 newer_ran = record {
-  world = record {
-    store = record {
-      cells = held.Plain value.Unset ∷ [];
-      frames = standard_frame ∷ record { outer = 0; scope = 1; slots = Some (plain (value.Name (record { cell = 0; scope = 1 }))) ∷ [] } ∷ [];
-      text = [];
-    };
-    strands = newer_state ∷ [];
-  };
+  world = newer_world;
   runs = (refl, (refl, (refl, (refl, refl))));
   keeps = record { text = refl; cells = refl; outer = refl };
   within = omega arith;
-  ends = run.fault {strand = 0} {st = newer_state} refl refl refl;
+  ends = run.fault {strand = 0} {st = newer_state} (not_ended newer_world newer_state refl (λ e. absurd (cc))) refl refl refl;
 }
 
 pub newer : Permitted newer_program 100 kept_newer

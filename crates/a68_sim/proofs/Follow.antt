@@ -15,7 +15,7 @@ use Rattle.a68_gen.specs.Stretches.{Has, Stands, StandAll, leave}
 use Rattle.a68_sim.proofs.Asking.{idle, at_instr, place_is, is_inside}
 use Rattle.a68_gen.proofs.Forward.{next_is}
 use Rattle.a68_sim.proofs.Jobs.{Done, row_done, misled_sim, operating_done, resuming_done, ending_done, choosing_done, chosen_done, counting_done, stepping_done, turning_done, testing_done, running_done, leaving_done}
-use Rattle.a68_sim.proofs.Quiet.{still, quiet_in, Hole, Tells, moves_in, Progress, moves, finishes, progress_after, progress_row, moves_act, moves_fault}
+use Rattle.a68_sim.proofs.Quiet.{still, quiet_in, Hole, moves_in, Progress, moves, finishes, progress_after, progress_row, moves_act, moves_fault}
 use Rattle.a68_sim.proofs.Relation.{count_terms, AllTodo, doing_of, posed, parts_give, inner, OperationAt, LoopAt, Tail, Begins, DoesParts, Sim, yields, left, does_yields, does_todos, does_first, same_count, left_none, todos_all, count_todos}
 use Rattle.a68_strand.specs.Machine.{State, asks_for, told_by}
 use Rattle.a68_strand.specs.declared.ask.Stance.TheVariants.{Asking}
@@ -87,17 +87,19 @@ module _ (program : Program) (code : Code) (same : code.modes ≡ program.modes)
         st : State
         st = asks_for (idle a base (e ∷ outer)) base (Asking (want.Enter e.frame (suc e.scope) (suc n)) waiting.Frame)
 
-        keeps : (r : Reply) → Tells (e ∷ outer) (want.Enter e.frame (suc e.scope) (suc n)) r
+        keeps : (r : Reply)
             → Sim code b base (e ∷ outer) g (within_frame p (e ∷ outer) (λ inside. part (preceding (in_frame p gives) final) inside (todos before inside)) r) (told_by code st waiting.Frame r)
-        keeps (reply.Frame inside) fits = (
+        keeps (reply.Frame []) = misled_sim code b base (e ∷ outer) g p a (does.Enter (suc n)) (e ∷ outer) enter.0
+        keeps (reply.Frame (i ∷ about)) = (
           m,
-          does_todos code (todos before inside) a' m base inside false _ (todos_all code false before a' m inside before_at) (ap (λ x. idle x base inside) (next_is a a' enter.1)),
-          (b', final_at, (same_gives, has, fits refl)),
+          does_todos code (todos before (i ∷ (e ∷ outer))) a' m base (i ∷ (e ∷ outer)) false _ (todos_all code false before a' m (i ∷ (e ∷ outer)) before_at)
+              (ap (λ x. idle x base (i ∷ (e ∷ outer))) (next_is a a' enter.1)),
+          (b', final_at, (same_gives, has, refl)),
         )
-        keeps reply.Go fits = misled_sim code b base (e ∷ outer) g p a (does.Enter (suc n)) (e ∷ outer) enter.0
-        keeps (reply.Value v) fits = misled_sim code b base (e ∷ outer) g p a (does.Enter (suc n)) (e ∷ outer) enter.0
-        keeps (reply.Base cell) fits = misled_sim code b base (e ∷ outer) g p a (does.Enter (suc n)) (e ∷ outer) enter.0
-        keeps (reply.Held h) fits = misled_sim code b base (e ∷ outer) g p a (does.Enter (suc n)) (e ∷ outer) enter.0
+        keeps reply.Go = misled_sim code b base (e ∷ outer) g p a (does.Enter (suc n)) (e ∷ outer) enter.0
+        keeps (reply.Value v) = misled_sim code b base (e ∷ outer) g p a (does.Enter (suc n)) (e ∷ outer) enter.0
+        keeps (reply.Base cell) = misled_sim code b base (e ∷ outer) g p a (does.Enter (suc n)) (e ∷ outer) enter.0
+        keeps (reply.Held h) = misled_sim code b base (e ∷ outer) g p a (does.Enter (suc n)) (e ∷ outer) enter.0
 
   -- a strand that stands elsewhere
   moved : (K : Term → State → Type 0) (t : Term) (st st' : State) → st ≡ st' → Progress program code K t st' → Progress program code K t st

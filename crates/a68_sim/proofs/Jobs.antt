@@ -23,7 +23,7 @@ use Rattle.a68_modes.specs.declared.shape.Shape.{Shape}
 use Rattle.a68_sim.proofs.Asking.{idle, seen, ask, at_instr, place_is, does_is, is_inside, Back}
 use Rattle.a68_gen.proofs.Forward.{next_is, forward}
 use Rattle.a68_sim.proofs.Operating.{exec_of, not_end, operation_begins, operation_goes_on}
-use Rattle.a68_sim.proofs.Quiet.{still, quietly, outwards, Tells, Progress, moves, finishes, moves_on, moves_act, moves_fault}
+use Rattle.a68_sim.proofs.Quiet.{still, quietly, outwards, Progress, moves, finishes, moves_on, moves_act, moves_fault}
 use Rattle.a68_sim.proofs.Relation.{push, count_terms, doing_of, posed, parts_give, inner, LoopAt, Tail, Sim, yields, left, onto, size, values_yields, pops_left, count_yields, left_none, does_yields}
 use Rattle.a68_strand.specs.Machine.{State, exec, follows, fails, goes_on, goes_to, branches, with_counter, told_by, asks_for}
 use Rattle.a68_stack.specs.Values.{pop_values}
@@ -237,19 +237,19 @@ module _ (program : Program) (code : Code) where
         (at_instr code k p items ch does.Turn turn.0 refl ∙ ap (λ x. Some (acts x want.Turn (told_by code st waiting.Turn))) (place_is code k p does.Turn turn.0))
         (is_inside code k p does.Turn turn.0) (keeps turn))
       where
-        keeps : Has code p does.Turn k tail.3.u → (r : Reply) → Tells ch want.Turn r
+        keeps : Has code p does.Turn k tail.3.u → (r : Reply)
             → Sim code b base home g (turned p ch (part (testing p c test body) ch (only (todo test ch))) r)
             (told_by code (asks_for (idle k (item.Counter c ∷ base) ch) (item.Counter c ∷ base) (Asking want.Turn waiting.Turn)) waiting.Turn r)
-        keeps turn reply.Go fits =
+        keeps turn reply.Go =
             let l = tail.3 in (
               l.m,
               (l.m, refl, refl, record { a = l.u; stands = l.test_at; chain = refl; state = ap (λ n. idle n (item.Counter c ∷ base) ch) (next_is k l.u turn.1) }),
               (tail.0, tail.1, refl, tail.2, l, refl),
             )
-        keeps turn (reply.Frame chain) fits = misled_sim code b base home g p k does.Turn ch turn.0
-        keeps turn (reply.Value v) fits = misled_sim code b base home g p k does.Turn ch turn.0
-        keeps turn (reply.Base cell) fits = misled_sim code b base home g p k does.Turn ch turn.0
-        keeps turn (reply.Held h) fits = misled_sim code b base home g p k does.Turn ch turn.0
+        keeps turn (reply.Frame chain) = misled_sim code b base home g p k does.Turn ch turn.0
+        keeps turn (reply.Value v) = misled_sim code b base home g p k does.Turn ch turn.0
+        keeps turn (reply.Base cell) = misled_sim code b base home g p k does.Turn ch turn.0
+        keeps turn (reply.Held h) = misled_sim code b base home g p k does.Turn ch turn.0
 
     pub testing_done : (p : ℕ) (c : Counter) (test body : Tree) (ch : List Environ) (k : ℕ) → Done program code (testing p c test body) ch k b base home g
     testing_done p c test body ch k [] tail = absurd (omega (arith, tail.2))

@@ -1,5 +1,4 @@
 pub mod Asking
-pub mod Chains
 pub mod Counting
 pub mod Examples
 pub mod Follow
@@ -8,5 +7,4 @@ pub mod Operating
 pub mod Quiet
 pub mod Relation
 pub mod Settling
-pub mod Soundness
 pub mod Whole

@@ -108,7 +108,7 @@ module _ (program : Program) (code : Code) (b : ℕ) (base : List Item) (home : 
       let st = asks_for (idle k items ch) base (Asking w (waiting.Operation next)) in
       moves_act program code _ t _ p w _ (told_by code st (waiting.Operation next)) e
       (a ∙ ap (λ x. Some (acts x w (told_by code st (waiting.Operation next)))) (place_is code k p (does_of op n) at.has.0))
-      (is_inside code k p (does_of op n) at.has.0) (λ r fits. told_continues p op n k ch items w next at ec r)
+      (is_inside code k p (does_of op n) at.has.0) (λ r. told_continues p op n k ch items w next at ec r)
   operation_begins p op n k ch items t (doing.Meets why) at ec e a =
       moves_fault program code _ t _ why p e (a ∙ ap (λ x. Some (meets why x)) (place_is code k p (does_of op n) at.has.0))
       (is_inside code k p (does_of op n) at.has.0)
@@ -124,6 +124,6 @@ module _ (program : Program) (code : Code) (b : ℕ) (base : List Item) (home : 
       let has = c.2.has.0 in
       moves_act program code _ _ st p w _ (told_by code st (waiting.Operation next)) refl
       (ap (λ x. Some (acts x w (told_by code st (waiting.Operation next)))) (place_is code k p (does_of c.0 c.1) has))
-      (is_inside code k p (does_of c.0 c.1) has) (λ r fits. told_continues p c.0 c.1 k ch [] w next c.2 c.3 r)
+      (is_inside code k p (does_of c.0 c.1) has) (λ r. told_continues p c.0 c.1 k ch [] w next c.2 c.3 r)
   operation_goes_on p k ch (doing.Meets why) c =
       moves_fault program code _ _ _ why p refl (ap (λ x. Some (meets why x)) (place_is code k p c.0 c.1)) (is_inside code k p c.0 c.1)

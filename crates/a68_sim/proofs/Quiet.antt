@@ -3,9 +3,7 @@ use Rattle.std.proofs.Common.{◌≡◌, ◌<◌, ℕ, List, [], ◌∷◌, leng
 use Rattle.std.specs.Prelude.{⊤}
 use Rattle.a68_acts.specs.Store.{Store}
 use Rattle.a68_acts.specs.declared.want.Reply.{Reply}
-use Rattle.a68_acts.specs.declared.want.Reply.TheVariants as reply
 use Rattle.a68_acts.specs.declared.want.Want.{Want}
-use Rattle.a68_acts.specs.declared.want.Want.TheVariants as want
 use Rattle.a68_code.specs.declared.code.Code.{Code}
 use Rattle.a68_elab.specs.Elaborations.{Elaborates, silently}
 use Rattle.a68_elab.specs.Positions.{Opens, here, HasOpen}
@@ -46,56 +44,51 @@ abbrev pub outwards : List Environ → List Environ
 outwards [] = []
 outwards (e ∷ chain) = chain
 
--- a new frame that is made within the innermost frame of a chain is told with that chain about it
-abbrev pub Tells : List Environ → Want → Reply → Type 0
-Tells (e ∷ outer) (want.Enter about scope slots) (reply.Frame chain) = about ≡ e.frame → outwards chain ≡ e ∷ outer
-Tells home w r = ⊤
-
 -- the act that t does next, possibly after silent steps
-pub record ActsNext (program : Program) (K : Term → State → Type 0) (home : List Environ) (t : Term) (place : ℕ) (w : Want) (k : Reply → State) : Type 0 where
+pub record ActsNext (program : Program) (K : Term → State → Type 0) (t : Term) (place : ℕ) (w : Want) (k : Reply → State) : Type 0 where
   pub now : Term
   pub quiet : Quiet program t now
   pub next : Reply → Term
   pub open_at : HasOpen program 0 now 0 (acts place w next)
-  pub keeps : (r : Reply) → Tells home w r → K (open_at.put (next r)) (k r)
+  pub keeps : (r : Reply) → K (open_at.put (next r)) (k r)
 
--- t follows what a strand in the chain `home` does next
-abbrev pub Follows : Program → (Term → State → Type 0) → List Environ → Term → Then State → Type 0
-Follows program K home t (goes st) = (t' : Term) × Quiet program t t' × K t' st
-Follows program K home t (acts place w k) = ActsNext program K home t place w k
-Follows program K home t (meets why place) = (t' : Term) × Quiet program t t' × HasOpen program 0 t' 0 (meets why place)
+-- t follows what a strand does next
+abbrev pub Follows : Program → (Term → State → Type 0) → Term → Then State → Type 0
+Follows program K t (goes st) = (t' : Term) × Quiet program t t' × K t' st
+Follows program K t (acts place w k) = ActsNext program K t place w k
+Follows program K t (meets why place) = (t' : Term) × Quiet program t t' × HasOpen program 0 t' 0 (meets why place)
 
 -- what the strand does next, and t follows it
 pub record Moves (program : Program) (code : Code) (K : Term → State → Type 0) (t : Term) (st : State) : Type 0 where
   pub what : Then State
   pub asks : ask code st ≡ Some what
-  pub follows : Follows program K st.chain t what
+  pub follows : Follows program K t what
   pub inside : st.at < length code.list
   pub forth : Forth code st.at what
 
 follows_in : (program : Program) (f : Term → Term) → Hole f → (K L : Term → State → Type 0) → ((t : Term) (st : State) → K t st → L (f t) st)
-    → (home : List Environ) (t : Term) (what : Then State) → Follows program K home t what → Follows program L home (f t) what
-follows_in program f h K L to home t (goes st) w = (f w.0, quiet_in f h w.1, to w.0 st w.2)
-follows_in program f h K L to home t (acts place want k) w = record {
+    → (t : Term) (what : Then State) → Follows program K t what → Follows program L (f t) what
+follows_in program f h K L to t (goes st) w = (f w.0, quiet_in f h w.1, to w.0 st w.2)
+follows_in program f h K L to t (acts place want k) w = record {
   now = f w.now;
   quiet = quiet_in f h w.quiet;
   next = w.next;
   open_at = open_in program f h w.now (acts place want w.next) w.open_at;
-  keeps = λ r fits. to (w.open_at.put (w.next r)) (k r) (w.keeps r fits);
+  keeps = λ r. to (w.open_at.put (w.next r)) (k r) (w.keeps r);
 }
-follows_in program f h K L to home t (meets why place) w = (f w.0, quiet_in f h w.1, open_in program f h w.0 (meets why place) w.2)
+follows_in program f h K L to t (meets why place) w = (f w.0, quiet_in f h w.1, open_in program f h w.0 (meets why place) w.2)
 
 pub moves_in : (program : Program) (code : Code) (f : Term → Term) → Hole f → (K L : Term → State → Type 0) → ((t : Term) (st : State) → K t st → L (f t) st)
     → (t : Term) (st : State) → Moves program code K t st → Moves program code L (f t) st
 moves_in program code f h K L to t st m =
-    record { what = m.what; asks = m.asks; follows = follows_in program f h K L to st.chain t m.what m.follows; inside = m.inside; forth = m.forth }
+    record { what = m.what; asks = m.asks; follows = follows_in program f h K L to t m.what m.follows; inside = m.inside; forth = m.forth }
 
-follows_after : (program : Program) (K : Term → State → Type 0) (home : List Environ) (t t' : Term) → Quiet program t t' → (what : Then State)
-    → Follows program K home t' what → Follows program K home t what
-follows_after program K home t t' q (goes st) w = (w.0, quiet_on q w.1, w.2)
-follows_after program K home t t' q (acts place want k) w =
+follows_after : (program : Program) (K : Term → State → Type 0) (t t' : Term) → Quiet program t t' → (what : Then State)
+    → Follows program K t' what → Follows program K t what
+follows_after program K t t' q (goes st) w = (w.0, quiet_on q w.1, w.2)
+follows_after program K t t' q (acts place want k) w =
     record { now = w.now; quiet = quiet_on q w.quiet; next = w.next; open_at = w.open_at; keeps = w.keeps }
-follows_after program K home t t' q (meets why place) w = (w.0, quiet_on q w.1, w.2)
+follows_after program K t t' q (meets why place) w = (w.0, quiet_on q w.1, w.2)
 
 -- what comes next: the strand moves and t follows, or t yields silently, where the strand stands
 pub data Progress (program : Program) (code : Code) (K : Term → State → Type 0) (t : Term) (st : State) : Type 0 where
@@ -105,7 +98,7 @@ pub data Progress (program : Program) (code : Code) (K : Term → State → Type
 pub progress_after : (program : Program) (code : Code) (K : Term → State → Type 0) (t t' : Term) (st : State) → Quiet program t t'
     → Progress program code K t' st → Progress program code K t st
 progress_after program code K t t' st q (moves m) =
-    moves (record { what = m.what; asks = m.asks; follows = follows_after program K st.chain t t' q m.what m.follows; inside = m.inside; forth = m.forth })
+    moves (record { what = m.what; asks = m.asks; follows = follows_after program K t t' q m.what m.follows; inside = m.inside; forth = m.forth })
 progress_after program code K t t' st q (finishes v p s) = finishes v (quiet_on q p) s
 
 pub progress_row : (program : Program) (code : Code) (K : Term → State → Type 0) (t t' : Term) (st : State) → row program t ≡ Some (goes t')
@@ -125,7 +118,7 @@ moves_fault program code K t st why place e asks inside =
 
 pub moves_act : (program : Program) (code : Code) (K : Term → State → Type 0) (t : Term) (st : State) (place : ℕ) (w : Want) (next : Reply → Term) (k : Reply → State)
     → row program t ≡ Some (acts place w next) → ask code st ≡ Some (acts place w k) → st.at < length code.list
-    → ((r : Reply) → Tells st.chain w r → K (next r) (k r)) → Progress program code K t st
+    → ((r : Reply) → K (next r) (k r)) → Progress program code K t st
 moves_act program code K t st place w next k e asks inside keeps = moves (record {
   what = acts place w k;
   asks = asks;

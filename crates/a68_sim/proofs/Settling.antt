@@ -5,7 +5,6 @@ use Rattle.std.specs.Option.{option_map, option_map_or}
 use Rattle.std.specs.Prelude.{slice_get, if◌then◌else◌}
 use Rattle.std.specs.declared.option.Option.{Option}
 use Rattle.a68_acts.specs.Operations.{has_turn}
-use Rattle.a68_acts.specs.Store.{Frame}
 use Rattle.a68_acts.specs.declared.operation.Counter.{Counter}
 use Rattle.a68_acts.specs.declared.want.Want.{Want}
 use Rattle.a68_code.specs.Flow.{does_at}
@@ -17,11 +16,9 @@ use Rattle.a68_elab.specs.Rows.{goes, acts, meets}
 use Rattle.a68_elab.specs.Terms.{Term, yielded}
 use Rattle.a68_elab.specs.Trees.{Program}
 use Rattle.a68_sim.proofs.Asking.{idle, seen_in, seen, at_end_asks, Forth}
-use Rattle.a68_sim.proofs.Chains.{Hangs}
 use Rattle.a68_sim.proofs.Follow.{term_progress}
 use Rattle.a68_sim.proofs.Quiet.{Quiet, still, quiet_on, Follows, Progress, moves, finishes, Moves}
 use Rattle.a68_sim.proofs.Relation.{Sim}
-use Rattle.a68_sim.proofs.Soundness.{Sound, step_sound}
 use Rattle.a68_strand.specs.Machine.{State, Stack, at_end, does_one, silently, settle_in, steps, goes_on, goes_to, fails, told_by, place_at}
 use Rattle.a68_stack.specs.Values.{top_counter}
 use Rattle.a68_strand.specs.declared.ask.Stance.{Stance}
@@ -88,21 +85,20 @@ module _ (code : Code) where
       by_counter (Some c) q = by_test c (has_turn c) q
 
 -- where a strand has settled, the term has followed it: it yields silently where the strand has come to its end
-abbrev pub SettledIn : Program → Code → (Term → State → Type 0) → Stance → List Frame → Term → State → Type 0
-SettledIn program code K Idle frames t st = (v : Content) × Quiet program t (yielded v)
-SettledIn program code K (Asking w wait) frames t st =
-    Sound frames st × (home : List Environ) × Hangs frames home × Follows program K home t (acts (place_at code.list st.at) w (told_by code st wait))
-SettledIn program code K (Failed why) frames t st = (t' : Term) × Quiet program t t' × HasOpen program 0 t' 0 (meets why (place_at code.list st.at))
+abbrev pub SettledIn : Program → Code → (Term → State → Type 0) → Stance → Term → State → Type 0
+SettledIn program code K Idle t st = (v : Content) × Quiet program t (yielded v)
+SettledIn program code K (Asking w wait) t st = Follows program K t (acts (place_at code.list st.at) w (told_by code st wait))
+SettledIn program code K (Failed why) t st = (t' : Term) × Quiet program t t' × HasOpen program 0 t' 0 (meets why (place_at code.list st.at))
 
-abbrev pub Settled : Program → Code → (Term → State → Type 0) → List Frame → Term → State → Type 0
-Settled program code K frames t st = SettledIn program code K st.stance frames t st
+abbrev pub Settled : Program → Code → (Term → State → Type 0) → Term → State → Type 0
+Settled program code K t st = SettledIn program code K st.stance t st
 
 module _ (program : Program) (code : Code) (same : code.modes ≡ program.modes) (b p : ℕ) (home : List Environ) (end : slice_get code.list b ≡ Some (record { place = p; does = does.End })) where
   abbrev K : Term → State → Type 0
   K = Sim code b [] home false
 
-  abbrev Comes : List Frame → Term → State → Type 0
-  Comes frames t st = (t' : Term) × Quiet program t t' × Settled program code K frames t' st
+  abbrev Comes : Term → State → Type 0
+  Comes t st = (t' : Term) × Quiet program t t' × Settled program code K t' st
 
   settle_end : (n : ℕ) → settle_in n code (idle b [] home) ≡ idle b [] home
   settle_end zero = ap (λ o. option_map_or (λ (next : State). fails (idle b [] home) fault.Kind) o (idle b [] home)) (at_end_asks code b p [] home end)
@@ -118,57 +114,52 @@ module _ (program : Program) (code : Code) (same : code.modes ≡ program.modes)
   stays_failed (suc n) at stack ch why = refl
 
   -- a step on which the strand asks, fails or goes on
-  by_next : (frames : List Frame) (n : ℕ) (t : Term) (from : List Environ) (at : ℕ) (stack : Stack) (ch : List Environ) (stance : Stance)
-      → Hangs frames from → Sound frames (state at stack ch stance) → Follows program K from t (seen code (state at stack ch stance))
-      → ((t' : Term) → stance ≡ Idle → K t' (state at stack ch stance) → Comes frames t' (settle_in n code (state at stack ch stance)))
-      → Comes frames t (settle_in n code (state at stack ch stance))
-  by_next frames n t from at stack ch Idle h s f more = let x = more f.0 refl f.2 in (x.0, quiet_on f.1 x.1, x.2)
-  by_next frames n t from at stack ch (Asking w wait) h s f more = subst (Comes frames t) (sym (stays_asking n at stack ch w wait)) (t, still, (s, from, h, f))
-  by_next frames n t from at stack ch (Failed why) h s f more = subst (Comes frames t) (sym (stays_failed n at stack ch why)) (t, still, f)
+  by_next : (n : ℕ) (t : Term) (at : ℕ) (stack : Stack) (ch : List Environ) (stance : Stance)
+      → Follows program K t (seen code (state at stack ch stance))
+      → ((t' : Term) → stance ≡ Idle → K t' (state at stack ch stance) → Comes t' (settle_in n code (state at stack ch stance)))
+      → Comes t (settle_in n code (state at stack ch stance))
+  by_next n t at stack ch Idle f more = let x = more f.0 refl f.2 in (x.0, quiet_on f.1 x.1, x.2)
+  by_next n t at stack ch (Asking w wait) f more = subst (Comes t) (sym (stays_asking n at stack ch w wait)) (t, still, f)
+  by_next n t at stack ch (Failed why) f more = subst (Comes t) (sym (stays_failed n at stack ch why)) (t, still, f)
 
-  by_stance : (frames : List Frame) (n : ℕ) (t : Term) (at : ℕ) (stack : Stack) (ch : List Environ) (stance : Stance)
-      → Sound frames (state at stack ch stance) → Enough code n at → Moves program code K t (state at stack ch stance)
-      → ((k : ℕ) (t' : Term) (next : State) → n ≡ suc k → K t' next → Sound frames next → Enough code k next.at → Comes frames t' (settle_in k code next))
-      → Comes frames t (settle_in n code (state at stack ch stance))
-  by_stance frames n t at stack ch (Asking w wait) s enough m more =
-      subst (Comes frames t) (sym (stays_asking n at stack ch w wait))
-      (t, still, (s, ch, s.0, subst (Follows program K ch t) (sym (same_Some _ m.what m.asks)) m.follows))
-  by_stance frames n t at stack ch (Failed why) s enough m more =
-      subst (Comes frames t) (sym (stays_failed n at stack ch why)) (t, still, subst (Follows program K ch t) (sym (same_Some _ m.what m.asks)) m.follows)
-  by_stance frames n t at stack ch Idle s enough m more = by_step n enough (silently code Idle st) refl m.asks more
+  by_stance : (n : ℕ) (t : Term) (at : ℕ) (stack : Stack) (ch : List Environ) (stance : Stance)
+      → Enough code n at → Moves program code K t (state at stack ch stance)
+      → ((k : ℕ) (t' : Term) (next : State) → n ≡ suc k → K t' next → Enough code k next.at → Comes t' (settle_in k code next))
+      → Comes t (settle_in n code (state at stack ch stance))
+  by_stance n t at stack ch (Asking w wait) enough m more =
+      subst (Comes t) (sym (stays_asking n at stack ch w wait))
+      (t, still, subst (Follows program K t) (sym (same_Some _ m.what m.asks)) m.follows)
+  by_stance n t at stack ch (Failed why) enough m more =
+      subst (Comes t) (sym (stays_failed n at stack ch why)) (t, still, subst (Follows program K t) (sym (same_Some _ m.what m.asks)) m.follows)
+  by_stance n t at stack ch Idle enough m more = by_step n enough (silently code Idle st) refl m.asks more
     where
       st : State
       st = state at stack ch Idle
 
-      next_sound : (x : Bool) (next : State) → (if x then None else Some (does_one code.modes (does_at code.list at) st)) ≡ Some next → Sound frames next
-      next_sound true next e = absurd (cc)
-      next_sound false next e = subst (Sound frames) (same_Some _ next e) (step_sound frames code.modes (does_at code.list at) st s)
-
       by_step : (n : ℕ) → Enough code n at → (o : Option State) → silently code Idle st ≡ o → option_map (seen code) o ≡ Some m.what
-          → ((k : ℕ) (t' : Term) (next : State) → n ≡ suc k → K t' next → Sound frames next → Enough code k next.at → Comes frames t' (settle_in k code next))
-          → Comes frames t (settle_in n code st)
+          → ((k : ℕ) (t' : Term) (next : State) → n ≡ suc k → K t' next → Enough code k next.at → Comes t' (settle_in k code next))
+          → Comes t (settle_in n code st)
       by_step n enough None e a more = absurd (cc)
       by_step zero enough (Some next) e a more = absurd (some_left code at enough m.inside)
       by_step (suc k) enough (Some next) e a more =
           let w : seen code next ≡ m.what = same_Some _ m.what a in
-          let sound = next_sound (at_end (does_at code.list at)) next e in
-          subst (λ (o : Option State). Comes frames t (option_map_or (settle_in k code) o st)) (sym e)
-          (by_next frames k t ch next.at next.stack next.chain next.stance s.0 sound (subst (Follows program K ch t) (sym w) m.follows)
-          (λ t' idles kt. more k t' next refl kt sound
+          subst (λ (o : Option State). Comes t (option_map_or (settle_in k code) o st)) (sym e)
+          (by_next k t next.at next.stack next.chain next.stance (subst (Follows program K t) (sym w) m.follows)
+          (λ t' idles kt. more k t' next refl kt
           (enough_left code k at stack ch next enough e idles (subst (Forth code at) (sym w ∙ ap (λ (md : Stance). seen_in code md next) idles) m.forth))))
 
-  by_progress : (frames : List Frame) (n : ℕ) (t : Term) (st : State) → Sound frames st → Enough code n st.at → Progress program code K t st
-      → ((k : ℕ) (t' : Term) (next : State) → n ≡ suc k → K t' next → Sound frames next → Enough code k next.at → Comes frames t' (settle_in k code next))
-      → Comes frames t (settle_in n code st)
-  by_progress frames n t st s enough (moves m) more = by_stance frames n t st.at st.stack st.chain st.stance s enough m more
-  by_progress frames n t st s enough (finishes v q k) more =
-      subst (Comes frames t) (sym (ap (settle_in n code) k ∙ settle_end n)) (yielded v, q, (v, still))
+  by_progress : (n : ℕ) (t : Term) (st : State) → Enough code n st.at → Progress program code K t st
+      → ((k : ℕ) (t' : Term) (next : State) → n ≡ suc k → K t' next → Enough code k next.at → Comes t' (settle_in k code next))
+      → Comes t (settle_in n code st)
+  by_progress n t st enough (moves m) more = by_stance n t st.at st.stack st.chain st.stance enough m more
+  by_progress n t st enough (finishes v q k) more =
+      subst (Comes t) (sym (ap (settle_in n code) k ∙ settle_end n)) (yielded v, q, (v, still))
 
   -- a strand settles, and the term follows it
-  pub settle_follows : (frames : List Frame) (n : ℕ) (t : Term) (st : State) → K t st → Sound frames st → Enough code n st.at → Comes frames t (settle_in n code st)
-  settle_follows frames zero t st k s enough =
-      by_progress frames zero t st s enough (term_progress program code same t b [] home false st k) (λ j t' next e kt sound left. absurd (omega (arith, e)))
-  settle_follows frames (suc n) t st k s enough =
-      by_progress frames (suc n) t st s enough (term_progress program code same t b [] home false st k)
-      (λ j t' next e kt sound left. let same_n : n ≡ j = omega (arith, e) in
-      subst (λ (x : ℕ). Enough code x next.at → Comes frames t' (settle_in x code next)) same_n (settle_follows frames n t' next kt sound) left)
+  pub settle_follows : (n : ℕ) (t : Term) (st : State) → K t st → Enough code n st.at → Comes t (settle_in n code st)
+  settle_follows zero t st k enough =
+      by_progress zero t st enough (term_progress program code same t b [] home false st k) (λ j t' next e kt left. absurd (omega (arith, e)))
+  settle_follows (suc n) t st k enough =
+      by_progress (suc n) t st enough (term_progress program code same t b [] home false st k)
+      (λ j t' next e kt left. let same_n : n ≡ j = omega (arith, e) in
+      subst (λ (x : ℕ). Enough code x next.at → Comes t' (settle_in x code next)) same_n (settle_follows n t' next kt) left)

@@ -3,23 +3,22 @@ use Rattle.std.proofs.Common.{◌≡◌, ℕ, zero, suc, arith, false, List, [],
 use Rattle.std.proofs.lemmas.Option.{same_Some}
 use Rattle.std.specs.Prelude.{slice_get}
 use Rattle.a68_acts.specs.Does.{Outcome, did, refuses, does}
-use Rattle.a68_acts.specs.Store.{Store, opening_store, standard_frame}
+use Rattle.a68_acts.specs.Store.{Store, opening_store}
 use Rattle.a68_acts.specs.declared.want.Reply.{Reply}
 use Rattle.a68_acts.specs.declared.want.Want.{Want}
 use Rattle.a68_code.specs.declared.code.Code.{Code}
 use Rattle.a68_code.specs.declared.does.Does.TheVariants as does
 use Rattle.a68_elab.specs.Elaborations.{Elaborates, stays, silently, by_act}
-use Rattle.a68_elab.specs.Permitted.{Permitted, EndsWith, done, fault, spent}
-use Rattle.a68_elab.specs.Rows.{acts, meets}
+use Rattle.a68_elab.specs.Permitted.{Permitted, IsUnended, EndsWith, done, fault, spent}
+use Rattle.a68_elab.specs.Positions.{Opens, here, within, HasOpen}
+use Rattle.a68_elab.specs.Rows.{Then, acts, meets, row}
 use Rattle.a68_elab.specs.Terms.{Term, todo, yielded}
 use Rattle.a68_elab.specs.Trees.{Program}
 use Rattle.a68_gen.specs.Stretches.{Translates}
 use Rattle.a68_sim.proofs.Asking.{idle}
-use Rattle.a68_sim.proofs.Chains.{tells}
 use Rattle.a68_sim.proofs.Quiet.{Quiet, still, quiet_elaborates, ActsNext}
 use Rattle.a68_sim.proofs.Relation.{Sim}
 use Rattle.a68_sim.proofs.Settling.{state, SettledIn, Settled, settle_follows}
-use Rattle.a68_sim.proofs.Soundness.{told_sound}
 use Rattle.a68_acts.specs.Does.{refused}
 use Rattle.a68_strand.specs.Ends.{HasEnded, fault_in, fault_of, CanAct}
 use Rattle.a68_strand.specs.Ends as run
@@ -42,6 +41,14 @@ elaborates_on stays q = quiet_elaborates q stays
 elaborates_on (silently o r e) q = silently o r (elaborates_on e q)
 elaborates_on (by_act o r d e) q = by_act o r d (elaborates_on e q)
 
+-- a term with an open position has not yielded
+is_unended : (program : Program) (t : Term) (x : ℕ) (what : Then Term) → HasOpen program 0 t x what → IsUnended t
+is_unended program t x what o v e = by_spot o.spot 0 t (o.put o.spot) (o.opens o.spot) e o.is
+  where
+    by_spot : (spot : Term) (own : ℕ) (u u' : Term) → Opens spot spot x own u u' → u ≡ yielded v → row program spot ≡ Some what → ⊥
+    by_spot spot own u u' here e is = let none : row program u ≡ None = ap (row program) e in absurd (cc)
+    by_spot spot own u u' (within o) e is = absurd (cc)
+
 -- a world of one strand
 abbrev world : Store → State → World
 world store st = record { store = store; strands = st ∷ [] }
@@ -52,19 +59,18 @@ module _ (program : Program) (code : Code) (same : code.modes ≡ program.modes)
 
   -- the elaboration is as far as the world
   abbrev AsFar : Term → World → Type 0
-  AsFar t w = (st : State) × (w ≡ world w.store st) × Settled program code K w.store.frames t st
+  AsFar t w = (st : State) × (w ≡ world w.store st) × Settled program code K t st
 
   -- a strand that is told the reply to its act settles, and the term follows
   told_follows : (t : Term) (store next : Store) (at : ℕ) (stack : Stack) (ch : List Environ) (w : Want) (wait : Waiting) (act : Act) (r : Reply) → does w store ≡ did act r next
-      → SettledIn program code K (Asking w wait) store.frames t (state at stack ch (Asking w wait))
-      → (t' : Term) × Settled program code K next.frames t' (settle code (replied code (state at stack ch (Asking w wait)) r))
+      → SettledIn program code K (Asking w wait) t (state at stack ch (Asking w wait))
+      → (t' : Term) × Settled program code K t' (settle code (replied code (state at stack ch (Asking w wait)) r))
       × ((es : List Entry) (t2 : Term) (s2 : Store) → Elaborates program t' next es t2 s2 → Elaborates program t store (record { strand = 0; act = act } ∷ es) t2 s2)
   unfolding settle
   told_follows t store next at stack ch w wait act r d s =
-      let f : ActsNext program K s.1 t (place_at code.list at) w (told_by code (state at stack ch (Asking w wait)) wait) = s.3 in
+      let f : ActsNext program K t (place_at code.list at) w (told_by code (state at stack ch (Asking w wait)) wait) = s in
       let told = told_by code (state at stack ch (Asking w wait)) wait r in
-      let later = settle_follows program code same b p home end next.frames (length code.list) (f.open_at.put (f.next r)) told
-      (f.keeps r (tells w store next act r d s.1 s.2)) (told_sound code w store next act r d at stack ch wait s.0) (inl (omega arith)) in
+      let later = settle_follows program code same b p home end (length code.list) (f.open_at.put (f.next r)) told (f.keeps r) (inl (omega arith)) in
       (later.0, later.2, λ es t2 s2 e. quiet_elaborates f.quiet (by_act (f.open_at.opens (f.next r)) f.open_at.is d (quiet_elaborates later.1 e)))
 
   abbrev Runs : List Entry → Term → World → World → Type 0
@@ -72,7 +78,7 @@ module _ (program : Program) (code : Code) (same : code.modes ≡ program.modes)
 
   -- one entry, and those behind it
   one_entry : (n : ℕ) (act : Act) (es : List Entry) (t : Term) (store : Store) (at : ℕ) (stack : Stack) (ch : List Environ) (stance : Stance) (w2 : World)
-      → SettledIn program code K stance store.frames t (state at stack ch stance)
+      → SettledIn program code K stance t (state at stack ch stance)
       → IfNext (acted code (world store (state at stack ch stance)) n) act (λ behind. Machine code behind es w2)
       → ((t' : Term) (w' : World) → AsFar t' w' → Machine code w' es w2 → Runs es t' w' w2)
       → Runs (record { strand = n; act = act } ∷ es) t (world store (state at stack ch stance)) w2
@@ -108,7 +114,7 @@ module _ (program : Program) (code : Code) (same : code.modes ≡ program.modes)
     Ends k = (t' : Term) × Quiet program t t' × EndsWith program fuel n t' store k
 
     abbrev Stands : Stance → Type 0
-    Stands stance = SettledIn program code K stance store.frames t (state at stack ch stance)
+    Stands stance = SettledIn program code K stance t (state at stack ch stance)
 
     abbrev at_world : Stance → World
     at_world stance = world store (state at stack ch stance)
@@ -118,14 +124,14 @@ module _ (program : Program) (code : Code) (same : code.modes ≡ program.modes)
 
     fault_too : (stance : Stance) (why : FaultKind) → Stands stance → fault_in stance store ≡ Some why → Ends (ends.Fault why (place_at code.list at) 0)
     fault_too Idle why s e = absurd (cc)
-    fault_too (Failed found) why s e = (s.0, s.1, fault (meets found (place_at code.list at)) s.2 (same_Some found why e, refl))
+    fault_too (Failed found) why s e = (s.0, s.1, fault (meets found (place_at code.list at)) (is_unended program s.0 0 _ s.2) s.2 (same_Some found why e, refl))
     fault_too (Asking w wait) why s e = by_outcome (does w store) refl e
       where
         by_outcome : (o : Outcome) → does w store ≡ o → refused o ≡ Some why → Ends (ends.Fault why (place_at code.list at) 0)
         by_outcome (did act r after) d e = absurd (cc)
         by_outcome (refuses found) d e =
-            let f : ActsNext program K s.1 t (place_at code.list at) w (told_by code (state at stack ch (Asking w wait)) wait) = s.3 in
-            (f.now, f.quiet, fault (acts (place_at code.list at) w f.next) f.open_at (d ∙ ap (λ (x : FaultKind). refuses x) (same_Some found why e), refl))
+            let f : ActsNext program K t (place_at code.list at) w (told_by code (state at stack ch (Asking w wait)) wait) = s in
+            (f.now, f.quiet, fault (acts (place_at code.list at) w f.next) (is_unended program f.now 0 _ f.open_at) f.open_at (d ∙ ap (λ (x : FaultKind). refuses x) (same_Some found why e), refl))
 
     spent_too : (stance : Stance) → Stands stance → n ≡ fuel → CanAct code (at_world stance) 0 → Ends ends.Spent
     spent_too Idle s e can = absurd (can refl)
@@ -138,8 +144,8 @@ module _ (program : Program) (code : Code) (same : code.modes ≡ program.modes)
         by_outcome : (o : Outcome) → does w store ≡ o → Ends ends.Spent
         by_outcome (refuses why) d = absurd (can (ap (after code (world store st) 0 st) d))
         by_outcome (did act r next) d =
-            let f : ActsNext program K s.1 t (place_at code.list at) w (told_by code (state at stack ch (Asking w wait)) wait) = s.3 in
-            (t, still, spent f.now 0 (acts (place_at code.list at) w f.next) e (quiet_elaborates f.quiet stays) f.open_at (act, r, next, d))
+            let f : ActsNext program K t (place_at code.list at) w (told_by code (state at stack ch (Asking w wait)) wait) = s in
+            (t, still, spent f.now 0 (acts (place_at code.list at) w f.next) e (quiet_elaborates f.quiet stays) (is_unended program f.now 0 _ f.open_at) f.open_at (act, r, next, d))
 
     -- a single strand never waits
     never_halted : (stance : Stance) → (HasEnded (at_world stance) 0 → ⊥) → (CanAct code (at_world stance) 0 → ⊥) → fault_of (at_world stance) 0 ≡ None → ⊥
@@ -156,13 +162,13 @@ module _ (program : Program) (code : Code) (same : code.modes ≡ program.modes)
 
     ends_too : (es : List Entry) (stance : Stance) (k : End) → n ≡ length es → Stands stance → run.EndsWith code fuel es (at_world stance) k → Ends k
     ends_too es stance k e s (run.done h) = done_too stance s (ap (λ (x : State). x.stance) (same_Some _ h.st h.there) ∙ h.idle)
-    ends_too es stance k e s (run.fault {strand = zero} {place = place} {kind = why} {st = st} f there is) =
+    ends_too es stance k e s (run.fault {strand = zero} {place = place} {kind = why} {st = st} unended f there is) =
         let same_at : at ≡ st.at = ap (λ (x : State). x.at) (same_Some _ st there) in
         subst (λ (x : ℕ). Ends (ends.Fault why x 0)) (ap (place_at code.list) same_at ∙ sym is) (fault_too stance why s f)
-    ends_too es stance k e s (run.fault {strand = suc x} f there is) = absurd (cc)
+    ends_too es stance k e s (run.fault {strand = suc x} unended f there is) = absurd (cc)
     ends_too es stance k e s (run.all_halted not_ended no_act no_fault) = absurd (never_halted stance not_ended (no_act 0) (no_fault 0))
-    ends_too es stance k e s (run.spent zero full can) = spent_too stance s (e ∙ full) can
-    ends_too es stance k e s (run.spent (suc x) full can) = absurd (can refl)
+    ends_too es stance k e s (run.spent zero unended full can) = spent_too stance s (e ∙ full) can
+    ends_too es stance k e s (run.spent (suc x) unended full can) = absurd (can refl)
 
 pub law : (program : Program) (code : Code) (fuel : ℕ) (kept : Kept) → Translates program code → RunOf code fuel kept → Permitted program fuel kept
 unfolding settle
@@ -170,8 +176,8 @@ law program code fuel kept tr r =
     let home : List Environ = record { frame = 0; scope = 0 } ∷ [] in
     let b = tr.end in
     let p = program.place in
-    let first = settle_follows program code tr.modes b p home tr.ends.0 opening_store.frames (length code.list) (todo program.tree home) (idle 0 [] home)
-    (record { a = 0; stands = tr.stands; chain = refl; state = refl }) ((standard_frame, refl, refl, refl), tt) (inl (omega arith)) in
+    let first = settle_follows program code tr.modes b p home tr.ends.0 (length code.list) (todo program.tree home) (idle 0 [] home)
+    (record { a = 0; stands = tr.stands; chain = refl; state = refl }) (inl (omega arith)) in
     let all = follow_run program code tr.modes b p home tr.ends.0 kept.journal.entries first.0 (opening code) r.world (settle code (beginning 0 home), refl, first.2) r.runs in
     let far = all.2 in
     let st = far.0 in

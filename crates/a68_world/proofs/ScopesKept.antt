@@ -173,7 +173,8 @@ settle-below n code st p = settle_in-below n (length code.list) code st p
 
 told_by-below : (n : ℕ) (code : Code) (st : State) (wait : Waiting) (r : Reply) → ChainBelow n st.chain → ReplyBelow n r → StateBelow n (told_by code st wait r)
 told_by-below n code st (waiting.Operation go) r p q = follows-below n st (leaves_at code st.at) st.stack.items (resumed go r) p (resumed-below n go r)
-told_by-below n code st waiting.Frame (reply.Frame chain) p q = record { chain = q; stance = tt }
+told_by-below n code st waiting.Frame (reply.Frame []) p q = failed n st fault.Kind p
+told_by-below n code st waiting.Frame (reply.Frame (e ∷ about)) p q = record { chain = (q.0, p); stance = tt }
 told_by-below n code st waiting.Turn reply.Go p q = record { chain = p; stance = tt }
 told_by-below n code st _ _ p q = failed n st fault.Kind p
 

@@ -1,20 +1,22 @@
 -- What the code keeps of a run, from one turn to the next.
-use Rattle.std.proofs.Common.{◌≡◌, ℕ, ◌+◌, ◌<◌, ◌≤◌, ◌^◌, Bool, true, false, List, [], ◌∷◌, ◌++◌, length, refl, ap, sym, ◌∙◌, subst, inr, arith, length-append}
+use Rattle.std.proofs.Common.{◌≡◌, ◌≢◌, ◌⊎◌, ℕ, ◌+◌, ◌<◌, ◌≤◌, ◌^◌, Bool, true, false, List, [], ◌∷◌, ◌++◌, length, refl, ap, sym, ◌∙◌, subst, inl, inr, arith, length-append}
 use Rattle.std.specs.Prelude.{None, Some, Ok, Err, IsTrue, if◌then◌else◌}
 use Rattle.std.specs.Result.{IsOk, is_ok}
 use Rattle.std.specs.declared.result.Result.{Result}
 use Rattle.std.specs.Vec.{vec_capacity, vec_len}
 use Rattle.std.specs.declared.alloc.Global.{Global}
+use Rattle.std.specs.Option.{option_and_then}
 use Rattle.std.specs.declared.option.Option.{Option}
 use Rattle.std.specs.declared.vec.Vec.{Vec}
 use Rattle.a68_acts.specs.Does.{Outcome, did, does}
 use Rattle.a68_acts.specs.Store.{Store}
 use Rattle.a68_acts.specs.declared.want.Reply.{Reply}
 use Rattle.a68_acts.specs.declared.want.Want.{Want}
-use Rattle.a68_strand.specs.Ends.{EndsWith, fault, spent}
+use Rattle.a68_code.specs.declared.code.Code.{Code}
+use Rattle.a68_strand.specs.Ends.{fault_in, fault_of, HasEnded, CanAct, EndsWith, fault, spent}
 use Rattle.a68_strand.specs.Machine.{State, asked, place_at, replied, settle}
 use Rattle.a68_strand.specs.Room.{brings_room}
-use Rattle.a68_strand.specs.Runs.{World, Machine, opening, after, acted}
+use Rattle.a68_strand.specs.Runs.{World, Machine, opening, after, acts_in, acted}
 use Rattle.a68_strand.specs.Strands.{standing, is_spent, HasSettled}
 use Rattle.a68_strand.specs.declared.ask.Ask.{Ask}
 use Rattle.a68_strand.specs.declared.ask.Ask.TheVariants as ask
@@ -53,12 +55,18 @@ same-store s store e sound = subst (λ (x : Store). IsSound (record s { store = 
 
 -- ---- an end that is set
 
+-- a strand that can act or stands before a fault has not ended
+not-ended : (code : Code) (w : World) → CanAct code w 0 ⊎ (fault_of w 0 ≢ None) → HasEnded w 0 → ⊥
+not-ended code w (inl can) h = can (ap (option_and_then (λ (st : State). acts_in st.stance code w 0 st)) h.there ∙ ap (λ m. acts_in m code w 0 h.st) h.idle)
+not-ended code w (inr stands) h = stands (ap (option_and_then (λ (st : State). fault_in st.stance w.store)) h.there ∙ ap (λ m. fault_in m w.store) h.idle)
+
 ends-with : (s : Inside) (e : End) → EndsAt (run_of s) 0 e → EndsWith s.code s.fuel s.journal.items (run_of s).world e
 ends-with s ends.Done h = absurd h
 ends-with s ends.AllHalted h = absurd h
-ends-with s ends.Spent h = spent 0 h.0 h.1
+ends-with s ends.Spent h = spent 0 (not-ended s.code (run_of s).world (inl h.1)) h.0 h.1
 ends-with s (ends.Fault why place strand) h =
-    rw h.0 (fault {strand = 0} {place = place} {kind = why} {st = standing s.strand} h.1 refl (cc (h.2)))
+    rw h.0 (fault {strand = 0} {place = place} {kind = why} {st = standing s.strand}
+    (not-ended s.code (run_of s).world (inr (λ none. let f = h.1 in absurd (cc)))) h.1 refl (cc (h.2)))
 
 pub ended-sound : (s : Inside) (e : End) → IsSound s → GoesOn (run_of s) → EndsAt (run_of s) 0 e → IsSound (record s { end = Some e })
 ended-sound s e sound goes ends =
