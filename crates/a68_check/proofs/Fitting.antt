@@ -1,5 +1,5 @@
 -- The trees of a program that runs fit what is taken of them, form by form.
-use Rattle.std.proofs.Common.{◌≡◌, ℕ, suc, ◌<◌, Bool, true, false, List, [], ◌∷◌, length, refl, sym, ◌∙◌, ap, subst, arith, Some, slice_get, ⊎_elim}
+use Rattle.std.proofs.Common.{◌≡◌, ℕ, zero, suc, ◌<◌, Bool, true, false, List, [], ◌∷◌, length, refl, sym, ◌∙◌, ap, subst, arith, Some, slice_get, ⊎_elim}
 use Rattle.std.specs.Prelude.{IsTrue}
 use Rattle.std.proofs.lemmas.Bool.{cases_lt}
 use Rattle.a68_acts.specs.Operations.{Operation, constant, skip, tag, make, bind, deref, store, apply, drop, print, leaves}
@@ -68,6 +68,10 @@ last-fit : (t : Tree) (ts : Trees) → IsFit false t → AreFit false ts → IsF
 last-fit t no_trees a all = a
 last-fit t (u and_tree ts) a all = last-fit u ts (record { fits = all.fits.0; modes = all.modes.0 }) (record { fits = all.fits.1; modes = all.modes.1 })
 
+in-range-fits : (place slots : ℕ) (gives : Bool) (t : Tree) → IsFit gives t → IsFit gives (made.in_range place slots gives t)
+in-range-fits place zero gives t a = a
+in-range-fits place (suc n) gives t a = record { fits = (refl, a.fits); modes = a.modes }
+
 phrases-fit : (f : ℕ → Tree) (place slots : ℕ) (ids : List ℕ) → 0 < length ids → ((k p : ℕ) → slice_get ids k ≡ Some p → IsFit false (f p))
     → IsFit false (serial_of place slots false (trees_at f ids))
 phrases-fit f place slots [] some each = absurd (omega arith)
@@ -76,7 +80,7 @@ phrases-fit f place slots (x ∷ xs) some each =
     let rest = all-fit f xs (λ k p e. each (suc k) p e) in
     let before = before-fit (f x) (trees_at f xs) here rest in
     let final = last-fit (f x) (trees_at f xs) here rest in
-    record { fits = (refl, before.fits, final.fits); modes = (before.modes, final.modes) }
+    in-range-fits place slots false _ (record { fits = (before.fits, final.fits); modes = (before.modes, final.modes) })
 
 -- ---- a tree by what its node makes
 
@@ -116,7 +120,7 @@ test-fits p id l r g k a b =
 enquiry-fits : (p : Annotated) (id test : ℕ) → Known p id construct.Serial goal.Enquiry → parts_at p.tree id ≡ test ∷ [] → IsFit true (tree_at p test) → IsFit true (tree_at p id)
 enquiry-fits p id test k e a =
     by-tree true _ _ (made-as p id construct.Serial goal.Enquiry k kind.Serial (test ∷ []) k.spelt (sym k.parts ∙ e))
-    (record { fits = (refl, tt, a.fits); modes = (tt, a.modes) })
+    (in-range-fits k.node.span.from k.slots true _ (record { fits = (tt, a.fits); modes = (tt, a.modes) }))
 
 while-fits : (p : Annotated) (id q : ℕ) (g : Purpose) → Known p id (construct.While q) g → IsFit true (tree_at p q) → IsFit true (tree_at p id)
 while-fits p id q g k a = by-tree true _ _ (made-as p id (construct.While q) g k kind.While (q ∷ []) k.spelt.0 k.spelt.1) a

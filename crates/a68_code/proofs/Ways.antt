@@ -2,7 +2,7 @@
 use Rattle.std.proofs.Common.{◌≡◌, ◌<◌, ◌≤◌, ◌⊎◌, ◌++◌, ◌+◌, ℕ, Bool, true, false, cond, List, [], ◌∷◌, IsTrue, length, get_or, set, replicate, sym, ap, ◌∙◌, arith, subst, inl, inr, Option, Some, None, ⊎_elim, get_or-set_same, get_or-set_other, length-set}
 use Rattle.std.proofs.lemmas.List.{length-replicate, get_or-replicate, get_or_past, nil_from_length}
 use Rattle.std.proofs.lemmas.Option.{none-some, same_Some}
-use Rattle.std.proofs.lemmas.Bool.{leb-true, cases_eq, cases_lt}
+use Rattle.std.proofs.lemmas.Bool.{cases_eq, cases_lt}
 use Rattle.std.specs.List.{Contains}
 use Rattle.std.proofs.lemmas.List.Elements.{Contains-push_cases, Contains-push, Contains-append_left}
 use Rattle.a68_modes.specs.declared.shape.Shape.{Shape}
@@ -58,7 +58,7 @@ module _ (code : Code) (heights : Heights) (todo rest : Places) (at height : ℕ
   onward : (below to : ℕ) → below + takes does ≡ height → Contains (landings at does) to → Reaches code to (below + leaves code.modes does)
   onward below to finds i = goes_on below (subst (λ (n : ℕ). Reaches code at n) (sym finds) (h.sound at height here)) is i
 
-  pub halfway_on : (heights' : Heights) (todo' : Places) → leaves code.modes does < 2 → GoesOn code.modes at does height heights rest heights' todo' → Halfway code heights' todo'
+  pub halfway_on : (heights' : Heights) (todo' : Places) → leaves code.modes does ≤ takes does + 1 → GoesOn code.modes at does height heights rest heights' todo' → Halfway code heights' todo'
   halfway_on heights' todo' one (below, finds, v) = record {
     long = v.long ∙ h.long;
     first = v.kept 0 0 h.first;
@@ -80,12 +80,12 @@ module _ (code : Code) (heights : Heights) (todo rest : Places) (at height : ℕ
   not_valid (inr (below, finds, (to, i, inl past))) valid = let inside = valid.within to _ (onward below to finds i) in let long = h.long in absurd (omega arith)
   not_valid (inr (below, finds, (to, i, inr (other, knows, differs)))) valid = differs (valid.agreed to other _ (h.sound to other knows) (onward below to finds i))
 
--- an instruction with operands that it may have leaves one value at most
-pub leaves_one : (modes : List Shape) (count : ℕ) (does : Does) → IsTrue (is_well_made modes count does) → leaves modes does < 2
-leaves_one modes count (Leave kept) w = let h = leb-true kept 1 w in omega arith
+-- an instruction with operands that it may have leaves at most one value more than it takes
+pub leaves_one : (modes : List Shape) (count : ℕ) (does : Does) → IsTrue (is_well_made modes count does) → leaves modes does ≤ takes does + 1
+leaves_one modes count (Leave kept) w = omega arith
 leaves_one modes count (Skip mode) w = cond_of (is_void (shape_at modes mode))
   where
-    cond_of : (b : Bool) → cond b 0 1 < 2
+    cond_of : (b : Bool) → cond b 0 1 ≤ 1
     cond_of true = omega arith
     cond_of false = omega arith
 leaves_one modes count _ w = omega arith

@@ -6,7 +6,7 @@ use Rattle.a68_values.specs.Codes.{content_code}
 use Rattle.a68_values.specs.Content.{Content, void}
 use Rattle.a68_code.specs.declared.code.Instr.{Instr}
 use Rattle.a68_code.specs.declared.does.Does.{Does}
-use Rattle.a68_code.specs.declared.does.Does.TheVariants.{Push, Skip, Tag, Enter, Leave, Bind, Make, Deref, Store, Apply, Drop, Print, Jump, Unless, Counter, Step, Turn, Advance, Forget, End}
+use Rattle.a68_code.specs.declared.does.Does.TheVariants.{Push, Skip, Tag, Enter, Leave, Bind, Make, Deref, Store, Apply, Drop, Print, Jump, Unless, Counter, Index, Step, Turn, Advance, Forget, End}
 
 -- the number of a variant, and its operands
 abbrev does_parts : Does → ℕ × (ℕ × (ℕ × Content))
@@ -30,6 +30,7 @@ does_parts Turn = (16, (0, (0, void)))
 does_parts (Advance to) = (17, (to, (0, void)))
 does_parts Forget = (18, (0, (0, void)))
 does_parts End = (19, (0, (0, void)))
+does_parts Index = (20, (0, (0, void)))
 
 abbrev does_from : ℕ × (ℕ × (ℕ × Content)) → Does
 does_from (variant, (one, (two, value))) =
@@ -38,7 +39,7 @@ does_from (variant, (one, (two, value))) =
     cond (variant == 6) (Make one two) (cond (variant == 7) (Deref one) (cond (variant == 8) (Store one) (
     cond (variant == 9) (Apply one) (cond (variant == 10) Drop (cond (variant == 11) (Print one) (cond (variant == 12) (Jump one) (
     cond (variant == 13) (Unless one) (cond (variant == 14) Counter (cond (variant == 15) (Step one) (
-    cond (variant == 16) Turn (cond (variant == 17) (Advance one) (cond (variant == 18) Forget (End)))))))))))))))))))
+    cond (variant == 16) Turn (cond (variant == 17) (Advance one) (cond (variant == 18) Forget (cond (variant == 19) End Index)))))))))))))))))))
 
 pub does_from-does_parts : (does : Does) → does_from (does_parts does) ≡ does
 does_from-does_parts (Push value) = refl
@@ -61,6 +62,7 @@ does_from-does_parts Turn = refl
 does_from-does_parts (Advance to) = refl
 does_from-does_parts Forget = refl
 does_from-does_parts End = refl
+does_from-does_parts Index = refl
 
 abbrev pub does_code : Coded Does
 does_code = code_by (ℕ × (ℕ × (ℕ × Content))) (coded× coded_ℕ (coded× coded_ℕ (coded× coded_ℕ content_code))) does_parts does_from does_from-does_parts

@@ -26,6 +26,7 @@ use std::alloc::Global;
 /// | Jump | place | | | | goes there |
 /// | Unless | place | truth value | | | goes there for false |
 /// | Counter | | FROM, BY, TO | counter | | TO may be unset: no limit |
+/// | Index | | counter | counter, value | | the count of the counter |
 /// | Step | place | counter | counter | | goes there where the loop has no further turn |
 /// | Turn | | | | Turn | |
 /// | Advance | place | counter | counter | | adds BY and goes there; goes on where the sum is no INT |
@@ -49,6 +50,7 @@ pub enum Does {
     Jump(u32),
     Unless(u32),
     Counter,
+    Index,
     Step(u32),
     Turn,
     Advance(u32),
@@ -74,6 +76,7 @@ impl Drop for Does {
             | Does::Jump(_)
             | Does::Unless(_)
             | Does::Counter
+            | Does::Index
             | Does::Step(_)
             | Does::Turn
             | Does::Advance(_)
@@ -110,6 +113,7 @@ impl Does {
             Does::Jump(to) => Does::Jump(*to),
             Does::Unless(to) => Does::Unless(*to),
             Does::Counter => Does::Counter,
+            Does::Index => Does::Index,
             Does::Step(to) => Does::Step(*to),
             Does::Turn => Does::Turn,
             Does::Advance(to) => Does::Advance(*to),

@@ -31,7 +31,8 @@ impl Does {
             Does::Counter => 3,
             Does::Store(_) | Does::Apply(_) => 2,
             Does::Bind(_) | Does::Deref(_) | Does::Drop => 1,
-            Does::Unless(_) | Does::Step(_) | Does::Advance(_) | Does::Forget => 1,
+            Does::Unless(_) | Does::Index | Does::Step(_) => 1,
+            Does::Advance(_) | Does::Forget => 1,
             Does::Leave(count) | Does::Print(count) | Does::Make { bounds: count, .. } => *count,
             _ => 0,
         }
@@ -43,6 +44,7 @@ impl Does {
     {
         match self {
             Does::Leave(kept) => *kept,
+            Does::Index => 2,
             Does::Skip(mode) => u32::from(!modes.is_void(*mode)),
             Does::Enter(_) | Does::Bind(_) | Does::Drop | Does::Print(_) | Does::Jump(_) => 0,
             Does::Unless(_) | Does::Turn | Does::Forget | Does::End => 0,

@@ -1,6 +1,6 @@
 //! The walk along all ways, which finds the height of the stack at each place.
-ghost use Rattle.std.specs.Prelude.{◌≡◌, ◌+◌, ◌∷◌, ◌<◌, ◌^◌, [], IfOk, MatchBool, None, Some, replicate, slice_set};
-ghost use Rattle.a68_code.specs.Flow.{landings, leaves};
+ghost use Rattle.std.specs.Prelude.{◌≡◌, ◌+◌, ◌∷◌, ◌<◌, ◌≤◌, ◌^◌, [], IfOk, MatchBool, None, Some, replicate, slice_set};
+ghost use Rattle.a68_code.specs.Flow.{landings, leaves, takes};
 ghost use Rattle.a68_code.specs.Walk.{AnyClashes, Clashes, Fails, GoesOn, Notes, NotesAll};
 
 use crate::Does;
@@ -101,7 +101,7 @@ impl Walk {
     ) -> Result<bool, NoMemory>
         requires place { at + 1 < 2 ^ 64 }
         requires room { height + 1 < 2 ^ 64 }
-        requires one { leaves modes.now does.now < 2 }
+        requires one { leaves modes.now does.now ≤ takes does.now + 1 }
         ensures { IfOk result (λ fits. MatchBool fits
             (GoesOn modes.now at does.now height self.old.heights.items self.old.todo.items
             self.new.heights.items self.new.todo.items)

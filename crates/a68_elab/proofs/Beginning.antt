@@ -1,5 +1,5 @@
 -- The constructs of a program begin where its nodes do.
-use Rattle.std.proofs.Common.{◌≡◌, ℕ, ℤ, suc, ◌≤◌, Bool, true, false, List, [], ◌∷◌, Some, None, slice_get, refl, arith, nat_eq}
+use Rattle.std.proofs.Common.{◌≡◌, ℕ, ℤ, zero, suc, ◌≤◌, Bool, true, false, List, [], ◌∷◌, Some, None, slice_get, refl, arith, nat_eq}
 use Rattle.std.specs.Option.{option_map_or, option_and_then}
 use Rattle.std.specs.Prelude.{if◌then◌else◌, not}
 use Rattle.std.specs.declared.option.Option.{Option}
@@ -44,9 +44,13 @@ module _ (end : ℕ) where
   call_begins place (called and_tree (item and_tree no_trees)) p b = (p, (b.1.0, tt))
   call_begins place _ p b = tt
 
+  in_range_begins : (place slots : ℕ) (yields : Bool) (t : Tree) → place ≤ end → BeginsBy end t → BeginsBy end (made.in_range place slots yields t)
+  in_range_begins place zero yields t p b = b
+  in_range_begins place (suc n) yields t p b = (p, p, b)
+
   serial_begins : (place slots : ℕ) (yields : Bool) (ts : Trees) → place ≤ end → AllBeginBy end ts → BeginsBy end (made.serial_of place slots yields ts)
   serial_begins place slots yields no_trees p b = tt
-  serial_begins place slots yields (t and_tree ts) p b = (p, all_but_last_begin (t and_tree ts) b, last_begins (t and_tree ts) b)
+  serial_begins place slots yields (t and_tree ts) p b = in_range_begins place slots yields _ p (p, all_but_last_begin (t and_tree ts) b, last_begins (t and_tree ts) b)
 
   only_begins : (ts : Trees) → AllBeginBy end ts → BeginsBy end (made.only_of ts)
   only_begins (t and_tree no_trees) b = b.0
@@ -58,7 +62,7 @@ module _ (end : ℕ) where
   choice_begins place _ p b = tt
 
   loop_begins : (place : ℕ) (ts : Trees) → place ≤ end → AllBeginBy end ts → BeginsBy end (made.loop_of place ts)
-  loop_begins place (test and_tree (body and_tree no_trees)) p b = (p, ((p, tt), ((p, tt), ((p, tt), tt))), b.0, b.1.0)
+  loop_begins place (test and_tree (body and_tree no_trees)) p b = (p, p, ((p, tt), ((p, tt), ((p, tt), tt))), b.0, b.1.0)
   loop_begins place _ p b = tt
 
   denoted_begins : (place : ℕ) (o : Option ℤ) → place ≤ end → BeginsBy end (made.denoted place o)

@@ -1,12 +1,12 @@
 -- The tree of a program, of the list of its annotated nodes.
-use Rattle.std.specs.Prelude.{ℕ, ℤ, suc, pos, Bool, not, List, [], ◌∷◌, None, Some, slice_get, nat_eq, if◌then◌else◌}
+use Rattle.std.specs.Prelude.{ℕ, ℤ, zero, suc, pos, Bool, false, not, List, [], ◌∷◌, None, Some, slice_get, nat_eq, if◌then◌else◌}
 use Rattle.std.specs.Option.{option_map_or, option_and_then}
 use Rattle.std.specs.declared.option.Option.{Option}
-use Rattle.a68_acts.specs.Operations.{Operation, constant, skip, tag, make, bind, deref, store, apply, drop, print}
+use Rattle.a68_acts.specs.Operations.{constant, skip, tag, make, bind, deref, store, apply, drop, print}
 use Rattle.a68_annot.specs.declared.annotated.Annotated.{Annotated}
 use Rattle.a68_annot.specs.declared.note.Note.{Note}
 use Rattle.a68_denote.specs.Numbers.{int_in}
-use Rattle.a68_elab.specs.Trees.{collateral, serial, Tree, Trees, operation, phrases, choice, loop, unbuilt, no_trees, ◌and_tree◌, Program}
+use Rattle.a68_elab.specs.Trees.{collateral, serial, Tree, Trees, operation, phrases, range, choice, loop, unbuilt, no_trees, ◌and_tree◌, Program}
 use Rattle.a68_modes.specs.Nodes.{shape_at, is_void}
 use Rattle.a68_modes.specs.declared.coercion.Coercion.{Coercion}
 use Rattle.a68_modes.specs.declared.coercion.Coercion.TheVariants as coercion
@@ -15,7 +15,7 @@ use Rattle.a68_modes.specs.declared.shape.Shape.TheVariants as shape
 use Rattle.a68_tree.specs.declared.kind.NodeKind.{NodeKind}
 use Rattle.a68_tree.specs.declared.kind.NodeKind.TheVariants as kind
 use Rattle.a68_tree.specs.declared.node.Node.{Node}
-use Rattle.a68_values.specs.Content.{Content, plain}
+use Rattle.a68_values.specs.Content.{plain}
 use Rattle.a68_values.specs.declared.plain.Plain.TheVariants as value
 
 abbrev pub only : Tree → Trees
@@ -73,10 +73,15 @@ abbrev pub call_of : (place : ℕ) → Trees → Tree
 call_of place (called and_tree (item and_tree no_trees)) = operation place print collateral (only item)
 call_of place _ = unbuilt
 
+-- a construct in a range, which makes a frame where it has slots
+abbrev pub in_range : (place slots : ℕ) (yields : Bool) → Tree → Tree
+in_range place zero yields t = t
+in_range place (suc n) yields t = range place place (suc n) yields t
+
 -- a serial clause, which makes a frame where it has slots (Report, 3.2)
 abbrev pub serial_of : (place slots : ℕ) (yields : Bool) → Trees → Tree
 serial_of place slots yields no_trees = unbuilt
-serial_of place slots yields (t and_tree ts) = phrases place slots yields (all_but_last (t and_tree ts)) (last_tree (t and_tree ts))
+serial_of place slots yields (t and_tree ts) = in_range place slots yields (phrases place (all_but_last (t and_tree ts)) (last_tree (t and_tree ts)))
 
 -- what is its only part
 abbrev pub only_of : Trees → Tree
@@ -89,9 +94,9 @@ choice_of place (enquiry and_tree (t and_tree no_trees)) = choice place enquiry 
 choice_of place (enquiry and_tree (t and_tree (e and_tree no_trees))) = choice place enquiry t e
 choice_of place _ = unbuilt
 
--- a loop with WHILE and DO (Report, 3.5)
+-- a loop with WHILE and DO; FOR, and a range of WHILE that has slots, are not built yet (Report, 3.5)
 abbrev pub loop_of : (place : ℕ) → Trees → Tree
-loop_of place (test and_tree (body and_tree no_trees)) = loop place (controls place) test body
+loop_of place (test and_tree (body and_tree no_trees)) = loop place (controls place) false place 0 test body
 loop_of place _ = unbuilt
 
 -- a formula, which applies its operator to the values of its operands (Report, 5.4.2)

@@ -1,15 +1,16 @@
 -- Inner: the headline does not rest on this file.
 -- Where the constructs of a program begin.
 use Rattle.std.specs.Prelude.{ℕ, ◌≤◌}
-use Rattle.a68_elab.specs.Trees.{Tree, Trees, operation, phrases, choice, loop, unbuilt, no_trees, ◌and_tree◌, Program}
+use Rattle.a68_elab.specs.Trees.{Tree, Trees, operation, phrases, range, choice, loop, unbuilt, no_trees, ◌and_tree◌, Program}
 
 -- each construct of the tree begins at this byte or before it
 abbrev mutual
   pub BeginsBy : (end : ℕ) → Tree → Type 0
   BeginsBy end (operation place op order parts) = (place ≤ end) × AllBeginBy end parts
-  BeginsBy end (phrases place slots yields before final) = (place ≤ end) × AllBeginBy end before × BeginsBy end final
+  BeginsBy end (phrases place before final) = (place ≤ end) × AllBeginBy end before × BeginsBy end final
+  BeginsBy end (range place out slots yields within) = (place ≤ end) × (out ≤ end) × BeginsBy end within
   BeginsBy end (choice place enquiry if_true if_false) = (place ≤ end) × BeginsBy end enquiry × BeginsBy end if_true × BeginsBy end if_false
-  BeginsBy end (loop place controls test body) = (place ≤ end) × AllBeginBy end controls × BeginsBy end test × BeginsBy end body
+  BeginsBy end (loop place controls counts at slots test body) = (place ≤ end) × (at ≤ end) × AllBeginBy end controls × BeginsBy end test × BeginsBy end body
   BeginsBy end unbuilt = Unit {0}
 
   pub AllBeginBy : (end : ℕ) → Trees → Type 0

@@ -11,12 +11,13 @@ use Rattle.a68_acts.specs.declared.want.Reply.{Reply}
 use Rattle.a68_acts.specs.declared.want.Reply.TheVariants as reply
 use Rattle.a68_acts.specs.declared.want.Want.{Want}
 use Rattle.a68_acts.specs.declared.want.Want.TheVariants as want
-use Rattle.a68_elab.specs.Terms.{no_frame, in_frame, Job, operating, resuming, preceding, ending, choosing, chosen, counting, stepping, turning, testing, running, leaving, Term, todo, part, yielded, no_terms, only, todos, values, last_of}
-use Rattle.a68_elab.specs.Trees.{Tree, operation, phrases, choice, loop, unbuilt, Program}
-use Rattle.a68_values.specs.Content.{Content, void, scope_of}
+use Rattle.a68_elab.specs.Terms.{Job, operating, resuming, preceding, ending, ranged, choosing, chosen, counting, stepping, turning, opening, naming, indexing, ranging, testing, running, advancing, quitting, leaving, Term, todo, part, yielded, no_terms, only, todos, values, last_of}
+use Rattle.a68_elab.specs.Trees.{Tree, operation, phrases, range, choice, loop, unbuilt, Turns, depth, Program}
+use Rattle.a68_values.specs.Content.{Content, plain, void, scope_of}
 use Rattle.a68_values.specs.declared.act.FaultKind.{FaultKind}
 use Rattle.a68_values.specs.declared.act.FaultKind.TheVariants as fault
 use Rattle.a68_values.specs.declared.chain.Environ.{Environ}
+use Rattle.a68_values.specs.declared.plain.Plain.TheVariants as value
 
 -- what comes next: a silent change, an act with what follows its reply, or a fault. An act and a fault are those of the
 -- construct that begins at this place.
@@ -49,7 +50,7 @@ abbrev pub within_frame : (place : ℕ) → List Environ → (List Environ → T
 within_frame place chain go (reply.Frame (e ∷ about)) = go (e ∷ chain)
 within_frame place chain go _ = misled place chain
 
--- a serial clause makes its frame within the innermost one, newer in scope by one (Report, 3.2.2.b)
+-- a range makes its frame within the innermost one, newer in scope by one (Report, 3.2.2.b)
 abbrev pub enters : (place slots : ℕ) → List Environ → (List Environ → Term) → Then Term
 enters place slots [] go = meets fault.Kind place
 enters place slots (e ∷ outer) go = acts place (want.Enter e.frame (suc e.scope) slots) (within_frame place (e ∷ outer) go)
@@ -72,20 +73,36 @@ abbrev pub turned : (place : ℕ) → List Environ → Term → Reply → Term
 turned place chain t reply.Go = t
 turned place chain t _ = misled place chain
 
+-- the test of a turn, in the range of WHILE where it has slots
+abbrev pub in_turn : (slots : ℕ) → Counter → Turns → List Environ → Term
+in_turn zero c l chain = part (testing c l) chain (only (todo l.test chain))
+in_turn (suc n) c l chain = part (ranging c l) chain no_terms
+
+-- FOR's tag is the count
+abbrev pub binds_count : Counter → Turns → List Environ → Then Term
+binds_count c l [] = meets fault.Kind l.place
+binds_count c l (e ∷ outer) = acts l.place (want.Bind e.frame 0 (plain (value.Int c.at))) (turned l.place (e ∷ outer) (in_turn l.slots c l (e ∷ outer)))
+
+-- a frame is left that yields nothing
+abbrev pub goes_out : (place : ℕ) → List Environ → (List Environ → Term) → Then Term
+goes_out place (inner ∷ (e ∷ outer)) f = goes (f (e ∷ outer))
+goes_out place _ f = meets fault.Kind place
+
 -- ---- the rules
 
 -- what a construct does first that is to be elaborated
 abbrev pub begin : Tree → List Environ → Then Term
 -- an operation: its parts (Report, 5.2.1.2 and 5.4.2.2)
 begin (operation place op order parts) chain = goes (part (operating place op order) chain (todos parts chain))
--- a serial clause: the phrases before the last one, where it has slots within a frame (Report, 3.2.2)
-begin (phrases place zero yields before final) chain = goes (part (preceding no_frame final) chain (todos before chain))
-begin (phrases place (suc n) yields before final) chain =
-    enters place (suc n) chain (λ inner. part (preceding (in_frame place yields) final) inner (todos before inner))
+-- a serial clause: the phrases before the last one (Report, 3.2.2)
+begin (phrases place before final) chain = goes (part (preceding final) chain (todos before chain))
+-- a range: its frame, and within it its construct (Report, 3.2.2)
+begin (range place out slots yields within) chain = enters place slots chain (λ inner. part (ranged out yields) inner (only (todo within inner)))
 -- a conditional clause: the enquiry (Report, 3.4.2)
 begin (choice place enquiry if_true if_false) chain = goes (part (choosing place if_true if_false) chain (only (todo enquiry chain)))
 -- a loop clause: FROM, BY and TO (Report, 3.5.2)
-begin (loop place controls test body) chain = goes (part (counting place test body) chain (todos controls chain))
+begin (loop place controls counts at slots test body) chain =
+    goes (part (counting (record { place = place; counts = counts; at = at; slots = slots; test = test; body = body })) chain (todos controls chain))
 -- what is not built has no rule; no program that fits comes here (own)
 begin unbuilt chain = meets fault.Kind 0
 
@@ -95,24 +112,34 @@ abbrev pub finish : Program → Job → List Environ → List Content → Then T
 finish program (operating place op order) chain vs = operates place chain (start program.modes op chain vs)
 finish program (resuming place d) chain vs = operates place chain d
 -- the last phrase comes, and its yield is that of the clause (Report, 3.2.2)
-finish program (preceding range final) chain vs = goes (part (ending range) chain (only (todo final chain)))
-finish program (ending no_frame) chain vs = goes (yielded (last_of vs))
-finish program (ending (in_frame place yields)) chain vs = leaves place yields chain (last_of vs)
+finish program (preceding final) chain vs = goes (part ending chain (only (todo final chain)))
+finish program ending chain vs = goes (yielded (last_of vs))
+-- a range leaves its frame
+finish program (ranged out yields) chain vs = leaves out yields chain (last_of vs)
 -- the enquiry chooses a part, and its yield is that of the clause (Report, 3.4.2)
 finish program (choosing place if_true if_false) chain vs =
     goes_with place (λ b. part chosen chain (only (todo (if b then if_true else if_false) chain))) (tested (last_of vs))
 finish program chosen chain vs = goes (yielded (last_of vs))
--- a loop counts; while it has a turn it takes one, and does its body where the test holds; it yields nothing (Report, 3.5.2)
-finish program (counting place test body) chain vs = goes_with place (λ c. part (stepping place c test body) chain no_terms) (counted vs)
-finish program (stepping place c test body) chain vs =
-    goes (if has_turn c then part (turning place c test body) chain no_terms else part (leaving c) chain no_terms)
-finish program (turning place c test body) chain vs =
-    acts place want.Turn (turned place chain (part (testing place c test body) chain (only (todo test chain))))
-finish program (testing place c test body) chain vs =
-    goes_with place (λ b. if b then part (running place c test body) chain (only (todo body chain)) else part (leaving c) chain no_terms)
+-- A loop counts. While it has a turn it takes one: FOR makes a frame in which its tag is the count, and WHILE makes one
+-- where it has slots. Where the test holds the body is done. Behind it and behind a test that fails the frames are left.
+-- A loop yields nothing (Report, 3.5.2).
+finish program (counting l) chain vs = goes_with l.place (λ c. part (stepping c l) chain no_terms) (counted vs)
+finish program (stepping c l) chain vs = goes (if has_turn c then part (turning c l) chain no_terms else part (leaving c) chain no_terms)
+finish program (turning c l) chain vs =
+    acts l.place want.Turn (turned l.place chain (if l.counts then part (opening c l) chain no_terms else in_turn l.slots c l chain))
+finish program (opening c l) chain vs = enters l.place 1 chain (λ inner. part (naming c l) inner no_terms)
+finish program (naming c l) chain vs = goes (part (indexing c l) chain no_terms)
+finish program (indexing c l) chain vs = binds_count c l chain
+finish program (ranging c l) chain vs = enters l.at l.slots chain (λ inner. part (testing c l) inner (only (todo l.test inner)))
+finish program (testing c l) chain vs =
+    goes_with l.place (λ b. if b then part (running c l) chain (only (todo l.body chain)) else part (quitting (depth l.counts l.slots) l.place c) chain no_terms)
     (tested (last_of vs))
-finish program (running place c test body) chain vs =
-    goes (option_map_or (λ next. part (stepping place next test body) chain no_terms) (advanced c) (part (leaving c) chain no_terms))
+finish program (running c l) chain vs = goes (part (advancing (depth l.counts l.slots) c l) chain no_terms)
+finish program (advancing zero c l) chain vs =
+    goes (option_map_or (λ next. part (stepping next l) chain no_terms) (advanced c) (part (leaving c) chain no_terms))
+finish program (advancing (suc n) c l) chain vs = goes_out l.place chain (λ out. part (advancing n c l) out no_terms)
+finish program (quitting zero place c) chain vs = goes (part (leaving c) chain no_terms)
+finish program (quitting (suc n) place c) chain vs = goes_out place chain (λ out. part (quitting n place c) out no_terms)
 finish program (leaving c) chain vs = goes (yielded void)
 
 -- what comes next for a term itself; none while its parts have not yielded, and for a yield

@@ -5,14 +5,9 @@ use Rattle.std.specs.declared.option.Option.{Option}
 use Rattle.a68_acts.specs.Operations.{Operation}
 use Rattle.a68_acts.specs.declared.operation.Counter.{Counter}
 use Rattle.a68_acts.specs.declared.operation.Doing.{Doing}
-use Rattle.a68_elab.specs.Trees.{Order, collateral, serial, Tree, Trees, no_trees, ◌and_tree◌}
+use Rattle.a68_elab.specs.Trees.{Order, collateral, serial, Tree, Trees, Turns, no_trees, ◌and_tree◌}
 use Rattle.a68_values.specs.Content.{Content, void}
 use Rattle.a68_values.specs.declared.chain.Environ.{Environ}
-
--- the range of a serial clause: it has no frame, or it leaves its frame behind the last phrase (Report, 3.2.2)
-pub data Range : Type 0 where
-  no_frame : Range
-  in_frame : (place : ℕ) (yields : Bool) → Range
 
 -- what is done once the parts at hand have yielded
 pub data Job : Type 0 where
@@ -21,23 +16,36 @@ pub data Job : Type 0 where
   -- an operation that has begun, and has no parts left, goes on like this
   resuming : (place : ℕ) (doing : Doing) → Job
   -- the last phrase, behind those before it
-  preceding : (range : Range) (final : Tree) → Job
+  preceding : (final : Tree) → Job
   -- the yield of the last phrase
-  ending : (range : Range) → Job
+  ending : Job
+  -- the frame of a range is left
+  ranged : (out : ℕ) (yields : Bool) → Job
   -- one of two parts, by the value of an enquiry
   choosing : (place : ℕ) (if_true if_false : Tree) → Job
   -- the yield of the chosen part
   chosen : Job
   -- the counter of a loop, of the values of FROM, BY and TO
-  counting : (place : ℕ) (test body : Tree) → Job
+  counting : (l : Turns) → Job
   -- the question whether the counter has one more turn
-  stepping : (place : ℕ) (counter : Counter) (test body : Tree) → Job
+  stepping : (counter : Counter) (l : Turns) → Job
   -- a turn
-  turning : (place : ℕ) (counter : Counter) (test body : Tree) → Job
+  turning : (counter : Counter) (l : Turns) → Job
+  -- the frame of FOR
+  opening : (counter : Counter) (l : Turns) → Job
+  -- the count, which is the value of FOR's tag
+  naming : (counter : Counter) (l : Turns) → Job
+  indexing : (counter : Counter) (l : Turns) → Job
+  -- the frame of WHILE
+  ranging : (counter : Counter) (l : Turns) → Job
   -- the body, by the value of WHILE
-  testing : (place : ℕ) (counter : Counter) (test body : Tree) → Job
-  -- the counter of the next turn
-  running : (place : ℕ) (counter : Counter) (test body : Tree) → Job
+  testing : (counter : Counter) (l : Turns) → Job
+  -- the end of a turn
+  running : (counter : Counter) (l : Turns) → Job
+  -- so many frames are left, and the counter of the next turn comes
+  advancing : (frames : ℕ) (counter : Counter) (l : Turns) → Job
+  -- so many frames are left, and the loop ends
+  quitting : (frames place : ℕ) (counter : Counter) → Job
   -- the end of the loop, with the counter that it had
   leaving : (counter : Counter) → Job
 
@@ -65,7 +73,7 @@ todos (tree and_tree trees) chain = todo tree chain and_term todos trees chain
 -- others one after another (Report, 2.1.4.2 and 3.5.2)
 abbrev pub order_of : Job → Order
 order_of (operating place op order) = order
-order_of (counting place test body) = collateral
+order_of (counting l) = collateral
 order_of _ = serial
 
 -- the values of parts that have all yielded

@@ -1,6 +1,6 @@
 -- The tree of a program as elaboration and translation see it: one form for each way in which the rules let a construct
 -- go on, and one for all constructs that do something with the values of their parts.
-use Rattle.std.specs.Prelude.{ℕ, suc, Bool, List}
+use Rattle.std.specs.Prelude.{ℕ, zero, suc, Bool, List, if◌then◌else◌}
 use Rattle.a68_acts.specs.Operations.{Operation}
 use Rattle.a68_modes.specs.declared.shape.Shape.{Shape}
 
@@ -15,13 +15,16 @@ mutual
     -- an operation on the values of its parts: denotations, tags, coercions, formulas (Report, 5.4.2), assignations
     -- (5.2.1), what a declaration makes and binds (4.4.2), and prints
     operation : (place : ℕ) (op : Operation) (order : Order) (parts : Trees) → Tree
-    -- a serial clause: its phrases but the last, and the last; it makes a frame where it has slots, and `yields` tells
-    -- whether it yields a value (Report, 3.2)
-    phrases : (place slots : ℕ) (yields : Bool) (before : Trees) (final : Tree) → Tree
+    -- a serial clause: its phrases but the last, and the last (Report, 3.2)
+    phrases : (place : ℕ) (before : Trees) (final : Tree) → Tree
+    -- a range that makes a frame of so many slots: it is entered at one place of the text and left at another, and
+    -- `yields` tells whether it yields a value (Report, 3.2.2)
+    range : (place out slots : ℕ) (yields : Bool) (within : Tree) → Tree
     -- a conditional clause: the enquiry, and the part for each answer (Report, 3.4)
     choice : (place : ℕ) (enquiry if_true if_false : Tree) → Tree
-    -- a loop clause: FROM, BY and TO, WHILE, and DO (Report, 3.5)
-    loop : (place : ℕ) (controls : Trees) (test body : Tree) → Tree
+    -- a loop clause: FROM, BY and TO; whether FOR is there, whose frame has one slot; where the range of WHILE begins,
+    -- and the slots of its frame, which also spans DO and is made where there are some; WHILE, and DO (Report, 3.5)
+    loop : (place : ℕ) (controls : Trees) (counts : Bool) (at slots : ℕ) (test body : Tree) → Tree
     -- a construct that is not built yet: no program that fits has one, and no code is its translation (own)
     unbuilt : Tree
 
@@ -33,6 +36,24 @@ infixr 50 ◌and_tree◌
 abbrev pub count : Trees → ℕ
 count no_trees = 0
 count (tree and_tree trees) = suc (count trees)
+
+-- the turns of a loop: where it begins, whether FOR is there, the range of WHILE, and its test and its body
+pub record Turns : Type 0 where
+  pub place : ℕ
+  pub counts : Bool
+  pub at : ℕ
+  pub slots : ℕ
+  pub test : Tree
+  pub body : Tree
+
+-- one frame more where there are slots
+abbrev pub deeper : (slots n : ℕ) → ℕ
+deeper zero n = n
+deeper (suc s) n = suc n
+
+-- how many frames a turn makes: that of FOR, and that of WHILE
+abbrev pub depth : (counts : Bool) (slots : ℕ) → ℕ
+depth counts slots = deeper slots (if counts then 1 else 0)
 
 -- a program: where it begins, its tree, and the modes that its operations name
 pub record Program : Type 0 where

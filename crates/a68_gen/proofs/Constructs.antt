@@ -84,12 +84,9 @@ pub framed_serial : (place slots at kept : ℕ) (yields : Bool) (t : Tree) (ts :
     → (instr place (does.Enter slots) ∷ []) ++ (stretches (t and_tree ts) (at + 1) ++ instr place (does.Leave kept) ∷ []) ≡ stretch (made.serial_of place slots yields (t and_tree ts)) at
 framed_serial place zero at kept yields t ts n e = absurd (n refl)
 framed_serial place (suc n) at kept yields t ts ne e =
-    let before = stretches (all_but_last (t and_tree ts)) (at + 1) in
-    let final = stretch (last_tree (t and_tree ts)) (at + 1 + length before) in
     let l = instr place (does.Leave (if yields then 1 else 0)) in
     ap (λ k. instr place (does.Enter (suc n)) ∷ (stretches (t and_tree ts) (at + 1) ++ instr place (does.Leave k) ∷ [])) e
     ∙ ap (λ x. instr place (does.Enter (suc n)) ∷ (x ++ l ∷ [])) (sym (phrases_list t ts (at + 1)))
-    ∙ ap (λ x. instr place (does.Enter (suc n)) ∷ x) (append_assoc before final (l ∷ []))
 
 -- ---- variables
 

@@ -15,11 +15,11 @@ use Rattle.a68_code.specs.declared.code.Code.{Code}
 use Rattle.a68_code.specs.declared.code.Instr.{Instr}
 use Rattle.a68_code.specs.declared.does.Does.{Does}
 use Rattle.a68_code.specs.declared.does.Does.TheVariants as does
-use Rattle.a68_elab.specs.Trees.{Tree, Trees, operation, phrases, choice, loop, unbuilt, no_trees, ◌and_tree◌, count}
-use Rattle.a68_gen.proofs.Forward.{forward}
-use Rattle.a68_gen.proofs.Heights.{bit, after, after_true, after_false, At, HeightsOf, AllHeights, starts, starts_all}
+use Rattle.a68_elab.specs.Trees.{Tree, Trees, operation, phrases, range, choice, loop, unbuilt, depth, no_trees, ◌and_tree◌, count}
+use Rattle.a68_gen.proofs.Forward.{forward, forward_index, forward_open, forward_leaves}
+use Rattle.a68_gen.proofs.Heights.{bit, after, after_true, after_false, At, IndexHeights, OpenHeights, LeaveHeights, HeightsOf, AllHeights, starts, starts_all, starts_index, starts_open, starts_leave}
 use Rattle.a68_gen.specs.Operands.{FitsModes, FitAll}
-use Rattle.a68_gen.specs.Stretches.{Has, Stands, StandAll, does_of, leave}
+use Rattle.a68_gen.specs.Stretches.{Has, Indexes, Opens, Leaves, Stands, StandAll, does_of, leave}
 use Rattle.a68_modes.specs.Nodes.{shape_at, is_void}
 use Rattle.a68_modes.specs.declared.shape.Shape.{Shape}
 
@@ -128,13 +128,45 @@ module _ (code : Code) (W : ℕ → ℕ → Type 0) (is_inside : (k h : ℕ) →
   leave_leaves true = refl
   leave_leaves false = refl
 
+  -- the frame of FOR
+  index_flows : (counts : Bool) (p a b : ℕ) (s : Indexes code counts p a b) (base : ℕ) → ((k h : ℕ) → IndexHeights code counts p a b s base k h → W k h) → W b (base + 1)
+      → (k h : ℕ) → IndexHeights code counts p a b s base k h → Flows code W k h
+  index_flows false p a b s base into out k h x = absurd x
+  index_flows true p a b s base into out k h (inl x) =
+      at_flows a (base + 1)
+      (next a s.0 p (does.Enter 1) (base + 1) (base + 1) s.2 refl (omega arith) (at_place s.0 s.0 (base + 1) (base + 1 + 0) refl (omega arith) (into s.0 (base + 1) (inr (inl (refl, refl))))) refl tt) k h x
+  index_flows true p a b s base into out k h (inr (inl x)) =
+      at_flows s.0 (base + 1) (next s.0 s.1 p does.Index base (base + 1) s.3 refl refl (into s.1 (base + 2) (inr (inr (refl, refl)))) refl tt) k h x
+  index_flows true p a b s base into out k h (inr (inr x)) =
+      at_flows s.1 (base + 2)
+      (next s.1 b p (does.Bind 0) (base + 1) (base + 2) s.4 refl (omega arith) (at_place b b (base + 1) (base + 1 + 0) refl (omega arith) out) refl tt) k h x
+
+  -- a frame that is made
+  open_flows : (n p a b : ℕ) (s : Opens code n p a b) (base : ℕ) → W b base → (k h : ℕ) → OpenHeights code n p a b s base k h → Flows code W k h
+  open_flows zero p a b s base out k h x = absurd x
+  open_flows (suc n) p a b s base out k h x =
+      at_flows a base (next a b p (does.Enter (suc n)) base base s refl (omega arith) (at_place b b base (base + 0) refl (omega arith) out) refl tt) k h x
+
+  -- frames that are left
+  leave_flows : (p n a b : ℕ) (s : Leaves code p n a b) (base : ℕ) → ((k h : ℕ) → LeaveHeights code p n a b s base k h → W k h) → W b base
+      → (k h : ℕ) → LeaveHeights code p n a b s base k h → Flows code W k h
+  leave_flows p zero a b s base into out k h x = absurd x
+  leave_flows p (suc n) a b s base into out k h (inl x) =
+      at_flows a base (next a s.0 p (does.Leave 0) base base s.1 refl (omega arith) (at_place s.0 s.0 base (base + 0) refl (omega arith) first) refl tt) k h x
+    where
+      first : W s.0 base
+      first = ⊎_elim (λ y. into s.0 base (inr y)) (λ e. subst (λ (y : ℕ). W y base) (sym e) out) (starts_leave code p n s.0 b s.2 base)
+  leave_flows p (suc n) a b s base into out k h (inr x) = leave_flows p n s.0 b s.2 base (λ k h y. into k h (inr y)) out k h x
+
   -- the places of a loop, in order
-  in_loop : (g : Bool) (p : ℕ) (controls : Trees) (test body : Tree) (a b : ℕ) (s : Stands code g (loop p controls test body) a b)
-      → (s.1 < s.8) × (s.4 < s.8) × (s.1 < s.6) × (s.6 < s.8)
-  in_loop g p controls test body a b s =
-      let x = forward code true test s.3 s.4 s.15 in let y = forward code false body s.5 s.6 s.17 in
-      let p2 = s.13.1 in let p3 = s.14.1 in let p4 = s.16.1 in let p5 = s.18.1 in let p6 = s.19.1 in
-      (omega arith, omega arith, omega arith, omega arith)
+  in_loop : (g : Bool) (p : ℕ) (controls : Trees) (counts : Bool) (at slots : ℕ) (test body : Tree) (a b : ℕ) (s : Stands code g (loop p controls counts at slots test body) a b)
+      → (s.1 < s.12) × (s.6 < s.11) × (s.1 < s.9) × (s.9 < s.12) × (s.10 < s.12)
+  in_loop g p controls counts at slots test body a b s =
+      let x = forward code true test s.5 s.6 s.21 in let y = forward code false body s.7 s.8 s.23 in
+      let i = forward_index code counts p s.3 s.4 s.19 in let o = forward_open code slots at s.4 s.5 s.20 in
+      let l = forward_leaves code p (depth counts slots) s.8 s.9 s.24 in let r = forward_leaves code p (depth counts slots) s.11 s.12 s.27 in
+      let p2 = s.17.1 in let p3 = s.18.1 in let p4 = s.22.1 in let p5 = s.25.1 in let p6 = s.26.1 in
+      (omega arith, omega arith, omega arith, omega arith, omega arith)
 
   mutual
     pub flows : (g : Bool) (t : Tree) (a b : ℕ) (s : Stands code g t a b) (base : ℕ) → FitsModes code.modes t → ((k h : ℕ) → HeightsOf code g t a b s base k h → W k h)
@@ -154,28 +186,19 @@ module _ (code : Code) (W : ℕ → ℕ → Type 0) (is_inside : (k h : ℕ) →
             next s.0 b p (does_of op n) base _ s.4 straightly.lands (ap (λ (x : ℕ). base + x) s.2 ∙ sym (after_true parts base))
             (subst (W b) (ap (λ (x : ℕ). base + x) (ap bit s.1 ∙ sym straightly.left)) out)
             (subst IsTrue (sym straightly.made) fit.0) straightly.ordered
-    flows g (phrases p zero yields before final) a b s base fit into out k h (inl x) =
+    flows g (phrases p before final) a b s base fit into out k h (inl x) =
         flows_all false before a s.0 s.1 base fit.0 (λ k h y. into k h (inl y))
         (subst (W s.0) (sym (after_false before base)) (into s.0 base (inr (starts code g final s.0 b s.2 base)))) k h x
-    flows g (phrases p zero yields before final) a b s base fit into out k h (inr x) = flows g final s.0 b s.2 base fit.1 (λ k h y. into k h (inr y)) out k h x
-    flows g (phrases p (suc n) yields before final) a b s base fit into out k h (inl x) = at_flows a base here k h x
-      where
-        first : W s.0 base
-        first =
-            ⊎_elim (λ y. into s.0 base (inr (inl y)))
-            (λ e. into s.0 base (inr (inr (inl (subst (λ (x : ℕ). HeightsOf code g final s.1 s.2 s.6 base x base) (sym e.0) (starts code g final s.1 s.2 s.6 base))))))
-            (starts_all code false before s.0 s.1 s.5 base)
-
-        here : Flows code W a base
-        here = next a s.0 p (does.Enter (suc n)) base base s.4 refl (omega arith) (at_place s.0 s.0 base (base + 0) refl (omega arith) first) refl tt
-    flows g (phrases p (suc n) yields before final) a b s base fit into out k h (inr (inl x)) =
-        flows_all false before s.0 s.1 s.5 base fit.0 (λ k h y. into k h (inr (inl y)))
-        (subst (W s.1) (sym (after_false before base)) (into s.1 base (inr (inr (inl (starts code g final s.1 s.2 s.6 base)))))) k h x
-    flows g (phrases p (suc n) yields before final) a b s base fit into out k h (inr (inr (inl x))) =
-        flows g final s.1 s.2 s.6 base fit.1 (λ k h y. into k h (inr (inr (inl y)))) (into s.2 (base + bit g) (inr (inr (inr (refl, refl))))) k h x
-    flows g (phrases p (suc n) yields before final) a b s base fit into out k h (inr (inr (inr x))) =
-        at_flows s.2 (base + bit g)
-        (next s.2 b p (leave g) base (base + bit g) s.7 refl (ap (λ (x : ℕ). base + x) (leave_takes g))
+    flows g (phrases p before final) a b s base fit into out k h (inr x) = flows g final s.0 b s.2 base fit.1 (λ k h y. into k h (inr y)) out k h x
+    flows g (range p left n yields within) a b s base fit into out k h (inl x) =
+        at_flows a base
+        (next a s.0 p (does.Enter n) base base s.3 refl (omega arith)
+        (at_place s.0 s.0 base (base + 0) refl (omega arith) (into s.0 base (inr (inl (starts code g within s.0 s.1 s.4 base))))) refl tt) k h x
+    flows g (range p left n yields within) a b s base fit into out k h (inr (inl x)) =
+        flows g within s.0 s.1 s.4 base fit (λ k h y. into k h (inr (inl y))) (into s.1 (base + bit g) (inr (inr (refl, refl)))) k h x
+    flows g (range p left n yields within) a b s base fit into out k h (inr (inr x)) =
+        at_flows s.1 (base + bit g)
+        (next s.1 b left (leave g) base (base + bit g) s.5 refl (ap (λ (x : ℕ). base + x) (leave_takes g))
         (subst (W b) (ap (λ (x : ℕ). base + x) (sym (leave_leaves g))) out) (leave_made g) tt) k h x
     flows g (choice p enquiry if_true if_false) a b s base fit into out k h (inl x) =
         flows true enquiry a s.0 s.4 base fit.0 (λ k h y. into k h (inl y)) (into s.0 (base + 1) (inr (inl (refl, refl)))) k h x
@@ -198,52 +221,54 @@ module _ (code : Code) (W : ℕ → ℕ → Type 0) (is_inside : (k h : ℕ) →
         at_flows s.2 (base + bit g) (jump s.2 s.3 p b (base + bit g) s.7 (let x = forward code g if_false s.3 b s.8 in let y = s.7.1 in omega arith) out) k h x
     flows g (choice p enquiry if_true if_false) a b s base fit into out k h (inr (inr (inr (inr x)))) =
         flows g if_false s.3 b s.8 base fit.2 (λ k h y. into k h (inr (inr (inr (inr y))))) out k h x
-    flows g (loop p controls test body) a b s base fit into out k h (inl x) =
-        flows_all true controls a s.0 s.11 base fit.0 (λ k h y. into k h (inl y))
-        (subst (W s.0) (sym (after_true controls base ∙ ap (λ (n : ℕ). base + n) s.10)) (into s.0 (base + 3) (inr (inl (refl, refl))))) k h x
-    flows g (loop p controls test body) a b s base fit into out k h (inr (inl x)) =
-        at_flows s.0 (base + 3) (next s.0 s.1 p does.Counter base (base + 3) s.12 refl refl (into s.1 (base + 1) (inr (inr (inl (refl, refl))))) refl tt) k h x
-    flows g (loop p controls test body) a b s base fit into out k h (inr (inr (inl x))) =
-        let w = into s.8 (base + 1) (inr (inr (inr (inr (inr (inr (inr (inr (inr (refl, refl)))))))))) in
+    flows g (loop p controls counts at slots test body) a b s base fit into out k h (inl x) =
+        flows_all true controls a s.0 s.15 base fit.0 (λ k h y. into k h (inl y))
+        (subst (W s.0) (sym (after_true controls base ∙ ap (λ (n : ℕ). base + n) s.14)) (into s.0 (base + 3) (inr (inl (refl, refl))))) k h x
+    flows g (loop p controls counts at slots test body) a b s base fit into out k h (inr (inl x)) =
+        at_flows s.0 (base + 3) (next s.0 s.1 p does.Counter base (base + 3) s.16 refl refl (into s.1 (base + 1) (inr (inr (inl (refl, refl))))) refl tt) k h x
+    flows g (loop p controls counts at slots test body) a b s base fit into out k h (inr (inr (inl x))) =
+        let w = (into s.12 (base + 1) (inr (inr (inr (inr (inr (inr (inr (inr (inr (inr (inr (inr (inr (refl, refl))))))))))))))) in
         at_flows s.1 (base + 1)
-        (branch s.1 s.2 p (does.Step s.8) base (base + 1) s.8 s.13 refl refl (into s.2 (base + 1) (inr (inr (inr (inl (refl, refl)))))) w (is_place s.8 (base + 1) w)
-        (in_loop g p controls test body a b s).0) k h x
-    flows g (loop p controls test body) a b s base fit into out k h (inr (inr (inr (inl x)))) =
-        at_flows s.2 (base + 1)
-        (next s.2 s.3 p does.Turn (base + 1) (base + 1) s.14 refl (omega arith)
-        (at_place s.3 s.3 (base + 1) (base + 1 + 0) refl (omega arith) (into s.3 (base + 1) (inr (inr (inr (inr (inl (starts code true test s.3 s.4 s.15 (base + 1))))))))) refl tt) k h x
-    flows g (loop p controls test body) a b s base fit into out k h (inr (inr (inr (inr (inl x))))) =
-        flows true test s.3 s.4 s.15 (base + 1) fit.1 (λ k h y. into k h (inr (inr (inr (inr (inl y))))))
-        (at_place s.4 s.4 (base + 2) (base + 1 + 1) refl (omega arith) (into s.4 (base + 2) (inr (inr (inr (inr (inr (inl (refl, refl)))))))))
-        k h x
-    flows g (loop p controls test body) a b s base fit into out k h (inr (inr (inr (inr (inr (inl x)))))) =
-        let w = into s.8 (base + 1) (inr (inr (inr (inr (inr (inr (inr (inr (inr (refl, refl)))))))))) in
-        at_flows s.4 (base + 2)
-        (branch s.4 s.5 p (does.Unless s.8) (base + 1) (base + 2) s.8 s.16 refl (omega arith)
-        (at_place s.5 s.5 (base + 1) (base + 1 + 0) refl (omega arith) (into s.5 (base + 1) (inr (inr (inr (inr (inr (inr (inl (starts code false body s.5 s.6 s.17 (base + 1)))))))))))
-        (at_place s.8 s.8 (base + 1) (base + 1 + 0) refl (omega arith) w) (is_place s.8 (base + 1) w) (in_loop g p controls test body a b s).1) k h x
-    flows g (loop p controls test body) a b s base fit into out k h (inr (inr (inr (inr (inr (inr (inl x))))))) =
-        flows false body s.5 s.6 s.17 (base + 1) fit.2 (λ k h y. into k h (inr (inr (inr (inr (inr (inr (inl y))))))))
-        (at_place s.6 s.6 (base + 1) (base + 1 + 0) refl (omega arith) (into s.6 (base + 1) (inr (inr (inr (inr (inr (inr (inr (inl (refl, refl)))))))))))
-        k h x
-    flows g (loop p controls test body) a b s base fit into out k h (inr (inr (inr (inr (inr (inr (inr (inl x)))))))) =
-        let w = into s.1 (base + 1) (inr (inr (inl (refl, refl)))) in
-        at_flows s.6 (base + 1)
-        (branch s.6 s.7 p (does.Advance s.1) base (base + 1) s.1 s.18 refl refl (into s.7 (base + 1) (inr (inr (inr (inr (inr (inr (inr (inr (inl (refl, refl)))))))))))
-        w (is_place s.1 (base + 1) w)
+        (branch s.1 s.2 p (does.Step s.12) base (base + 1) s.12 s.17 refl refl (into s.2 (base + 1) (inr (inr (inr (inl (refl, refl)))))) w (is_place s.12 (base + 1) w) (in_loop g p controls counts at slots test body a b s).0) k h x
+    flows g (loop p controls counts at slots test body) a b s base fit into out k h (inr (inr (inr (inl x)))) =
+        let at_w = (⊎_elim (λ y. into s.4 (base + 1) (inr (inr (inr (inr (inr (inl y))))))) (λ e. subst (λ (y : ℕ). W y (base + 1)) (sym e) (into s.5 (base + 1) (inr (inr (inr (inr (inr (inr (inl (starts code true test s.5 s.6 s.21 (base + 1))))))))))) (starts_open code slots at s.4 s.5 s.20 (base + 1))) in
+        let at_u = (⊎_elim (λ y. into s.3 (base + 1) (inr (inr (inr (inr (inl y)))))) (λ e. subst (λ (y : ℕ). W y (base + 1)) (sym e) at_w) (starts_index code counts p s.3 s.4 s.19 base)) in
+        at_flows s.2 (base + 1) (next s.2 s.3 p does.Turn (base + 1) (base + 1) s.18 refl (omega arith) (at_place s.3 s.3 (base + 1) (base + 1 + 0) refl (omega arith) at_u) refl tt) k h x
+    flows g (loop p controls counts at slots test body) a b s base fit into out k h (inr (inr (inr (inr (inl x))))) =
+        let at_w = (⊎_elim (λ y. into s.4 (base + 1) (inr (inr (inr (inr (inr (inl y))))))) (λ e. subst (λ (y : ℕ). W y (base + 1)) (sym e) (into s.5 (base + 1) (inr (inr (inr (inr (inr (inr (inl (starts code true test s.5 s.6 s.21 (base + 1))))))))))) (starts_open code slots at s.4 s.5 s.20 (base + 1))) in
+        index_flows counts p s.3 s.4 s.19 base (λ k h y. into k h (inr (inr (inr (inr (inl y)))))) at_w k h x
+    flows g (loop p controls counts at slots test body) a b s base fit into out k h (inr (inr (inr (inr (inr (inl x)))))) =
+        open_flows slots at s.4 s.5 s.20 (base + 1) (into s.5 (base + 1) (inr (inr (inr (inr (inr (inr (inl (starts code true test s.5 s.6 s.21 (base + 1)))))))))) k h x
+    flows g (loop p controls counts at slots test body) a b s base fit into out k h (inr (inr (inr (inr (inr (inr (inl x))))))) =
+        flows true test s.5 s.6 s.21 (base + 1) fit.1 (λ k h y. into k h (inr (inr (inr (inr (inr (inr (inl y))))))))
+        (at_place s.6 s.6 (base + 2) (base + 1 + 1) refl (omega arith) (into s.6 (base + 2) (inr (inr (inr (inr (inr (inr (inr (inl (refl, refl))))))))))) k h x
+    flows g (loop p controls counts at slots test body) a b s base fit into out k h (inr (inr (inr (inr (inr (inr (inr (inl x)))))))) =
+        let w = (⊎_elim (λ y. into s.11 (base + 1) (inr (inr (inr (inr (inr (inr (inr (inr (inr (inr (inr (inr (inl y)))))))))))))) (λ e. subst (λ (y : ℕ). W y (base + 1)) (sym e) (into s.12 (base + 1) (inr (inr (inr (inr (inr (inr (inr (inr (inr (inr (inr (inr (inr (refl, refl)))))))))))))))) (starts_leave code p (depth counts slots) s.11 s.12 s.27 (base + 1))) in
+        at_flows s.6 (base + 2)
+        (branch s.6 s.7 p (does.Unless s.11) (base + 1) (base + 2) s.11 s.22 refl (omega arith) (at_place s.7 s.7 (base + 1) (base + 1 + 0) refl (omega arith) (into s.7 (base + 1) (inr (inr (inr (inr (inr (inr (inr (inr (inl (starts code false body s.7 s.8 s.23 (base + 1)))))))))))))
+        (at_place s.11 s.11 (base + 1) (base + 1 + 0) refl (omega arith) w) (is_place s.11 (base + 1) w) (in_loop g p controls counts at slots test body a b s).1) k h x
+    flows g (loop p controls counts at slots test body) a b s base fit into out k h (inr (inr (inr (inr (inr (inr (inr (inr (inl x))))))))) =
+        let w = (⊎_elim (λ y. into s.8 (base + 1) (inr (inr (inr (inr (inr (inr (inr (inr (inr (inl y))))))))))) (λ e. subst (λ (y : ℕ). W y (base + 1)) (sym e) (into s.9 (base + 1) (inr (inr (inr (inr (inr (inr (inr (inr (inr (inr (inl (refl, refl)))))))))))))) (starts_leave code p (depth counts slots) s.8 s.9 s.24 (base + 1))) in
+        flows false body s.7 s.8 s.23 (base + 1) fit.2 (λ k h y. into k h (inr (inr (inr (inr (inr (inr (inr (inr (inl y)))))))))) (at_place s.8 s.8 (base + 1) (base + 1 + 0) refl (omega arith) w) k h x
+    flows g (loop p controls counts at slots test body) a b s base fit into out k h (inr (inr (inr (inr (inr (inr (inr (inr (inr (inl x)))))))))) =
+        leave_flows p (depth counts slots) s.8 s.9 s.24 (base + 1) (λ k h y. into k h (inr (inr (inr (inr (inr (inr (inr (inr (inr (inl y))))))))))) (into s.9 (base + 1) (inr (inr (inr (inr (inr (inr (inr (inr (inr (inr (inl (refl, refl))))))))))))) k h x
+    flows g (loop p controls counts at slots test body) a b s base fit into out k h (inr (inr (inr (inr (inr (inr (inr (inr (inr (inr (inl x))))))))))) =
+        let w = (into s.1 (base + 1) (inr (inr (inl (refl, refl))))) in
+        at_flows s.9 (base + 1)
+        (branch s.9 s.10 p (does.Advance s.1) base (base + 1) s.1 s.25 refl refl (into s.10 (base + 1) (inr (inr (inr (inr (inr (inr (inr (inr (inr (inr (inr (inl (refl, refl)))))))))))))) w (is_place s.1 (base + 1) w)
         (record {
-          back = (in_loop g p controls test body a b s).2;
-          behind = s.8;
-          step = does_is s.1 s.2 p (does.Step s.8) s.13;
-          turn = ap (does_at code.list) s.13.1 ∙ does_is s.2 s.3 p does.Turn s.14;
-          leaves_loop = (in_loop g p controls test body a b s).3;
+          back = (in_loop g p controls counts at slots test body a b s).2;
+          behind = s.12;
+          step = does_is s.1 s.2 p (does.Step s.12) s.17;
+          turn = ap (does_at code.list) s.17.1 ∙ does_is s.2 s.3 p does.Turn s.18;
+          leaves_loop = (in_loop g p controls counts at slots test body a b s).3;
         })) k h x
-    flows g (loop p controls test body) a b s base fit into out k h (inr (inr (inr (inr (inr (inr (inr (inr (inl x))))))))) =
-        at_flows s.7 (base + 1)
-        (jump s.7 s.8 p s.8 (base + 1) s.19 (let y = s.19.1 in omega arith) (into s.8 (base + 1) (inr (inr (inr (inr (inr (inr (inr (inr (inr (refl, refl)))))))))))) k h x
-    flows g (loop p controls test body) a b s base fit into out k h (inr (inr (inr (inr (inr (inr (inr (inr (inr x))))))))) =
-        at_flows s.8 (base + 1)
-        (next s.8 b p does.Forget base (base + 1) s.20 refl refl (subst (λ (x : Bool). W b (base + bit x)) s.9 out) refl tt) k h x
+    flows g (loop p controls counts at slots test body) a b s base fit into out k h (inr (inr (inr (inr (inr (inr (inr (inr (inr (inr (inr (inl x)))))))))))) =
+        at_flows s.10 (base + 1) (jump s.10 s.11 p s.12 (base + 1) s.26 (in_loop g p controls counts at slots test body a b s).4 (into s.12 (base + 1) (inr (inr (inr (inr (inr (inr (inr (inr (inr (inr (inr (inr (inr (refl, refl)))))))))))))))) k h x
+    flows g (loop p controls counts at slots test body) a b s base fit into out k h (inr (inr (inr (inr (inr (inr (inr (inr (inr (inr (inr (inr (inl x))))))))))))) =
+        leave_flows p (depth counts slots) s.11 s.12 s.27 (base + 1) (λ k h y. into k h (inr (inr (inr (inr (inr (inr (inr (inr (inr (inr (inr (inr (inl y)))))))))))))) (into s.12 (base + 1) (inr (inr (inr (inr (inr (inr (inr (inr (inr (inr (inr (inr (inr (refl, refl))))))))))))))) k h x
+    flows g (loop p controls counts at slots test body) a b s base fit into out k h (inr (inr (inr (inr (inr (inr (inr (inr (inr (inr (inr (inr (inr x))))))))))))) =
+        at_flows s.12 (base + 1) (next s.12 b p does.Forget base (base + 1) s.28 refl refl (subst (λ (x : Bool). W b (base + bit x)) s.13 out) refl tt) k h x
     flows g unbuilt a b s base fit into out k h x = absurd s
 
     pub flows_all : (g : Bool) (ts : Trees) (a b : ℕ) (s : StandAll code g ts a b) (base : ℕ) → FitAll code.modes ts → ((k h : ℕ) → AllHeights code g ts a b s base k h → W k h)

@@ -2,8 +2,8 @@
 use Rattle.std.proofs.Common.{◌≡◌, ◌<◌, ◌≤◌, ◌⊎◌, ◌+◌, ℕ, zero, suc, arith, Bool, true, false, refl, sym, ap, ◌∙◌, subst, inl, inr, ⊎_elim}
 use Rattle.std.proofs.lemmas.Bool.{cases_lt}
 use Rattle.a68_code.specs.declared.code.Code.{Code}
-use Rattle.a68_elab.specs.Trees.{Tree, Trees, operation, phrases, choice, loop, unbuilt, no_trees, ◌and_tree◌, count}
-use Rattle.a68_gen.specs.Stretches.{Stands, StandAll}
+use Rattle.a68_elab.specs.Trees.{Tree, Trees, operation, phrases, range, choice, loop, unbuilt, depth, no_trees, ◌and_tree◌, count}
+use Rattle.a68_gen.specs.Stretches.{Indexes, Opens, Leaves, Stands, StandAll}
 
 abbrev pub bit : Bool → ℕ
 bit true = 1
@@ -26,21 +26,36 @@ after_false (t and_tree ts) base = let e = after_false ts (base + 0) in omega ar
 abbrev pub At : (m c : ℕ) → ℕ → ℕ → Type 0
 At m c k h = (k ≡ m) × (h ≡ c)
 
+-- the heights at the frame of FOR, over a counter on so many values
+abbrev pub IndexHeights : (code : Code) (counts : Bool) (p a b : ℕ) → Indexes code counts p a b → (base : ℕ) → ℕ → ℕ → Type 0
+IndexHeights code false p a b s base k h = ⊥
+IndexHeights code true p a b s base k h = At a (base + 1) k h ⊎ (At s.0 (base + 1) k h ⊎ At s.1 (base + 2) k h)
+
+-- at an Enter
+abbrev pub OpenHeights : (code : Code) (n p a b : ℕ) → Opens code n p a b → (base : ℕ) → ℕ → ℕ → Type 0
+OpenHeights code zero p a b s base k h = ⊥
+OpenHeights code (suc n) p a b s base k h = At a base k h
+
+-- at so many Leave
+abbrev pub LeaveHeights : (code : Code) (p n a b : ℕ) → Leaves code p n a b → (base : ℕ) → ℕ → ℕ → Type 0
+LeaveHeights code p zero a b s base k h = ⊥
+LeaveHeights code p (suc n) a b s base k h = At a base k h ⊎ LeaveHeights code p n s.0 b s.2 base k h
+
 -- the height at each place of a stretch that begins over so many values
 abbrev mutual
   pub HeightsOf : (code : Code) (g : Bool) (t : Tree) (a b : ℕ) → Stands code g t a b → (base : ℕ) → ℕ → ℕ → Type 0
   HeightsOf code g (operation p op o parts) a b s base k h = AllHeights code true parts a s.0 s.3 base k h ⊎ At s.0 (after true parts base) k h
-  HeightsOf code g (phrases p zero yields before final) a b s base k h = AllHeights code false before a s.0 s.1 base k h ⊎ HeightsOf code g final s.0 b s.2 base k h
-  HeightsOf code g (phrases p (suc n) yields before final) a b s base k h =
-      At a base k h ⊎ (AllHeights code false before s.0 s.1 s.5 base k h ⊎ (HeightsOf code g final s.1 s.2 s.6 base k h ⊎ At s.2 (base + bit g) k h))
+  HeightsOf code g (phrases p before final) a b s base k h = AllHeights code false before a s.0 s.1 base k h ⊎ HeightsOf code g final s.0 b s.2 base k h
+  HeightsOf code g (range p out n yields within) a b s base k h =
+      At a base k h ⊎ (HeightsOf code g within s.0 s.1 s.4 base k h ⊎ At s.1 (base + bit g) k h)
   HeightsOf code g (choice p enquiry if_true if_false) a b s base k h =
       HeightsOf code true enquiry a s.0 s.4 base k h
       ⊎ (At s.0 (base + 1) k h ⊎ (HeightsOf code g if_true s.1 s.2 s.6 base k h ⊎ (At s.2 (base + bit g) k h ⊎ HeightsOf code g if_false s.3 b s.8 base k h)))
-  HeightsOf code g (loop p controls test body) a b s base k h =
-      AllHeights code true controls a s.0 s.11 base k h
-      ⊎ (At s.0 (base + 3) k h ⊎ (At s.1 (base + 1) k h ⊎ (At s.2 (base + 1) k h
-      ⊎ (HeightsOf code true test s.3 s.4 s.15 (base + 1) k h ⊎ (At s.4 (base + 2) k h ⊎ (HeightsOf code false body s.5 s.6 s.17 (base + 1) k h
-      ⊎ (At s.6 (base + 1) k h ⊎ (At s.7 (base + 1) k h ⊎ At s.8 (base + 1) k h))))))))
+  HeightsOf code g (loop p controls counts at slots test body) a b s base k h =
+      AllHeights code true controls a s.0 s.15 base k h ⊎ (At s.0 (base + 3) k h ⊎ (At s.1 (base + 1) k h ⊎ (At s.2 (base + 1) k h
+      ⊎ (IndexHeights code counts p s.3 s.4 s.19 base k h ⊎ (OpenHeights code slots at s.4 s.5 s.20 (base + 1) k h ⊎ (HeightsOf code true test s.5 s.6 s.21 (base + 1) k h
+      ⊎ (At s.6 (base + 2) k h ⊎ (HeightsOf code false body s.7 s.8 s.23 (base + 1) k h ⊎ (LeaveHeights code p (depth counts slots) s.8 s.9 s.24 (base + 1) k h
+      ⊎ (At s.9 (base + 1) k h ⊎ (At s.10 (base + 1) k h ⊎ (LeaveHeights code p (depth counts slots) s.11 s.12 s.27 (base + 1) k h ⊎ (At s.12 (base + 1) k h)))))))))))))
   HeightsOf code g unbuilt a b s base k h = ⊥
 
   pub AllHeights : (code : Code) (g : Bool) (ts : Trees) (a b : ℕ) → StandAll code g ts a b → (base : ℕ) → ℕ → ℕ → Type 0
@@ -88,26 +103,43 @@ both a m b P Q p q = record {
     same_one k h h' (inl x) (inr y) = let i = (p.inside k h x).1 in let j = (q.inside k h' y).0 in absurd (omega arith)
     same_one k h h' (inr x) (inl y) = let i = (q.inside k h x).0 in let j = (p.inside k h' y).1 in absurd (omega arith)
 
+index_piece : (code : Code) (counts : Bool) (p a b : ℕ) (s : Indexes code counts p a b) (base : ℕ) → Piece a b (IndexHeights code counts p a b s base)
+index_piece code false p a b s base = nothing a b s
+index_piece code true p a b s base = both _ _ _ _ _ (one a s.0 (base + 1) s.2.1) (both _ _ _ _ _ (one s.0 s.1 (base + 1) s.3.1) (one s.1 b (base + 2) s.4.1))
+
+open_piece : (code : Code) (n p a b : ℕ) (s : Opens code n p a b) (base : ℕ) → Piece a b (OpenHeights code n p a b s base)
+open_piece code zero p a b s base = nothing a b s
+open_piece code (suc n) p a b s base = one a b base s.1
+
+leave_piece : (code : Code) (p n a b : ℕ) (s : Leaves code p n a b) (base : ℕ) → Piece a b (LeaveHeights code p n a b s base)
+leave_piece code p zero a b s base = nothing a b s
+leave_piece code p (suc n) a b s base = both _ _ _ _ _ (one a s.0 base s.1.1) (leave_piece code p n s.0 b s.2 base)
+
 mutual
   pub piece : (code : Code) (g : Bool) (t : Tree) (a b : ℕ) (s : Stands code g t a b) (base : ℕ) → Piece a b (HeightsOf code g t a b s base)
   piece code g (operation p op o parts) a b s base = both _ _ _ _ _ (pieces code true parts a s.0 s.3 base) (one s.0 b (after true parts base) s.4.1)
-  piece code g (phrases p zero yields before final) a b s base = both _ _ _ _ _ (pieces code false before a s.0 s.1 base) (piece code g final s.0 b s.2 base)
-  piece code g (phrases p (suc n) yields before final) a b s base =
-      both _ _ _ _ _ (one a s.0 base s.4.1)
-      (both _ _ _ _ _ (pieces code false before s.0 s.1 s.5 base) (both _ _ _ _ _ (piece code g final s.1 s.2 s.6 base) (one s.2 b (base + bit g) s.7.1)))
+  piece code g (phrases p before final) a b s base = both _ _ _ _ _ (pieces code false before a s.0 s.1 base) (piece code g final s.0 b s.2 base)
+  piece code g (range p out n yields within) a b s base =
+      both _ _ _ _ _ (one a s.0 base s.3.1) (both _ _ _ _ _ (piece code g within s.0 s.1 s.4 base) (one s.1 b (base + bit g) s.5.1))
   piece code g (choice p enquiry if_true if_false) a b s base =
       both _ _ _ _ _ (piece code true enquiry a s.0 s.4 base)
       (both _ _ _ _ _ (one s.0 s.1 (base + 1) s.5.1)
       (both _ _ _ _ _ (piece code g if_true s.1 s.2 s.6 base) (both _ _ _ _ _ (one s.2 s.3 (base + bit g) s.7.1) (piece code g if_false s.3 b s.8 base))))
-  piece code g (loop p controls test body) a b s base =
-      both _ _ _ _ _ (pieces code true controls a s.0 s.11 base)
-      (both _ _ _ _ _ (one s.0 s.1 (base + 3) s.12.1)
-      (both _ _ _ _ _ (one s.1 s.2 (base + 1) s.13.1)
-      (both _ _ _ _ _ (one s.2 s.3 (base + 1) s.14.1)
-      (both _ _ _ _ _ (piece code true test s.3 s.4 s.15 (base + 1))
-      (both _ _ _ _ _ (one s.4 s.5 (base + 2) s.16.1)
-      (both _ _ _ _ _ (piece code false body s.5 s.6 s.17 (base + 1))
-      (both _ _ _ _ _ (one s.6 s.7 (base + 1) s.18.1) (both _ _ _ _ _ (one s.7 s.8 (base + 1) s.19.1) (one s.8 b (base + 1) s.20.1)))))))))
+  piece code g (loop p controls counts at slots test body) a b s base =
+      both _ _ _ _ _ (pieces code true controls a s.0 s.15 base)
+      (both _ _ _ _ _ (one s.0 s.1 (base + 3) s.16.1)
+      (both _ _ _ _ _ (one s.1 s.2 (base + 1) s.17.1)
+      (both _ _ _ _ _ (one s.2 s.3 (base + 1) s.18.1)
+      (both _ _ _ _ _ (index_piece code counts p s.3 s.4 s.19 base)
+      (both _ _ _ _ _ (open_piece code slots at s.4 s.5 s.20 (base + 1))
+      (both _ _ _ _ _ (piece code true test s.5 s.6 s.21 (base + 1))
+      (both _ _ _ _ _ (one s.6 s.7 (base + 2) s.22.1)
+      (both _ _ _ _ _ (piece code false body s.7 s.8 s.23 (base + 1))
+      (both _ _ _ _ _ (leave_piece code p (depth counts slots) s.8 s.9 s.24 (base + 1))
+      (both _ _ _ _ _ (one s.9 s.10 (base + 1) s.25.1)
+      (both _ _ _ _ _ (one s.10 s.11 (base + 1) s.26.1)
+      (both _ _ _ _ _ (leave_piece code p (depth counts slots) s.11 s.12 s.27 (base + 1))
+      (one s.12 b (base + 1) s.28.1)))))))))))))
   piece code g unbuilt a b s base = absurd s
 
   pieces : (code : Code) (g : Bool) (ts : Trees) (a b : ℕ) (s : StandAll code g ts a b) (base : ℕ) → Piece a b (AllHeights code g ts a b s base)
@@ -118,14 +150,27 @@ mutual
   -- a stretch begins at its height
   pub starts : (code : Code) (g : Bool) (t : Tree) (a b : ℕ) (s : Stands code g t a b) (base : ℕ) → HeightsOf code g t a b s base a base
   starts code g (operation p op o parts) a b s base = ⊎_elim inl inr (starts_all code true parts a s.0 s.3 base)
-  starts code g (phrases p zero yields before final) a b s base =
+  starts code g (phrases p before final) a b s base =
       ⊎_elim inl (λ e. inr (subst (λ (x : ℕ). HeightsOf code g final s.0 b s.2 base x base) (sym e.0) (starts code g final s.0 b s.2 base))) (starts_all code false before a s.0 s.1 base)
-  starts code g (phrases p (suc n) yields before final) a b s base = inl (refl, refl)
+  starts code g (range p out n yields within) a b s base = inl (refl, refl)
   starts code g (choice p enquiry if_true if_false) a b s base = inl (starts code true enquiry a s.0 s.4 base)
-  starts code g (loop p controls test body) a b s base =
-      ⊎_elim inl (λ e. inr (inl (e.0, e.1 ∙ after_true controls base ∙ ap (λ (n : ℕ). base + n) s.10))) (starts_all code true controls a s.0 s.11 base)
+  starts code g (loop p controls counts at slots test body) a b s base =
+      ⊎_elim inl (λ e. inr (inl (e.0, e.1 ∙ after_true controls base ∙ ap (λ (n : ℕ). base + n) s.14))) (starts_all code true controls a s.0 s.15 base)
   starts code g unbuilt a b s base = absurd s
 
   pub starts_all : (code : Code) (g : Bool) (ts : Trees) (a b : ℕ) (s : StandAll code g ts a b) (base : ℕ) → AllHeights code g ts a b s base a base ⊎ ((a ≡ b) × (base ≡ after g ts base))
   starts_all code g no_trees a b s base = inr (s, refl)
   starts_all code g (t and_tree ts) a b s base = inl (inl (starts code g t a s.0 s.1 base))
+
+-- such a stretch begins at its height, or there is none of it
+pub starts_index : (code : Code) (counts : Bool) (p a b : ℕ) (s : Indexes code counts p a b) (base : ℕ) → IndexHeights code counts p a b s base a (base + 1) ⊎ (a ≡ b)
+starts_index code false p a b s base = inr s
+starts_index code true p a b s base = inl (inl (refl, refl))
+
+pub starts_open : (code : Code) (n p a b : ℕ) (s : Opens code n p a b) (base : ℕ) → OpenHeights code n p a b s base a base ⊎ (a ≡ b)
+starts_open code zero p a b s base = inr s
+starts_open code (suc n) p a b s base = inl (refl, refl)
+
+pub starts_leave : (code : Code) (p n a b : ℕ) (s : Leaves code p n a b) (base : ℕ) → LeaveHeights code p n a b s base a base ⊎ (a ≡ b)
+starts_leave code p zero a b s base = inr s
+starts_leave code p (suc n) a b s base = inl (inl (refl, refl))

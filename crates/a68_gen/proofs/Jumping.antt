@@ -1,5 +1,5 @@
 -- Choices and loops, step by step.
-use Rattle.std.proofs.Common.{◌≡◌, ℕ, ◌+◌, List, [], ◌∷◌, ◌++◌, length, refl, ◌∙◌, ap, arith, length-append, slice_set, None, Some}
+use Rattle.std.proofs.Common.{◌≡◌, false, ℕ, ◌+◌, List, [], ◌∷◌, ◌++◌, length, refl, ◌∙◌, ap, arith, length-append, slice_set, None, Some}
 use Rattle.std.proofs.Math.ListN.{length-set}
 use Rattle.std.specs.declared.option.Option.{Option}
 use Rattle.a68_base.specs.declared.refusal.Stop.{Stop}
@@ -57,7 +57,7 @@ pub loop_all : (s0 s1 s2 s3 s4 s5 s6 s7 s8 s9 : Option Stop) (l0 l1 l2 l3 l4 l5 
     → Writes s2 s3 l2 l3 (instr place (does.Unless 0) ∷ []) → Writes s3 s4 l3 l4 (stretch body (length l3)) → end ≡ length l4 + 2
     → l5 ≡ slice_set l4 step (instr place (does.Step end)) → s5 ≡ s4 → l6 ≡ slice_set l5 u (instr place (does.Unless end)) → s6 ≡ s5
     → Writes s6 s7 l6 l7 (instr place (does.Advance step) ∷ []) → Writes s7 s8 l7 l8 (instr place (does.Jump end) ∷ []) → Writes s8 s9 l8 l9 (instr place does.Forget ∷ [])
-    → Writes s0 s9 l0 l9 (stretch (trees.loop place (made.controls place) test body) (length l0))
+    → Writes s0 s9 l0 l9 (stretch (trees.loop place (made.controls place) false place 0 test body) (length l0))
 loop_all s0 s1 s2 s3 s4 s5 s6 s7 s8 s9 l0 l1 l2 l3 l4 l5 l6 l7 l8 l9 place step u end test body es w1 w2 eu w3 w4 ee e5 t5 e6 t6 w7 w8 w9 =
     let at = length l0 in
     let ts = stretch test (at + 6) in

@@ -7,9 +7,9 @@ use Rattle.a68_code.specs.declared.code.Code.{Code}
 use Rattle.a68_code.specs.declared.code.Instr.{Instr}
 use Rattle.a68_code.specs.declared.code.RoutineEntrance.{RoutineEntrance}
 use Rattle.a68_code.specs.declared.does.Does.TheVariants as does
-use Rattle.a68_elab.specs.Trees.{Tree, Trees, operation, phrases, choice, loop, unbuilt, no_trees, ◌and_tree◌, count, Program}
-use Rattle.a68_gen.specs.Listing.{instr, stretch, stretches, listing}
-use Rattle.a68_gen.specs.Stretches.{does_of, leave, Stands, StandAll, Translates}
+use Rattle.a68_elab.specs.Trees.{Tree, Trees, operation, phrases, range, choice, loop, unbuilt, depth, no_trees, ◌and_tree◌, count, Program}
+use Rattle.a68_gen.specs.Listing.{instr, indexes, opens, leaves, stretch, stretches, listing}
+use Rattle.a68_gen.specs.Stretches.{does_of, leave, Indexes, Opens, Leaves, Stands, StandAll, Translates}
 use Rattle.a68_gen.specs.Writing.{IsTooLong, most, places}
 use Rattle.a68_modes.specs.declared.shape.Shape.{Shape}
 
@@ -46,11 +46,26 @@ last list a b x g e = one list a b b x [] g e (none list b b refl)
 both_part : (list : List Instr) (a m b : ℕ) (first : List Instr) (f : ℕ → List Instr) → Part list a first m → Part list m (f m) b → Part list a (first ++ f (a + length first)) b
 both_part list a m b first f p q = subst (λ (z : ℕ). Part list a (first ++ f z) b) p.ends (behind list a m b first (f m) p q)
 
-framed_part : (list : List Instr) (place a a' m b' b : ℕ) (enter left : Instr) (g f : ℕ → List Instr) → slice_get list a ≡ Some enter → a + 1 ≡ a' → Part list a' (g a') m → Part list m (f m) b'
-    → slice_get list b' ≡ Some left → b' + 1 ≡ b → Part list a (enter ∷ (g (a + 1) ++ (f (a + 1 + length (g (a + 1))) ++ left ∷ []))) b
-framed_part list place a a' m b' b enter left g f e1 n1 p q e2 n2 =
-    let inner = both_part list a' m b (g a') (λ z. f z ++ left ∷ []) p (behind list m b' b (f m) (left ∷ []) q (last list b' b left e2 n2)) in
-    subst (λ (z : ℕ). Part list a (enter ∷ (g z ++ (f (z + length (g z)) ++ left ∷ []))) b) (sym n1) (one list a a' b enter (g a' ++ (f (a' + length (g a')) ++ left ∷ [])) e1 n1 inner)
+range_part : (list : List Instr) (a a' b' b : ℕ) (enter left : Instr) (f : ℕ → List Instr) → slice_get list a ≡ Some enter → a + 1 ≡ a' → Part list a' (f a') b'
+    → slice_get list b' ≡ Some left → b' + 1 ≡ b → Part list a (enter ∷ (f (a + 1) ++ left ∷ [])) b
+range_part list a a' b' b enter left f e1 n1 p e2 n2 =
+    subst (λ (z : ℕ). Part list a (enter ∷ (f z ++ left ∷ [])) b) (sym n1)
+    (one list a a' b enter (f a' ++ left ∷ []) e1 n1 (behind list a' b' b (f a') (left ∷ []) p (last list b' b left e2 n2)))
+
+-- the frame of FOR, a frame that is made, and frames that are left
+index_part : (code : Code) (counts : Bool) (place a b : ℕ) → Indexes code counts place a b → Part code.list a (indexes counts place) b
+index_part code false place a b s = none code.list a b s
+index_part code true place a b s =
+    one code.list a s.0 b (instr place (does.Enter 1)) (instr place does.Index ∷ instr place (does.Bind 0) ∷ []) s.2.0 s.2.1
+    (one code.list s.0 s.1 b (instr place does.Index) (instr place (does.Bind 0) ∷ []) s.3.0 s.3.1 (last code.list s.1 b (instr place (does.Bind 0)) s.4.0 s.4.1))
+
+open_part : (code : Code) (slots place a b : ℕ) → Opens code slots place a b → Part code.list a (opens slots place) b
+open_part code zero place a b s = none code.list a b s
+open_part code (suc n) place a b s = last code.list a b (instr place (does.Enter (suc n))) s.0 s.1
+
+leave_part : (code : Code) (place n a b : ℕ) → Leaves code place n a b → Part code.list a (leaves place n) b
+leave_part code place zero a b s = none code.list a b s
+leave_part code place (suc n) a b s = one code.list a s.0 b (instr place (does.Leave 0)) (leaves place n) s.1.0 s.1.1 (leave_part code place n s.0 b s.2)
 
 choice_part : (list : List Instr) (place a m m' n x b : ℕ) (first : List Instr) (f g : ℕ → List Instr) → Part list a first m → slice_get list m ≡ Some (instr place (does.Unless x)) → m + 1 ≡ m'
     → Part list m' (f m') n → slice_get list n ≡ Some (instr place (does.Jump b)) → n + 1 ≡ x → Part list x (g x) b
@@ -72,42 +87,52 @@ choice_part list place a m m' n x b first f g p u nu q j nj r =
     let w2 = subst (λ (z : ℕ). Part list a (first ++ (instr place (does.Unless z) ∷ (f M ++ (jump ∷ g z)))) b) e2 w1 in
     subst (λ (z : ℕ). Part list a (first ++ (instr place (does.Unless Y) ∷ (f M ++ (instr place (does.Jump z) ∷ g Y)))) b) e3 w2
 
-loop_part : (list : List Instr) (place a c t t' u m m' n v e b : ℕ) (first : List Instr) (f g : ℕ → List Instr) → Part list a first c
+loop_part : (list : List Instr) (place a c t t' u x m m' n n' v q e b : ℕ) (first frames out : List Instr) (f g : ℕ → List Instr) → Part list a first c
     → slice_get list c ≡ Some (instr place does.Counter) → c + 1 ≡ t → slice_get list t ≡ Some (instr place (does.Step e)) → t + 1 ≡ t'
-    → slice_get list t' ≡ Some (instr place does.Turn) → t' + 1 ≡ u → Part list u (f u) m → slice_get list m ≡ Some (instr place (does.Unless e)) → m + 1 ≡ m'
-    → Part list m' (g m') n → slice_get list n ≡ Some (instr place (does.Advance t)) → n + 1 ≡ v → slice_get list v ≡ Some (instr place (does.Jump e)) → v + 1 ≡ e
-    → slice_get list e ≡ Some (instr place does.Forget) → e + 1 ≡ b
+    → slice_get list t' ≡ Some (instr place does.Turn) → t' + 1 ≡ u → Part list u frames x → Part list x (f x) m → slice_get list m ≡ Some (instr place (does.Unless q)) → m + 1 ≡ m'
+    → Part list m' (g m') n → Part list n out n' → slice_get list n' ≡ Some (instr place (does.Advance t)) → n' + 1 ≡ v → slice_get list v ≡ Some (instr place (does.Jump e)) → v + 1 ≡ q
+    → Part list q out e → slice_get list e ≡ Some (instr place does.Forget) → e + 1 ≡ b
     → Part list a (
     let s = a + length first + 1 in
-    let second = f (s + 2) in
-    let third = g (s + 2 + length second + 1) in
-    let y = s + 2 + length second + 1 + length third + 2 in
-    first ++ (instr place does.Counter ∷ instr place (does.Step y) ∷ instr place does.Turn ∷ (second
-    ++ (instr place (does.Unless y) ∷ (third ++ instr place (does.Advance s) ∷ instr place (does.Jump y) ∷ instr place does.Forget ∷ []))))) b
-loop_part list place a c t t' u m m' n v e b first f g p i1 n1 i2 n2 i3 n3 q i4 n4 r i5 n5 i6 n6 i7 n7 =
+    let second = f (s + 2 + length frames) in
+    let third = g (s + 2 + length frames + length second + 1) in
+    let y = s + 2 + length frames + length second + 1 + length third + length out + 2 in
+    let z = y + length out in
+    first ++ (instr place does.Counter ∷ instr place (does.Step z) ∷ instr place does.Turn ∷ (frames ++ (second
+    ++ (instr place (does.Unless y) ∷ (third ++ (out ++ instr place (does.Advance s) ∷ instr place (does.Jump z) ∷ (out ++ instr place does.Forget ∷ [])))))))) b
+loop_part list place a c t t' u x m m' n n' v q e b first frames out f g p i1 n1 i2 n2 i3 n3 pf pt i4 n4 pb po i5 n5 i6 n6 pq i7 n7 =
     let S = a + length first + 1 in
-    let e1 : t ≡ S = (let x = p.ends in omega arith) in
-    let e2 : u ≡ S + 2 = omega arith in
-    let M = S + 2 + length (f (S + 2)) + 1 in
-    let e3 : m' ≡ M = (let x = q.ends in omega (arith, ap (λ (z : ℕ). z + length (f z)) e2)) in
-    let Y = M + length (g M) + 2 in
-    let e4 : e ≡ Y = (let x = r.ends in omega (arith, ap (λ (z : ℕ). z + length (g z)) e3)) in
+    let e1 : t ≡ S = (let y = p.ends in omega arith) in
+    let X = S + 2 + length frames in
+    let e2 : x ≡ X = (let y = pf.ends in omega arith) in
+    let M = X + length (f X) + 1 in
+    let e3 : m' ≡ M = (let y = pt.ends in omega (arith, ap (λ (z : ℕ). z + length (f z)) e2)) in
+    let Y = M + length (g M) + length out + 2 in
+    let e4 : q ≡ Y = (let y = pb.ends in let z = po.ends in omega (arith, ap (λ (z : ℕ). z + length (g z)) e3)) in
+    let Z = Y + length out in
+    let e5 : e ≡ Z = (let y = pq.ends in omega arith) in
     let counter = instr place does.Counter in
     let step = instr place (does.Step e) in
     let turn = instr place does.Turn in
-    let unless = instr place (does.Unless e) in
+    let unless = instr place (does.Unless q) in
     let advance = instr place (does.Advance t) in
     let jump = instr place (does.Jump e) in
     let forget = instr place does.Forget in
-    let w5 = one list n v b advance (jump ∷ forget ∷ []) i5 n5 (one list v e b jump (forget ∷ []) i6 n6 (last list e b forget i7 n7)) in
-    let w4 = one list m m' b unless (g m' ++ advance ∷ jump ∷ forget ∷ []) i4 n4 (behind list m' n b (g m') (advance ∷ jump ∷ forget ∷ []) r w5) in
-    let w3 = behind list u m b (f u) (unless ∷ (g m' ++ advance ∷ jump ∷ forget ∷ [])) q w4 in
-    let w2 = one list t t' b step (turn ∷ (f u ++ (unless ∷ (g m' ++ advance ∷ jump ∷ forget ∷ [])))) i2 n2 (one list t' u b turn (f u ++ (unless ∷ (g m' ++ advance ∷ jump ∷ forget ∷ []))) i3 n3 w3) in
-    let w1 = behind list a c b first (counter ∷ step ∷ turn ∷ (f u ++ (unless ∷ (g m' ++ advance ∷ jump ∷ forget ∷ [])))) p (one list c t b counter (step ∷ turn ∷ (f u ++ (unless ∷ (g m' ++ advance ∷ jump ∷ forget ∷ [])))) i1 n1 w2) in
-    let v1 = subst (λ (z : ℕ). Part list a (first ++ (counter ∷ step ∷ turn ∷ (f u ++ (unless ∷ (g m' ++ instr place (does.Advance z) ∷ jump ∷ forget ∷ []))))) b) e1 w1 in
-    let v2 = subst (λ (z : ℕ). Part list a (first ++ (counter ∷ step ∷ turn ∷ (f z ++ (unless ∷ (g m' ++ instr place (does.Advance S) ∷ jump ∷ forget ∷ []))))) b) e2 v1 in
-    let v3 = subst (λ (z : ℕ). Part list a (first ++ (counter ∷ step ∷ turn ∷ (f (S + 2) ++ (unless ∷ (g z ++ instr place (does.Advance S) ∷ jump ∷ forget ∷ []))))) b) e3 v2 in
-    subst (λ (z : ℕ). Part list a (first ++ (counter ∷ instr place (does.Step z) ∷ turn ∷ (f (S + 2) ++ (instr place (does.Unless z) ∷ (g M ++ instr place (does.Advance S) ∷ instr place (does.Jump z) ∷ forget ∷ []))))) b) e4 v3
+    let r5 = out ++ forget ∷ [] in
+    let w5 = behind list q e b out (forget ∷ []) pq (last list e b forget i7 n7) in
+    let r4 = out ++ advance ∷ jump ∷ r5 in
+    let w4 = behind list n n' b out (advance ∷ jump ∷ r5) po (one list n' v b advance (jump ∷ r5) i5 n5 (one list v q b jump r5 i6 n6 w5)) in
+    let r3 = g m' ++ r4 in
+    let w3 = one list m m' b unless r3 i4 n4 (behind list m' n b (g m') r4 pb w4) in
+    let r2 = f x ++ (unless ∷ r3) in
+    let w2 = behind list u x b frames r2 pf (behind list x m b (f x) (unless ∷ r3) pt w3) in
+    let r1 = frames ++ r2 in
+    let w1 = behind list a c b first (counter ∷ step ∷ turn ∷ r1) p (one list c t b counter (step ∷ turn ∷ r1) i1 n1 (one list t t' b step (turn ∷ r1) i2 n2 (one list t' u b turn r1 i3 n3 w2))) in
+    let v1 = subst (λ (z : ℕ). Part list a (first ++ (counter ∷ step ∷ turn ∷ (frames ++ (f x ++ (unless ∷ (g m' ++ (out ++ instr place (does.Advance z) ∷ jump ∷ (out ++ forget ∷ [])))))))) b) e1 w1 in
+    let v2 = subst (λ (z : ℕ). Part list a (first ++ (counter ∷ step ∷ turn ∷ (frames ++ (f z ++ (unless ∷ (g m' ++ (out ++ instr place (does.Advance S) ∷ jump ∷ (out ++ forget ∷ [])))))))) b) e2 v1 in
+    let v3 = subst (λ (z : ℕ). Part list a (first ++ (counter ∷ step ∷ turn ∷ (frames ++ (f X ++ (unless ∷ (g z ++ (out ++ instr place (does.Advance S) ∷ jump ∷ (out ++ forget ∷ [])))))))) b) e3 v2 in
+    let v4 = subst (λ (z : ℕ). Part list a (first ++ (counter ∷ step ∷ turn ∷ (frames ++ (f X ++ (instr place (does.Unless z) ∷ (g M ++ (out ++ instr place (does.Advance S) ∷ jump ∷ (out ++ forget ∷ [])))))))) b) e4 v3 in
+    subst (λ (z : ℕ). Part list a (first ++ (counter ∷ instr place (does.Step z) ∷ turn ∷ (frames ++ (f X ++ (instr place (does.Unless Y) ∷ (g M ++ (out ++ instr place (does.Advance S) ∷ instr place (does.Jump z) ∷ (out ++ forget ∷ [])))))))) b) e5 v4
 
 -- ---- trees
 
@@ -116,18 +141,20 @@ mutual
   part code gives (operation place op order parts) a b s =
       let i = instr place (does_of op (count parts)) in
       behind code.list a s.0 b (stretches parts a) (i ∷ []) (all_part code true parts a s.0 s.3) (last code.list s.0 b i s.4.0 s.4.1)
-  part code gives (phrases place zero yields before final) a b s =
+  part code gives (phrases place before final) a b s =
       both_part code.list a s.0 b (stretches before a) (λ z. stretch final z) (all_part code false before a s.0 s.1) (part code gives final s.0 b s.2)
-  part code gives (phrases place (suc n) yields before final) a b s =
-      framed_part code.list place a s.0 s.1 s.2 b (instr place (does.Enter (suc n))) (instr place (leave yields)) (λ z. stretches before z) (λ z. stretch final z)
-      s.4.0 s.4.1 (all_part code false before s.0 s.1 s.5) (part code gives final s.1 s.2 s.6) (s.7.0 ∙ ap (λ (x : Bool). Some (instr place (leave x))) s.3) s.7.1
+  part code gives (range place out slots yields within) a b s =
+      range_part code.list a s.0 s.1 b (instr place (does.Enter slots)) (instr out (leave yields)) (λ z. stretch within z) s.3.0 s.3.1 (part code gives within s.0 s.1 s.4)
+      (s.5.0 ∙ ap (λ (x : Bool). Some (instr out (leave x))) s.2) s.5.1
   part code gives (choice place enquiry if_true if_false) a b s =
       choice_part code.list place a s.0 s.1 s.2 s.3 b (stretch enquiry a) (λ z. stretch if_true z) (λ z. stretch if_false z) (part code true enquiry a s.0 s.4) s.5.0 s.5.1
       (part code gives if_true s.1 s.2 s.6) s.7.0 s.7.1 (part code gives if_false s.3 b s.8)
-  part code gives (loop place controls test body) a b s =
-      loop_part code.list place a s.0 s.1 s.2 s.3 s.4 s.5 s.6 s.7 s.8 b (stretches controls a) (λ z. stretch test z) (λ z. stretch body z)
-      (all_part code true controls a s.0 s.11) s.12.0 s.12.1 s.13.0 s.13.1 s.14.0 s.14.1 (part code true test s.3 s.4 s.15) s.16.0 s.16.1
-      (part code false body s.5 s.6 s.17) s.18.0 s.18.1 s.19.0 s.19.1 s.20.0 s.20.1
+  part code gives (loop place controls counts begin slots test body) a b s =
+      loop_part code.list place a s.0 s.1 s.2 s.3 s.5 s.6 s.7 s.8 s.9 s.10 s.11 s.12 b (stretches controls a) (indexes counts place ++ opens slots begin) (leaves place (depth counts slots))
+      (λ z. stretch test z) (λ z. stretch body z) (all_part code true controls a s.0 s.15) s.16.0 s.16.1 s.17.0 s.17.1 s.18.0 s.18.1
+      (behind code.list s.3 s.4 s.5 (indexes counts place) (opens slots begin) (index_part code counts place s.3 s.4 s.19) (open_part code slots begin s.4 s.5 s.20))
+      (part code true test s.5 s.6 s.21) s.22.0 s.22.1 (part code false body s.7 s.8 s.23) (leave_part code place (depth counts slots) s.8 s.9 s.24) s.25.0 s.25.1 s.26.0 s.26.1
+      (leave_part code place (depth counts slots) s.11 s.12 s.27) s.28.0 s.28.1
   part code gives unbuilt a b s = absurd s
 
   all_part : (code : Code) (gives : Bool) (trees : Trees) (a b : ℕ) → StandAll code gives trees a b → Part code.list a (stretches trees a) b

@@ -1,5 +1,5 @@
 -- Choices and loops: the instructions that are patched.
-use Rattle.std.proofs.Common.{◌≡◌, ℕ, ◌+◌, List, [], ◌∷◌, ◌++◌, length, refl, sym, ◌∙◌, ap, arith, append_assoc, append-nil, length-append, None, Some, slice_set}
+use Rattle.std.proofs.Common.{◌≡◌, false, ℕ, ◌+◌, List, [], ◌∷◌, ◌++◌, length, refl, sym, ◌∙◌, ap, arith, append_assoc, append-nil, length-append, None, Some, slice_set}
 use Rattle.std.specs.declared.option.Option.{Option}
 use Rattle.a68_base.specs.declared.refusal.Stop.{Stop}
 use Rattle.a68_code.specs.declared.code.Instr.{Instr}
@@ -161,8 +161,11 @@ loop_writes None None (Some s) l0 l4 l5 l6 l9 ts bs place step unless end ends t
 pub loop_list : (place at : ℕ) (test body : Tree)
     → let ts = stretch test (at + 6) in let bs = stretch body (at + 6 + length ts + 1) in let e = at + 6 + length ts + 1 + length bs + 2 in
     head_of place e ++ (ts ++ instr place (does.Unless e) ∷ (bs ++ instr place (does.Advance (at + 4)) ∷ instr place (does.Jump e) ∷ instr place does.Forget ∷ []))
-    ≡ stretch (trees.loop place (made.controls place) test body) at
+    ≡ stretch (trees.loop place (made.controls place) false place 0 test body) at
 loop_list place at test body =
     let four : at + 3 + 1 ≡ at + 4 = omega arith in
-    let six : at + 4 + 2 ≡ at + 6 = omega arith in
-    rw (four, six) refl
+    let six : at + 4 + 2 + 0 ≡ at + 6 = omega arith in
+    let n = at + 6 + length (stretch test (at + 6)) + 1 + length (stretch body (at + 6 + length (stretch test (at + 6)) + 1)) in
+    let last : n + 0 ≡ n = omega arith in
+    let end : n + 2 + 0 ≡ n + 2 = omega arith in
+    rw (four, six, last, end) refl

@@ -5,7 +5,7 @@ use Rattle.a68_code.specs.Flow.{takes}
 use Rattle.a68_code.specs.declared.code.Code.{Code}
 use Rattle.a68_code.specs.declared.does.Does.{Does}
 use Rattle.a68_code.specs.declared.does.Does.TheVariants as does
-use Rattle.a68_elab.specs.Trees.{Tree, Trees, operation, phrases, choice, loop, unbuilt, no_trees, ◌and_tree◌, count, Program}
+use Rattle.a68_elab.specs.Trees.{Tree, Trees, operation, phrases, range, choice, loop, unbuilt, no_trees, ◌and_tree◌, count, depth, Program}
 
 -- the instruction of an operation on so many values
 abbrev pub does_of : Operation → ℕ → Does
@@ -28,6 +28,21 @@ Has code place d a b = (slice_get code.list a ≡ Some (record { place = place; 
 abbrev pub leave : Bool → Does
 leave gives = does.Leave (if gives then 1 else 0)
 
+-- with FOR: Enter 1, Index, Bind 0
+abbrev pub Indexes : Code → (counts : Bool) → (place a b : ℕ) → Type 0
+Indexes code false place a b = a ≡ b
+Indexes code true place a b = (m n : ℕ) × Has code place (does.Enter 1) a m × Has code place does.Index m n × Has code place (does.Bind 0) n b
+
+-- with slots: Enter
+abbrev pub Opens : Code → (slots place a b : ℕ) → Type 0
+Opens code zero place a b = a ≡ b
+Opens code (suc n) place a b = Has code place (does.Enter (suc n)) a b
+
+-- so many Leave 0
+abbrev pub Leaves : Code → (place count a b : ℕ) → Type 0
+Leaves code place zero a b = a ≡ b
+Leaves code place (suc n) a b = (m : ℕ) × Has code place (does.Leave 0) a m × Leaves code place n m b
+
 -- The stretch of a tree stands from a up to b. It leaves a value or none, as `gives` says.
 abbrev mutual
   pub Stands : Code → (gives : Bool) → Tree → (a b : ℕ) → Type 0
@@ -35,22 +50,24 @@ abbrev mutual
   Stands code gives (operation place op order parts) a b =
       (m : ℕ) × (gives ≡ leaves code.modes op) × (takes (does_of op (count parts)) ≡ count parts)
       × StandAll code true parts a m × Has code place (does_of op (count parts)) m b
-  -- the phrases; with slots within a frame
-  Stands code gives (phrases place zero yields before final) a b =
-      (m : ℕ) × StandAll code false before a m × Stands code gives final m b
-  Stands code gives (phrases place (suc n) yields before final) a b =
-      (a' m b' : ℕ) × (gives ≡ yields) × Has code place (does.Enter (suc n)) a a' × StandAll code false before a' m × Stands code gives final m b'
-      × Has code place (leave gives) b' b
+  -- the phrases
+  Stands code gives (phrases place before final) a b = (m : ℕ) × StandAll code false before a m × Stands code gives final m b
+  -- Enter, the construct, Leave
+  Stands code gives (range place out slots yields within) a b =
+      (a' b' : ℕ) × (gives ≡ yields) × Has code place (does.Enter slots) a a' × Stands code gives within a' b' × Has code out (leave gives) b' b
   -- the enquiry, Unless x, one part, Jump b, x: the other part, b:
   Stands code gives (choice place enquiry if_true if_false) a b =
       (m m' n x : ℕ) × Stands code true enquiry a m × Has code place (does.Unless x) m m' × Stands code gives if_true m' n
       × Has code place (does.Jump b) n x × Stands code gives if_false x b
-  -- FROM, BY and TO, Counter, t: Step e, Turn, the test, Unless e, the body, Advance t, Jump e, e: Forget
-  Stands code gives (loop place controls test body) a b =
-      (c t t' u m m' n v e : ℕ) × (gives ≡ false) × (count controls ≡ 3) × StandAll code true controls a c
+  -- FROM, BY and TO, Counter, t: Step e, Turn, the frames of FOR and of WHILE, the test, Unless f, the body, a Leave for
+  -- each frame, Advance t, Jump e, f: a Leave for each frame, e: Forget
+  Stands code gives (loop place controls counts at slots test body) a b =
+      (c t t' u w x m m' n n' v f e : ℕ) × (gives ≡ false) × (count controls ≡ 3) × StandAll code true controls a c
       × Has code place does.Counter c t × Has code place (does.Step e) t t' × Has code place does.Turn t' u
-      × Stands code true test u m × Has code place (does.Unless e) m m' × Stands code false body m' n
-      × Has code place (does.Advance t) n v × Has code place (does.Jump e) v e × Has code place does.Forget e b
+      × Indexes code counts place u w × Opens code slots at w x
+      × Stands code true test x m × Has code place (does.Unless f) m m' × Stands code false body m' n
+      × Leaves code place (depth counts slots) n n' × Has code place (does.Advance t) n' v × Has code place (does.Jump e) v f
+      × Leaves code place (depth counts slots) f e × Has code place does.Forget e b
   -- what is not built stands nowhere
   Stands code gives unbuilt a b = ⊥
 

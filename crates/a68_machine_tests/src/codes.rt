@@ -29,6 +29,7 @@ enum Form {
     Turn,
     Advance,
     Forget,
+    Index,
     End,
 }
 
@@ -52,6 +53,7 @@ const FORMS: &[(&str, Form)] = &[
     ("Turn", Form::Turn),
     ("Advance", Form::Advance),
     ("Forget", Form::Forget),
+    ("Index", Form::Index),
     ("End", Form::End),
 ];
 
@@ -82,6 +84,7 @@ fn instruction(form: Form, one: u32, two: u32) -> Does {
         Form::Turn => Does::Turn,
         Form::Advance => Does::Advance(one),
         Form::Forget => Does::Forget,
+        Form::Index => Does::Index,
         Form::End => Does::End,
     }
 }

@@ -8,11 +8,13 @@ use Rattle.a68_acts.specs.declared.operation.Next.TheVariants as next
 use Rattle.a68_acts.specs.declared.want.Want.TheVariants as want
 use Rattle.a68_code.specs.declared.code.Code.{Code}
 use Rattle.a68_code.specs.declared.does.Does.TheVariants as does
+use Rattle.a68_elab.specs.Made.{program_of, tree_at}
 use Rattle.a68_elab.specs.Permitted.{Permitted}
-use Rattle.a68_elab.specs.Trees.{Tree, operation, phrases, loop, no_trees, ◌and_tree◌, collateral, serial, Program}
+use Rattle.a68_elab.specs.Trees.{Tree, operation, phrases, range, loop, no_trees, ◌and_tree◌, collateral, serial, Program}
 use Rattle.a68_gen.specs.Stretches.{Translates}
 use Rattle.a68_modes.specs.Nodes.{standard_shapes}
 use Rattle.a68_sim.proofs.Examples.{instr, entry, whole, digit_text, printed_digit}
+use Rattle.a68_sim.proofs.Texts.{three_counted}
 use Rattle.a68_sim.proofs.Whole.{law}
 use Rattle.a68_strand.specs.Ends as run
 use Rattle.a68_strand.specs.Machine.{State, stack_of, settle}
@@ -29,44 +31,49 @@ use Rattle.a68_values.specs.declared.kept.Kept.{Kept}
 use Rattle.a68_values.specs.declared.plain.Plain.TheVariants as value
 
 abbrev number : (place n : ℕ) → Tree
-number place n = operation place (constant (whole n)) collateral no_trees
+number place n = operation place (constant (whole n)) serial no_trees
 
 abbrev name : (place : ℕ) → Tree
-name place = operation place (tag 0 0) collateral no_trees
+name place = operation place (tag 0 0) serial no_trees
 
 abbrev its_value : (place : ℕ) → Tree
-its_value place = operation place (deref 1) collateral (name place and_tree no_trees)
+its_value place = operation place (deref 1) serial (name place and_tree no_trees)
 
 -- BEGIN INT i := 0; WHILE i < 3 DO i := i + 1 OD; print(i) END
 abbrev declaration : Tree
-declaration = operation 6 (bind 0) collateral (operation 6 (store 1) serial (operation 6 (make 1 0) collateral no_trees and_tree number 15 0 and_tree no_trees) and_tree no_trees)
+declaration = operation 6 (bind 0) serial (operation 6 (store 1) serial (operation 6 (make 1 0) serial no_trees and_tree number 15 0 and_tree no_trees) and_tree no_trees)
 
 abbrev assignation : Tree
 assignation =
-    operation 33 drop collateral
+    operation 33 drop serial
     (operation 33 (store 1) collateral (name 33 and_tree operation 38 (apply 15) collateral (its_value 38 and_tree number 42 1 and_tree no_trees) and_tree no_trees) and_tree no_trees)
 
 abbrev counting : Tree
 counting =
-    loop 18 (number 18 1 and_tree number 18 1 and_tree operation 18 (skip 1) collateral no_trees and_tree no_trees)
-    (operation 24 (apply 11) collateral (its_value 24 and_tree number 28 3 and_tree no_trees)) assignation
+    loop 18 (number 18 1 and_tree number 18 1 and_tree operation 18 (skip 1) serial no_trees and_tree no_trees) false 18 0
+    (phrases 24 no_trees (operation 24 (apply 11) collateral (its_value 24 and_tree number 28 3 and_tree no_trees))) (phrases 33 no_trees assignation)
 
 abbrev program : Program
 program = record {
   place = 0;
-  tree = phrases 0 1 false (declaration and_tree counting and_tree no_trees) (operation 48 print collateral (its_value 54 and_tree no_trees));
+  tree = range 6 6 1 false (phrases 6 (declaration and_tree counting and_tree no_trees) (operation 48 print collateral (its_value 54 and_tree no_trees)));
   modes = standard_shapes;
 }
+
+-- it is that of the annotated text
+is_program_of : program_of three_counted ≡ program
+unfolding tree_at
+is_program_of = refl
 
 abbrev code : Code
 code = record {
   list =
-      instr 0 (does.Enter 1) ∷ instr 6 (does.Make 1 0) ∷ instr 15 (does.Push (whole 0)) ∷ instr 6 (does.Store 1) ∷ instr 6 (does.Bind 0)
+      instr 6 (does.Enter 1) ∷ instr 6 (does.Make 1 0) ∷ instr 15 (does.Push (whole 0)) ∷ instr 6 (does.Store 1) ∷ instr 6 (does.Bind 0)
       ∷ instr 18 (does.Push (whole 1)) ∷ instr 18 (does.Push (whole 1)) ∷ instr 18 (does.Skip 1) ∷ instr 18 does.Counter ∷ instr 18 (does.Step 25)
       ∷ instr 18 does.Turn ∷ instr 24 (does.Tag 0 0) ∷ instr 24 (does.Deref 1) ∷ instr 28 (does.Push (whole 3)) ∷ instr 24 (does.Apply 11)
       ∷ instr 18 (does.Unless 25) ∷ instr 33 (does.Tag 0 0) ∷ instr 38 (does.Tag 0 0) ∷ instr 38 (does.Deref 1) ∷ instr 42 (does.Push (whole 1))
       ∷ instr 38 (does.Apply 15) ∷ instr 33 (does.Store 1) ∷ instr 33 does.Drop ∷ instr 18 (does.Advance 9) ∷ instr 18 (does.Jump 25)
-      ∷ instr 18 does.Forget ∷ instr 54 (does.Tag 0 0) ∷ instr 54 (does.Deref 1) ∷ instr 48 (does.Print 1) ∷ instr 0 (does.Leave 0)
+      ∷ instr 18 does.Forget ∷ instr 54 (does.Tag 0 0) ∷ instr 54 (does.Deref 1) ∷ instr 48 (does.Print 1) ∷ instr 6 (does.Leave 0)
       ∷ instr 0 does.End ∷ [];
   texts = [];
   modes = standard_shapes;
@@ -77,66 +84,80 @@ translates = record {
   end = 30;
   stands = (
     1,
-    26,
     29,
     refl,
     (refl, refl),
     (
-      5,
-      (4, refl, refl, (4, (3, refl, refl, (2, (1, refl, refl, refl, (refl, refl)), (3, (2, refl, refl, refl, (refl, refl)), refl)), (refl, refl)), refl), (refl, refl)),
+      26,
       (
-        26,
+        5,
+        (4, refl, refl, (4, (3, refl, refl, (2, (1, refl, refl, refl, (refl, refl)), (3, (2, refl, refl, refl, (refl, refl)), refl)), (refl, refl)), refl), (refl, refl)),
         (
-          8,
-          9,
-          10,
-          11,
-          15,
-          16,
-          23,
-          24,
-          25,
-          refl,
-          refl,
-          (6, (5, refl, refl, refl, (refl, refl)), (7, (6, refl, refl, refl, (refl, refl)), (8, (7, refl, refl, refl, (refl, refl)), refl))),
-          (refl, refl),
-          (refl, refl),
-          (refl, refl),
-          (14, refl, refl, (13, (12, refl, refl, (12, (11, refl, refl, refl, (refl, refl)), refl), (refl, refl)), (14, (13, refl, refl, refl, (refl, refl)), refl)), (refl, refl)),
-          (refl, refl),
+          26,
           (
-            22,
+            8,
+            9,
+            10,
+            11,
+            11,
+            11,
+            15,
+            16,
+            23,
+            23,
+            24,
+            25,
+            25,
             refl,
             refl,
+            (6, (5, refl, refl, refl, (refl, refl)), (7, (6, refl, refl, refl, (refl, refl)), (8, (7, refl, refl, refl, (refl, refl)), refl))),
+            (refl, refl),
+            (refl, refl),
+            (refl, refl),
+            refl,
+            refl,
+            (11, refl, (14, refl, refl, (13, (12, refl, refl, (12, (11, refl, refl, refl, (refl, refl)), refl), (refl, refl)), (14, (13, refl, refl, refl, (refl, refl)), refl)), (refl, refl))),
+            (refl, refl),
             (
-              22,
+              16,
+              refl,
               (
-                21,
+                22,
                 refl,
                 refl,
                 (
-                  17,
-                  (16, refl, refl, refl, (refl, refl)),
+                  22,
                   (
                     21,
-                    (20, refl, refl, (19, (18, refl, refl, (18, (17, refl, refl, refl, (refl, refl)), refl), (refl, refl)), (20, (19, refl, refl, refl, (refl, refl)), refl)), (refl, refl)),
                     refl,
+                    refl,
+                    (
+                      17,
+                      (16, refl, refl, refl, (refl, refl)),
+                      (
+                        21,
+                        (20, refl, refl, (19, (18, refl, refl, (18, (17, refl, refl, refl, (refl, refl)), refl), (refl, refl)), (20, (19, refl, refl, refl, (refl, refl)), refl)), (refl, refl)),
+                        refl,
+                      ),
+                    ),
+                    (refl, refl),
                   ),
+                  refl,
                 ),
                 (refl, refl),
               ),
-              refl,
             ),
+            refl,
+            (refl, refl),
+            (refl, refl),
+            refl,
             (refl, refl),
           ),
-          (refl, refl),
-          (refl, refl),
-          (refl, refl),
+          refl,
         ),
-        refl,
       ),
+      (28, refl, refl, (28, (27, refl, refl, (27, (26, refl, refl, refl, (refl, refl)), refl), (refl, refl)), refl), (refl, refl)),
     ),
-    (28, refl, refl, (28, (27, refl, refl, (27, (26, refl, refl, refl, (refl, refl)), refl), (refl, refl)), refl), (refl, refl)),
     (refl, refl),
   );
   ends = (refl, refl);
@@ -204,5 +225,5 @@ ran = record {
   ends = run.done (record { st = last_state; there = refl; idle = refl });
 }
 
-pub counted : Permitted program 1000 kept
-counted = law program code 1000 kept translates ran
+pub counted : Permitted (program_of three_counted) 1000 kept
+counted = subst (λ (p : Program). Permitted p 1000 kept) (sym is_program_of) (law program code 1000 kept translates ran)

@@ -14,13 +14,15 @@ use Rattle.a68_code.specs.declared.code.Code.{Code}
 use Rattle.a68_code.specs.declared.code.Instr.{Instr}
 use Rattle.a68_code.specs.declared.does.Does.{Does}
 use Rattle.a68_code.specs.declared.does.Does.TheVariants as does
+use Rattle.a68_elab.specs.Made.{program_of, tree_at}
 use Rattle.a68_elab.specs.Elaborations.{Elaborates, stays, silently, by_act}
 use Rattle.a68_elab.specs.Permitted.{Permitted}
 use Rattle.a68_elab.specs.Positions.{here, within, in_this, beside}
 use Rattle.a68_elab.specs.Terms.{Term, todo, yielded}
-use Rattle.a68_elab.specs.Trees.{Tree, operation, phrases, no_trees, ◌and_tree◌, collateral, serial, Program}
+use Rattle.a68_elab.specs.Trees.{Tree, operation, phrases, range, no_trees, ◌and_tree◌, collateral, serial, Program}
 use Rattle.a68_gen.specs.Stretches.{Translates}
 use Rattle.a68_modes.specs.Nodes.{standard_shapes}
+use Rattle.a68_sim.proofs.Texts.{five_printed, unset_printed, newer_yielded}
 use Rattle.a68_sim.proofs.Whole.{law}
 use Rattle.a68_strand.specs.Ends as run
 use Rattle.a68_strand.specs.Machine.{State, stack_of, settle}
@@ -63,37 +65,32 @@ pub not_ended : (w : World) (st : State) → slice_get w.strands 0 ≡ Some st �
 not_ended w st there about h = about (ap (λ (x : State). x.stance) (same_Some st h.st (sym there ∙ h.there)) ∙ h.idle)
 
 -- BEGIN INT x := 5; print(x) END
-abbrev declaration : Tree
-declaration =
-    operation 6 (bind 0) collateral
-    (operation 6 (store 1) serial (operation 6 (make 1 0) collateral no_trees and_tree operation 15 (constant five) collateral no_trees and_tree no_trees) and_tree no_trees)
-
-abbrev printing : Tree
-printing = operation 18 print collateral (operation 24 (deref 1) collateral (operation 24 (tag 0 0) collateral no_trees and_tree no_trees) and_tree no_trees)
-
 abbrev program : Program
-program = record { place = 0; tree = phrases 0 1 false (declaration and_tree no_trees) printing; modes = standard_shapes }
+program = program_of five_printed
 
 abbrev code : Code
 code = record {
   list =
-      instr 0 (does.Enter 1) ∷ instr 6 (does.Make 1 0) ∷ instr 15 (does.Push five) ∷ instr 6 (does.Store 1) ∷ instr 6 (does.Bind 0)
-      ∷ instr 24 (does.Tag 0 0) ∷ instr 24 (does.Deref 1) ∷ instr 18 (does.Print 1) ∷ instr 0 (does.Leave 0) ∷ instr 0 does.End ∷ [];
+      instr 6 (does.Enter 1) ∷ instr 6 (does.Make 1 0) ∷ instr 15 (does.Push five) ∷ instr 6 (does.Store 1) ∷ instr 6 (does.Bind 0)
+      ∷ instr 24 (does.Tag 0 0) ∷ instr 24 (does.Deref 1) ∷ instr 18 (does.Print 1) ∷ instr 6 (does.Leave 0) ∷ instr 0 does.End ∷ [];
   texts = [];
   modes = standard_shapes;
 }
 
 translates : Translates program code
+unfolding tree_at
 translates = record {
   end = 9;
   stands = (
     1,
-    5,
     8,
     refl,
     (refl, refl),
-    (5, (4, refl, refl, (4, (3, refl, refl, (2, (1, refl, refl, refl, (refl, refl)), (3, (2, refl, refl, refl, (refl, refl)), refl)), (refl, refl)), refl), (refl, refl)), refl),
-    (7, refl, refl, (7, (6, refl, refl, (6, (5, refl, refl, refl, (refl, refl)), refl), (refl, refl)), refl), (refl, refl)),
+    (
+      5,
+      (5, (4, refl, refl, (4, (3, refl, refl, (2, (1, refl, refl, refl, (refl, refl)), (3, (2, refl, refl, refl, (refl, refl)), refl)), (refl, refl)), refl), (refl, refl)), refl),
+      (7, refl, refl, (7, (6, refl, refl, (6, (5, refl, refl, refl, (refl, refl)), refl), (refl, refl)), refl), (refl, refl)),
+    ),
     (refl, refl),
   );
   ends = (refl, refl);
@@ -190,34 +187,31 @@ six = law program code 6 kept_at_six translates ran_at_six
 -- ---- BEGIN INT x; print(x) END
 
 abbrev unset_program : Program
-unset_program = record {
-  place = 0;
-  tree =
-      phrases 0 1 false (operation 6 (bind 0) collateral (operation 6 (make 1 0) collateral no_trees and_tree no_trees) and_tree no_trees)
-      (operation 13 print collateral (operation 19 (deref 1) collateral (operation 19 (tag 0 0) collateral no_trees and_tree no_trees) and_tree no_trees));
-  modes = standard_shapes;
-}
+unset_program = program_of unset_printed
 
 abbrev unset_code : Code
 unset_code = record {
   list =
-      instr 0 (does.Enter 1) ∷ instr 6 (does.Make 1 0) ∷ instr 6 (does.Bind 0) ∷ instr 19 (does.Tag 0 0) ∷ instr 19 (does.Deref 1)
-      ∷ instr 13 (does.Print 1) ∷ instr 0 (does.Leave 0) ∷ instr 0 does.End ∷ [];
+      instr 6 (does.Enter 1) ∷ instr 6 (does.Make 1 0) ∷ instr 6 (does.Bind 0) ∷ instr 19 (does.Tag 0 0) ∷ instr 19 (does.Deref 1)
+      ∷ instr 13 (does.Print 1) ∷ instr 6 (does.Leave 0) ∷ instr 0 does.End ∷ [];
   texts = [];
   modes = standard_shapes;
 }
 
 unset_translates : Translates unset_program unset_code
+unfolding tree_at
 unset_translates = record {
   end = 7;
   stands = (
     1,
-    3,
     6,
     refl,
     (refl, refl),
-    (3, (2, refl, refl, (2, (1, refl, refl, refl, (refl, refl)), refl), (refl, refl)), refl),
-    (5, refl, refl, (5, (4, refl, refl, (4, (3, refl, refl, refl, (refl, refl)), refl), (refl, refl)), refl), (refl, refl)),
+    (
+      3,
+      (3, (2, refl, refl, (2, (1, refl, refl, refl, (refl, refl)), refl), (refl, refl)), refl),
+      (5, refl, refl, (5, (4, refl, refl, (4, (3, refl, refl, refl, (refl, refl)), refl), (refl, refl)), refl), (refl, refl)),
+    ),
     (refl, refl),
   );
   ends = (refl, refl);
@@ -267,15 +261,7 @@ unset = law unset_program unset_code 100 kept_unset unset_translates unset_ran
 -- ---- BEGIN (INT x; x) END, where the clause yields a name that would outlive its frame
 
 abbrev newer_program : Program
-newer_program = record {
-  place = 0;
-  tree =
-      phrases 0 0 false no_trees
-      (operation 6 drop collateral
-      (phrases 7 1 true (operation 7 (bind 0) collateral (operation 7 (make 1 0) collateral no_trees and_tree no_trees) and_tree no_trees)
-      (operation 14 (tag 0 0) collateral no_trees) and_tree no_trees));
-  modes = standard_shapes;
-}
+newer_program = program_of newer_yielded
 
 abbrev newer_code : Code
 newer_code = record {
@@ -287,6 +273,7 @@ newer_code = record {
 }
 
 newer_translates : Translates newer_program newer_code
+unfolding tree_at
 newer_translates = record {
   end = 6;
   stands = (
@@ -298,7 +285,7 @@ newer_translates = record {
       refl,
       (
         5,
-        (1, 3, 4, refl, (refl, refl), (3, (2, refl, refl, (2, (1, refl, refl, refl, (refl, refl)), refl), (refl, refl)), refl), (3, refl, refl, refl, (refl, refl)), (refl, refl)),
+        (1, 4, refl, (refl, refl), (3, (3, (2, refl, refl, (2, (1, refl, refl, refl, (refl, refl)), refl), (refl, refl)), refl), (3, refl, refl, refl, (refl, refl))), (refl, refl)),
         refl,
       ),
       (refl, refl),
@@ -377,7 +364,7 @@ right_first =
 
 -- no elaboration of the first program has another first act than that which makes its frame
 frame_first : (t : Term) (s : Store) (e : Entry) (es : List Entry) → Elaborates program (todo program.tree standard) opening_store (e ∷ es) t s → e ≡ entry (act.Enter 1)
-unfolding does chain_of
+unfolding does chain_of tree_at
 frame_first t s e es (silently here goes rest) = absurd (cc)
 frame_first t s e es (by_act {w = w} {act = a} {r = r} {s' = s'} here asks done rest) =
     let same : want.Enter 0 1 1 ≡ w = cc in

@@ -1,5 +1,5 @@
 -- What the machine does next, the term follows: the trees, then the terms.
-use Rattle.std.proofs.Common.{◌≡◌, ℕ, zero, suc, Bool, true, false, List, [], ◌∷◌, None, Some, refl, sym, ap, ◌∙◌, subst}
+use Rattle.std.proofs.Common.{◌≡◌, ℕ, suc, Bool, true, false, List, [], ◌∷◌, None, Some, refl, sym, ap, ◌∙◌, subst}
 use Rattle.std.specs.declared.option.Option.{Option}
 use Rattle.a68_acts.specs.declared.operation.Doing.{Doing}
 use Rattle.a68_acts.specs.declared.want.Reply.{Reply}
@@ -9,14 +9,14 @@ use Rattle.a68_code.specs.declared.code.Code.{Code}
 use Rattle.a68_code.specs.declared.does.Does.TheVariants as does
 use Rattle.a68_elab.specs.Positions.{within, OpensIn, in_this, past}
 use Rattle.a68_elab.specs.Rows.{meets, acts, within_frame}
-use Rattle.a68_elab.specs.Terms.{Range, no_frame, in_frame, Job, operating, resuming, preceding, ending, choosing, chosen, counting, stepping, turning, testing, running, leaving, Term, todo, part, yielded, Terms, no_terms, ◌and_term◌, todos, order_of}
-use Rattle.a68_elab.specs.Trees.{Tree, Trees, operation, phrases, choice, loop, unbuilt, no_trees, ◌and_tree◌, count, Order, Program}
+use Rattle.a68_elab.specs.Terms.{only, Job, operating, resuming, preceding, ending, ranged, choosing, chosen, counting, stepping, turning, opening, naming, indexing, ranging, testing, running, advancing, quitting, leaving, Term, todo, part, yielded, Terms, no_terms, ◌and_term◌, todos, order_of}
+use Rattle.a68_elab.specs.Trees.{Tree, Trees, operation, phrases, range, choice, loop, unbuilt, Turns, no_trees, ◌and_tree◌, count, Order, Program}
 use Rattle.a68_gen.specs.Stretches.{Has, Stands, StandAll, leave}
 use Rattle.a68_sim.proofs.Asking.{idle, at_instr, place_is, is_inside}
 use Rattle.a68_gen.proofs.Forward.{next_is}
-use Rattle.a68_sim.proofs.Jobs.{Done, row_done, misled_sim, operating_done, resuming_done, ending_done, choosing_done, chosen_done, counting_done, stepping_done, turning_done, testing_done, running_done, leaving_done}
+use Rattle.a68_sim.proofs.Jobs.{Done, row_done, misled_sim, operating_done, resuming_done, ending_done, ranged_done, choosing_done, chosen_done, counting_done, stepping_done, turning_done, opening_done, naming_done, indexing_done, ranging_done, testing_done, running_done, advancing_done, quitting_done, leaving_done}
 use Rattle.a68_sim.proofs.Quiet.{still, quiet_in, Hole, moves_in, Progress, moves, finishes, progress_after, progress_row, moves_act, moves_fault}
-use Rattle.a68_sim.proofs.Relation.{count_terms, AllTodo, doing_of, posed, parts_give, inner, OperationAt, LoopAt, Tail, Begins, DoesParts, Sim, yields, left, does_yields, does_todos, does_first, same_count, left_none, todos_all, count_todos}
+use Rattle.a68_sim.proofs.Relation.{doing_of, count_terms, AllTodo, posed, parts_give, inner, OperationAt, LoopAt, Tail, Begins, DoesParts, Sim, yields, left, does_yields, does_todos, does_first, same_count, left_none, todos_all, count_todos}
 use Rattle.a68_strand.specs.Machine.{State, asks_for, told_by}
 use Rattle.a68_strand.specs.declared.ask.Stance.TheVariants.{Asking}
 use Rattle.a68_strand.specs.declared.ask.Waiting.TheVariants as waiting
@@ -58,48 +58,47 @@ module _ (program : Program) (code : Code) (same : code.modes ≡ program.modes)
       (rest v s (subst (λ n. Tail code job n ch k b home g) (same_count acc (t and_term ts) (yielded v and_term ts) refl) tail))
 
   -- the last phrase, behind those before it
-  preceding_done : (range : Range) (final : Tree) (ch : List Environ) (k b : ℕ) (base : List Item) (home : List Environ) (g : Bool)
+  preceding_done : (final : Tree) (ch : List Environ) (k b : ℕ) (base : List Item) (home : List Environ) (g : Bool)
       → ((m : ℕ) (st : State) → Begins code final ch m base ch g st → Progress program code (Sim code m base ch g) (todo final ch) st)
-      → Done program code (preceding range final) ch k b base home g
-  preceding_done range final ch k b base home g go acc tail =
+      → Done program code (preceding final) ch k b base home g
+  preceding_done final ch k b base home g go acc tail =
       let st = idle k (left false acc base) ch in
       let bare : st ≡ idle k base ch = ap (λ s. idle k s ch) (left_none acc base) in
-      progress_row program code _ _ _ st (row_done program (preceding range final) ch acc)
-      (from_part (ending range) ch [] no_terms (todo final ch) tail.0 tail.0 b base home g st refl refl (refl, tail.2)
-      (λ v e last. subst (λ (s : State). Progress program code (Sim code b base home g) (part (ending range) ch (yields (v ∷ []) no_terms)) s) (sym e)
-      (ending_done program code b base home g range ch tail.0 (v ∷ []) last))
-      (go tail.0 st (record { a = k; stands = tail.1; chain = refl; state = bare })))
+      progress_row program code _ _ _ st (row_done program (preceding final) ch acc)
+      (from_part ending ch [] no_terms (todo final ch) b b b base home g st refl refl (refl, refl, tail.0)
+      (λ v e last. subst (λ (s : State). Progress program code (Sim code b base home g) (part ending ch (yields (v ∷ []) no_terms)) s) (sym e)
+      (ending_done program code b base home g ch b (v ∷ []) last))
+      (go b st (record { a = k; stands = tail.1; chain = refl; state = bare })))
 
-  -- a serial clause makes its frame
-  module _ (p n a b a' m b' : ℕ) (g gives : Bool) (before : Trees) (final : Tree) (same_gives : g ≡ gives) (enter : Has code p (does.Enter (suc n)) a a') (before_at : StandAll code false before a' m) (final_at : Stands code g final m b') (base : List Item) where
-    enters_frame : (ch : List Environ) → Has code p (leave g) b' b → Progress program code (Sim code b base ch g) (todo (phrases p (suc n) gives before final) ch) (idle a base ch)
+  -- a range makes its frame
+  module _ (p out n a b a' b' : ℕ) (g gives : Bool) (within : Tree) (same_gives : g ≡ gives) (enter : Has code p (does.Enter n) a a') (within_at : Stands code g within a' b') (base : List Item) where
+    enters_frame : (ch : List Environ) → Has code out (leave g) b' b → Progress program code (Sim code b base ch g) (todo (range p out n gives within) ch) (idle a base ch)
     enters_frame [] has =
         moves_fault program code _ _ _ fault.Kind p refl
-        (at_instr code a p base [] (does.Enter (suc n)) enter.0 refl ∙ ap (λ x. Some (meets fault.Kind x)) (place_is code a p (does.Enter (suc n)) enter.0))
-        (is_inside code a p (does.Enter (suc n)) enter.0)
+        (at_instr code a p base [] (does.Enter n) enter.0 refl ∙ ap (λ x. Some (meets fault.Kind x)) (place_is code a p (does.Enter n) enter.0))
+        (is_inside code a p (does.Enter n) enter.0)
     enters_frame (e ∷ outer) has =
-        let w = want.Enter e.frame (suc e.scope) (suc n) in
+        let w = want.Enter e.frame (suc e.scope) n in
         let st = asks_for (idle a base (e ∷ outer)) base (Asking w waiting.Frame) in
         moves_act program code _ _ _ p w _ (told_by code st waiting.Frame) refl
-        (at_instr code a p base (e ∷ outer) (does.Enter (suc n)) enter.0 refl ∙ ap (λ x. Some (acts x w (told_by code st waiting.Frame))) (place_is code a p (does.Enter (suc n)) enter.0))
-        (is_inside code a p (does.Enter (suc n)) enter.0) keeps
+        (at_instr code a p base (e ∷ outer) (does.Enter n) enter.0 refl ∙ ap (λ x. Some (acts x w (told_by code st waiting.Frame))) (place_is code a p (does.Enter n) enter.0))
+        (is_inside code a p (does.Enter n) enter.0) keeps
       where
         st : State
-        st = asks_for (idle a base (e ∷ outer)) base (Asking (want.Enter e.frame (suc e.scope) (suc n)) waiting.Frame)
+        st = asks_for (idle a base (e ∷ outer)) base (Asking (want.Enter e.frame (suc e.scope) n) waiting.Frame)
 
         keeps : (r : Reply)
-            → Sim code b base (e ∷ outer) g (within_frame p (e ∷ outer) (λ inside. part (preceding (in_frame p gives) final) inside (todos before inside)) r) (told_by code st waiting.Frame r)
-        keeps (reply.Frame []) = misled_sim code b base (e ∷ outer) g p a (does.Enter (suc n)) (e ∷ outer) enter.0
-        keeps (reply.Frame (i ∷ about)) = (
-          m,
-          does_todos code (todos before (i ∷ (e ∷ outer))) a' m base (i ∷ (e ∷ outer)) false _ (todos_all code false before a' m (i ∷ (e ∷ outer)) before_at)
-              (ap (λ x. idle x base (i ∷ (e ∷ outer))) (next_is a a' enter.1)),
-          (b', final_at, (same_gives, has, refl)),
+            → Sim code b base (e ∷ outer) g (within_frame p (e ∷ outer) (λ inside. part (ranged out gives) inside (only (todo within inside))) r) (told_by code st waiting.Frame r)
+        keeps (reply.Frame []) = misled_sim code b base (e ∷ outer) g p a (does.Enter n) (e ∷ outer) enter.0
+        keeps (reply.Frame (x ∷ about)) = (
+          b',
+          (b', refl, refl, record { a = a'; stands = within_at; chain = refl; state = ap (λ y. idle y base (x ∷ (e ∷ outer))) (next_is a a' enter.1) }),
+          (refl, same_gives, has, refl),
         )
-        keeps reply.Go = misled_sim code b base (e ∷ outer) g p a (does.Enter (suc n)) (e ∷ outer) enter.0
-        keeps (reply.Value v) = misled_sim code b base (e ∷ outer) g p a (does.Enter (suc n)) (e ∷ outer) enter.0
-        keeps (reply.Base cell) = misled_sim code b base (e ∷ outer) g p a (does.Enter (suc n)) (e ∷ outer) enter.0
-        keeps (reply.Held h) = misled_sim code b base (e ∷ outer) g p a (does.Enter (suc n)) (e ∷ outer) enter.0
+        keeps reply.Go = misled_sim code b base (e ∷ outer) g p a (does.Enter n) (e ∷ outer) enter.0
+        keeps (reply.Value v) = misled_sim code b base (e ∷ outer) g p a (does.Enter n) (e ∷ outer) enter.0
+        keeps (reply.Base cell) = misled_sim code b base (e ∷ outer) g p a (does.Enter n) (e ∷ outer) enter.0
+        keeps (reply.Held h) = misled_sim code b base (e ∷ outer) g p a (does.Enter n) (e ∷ outer) enter.0
 
   -- a strand that stands elsewhere
   moved : (K : Term → State → Type 0) (t : Term) (st st' : State) → st ≡ st' → Progress program code K t st' → Progress program code K t st
@@ -117,15 +116,15 @@ module _ (program : Program) (code : Code) (same : code.modes ≡ program.modes)
         progress_row program code _ _ _ st refl
         (trees_progress parts (operating p op o) c [] s.a z.0 b base home g st refl z.3 (s.state ∙ ap (λ x. idle s.a base x) (sym s.chain)) (at, s.chain)
         (operating_done program code b base home g same p op o c z.0))
-    tree_progress (phrases p zero gives before final) c b base home g st s =
+    tree_progress (phrases p front final) c b base home g st s =
         let z = s.stands in
         progress_row program code _ _ _ st refl
-        (trees_progress before (preceding no_frame final) c [] s.a z.0 b base home g st refl z.1 (s.state ∙ ap (λ x. idle s.a base x) (sym s.chain)) (b, z.2, (refl, s.chain))
-        (preceding_done no_frame final c z.0 b base home g (λ m x. tree_progress final c m base c g x)))
-    tree_progress (phrases p (suc n) gives before final) c b base home g st s =
+        (trees_progress front (preceding final) c [] s.a z.0 b base home g st refl z.1 (s.state ∙ ap (λ x. idle s.a base x) (sym s.chain)) (s.chain, z.2)
+        (preceding_done final c z.0 b base home g (λ m x. tree_progress final c m base c g x)))
+    tree_progress (range p out n gives inside_it) c b base home g st s =
         let z = s.stands in
-        subst (λ (x : List Environ). Progress program code (Sim code b base home g) (todo (phrases p (suc n) gives before final) x) st) (sym s.chain)
-        (moved _ _ st (idle s.a base home) s.state (enters_frame p n s.a b z.0 z.1 z.2 g gives before final z.3 z.4 z.5 z.6 base home z.7))
+        subst (λ (x : List Environ). Progress program code (Sim code b base home g) (todo (range p out n gives inside_it) x) st) (sym s.chain)
+        (moved _ _ st (idle s.a base home) s.state (enters_frame p out n s.a b z.0 z.1 g gives inside_it z.2 z.3 z.4 base home z.5))
     tree_progress (choice p enquiry if_true if_false) c b base home g st s =
         let z = s.stands in
         let tail : Tail code (choosing p if_true if_false) 1 c z.0 b home g = (s.chain, refl, z.1, z.2, z.3, z.5, z.6, z.7, z.8) in
@@ -133,13 +132,14 @@ module _ (program : Program) (code : Code) (same : code.modes ≡ program.modes)
         (from_part (choosing p if_true if_false) c [] no_terms (todo enquiry c) z.0 z.0 b base home g st refl refl tail
         (λ v e last. moved _ _ st _ e (choosing_done program code b base home g p if_true if_false c z.0 (v ∷ []) last))
         (tree_progress enquiry c z.0 base c true st (record { a = s.a; stands = z.4; chain = refl; state = s.state ∙ ap (λ x. idle s.a base x) (sym s.chain) })))
-    tree_progress (loop p controls test body) c b base home g st s =
+    tree_progress (loop p controls counts at slots test body) c b base home g st s =
         let z = s.stands in
-        let l : LoopAt code p test body z.1 b =
-        record { t' = z.2; u = z.3; m = z.4; m' = z.5; n = z.6; v = z.7; e = z.8; step = z.13; turn = z.14; test_at = z.15; unless = z.16; body_at = z.17; advance = z.18; jump = z.19; forget = z.20 } in
+        let l : Turns = record { place = p; counts = counts; at = at; slots = slots; test = test; body = body } in
+        let x : LoopAt code l z.1 b =
+        record { t' = z.2; u = z.3; w = z.4; x = z.5; m = z.6; m' = z.7; n = z.8; n' = z.9; v = z.10; f = z.11; e = z.12; step = z.17; turn = z.18; index = z.19; opens = z.20; test_at = z.21; unless = z.22; body_at = z.23; out = z.24; advance = z.25; jump = z.26; quit = z.27; forget = z.28 } in
         progress_row program code _ _ _ st refl
-        (trees_progress controls (counting p test body) c [] s.a z.0 b base home g st refl z.11 (s.state ∙ ap (λ x. idle s.a base x) (sym s.chain))
-        (z.9, s.chain, count_todos controls c ∙ z.10, z.1, z.12, l) (counting_done program code b base home g p test body c z.0))
+        (trees_progress controls (counting l) c [] s.a z.0 b base home g st refl z.15 (s.state ∙ ap (λ x. idle s.a base x) (sym s.chain))
+        (z.13, s.chain, count_todos controls c ∙ z.14, z.1, z.16, x) (counting_done program code b base home g l c z.0))
     tree_progress unbuilt c b base home g st s = absurd s.stands
 
     -- parts that are reached, behind those that have yielded
@@ -160,15 +160,22 @@ module _ (program : Program) (code : Code) (same : code.modes ≡ program.modes)
   all_done : (job : Job) (ch : List Environ) (k b : ℕ) (base : List Item) (home : List Environ) (g : Bool) → Done program code job ch k b base home g
   all_done (operating p op o) ch k b base home g = operating_done program code b base home g same p op o ch k
   all_done (resuming p d) ch k b base home g = resuming_done program code b base home g p d ch k
-  all_done (preceding range final) ch k b base home g = preceding_done range final ch k b base home g (λ m x. tree_progress final ch m base ch g x)
-  all_done (ending range) ch k b base home g = ending_done program code b base home g range ch k
+  all_done (preceding final) ch k b base home g = preceding_done final ch k b base home g (λ m x. tree_progress final ch m base ch g x)
+  all_done ending ch k b base home g = ending_done program code b base home g ch k
+  all_done (ranged out yields) ch k b base home g = ranged_done program code b base home g out yields ch k
   all_done (choosing p if_true if_false) ch k b base home g = choosing_done program code b base home g p if_true if_false ch k
   all_done chosen ch k b base home g = chosen_done program code b base home g ch k
-  all_done (counting p test body) ch k b base home g = counting_done program code b base home g p test body ch k
-  all_done (stepping p c test body) ch k b base home g = stepping_done program code b base home g p c test body ch k
-  all_done (turning p c test body) ch k b base home g = turning_done program code b base home g p c test body ch k
-  all_done (testing p c test body) ch k b base home g = testing_done program code b base home g p c test body ch k
-  all_done (running p c test body) ch k b base home g = running_done program code b base home g p c test body ch k
+  all_done (counting l) ch k b base home g = counting_done program code b base home g l ch k
+  all_done (stepping c l) ch k b base home g = stepping_done program code b base home g c l ch k
+  all_done (turning c l) ch k b base home g = turning_done program code b base home g c l ch k
+  all_done (opening c l) ch k b base home g = opening_done program code b base home g c l ch k
+  all_done (naming c l) ch k b base home g = naming_done program code b base home g c l ch k
+  all_done (indexing c l) ch k b base home g = indexing_done program code b base home g c l ch k
+  all_done (ranging c l) ch k b base home g = ranging_done program code b base home g c l ch k
+  all_done (testing c l) ch k b base home g = testing_done program code b base home g c l ch k
+  all_done (running c l) ch k b base home g = running_done program code b base home g c l ch k
+  all_done (advancing n c l) ch k b base home g = advancing_done program code b base home g n c l ch k
+  all_done (quitting n p c) ch k b base home g = quitting_done program code b base home g n p c ch k
   all_done (leaving c) ch k b base home g = leaving_done program code b base home g c ch k
 
   -- what comes next for parts at hand

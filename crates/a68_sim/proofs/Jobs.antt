@@ -1,37 +1,40 @@
 -- What comes next once the parts at hand have yielded, job by job.
-use Rattle.std.proofs.Common.{◌≡◌, ◌<◌, ◌⊎◌, ℕ, suc, arith, Bool, true, false, List, [], ◌∷◌, None, Some, refl, sym, ap, ◌∙◌, subst, inl, inr, nat_lt}
+use Rattle.std.proofs.Common.{◌≡◌, ◌<◌, ◌⊎◌, ℕ, zero, suc, arith, Bool, true, false, List, [], ◌∷◌, None, Some, refl, sym, ap, ◌∙◌, subst, inl, inr, nat_lt}
 use Rattle.std.specs.Option.{option_map, option_map_or}
 use Rattle.std.specs.Prelude.{Ok, Err, slice_get, if◌then◌else◌}
 use Rattle.std.specs.declared.option.Option.{Option}
 use Rattle.std.specs.declared.result.Result.{Result}
-use Rattle.a68_acts.specs.Operations.{Operation, leaves, start, tested, counter_of, has_turn, advanced}
+use Rattle.a68_acts.specs.Operations.{Operation, leaves, start, resumed, tested, counter_of, has_turn, advanced}
 use Rattle.a68_acts.specs.declared.operation.Counter.{Counter}
+use Rattle.a68_acts.specs.declared.operation.Next.TheVariants as next
 use Rattle.a68_acts.specs.declared.want.Reply.{Reply}
 use Rattle.a68_acts.specs.declared.want.Reply.TheVariants as reply
 use Rattle.a68_acts.specs.declared.want.Want.TheVariants as want
 use Rattle.a68_code.specs.Flow.{does_at}
 use Rattle.a68_code.specs.declared.code.Code.{Code}
+use Rattle.a68_values.specs.declared.plain.Plain.TheVariants as value
+use Rattle.a68_acts.specs.declared.want.Want.{Want}
 use Rattle.a68_code.specs.declared.does.Does.{Does}
 use Rattle.a68_code.specs.declared.does.Does.TheVariants as does
 use Rattle.a68_elab.specs.Positions.{here}
-use Rattle.a68_elab.specs.Rows.{goes, acts, meets, goes_with, counted, turned, finish, row}
+use Rattle.a68_elab.specs.Rows.{in_turn, goes, acts, meets, goes_with, counted, turned, finish, row}
 use Rattle.a68_elab.specs.Rows as rows
-use Rattle.a68_elab.specs.Terms.{Range, no_frame, in_frame, Job, operating, resuming, ending, choosing, chosen, counting, stepping, turning, testing, running, leaving, Term, todo, part, yielded, no_terms, only}
-use Rattle.a68_elab.specs.Trees.{Tree, Order, Program}
-use Rattle.a68_gen.specs.Stretches.{Has, Stands, does_of, leave}
+use Rattle.a68_elab.specs.Terms.{Job, operating, resuming, ending, ranged, choosing, chosen, counting, stepping, turning, opening, naming, indexing, ranging, testing, running, advancing, quitting, leaving, Term, todo, part, yielded, no_terms, only}
+use Rattle.a68_elab.specs.Trees.{Tree, Order, Turns, depth, deeper, Program}
+use Rattle.a68_gen.specs.Stretches.{Indexes, Opens, Leaves, Has, Stands, does_of, leave}
 use Rattle.a68_modes.specs.declared.shape.Shape.{Shape}
 use Rattle.a68_sim.proofs.Asking.{idle, seen, ask, at_instr, place_is, does_is, is_inside, Back}
-use Rattle.a68_gen.proofs.Forward.{next_is, forward}
+use Rattle.a68_gen.proofs.Forward.{next_is, forward, forward_index, forward_open, forward_leaves}
 use Rattle.a68_sim.proofs.Operating.{exec_of, not_end, operation_begins, operation_goes_on}
-use Rattle.a68_sim.proofs.Quiet.{still, quietly, outwards, Progress, moves, finishes, moves_on, moves_act, moves_fault}
-use Rattle.a68_sim.proofs.Relation.{push, count_terms, doing_of, posed, parts_give, inner, LoopAt, Tail, Sim, yields, left, onto, size, values_yields, pops_left, count_yields, left_none, does_yields}
-use Rattle.a68_strand.specs.Machine.{State, exec, follows, fails, goes_on, goes_to, branches, with_counter, told_by, asks_for}
+use Rattle.a68_sim.proofs.Quiet.{progress_row, still, quietly, outwards, Progress, moves, finishes, moves_on, moves_act, moves_fault}
+use Rattle.a68_sim.proofs.Relation.{drops, bit_of, doing_of, push, count_terms, posed, parts_give, inner, LoopAt, Tail, Sim, yields, left, onto, size, values_yields, pops_left, count_yields, left_none, does_yields}
+use Rattle.a68_strand.specs.Machine.{leaves_at, does_leave, State, exec, follows, fails, goes_on, goes_to, branches, with_counter, told_by, asks_for}
 use Rattle.a68_stack.specs.Values.{pop_values}
 use Rattle.a68_strand.specs.declared.ask.Stance.TheVariants.{Asking}
 use Rattle.a68_strand.specs.declared.ask.Waiting.TheVariants as waiting
 use Rattle.a68_stack.specs.declared.stack.Item.{Item}
 use Rattle.a68_stack.specs.declared.stack.Item.TheVariants as item
-use Rattle.a68_values.specs.Content.{Content, void, scope_of}
+use Rattle.a68_values.specs.Content.{Content, void, plain, scope_of}
 use Rattle.a68_values.specs.declared.act.FaultKind.{FaultKind}
 use Rattle.a68_values.specs.declared.act.FaultKind.TheVariants as fault
 use Rattle.a68_values.specs.declared.chain.Environ.{Environ}
@@ -136,14 +139,18 @@ module _ (program : Program) (code : Code) where
     resuming_done p d ch k [] tail = operation_goes_on program code b base home g p k ch d tail.1
     resuming_done p d ch k (v ∷ acc) tail = absurd (omega (arith, tail.0, count_yields (v ∷ acc) no_terms))
 
-    pub ending_done : (range : Range) (ch : List Environ) (k : ℕ) → Done program code (ending range) ch k b base home g
-    ending_done range ch k [] tail = absurd (omega (arith, tail.0))
-    ending_done range ch k (v ∷ (w ∷ acc)) tail = absurd (two_or_more v w acc tail.0)
-    ending_done no_frame ch k (v ∷ []) tail =
-        finishes v (quietly here (row_done program (ending no_frame) ch (v ∷ [])) still)
-        (ap (λ n. idle n (push g v base) ch) tail.1.0 ∙ ap (λ c. idle b (push g v base) c) tail.1.1)
-    ending_done (in_frame p gives) ch k (v ∷ []) tail =
-        leaves_frame p k b g gives ch base home _ v tail.1.0 tail.1.1 tail.1.2 (row_done program (ending (in_frame p gives)) ch (v ∷ []))
+    pub ending_done : (ch : List Environ) (k : ℕ) → Done program code ending ch k b base home g
+    ending_done ch k [] tail = absurd (omega (arith, tail.0))
+    ending_done ch k (v ∷ (w ∷ acc)) tail = absurd (two_or_more v w acc tail.0)
+    ending_done ch k (v ∷ []) tail =
+        finishes v (quietly here (row_done program ending ch (v ∷ [])) still)
+        (ap (λ n. idle n (push g v base) ch) tail.1 ∙ ap (λ c. idle b (push g v base) c) tail.2)
+
+    pub ranged_done : (out : ℕ) (gives : Bool) (ch : List Environ) (k : ℕ) → Done program code (ranged out gives) ch k b base home g
+    ranged_done out gives ch k [] tail = absurd (omega (arith, tail.0))
+    ranged_done out gives ch k (v ∷ (w ∷ acc)) tail = absurd (two_or_more v w acc tail.0)
+    ranged_done out gives ch k (v ∷ []) tail =
+        leaves_frame out k b g gives ch base home _ v tail.1 tail.2 tail.3 (row_done program (ranged out gives) ch (v ∷ []))
 
     pub choosing_done : (p : ℕ) (if_true if_false : Tree) (ch : List Environ) (k : ℕ) → Done program code (choosing p if_true if_false) ch k b base home g
     choosing_done p if_true if_false ch k [] tail = absurd (omega (arith, tail.1))
@@ -178,138 +185,279 @@ module _ (program : Program) (code : Code) where
             (at_instr code k jump.0 (push g v base) ch (does.Jump b) jump.2.0 refl) (is_inside code k jump.0 (does.Jump b) jump.2.0)
             (inl (let x = forward code g jump.3 jump.1 b jump.4 in let y = jump.2.1 in omega arith)) (ap (λ c. idle b (push g v base) c) tail.0)
 
-    pub counting_done : (p : ℕ) (test body : Tree) (ch : List Environ) (k : ℕ) → Done program code (counting p test body) ch k b base home g
-    counting_done p test body ch k [] tail = absurd (omega (arith, tail.2))
-    counting_done p test body ch k (v ∷ []) tail = absurd (omega (arith, tail.2))
-    counting_done p test body ch k (v ∷ (w ∷ [])) tail = absurd (omega (arith, tail.2))
-    counting_done p test body ch k (v ∷ (w ∷ (x ∷ (y ∷ acc)))) tail = absurd (omega (arith, tail.2, count_yields (v ∷ (w ∷ (x ∷ (y ∷ acc)))) no_terms))
-    counting_done p test body ch k (to ∷ (by ∷ (from ∷ []))) tail =
-        by_result (counter_of from by to) (row_done program (counting p test body) ch (to ∷ (by ∷ (from ∷ []))))
-        (at_instr code k p (item.Value to ∷ (item.Value by ∷ (item.Value from ∷ base))) ch does.Counter tail.4.0 refl)
+    pub counting_done : (l : Turns) (ch : List Environ) (k : ℕ) → Done program code (counting l) ch k b base home g
+    counting_done l ch k [] tail = absurd (omega (arith, tail.2))
+    counting_done l ch k (v ∷ []) tail = absurd (omega (arith, tail.2))
+    counting_done l ch k (v ∷ (w ∷ [])) tail = absurd (omega (arith, tail.2))
+    counting_done l ch k (v ∷ (w ∷ (x ∷ (y ∷ acc)))) tail = absurd (omega (arith, tail.2, count_yields (v ∷ (w ∷ (x ∷ (y ∷ acc)))) no_terms))
+    counting_done l ch k (to ∷ (by ∷ (from ∷ []))) tail =
+        by_result (counter_of from by to) (row_done program (counting l) ch (to ∷ (by ∷ (from ∷ []))))
+        (at_instr code k l.place (item.Value to ∷ (item.Value by ∷ (item.Value from ∷ base))) ch does.Counter tail.4.0 refl)
       where
         st : State
         st = idle k (item.Value to ∷ (item.Value by ∷ (item.Value from ∷ base))) ch
 
         t : Term
-        t = part (counting p test body) ch (yields (to ∷ (by ∷ (from ∷ []))) no_terms)
+        t = part (counting l) ch (yields (to ∷ (by ∷ (from ∷ []))) no_terms)
 
-        by_result : (res : Result Counter FaultKind) → row program t ≡ Some (goes_with p (λ c. part (stepping p c test body) ch no_terms) res)
+        by_result : (res : Result Counter FaultKind) → row program t ≡ Some (goes_with l.place (λ c. part (stepping c l) ch no_terms) res)
             → ask code st ≡ Some (seen code (with_counter st base res)) → Progress program code (Sim code b base home g) t st
         by_result (Ok c) e a =
-            moves_on program code _ t _ _ (idle (suc k) (item.Counter c ∷ base) ch) e a (is_inside code k p does.Counter tail.4.0) (inl (omega arith))
+            moves_on program code _ t _ _ (idle (suc k) (item.Counter c ∷ base) ch) e a (is_inside code k l.place does.Counter tail.4.0) (inl (omega arith))
             (tail.3, ap (λ n. idle n (item.Counter c ∷ base) ch) (next_is k tail.3 tail.4.1), (tail.0, tail.1, tail.5))
         by_result (Err why) e a =
-            moves_fault program code _ t _ why p e (a ∙ ap (λ x. Some (meets why x)) (place_is code k p does.Counter tail.4.0)) (is_inside code k p does.Counter tail.4.0)
+            moves_fault program code _ t _ why l.place e (a ∙ ap (λ x. Some (meets why x)) (place_is code k l.place does.Counter tail.4.0)) (is_inside code k l.place does.Counter tail.4.0)
 
     -- the places of a loop, in order
-    in_loop : (p : ℕ) (test body : Tree) (t : ℕ) (l : LoopAt code p test body t b) → (t < l.e) × (l.m < l.e) × (suc l.n < l.e)
-    in_loop p test body t l =
-        let x = forward code true test l.u l.m l.test_at in let y = forward code false body l.m' l.n l.body_at in
-        let p2 = l.step.1 in let p3 = l.turn.1 in let p4 = l.unless.1 in let p5 = l.advance.1 in let p6 = l.jump.1 in
+    in_loop : (l : Turns) (t : ℕ) (x : LoopAt code l t b) → (t < x.e) × (x.m < x.f) × (suc x.n' < x.e)
+    in_loop l t x =
+        let a = forward code true l.test x.x x.m x.test_at in let c = forward code false l.body x.m' x.n x.body_at in
+        let i = forward_index code l.counts l.place x.u x.w x.index in let o = forward_open code l.slots l.at x.w x.x x.opens in
+        let q = forward_leaves code l.place (depth l.counts l.slots) x.n x.n' x.out in let r = forward_leaves code l.place (depth l.counts l.slots) x.f x.e x.quit in
+        let p2 = x.step.1 in let p3 = x.turn.1 in let p4 = x.unless.1 in let p5 = x.advance.1 in let p6 = x.jump.1 in
         (omega arith, omega arith, omega arith)
 
-    pub stepping_done : (p : ℕ) (c : Counter) (test body : Tree) (ch : List Environ) (k : ℕ) → Done program code (stepping p c test body) ch k b base home g
-    stepping_done p c test body ch k acc tail =
-        on_bare (stepping p c test body) ch k acc (item.Counter c ∷ base)
-        (by_test (has_turn c) (row_done program (stepping p c test body) ch acc) (at_instr code k p (item.Counter c ∷ base) ch (does.Step tail.2.e) tail.2.step.0 refl))
+    pub stepping_done : (c : Counter) (l : Turns) (ch : List Environ) (k : ℕ) → Done program code (stepping c l) ch k b base home g
+    stepping_done c l ch k acc tail =
+        on_bare (stepping c l) ch k acc (item.Counter c ∷ base)
+        (by_test (has_turn c) (row_done program (stepping c l) ch acc) (at_instr code k l.place (item.Counter c ∷ base) ch (does.Step tail.2.e) tail.2.step.0 refl))
       where
         by_test : (more : Bool)
-            → row program (part (stepping p c test body) ch (yields acc no_terms)) ≡ Some (goes (if more then part (turning p c test body) ch no_terms else part (leaving c) ch no_terms))
+            → row program (part (stepping c l) ch (yields acc no_terms)) ≡ Some (goes (if more then part (turning c l) ch no_terms else part (leaving c) ch no_terms))
             → ask code (idle k (item.Counter c ∷ base) ch) ≡ Some (seen code (if more then idle (suc k) (item.Counter c ∷ base) ch else idle tail.2.e (item.Counter c ∷ base) ch))
-            → Progress program code (Sim code b base home g) (part (stepping p c test body) ch (yields acc no_terms)) (idle k (item.Counter c ∷ base) ch)
+            → Progress program code (Sim code b base home g) (part (stepping c l) ch (yields acc no_terms)) (idle k (item.Counter c ∷ base) ch)
         by_test true e a =
-            let l = tail.2 in
-            moves_on program code _ _ _ _ (idle (suc k) (item.Counter c ∷ base) ch) e a (is_inside code k p (does.Step l.e) l.step.0) (inl (omega arith))
-            (l.t', ap (λ n. idle n (item.Counter c ∷ base) ch) (next_is k l.t' l.step.1), (tail.0, tail.1, k, l, refl))
+            let x = tail.2 in
+            moves_on program code _ _ _ _ (idle (suc k) (item.Counter c ∷ base) ch) e a (is_inside code k l.place (does.Step x.e) x.step.0) (inl (omega arith))
+            (x.t', ap (λ n. idle n (item.Counter c ∷ base) ch) (next_is k x.t' x.step.1), (tail.0, tail.1, k, x, refl))
         by_test false e a =
-            let l = tail.2 in
-            moves_on program code _ _ _ _ (idle l.e (item.Counter c ∷ base) ch) e a (is_inside code k p (does.Step l.e) l.step.0)
-            (inl (in_loop p test body k l).0) (l.e, refl, (tail.0, tail.1, p, inl l.forget))
+            let x = tail.2 in
+            moves_on program code _ _ _ _ (idle x.e (item.Counter c ∷ base) ch) e a (is_inside code k l.place (does.Step x.e) x.step.0)
+            (inl (in_loop l k x).0) (x.e, refl, (tail.0, tail.1, l.place, inl x.forget))
 
-    pub turning_done : (p : ℕ) (c : Counter) (test body : Tree) (ch : List Environ) (k : ℕ) → Done program code (turning p c test body) ch k b base home g
-    turning_done p c test body ch k acc tail =
-        let l = tail.3 in
-        let turn : Has code p does.Turn k l.u = subst (λ (x : ℕ). Has code p does.Turn x l.u) (sym tail.4) l.turn in
+    -- the test of a turn
+    turn_sim : (c : Counter) (l : Turns) (slots : ℕ) → l.slots ≡ slots → (ch : List Environ) → g ≡ false → drops (bit_of l.counts) ch ≡ home → (t : ℕ) (x : LoopAt code l t b)
+        → (st : State) → st ≡ idle x.w (item.Counter c ∷ base) ch → Sim code b base home g (in_turn slots c l ch) st
+    turn_sim c l zero is ch eg hangs t x st e =
+        let same : x.w ≡ x.x = subst (λ (n : ℕ). Opens code n l.at x.w x.x) is x.opens in
+        let deep : depth l.counts l.slots ≡ bit_of l.counts = ap (λ (n : ℕ). deeper n (bit_of l.counts)) is in (
+          x.m,
+          (x.m, refl, refl, record { a = x.w; stands = subst (λ (n : ℕ). Stands code true l.test n x.m) (sym same) x.test_at; chain = refl; state = e }),
+          (eg, ap (λ (n : ℕ). drops n ch) deep ∙ hangs, refl, t, x, refl),
+        )
+    turn_sim c l (suc s) is ch eg hangs t x st e = (x.w, e, (eg, hangs, t, x, refl, s, is))
+
+    pub turning_done : (c : Counter) (l : Turns) (ch : List Environ) (k : ℕ) → Done program code (turning c l) ch k b base home g
+    turning_done c l ch k acc tail =
+        let x = tail.3 in
+        let turn : Has code l.place does.Turn k x.u = subst (λ (y : ℕ). Has code l.place does.Turn y x.u) (sym tail.4) x.turn in
         let items = item.Counter c ∷ base in
         let st = asks_for (idle k items ch) items (Asking want.Turn waiting.Turn) in
-        on_bare (turning p c test body) ch k acc items
-        (moves_act program code _ _ (idle k items ch) p want.Turn _ (told_by code st waiting.Turn) (row_done program (turning p c test body) ch acc)
-        (at_instr code k p items ch does.Turn turn.0 refl ∙ ap (λ x. Some (acts x want.Turn (told_by code st waiting.Turn))) (place_is code k p does.Turn turn.0))
-        (is_inside code k p does.Turn turn.0) (keeps turn))
+        on_bare (turning c l) ch k acc items
+        (moves_act program code _ _ (idle k items ch) l.place want.Turn _ (told_by code st waiting.Turn) (row_done program (turning c l) ch acc)
+        (at_instr code k l.place items ch does.Turn turn.0 refl ∙ ap (λ y. Some (acts y want.Turn (told_by code st waiting.Turn))) (place_is code k l.place does.Turn turn.0))
+        (is_inside code k l.place does.Turn turn.0) (keeps turn))
       where
-        keeps : Has code p does.Turn k tail.3.u → (r : Reply)
-            → Sim code b base home g (turned p ch (part (testing p c test body) ch (only (todo test ch))) r)
+        by_counts : Has code l.place does.Turn k tail.3.u → (y : Bool) → l.counts ≡ y
+            → Sim code b base home g (if y then part (opening c l) ch no_terms else in_turn l.slots c l ch) (idle (suc k) (item.Counter c ∷ base) ch)
+        by_counts turn true is = let x = tail.3 in (x.u, ap (λ n. idle n (item.Counter c ∷ base) ch) (next_is k x.u turn.1), (tail.0, tail.1, tail.2, x, refl, is))
+        by_counts turn false is =
+            let x = tail.3 in
+            let same : x.u ≡ x.w = subst (λ (y : Bool). Indexes code y l.place x.u x.w) is x.index in
+            turn_sim c l l.slots refl ch tail.0 (ap (λ (y : Bool). drops (bit_of y) ch) is ∙ tail.1) tail.2 x _
+            (ap (λ n. idle n (item.Counter c ∷ base) ch) (next_is k x.u turn.1 ∙ same))
+
+        keeps : Has code l.place does.Turn k tail.3.u → (r : Reply)
+            → Sim code b base home g (turned l.place ch (if l.counts then part (opening c l) ch no_terms else in_turn l.slots c l ch) r)
             (told_by code (asks_for (idle k (item.Counter c ∷ base) ch) (item.Counter c ∷ base) (Asking want.Turn waiting.Turn)) waiting.Turn r)
-        keeps turn reply.Go =
-            let l = tail.3 in (
-              l.m,
-              (l.m, refl, refl, record { a = l.u; stands = l.test_at; chain = refl; state = ap (λ n. idle n (item.Counter c ∷ base) ch) (next_is k l.u turn.1) }),
-              (tail.0, tail.1, refl, tail.2, l, refl),
-            )
-        keeps turn (reply.Frame chain) = misled_sim code b base home g p k does.Turn ch turn.0
-        keeps turn (reply.Value v) = misled_sim code b base home g p k does.Turn ch turn.0
-        keeps turn (reply.Base cell) = misled_sim code b base home g p k does.Turn ch turn.0
-        keeps turn (reply.Held h) = misled_sim code b base home g p k does.Turn ch turn.0
+        keeps turn reply.Go = by_counts turn l.counts refl
+        keeps turn (reply.Frame chain) = misled_sim code b base home g l.place k does.Turn ch turn.0
+        keeps turn (reply.Value v) = misled_sim code b base home g l.place k does.Turn ch turn.0
+        keeps turn (reply.Base cell) = misled_sim code b base home g l.place k does.Turn ch turn.0
+        keeps turn (reply.Held h) = misled_sim code b base home g l.place k does.Turn ch turn.0
 
-    pub testing_done : (p : ℕ) (c : Counter) (test body : Tree) (ch : List Environ) (k : ℕ) → Done program code (testing p c test body) ch k b base home g
-    testing_done p c test body ch k [] tail = absurd (omega (arith, tail.2))
-    testing_done p c test body ch k (v ∷ (w ∷ acc)) tail = absurd (two_or_more v w acc tail.2)
-    testing_done p c test body ch k (v ∷ []) tail =
-        branch b base home g p k l.e v (item.Counter c ∷ base) ch _
-        (λ answer. if answer then part (running p c test body) ch (only (todo body ch)) else part (leaving c) ch no_terms)
-        unless.0 (let x = (in_loop p test body tail.3 l).1 in let y = tail.5 in omega arith) (row_done program (testing p c test body) ch (v ∷ [])) keeps
+    -- a frame of a turn is made
+    opens_frame : (t : Term) (p n k : ℕ) (items : List Item) (f : List Environ → Term) (ch : List Environ) → (k2 : ℕ) → Has code p (does.Enter n) k k2 → row program t ≡ Some (rows.enters p n ch f)
+        → ((e : Environ) → Sim code b base home g (f (e ∷ ch)) (idle k2 items (e ∷ ch)))
+        → ((q : ℕ) (d : Does) → slice_get code.list k ≡ Some (record { place = q; does = d }) → Sim code b base home g (rows.misled q ch) (fails (idle k [] ch) fault.Kind))
+        → Progress program code (Sim code b base home g) t (idle k items ch)
+    opens_frame t p n k items f [] k2 has e keeps mis =
+        moves_fault program code _ _ _ fault.Kind p e
+        (at_instr code k p items [] (does.Enter n) has.0 refl ∙ ap (λ x. Some (meets fault.Kind x)) (place_is code k p (does.Enter n) has.0))
+        (is_inside code k p (does.Enter n) has.0)
+    opens_frame t p n k items f (en ∷ outer) k2 has e keeps mis =
+        let w = want.Enter en.frame (suc en.scope) n in
+        let st = asks_for (idle k items (en ∷ outer)) items (Asking w waiting.Frame) in
+        moves_act program code _ _ _ p w _ (told_by code st waiting.Frame) e
+        (at_instr code k p items (en ∷ outer) (does.Enter n) has.0 refl ∙ ap (λ x. Some (acts x w (told_by code st waiting.Frame))) (place_is code k p (does.Enter n) has.0))
+        (is_inside code k p (does.Enter n) has.0) told
       where
-        l : LoopAt code p test body tail.3 b
-        l = tail.4
+        st : State
+        st = asks_for (idle k items (en ∷ outer)) items (Asking (want.Enter en.frame (suc en.scope) n) waiting.Frame)
 
-        unless : Has code p (does.Unless tail.4.e) k tail.4.m'
-        unless = subst (λ (x : ℕ). Has code p (does.Unless tail.4.e) x tail.4.m') (sym tail.5) tail.4.unless
+        told : (r : Reply) → Sim code b base home g (rows.within_frame p (en ∷ outer) f r) (told_by code st waiting.Frame r)
+        told (reply.Frame []) = mis p (does.Enter n) has.0
+        told (reply.Frame (x ∷ about)) =
+            subst (λ (y : ℕ). Sim code b base home g (f (x ∷ (en ∷ outer))) (idle y items (x ∷ (en ∷ outer)))) (sym (next_is k k2 has.1)) (keeps x)
+        told reply.Go = mis p (does.Enter n) has.0
+        told (reply.Value v) = mis p (does.Enter n) has.0
+        told (reply.Base cell) = mis p (does.Enter n) has.0
+        told (reply.Held h) = mis p (does.Enter n) has.0
 
-        keeps : (answer : Bool) → Sim code b base home g (if answer then part (running p c test body) ch (only (todo body ch)) else part (leaving c) ch no_terms)
-            (idle (if answer then suc k else tail.4.e) (item.Counter c ∷ base) ch)
+    pub opening_done : (c : Counter) (l : Turns) (ch : List Environ) (k : ℕ) → Done program code (opening c l) ch k b base home g
+    opening_done c l ch k acc tail =
+        let x = tail.3 in
+        let i : Indexes code true l.place x.u x.w = subst (λ (y : Bool). Indexes code y l.place x.u x.w) tail.5 x.index in
+        let has : Has code l.place (does.Enter 1) k i.0 = subst (λ (y : ℕ). Has code l.place (does.Enter 1) y i.0) (sym tail.4) i.2 in
+        on_bare (opening c l) ch k acc (item.Counter c ∷ base)
+        (opens_frame _ l.place 1 k (item.Counter c ∷ base) (λ inner. part (naming c l) inner no_terms) ch i.0 has (row_done program (opening c l) ch acc)
+        (λ e. (i.0, refl, (tail.0, tail.1, tail.2, x, tail.5, i.1, i.3, i.4)))
+        (λ q d h. misled_sim code b base home g q k d ch h))
+
+    pub ranging_done : (c : Counter) (l : Turns) (ch : List Environ) (k : ℕ) → Done program code (ranging c l) ch k b base home g
+    ranging_done c l ch k acc tail =
+        let x = tail.3 in
+        let o : Has code l.at (does.Enter (suc tail.5)) x.w x.x = subst (λ (y : ℕ). Opens code y l.at x.w x.x) tail.6 x.opens in
+        let has0 : Has code l.at (does.Enter (suc tail.5)) k x.x = subst (λ (y : ℕ). Has code l.at (does.Enter (suc tail.5)) y x.x) (sym tail.4) o in
+        let has : Has code l.at (does.Enter l.slots) k x.x = subst (λ (y : ℕ). Has code l.at (does.Enter y) k x.x) (sym tail.6) has0 in
+        let deep : depth l.counts l.slots ≡ suc (bit_of l.counts) = ap (λ (n : ℕ). deeper n (bit_of l.counts)) tail.6 in
+        on_bare (ranging c l) ch k acc (item.Counter c ∷ base)
+        (opens_frame _ l.at l.slots k (item.Counter c ∷ base) (λ inner. part (testing c l) inner (only (todo l.test inner))) ch x.x has (row_done program (ranging c l) ch acc)
+        (λ e. (
+          x.m,
+          (x.m, refl, refl, record { a = x.x; stands = x.test_at; chain = refl; state = refl }),
+          (tail.0, ap (λ (n : ℕ). drops n (e ∷ ch)) deep ∙ tail.1, refl, tail.2, x, refl),
+        ))
+        (λ q d h. misled_sim code b base home g q k d ch h))
+
+    pub naming_done : (c : Counter) (l : Turns) (ch : List Environ) (k : ℕ) → Done program code (naming c l) ch k b base home g
+    naming_done c l ch k acc tail =
+        let items = item.Value (plain (value.Int c.at)) ∷ (item.Counter c ∷ base) in
+        on_bare (naming c l) ch k acc (item.Counter c ∷ base)
+        (moves_on program code _ _ _ _ (idle (suc k) items ch) (row_done program (naming c l) ch acc)
+        (at_instr code k l.place (item.Counter c ∷ base) ch does.Index tail.6.0 refl) (is_inside code k l.place does.Index tail.6.0) (inl (omega arith))
+        (tail.5, ap (λ n. idle n items ch) (next_is k tail.5 tail.6.1), (tail.0, tail.1, tail.2, tail.3, tail.4, tail.7)))
+
+    pub indexing_done : (c : Counter) (l : Turns) (ch : List Environ) (k : ℕ) → Done program code (indexing c l) ch k b base home g
+    unfolding start resumed
+    indexing_done c l [] k acc tail =
+        let items = item.Value (plain (value.Int c.at)) ∷ (item.Counter c ∷ base) in
+        on_bare (indexing c l) [] k acc items
+        (moves_fault program code _ _ _ fault.Kind l.place (row_done program (indexing c l) [] acc)
+        (at_instr code k l.place items [] (does.Bind 0) tail.5.0 refl ∙ ap (λ x. Some (meets fault.Kind x)) (place_is code k l.place (does.Bind 0) tail.5.0))
+        (is_inside code k l.place (does.Bind 0) tail.5.0))
+    indexing_done c l (e ∷ outer) k acc tail =
+        let items = item.Value (plain (value.Int c.at)) ∷ (item.Counter c ∷ base) in
+        on_bare (indexing c l) (e ∷ outer) k acc items
+        (moves_act program code _ _ _ l.place w _ (told_by code st (waiting.Operation next.Void)) (row_done program (indexing c l) (e ∷ outer) acc)
+        (at_instr code k l.place items (e ∷ outer) (does.Bind 0) tail.5.0 refl ∙ ap (λ x. Some (acts x w (told_by code st (waiting.Operation next.Void)))) (place_is code k l.place (does.Bind 0) tail.5.0))
+        (is_inside code k l.place (does.Bind 0) tail.5.0) told)
+      where
+        w : Want
+        w = want.Bind e.frame 0 (plain (value.Int c.at))
+
+        st : State
+        st = asks_for (idle k (item.Value (plain (value.Int c.at)) ∷ (item.Counter c ∷ base)) (e ∷ outer)) (item.Counter c ∷ base) (Asking (want.Bind e.frame 0 (plain (value.Int c.at))) (waiting.Operation next.Void))
+
+        leaves_none : leaves_at code k ≡ false
+        leaves_none = ap (λ (o : Option Does). option_map_or (does_leave code.modes) o false) (does_is code k l.place (does.Bind 0) tail.5.0)
+
+        misled_here : Sim code b base home g (rows.misled l.place (e ∷ outer)) (fails (idle k [] (e ∷ outer)) fault.Kind)
+        misled_here = misled_sim code b base home g l.place k (does.Bind 0) (e ∷ outer) tail.5.0
+
+        by_leaves : (y : Bool) → y ≡ false → (r : Reply)
+            → Sim code b base home g (turned l.place (e ∷ outer) (in_turn l.slots c l (e ∷ outer)) r) (follows st y (item.Counter c ∷ base) (resumed next.Void r))
+        by_leaves true is r = absurd (cc)
+        by_leaves false is reply.Go =
+            turn_sim c l l.slots refl (e ∷ outer) tail.0 (ap (λ (y : Bool). drops (bit_of y) (e ∷ outer)) tail.4 ∙ tail.1) tail.2 tail.3 _
+            (ap (λ n. idle n (item.Counter c ∷ base) (e ∷ outer)) (next_is k tail.3.w tail.5.1))
+        by_leaves false is (reply.Frame chain) = misled_here
+        by_leaves false is (reply.Value v) = misled_here
+        by_leaves false is (reply.Base cell) = misled_here
+        by_leaves false is (reply.Held h) = misled_here
+
+        told : (r : Reply) → Sim code b base home g (turned l.place (e ∷ outer) (in_turn l.slots c l (e ∷ outer)) r) (told_by code st (waiting.Operation next.Void) r)
+        told r = by_leaves (leaves_at code k) leaves_none r
+
+    pub testing_done : (c : Counter) (l : Turns) (ch : List Environ) (k : ℕ) → Done program code (testing c l) ch k b base home g
+    testing_done c l ch k [] tail = absurd (omega (arith, tail.2))
+    testing_done c l ch k (v ∷ (w ∷ acc)) tail = absurd (two_or_more v w acc tail.2)
+    testing_done c l ch k (v ∷ []) tail =
+        branch b base home g l.place k tail.4.f v (item.Counter c ∷ base) ch _
+        (λ answer. if answer then part (running c l) ch (only (todo l.body ch)) else part (quitting (depth l.counts l.slots) l.place c) ch no_terms)
+        unless.0 (let x = (in_loop l tail.3 tail.4).1 in let y = tail.5 in omega arith) (row_done program (testing c l) ch (v ∷ [])) keeps
+      where
+        unless : Has code l.place (does.Unless tail.4.f) k tail.4.m'
+        unless = subst (λ (x : ℕ). Has code l.place (does.Unless tail.4.f) x tail.4.m') (sym tail.5) tail.4.unless
+
+        keeps : (answer : Bool) → Sim code b base home g (if answer then part (running c l) ch (only (todo l.body ch)) else part (quitting (depth l.counts l.slots) l.place c) ch no_terms)
+            (idle (if answer then suc k else tail.4.f) (item.Counter c ∷ base) ch)
         keeps true = (
           tail.4.n,
           (tail.4.n, refl, refl, record { a = tail.4.m'; stands = tail.4.body_at; chain = refl; state = ap (λ n. idle n (item.Counter c ∷ base) ch) (next_is k tail.4.m' unless.1) }),
           (tail.0, tail.1, tail.3, tail.4, refl),
         )
-        keeps false = (tail.4.e, refl, (tail.0, tail.1, p, inl tail.4.forget))
+        keeps false = (tail.4.f, refl, (tail.0, tail.1, tail.4.e, tail.4.quit, tail.4.forget))
 
-    pub running_done : (p : ℕ) (c : Counter) (test body : Tree) (ch : List Environ) (k : ℕ) → Done program code (running p c test body) ch k b base home g
-    running_done p c test body ch k acc tail =
-        on_bare (running p c test body) ch k acc (item.Counter c ∷ base)
-        (by_next (advanced c) (row_done program (running p c test body) ch acc) (at_instr code k p (item.Counter c ∷ base) ch (does.Advance t) advance.0 refl))
+    -- a frame of a turn is left
+    goes_outwards : (t : Term) (p k k2 : ℕ) (items : List Item) (f : List Environ → Term) (ch : List Environ) → Has code p (does.Leave 0) k k2 → row program t ≡ Some (rows.goes_out p ch f)
+        → Sim code b base home g (f (outwards ch)) (idle k2 items (outwards ch)) → Progress program code (Sim code b base home g) t (idle k items ch)
+    goes_outwards t p k k2 items f [] has e keeps =
+        moves_fault program code _ _ _ fault.Kind p e (at_instr code k p items [] (does.Leave 0) has.0 refl ∙ ap (λ x. Some (meets fault.Kind x)) (place_is code k p (does.Leave 0) has.0))
+        (is_inside code k p (does.Leave 0) has.0)
+    goes_outwards t p k k2 items f (x ∷ []) has e keeps =
+        moves_fault program code _ _ _ fault.Kind p e (at_instr code k p items (x ∷ []) (does.Leave 0) has.0 refl ∙ ap (λ y. Some (meets fault.Kind y)) (place_is code k p (does.Leave 0) has.0))
+        (is_inside code k p (does.Leave 0) has.0)
+    goes_outwards t p k k2 items f (x ∷ (o ∷ outer)) has e keeps =
+        moves_on program code _ _ _ _ (idle (suc k) items (o ∷ outer)) e (at_instr code k p items (x ∷ (o ∷ outer)) (does.Leave 0) has.0 refl) (is_inside code k p (does.Leave 0) has.0)
+        (inl (omega arith)) (subst (λ (y : ℕ). Sim code b base home g (f (o ∷ outer)) (idle y items (o ∷ outer))) (sym (next_is k k2 has.1)) keeps)
+
+    pub advancing_done : (j : ℕ) (c : Counter) (l : Turns) (ch : List Environ) (k : ℕ) → Done program code (advancing j c l) ch k b base home g
+    advancing_done (suc j) c l ch k acc tail =
+        on_bare (advancing (suc j) c l) ch k acc (item.Counter c ∷ base)
+        (goes_outwards _ l.place k tail.4.0 (item.Counter c ∷ base) (λ out. part (advancing j c l) out no_terms) ch tail.4.1 (row_done program (advancing (suc j) c l) ch acc)
+        (tail.4.0, refl, (tail.0, tail.1, tail.2, tail.3, tail.4.2)))
+    advancing_done zero c l ch k acc tail =
+        on_bare (advancing zero c l) ch k acc (item.Counter c ∷ base)
+        (by_next (advanced c) (row_done program (advancing zero c l) ch acc) (at_instr code k l.place (item.Counter c ∷ base) ch (does.Advance tail.2) advance.0 refl))
       where
         t : ℕ
         t = tail.2
 
-        l : LoopAt code p test body tail.2 b
-        l = tail.3
+        x : LoopAt code l tail.2 b
+        x = tail.3
 
         st : State
         st = idle k (item.Counter c ∷ base) ch
 
-        advance : Has code p (does.Advance tail.2) k tail.3.v
-        advance = subst (λ (x : ℕ). Has code p (does.Advance tail.2) x tail.3.v) (sym tail.4) tail.3.advance
+        advance : Has code l.place (does.Advance tail.2) k tail.3.v
+        advance = subst (λ (y : ℕ). Has code l.place (does.Advance tail.2) y tail.3.v) (sym tail.4) tail.3.advance
 
         back : Back code k tail.2
         back = record {
           behind = tail.3.e;
-          step = does_is code tail.2 p (does.Step tail.3.e) tail.3.step.0;
-          turn = ap (does_at code.list) (next_is tail.2 tail.3.t' tail.3.step.1) ∙ does_is code tail.3.t' p does.Turn tail.3.turn.0;
-          leaves = (let x = (in_loop p test body tail.2 tail.3).2 in let y = tail.4 in omega arith);
-          inside = is_inside code tail.3.e p does.Forget tail.3.forget.0;
+          step = does_is code tail.2 l.place (does.Step tail.3.e) tail.3.step.0;
+          turn = ap (does_at code.list) (next_is tail.2 tail.3.t' tail.3.step.1) ∙ does_is code tail.3.t' l.place does.Turn tail.3.turn.0;
+          leaves = (let y = (in_loop l tail.2 tail.3).2 in let z = tail.4 in omega arith);
+          inside = is_inside code tail.3.e l.place does.Forget tail.3.forget.0;
         }
 
         by_next : (o : Option Counter)
-            → row program (part (running p c test body) ch (yields acc no_terms)) ≡ Some (goes (option_map_or (λ next. part (stepping p next test body) ch no_terms) o (part (leaving c) ch no_terms)))
+            → row program (part (advancing zero c l) ch (yields acc no_terms)) ≡ Some (goes (option_map_or (λ next. part (stepping next l) ch no_terms) o (part (leaving c) ch no_terms)))
             → ask code st ≡ Some (seen code (option_map_or (λ next. goes_to st tail.2 (item.Counter next ∷ base)) o (goes_on st (item.Counter c ∷ base))))
-            → Progress program code (Sim code b base home g) (part (running p c test body) ch (yields acc no_terms)) st
+            → Progress program code (Sim code b base home g) (part (advancing zero c l) ch (yields acc no_terms)) st
         by_next (Some next) e a =
-            moves_on program code _ _ _ _ (idle tail.2 (item.Counter next ∷ base) ch) e a (is_inside code k p (does.Advance tail.2) advance.0) (inr back)
+            moves_on program code _ _ _ _ (idle tail.2 (item.Counter next ∷ base) ch) e a (is_inside code k l.place (does.Advance tail.2) advance.0) (inr back)
             (tail.2, refl, (tail.0, tail.1, tail.3))
         by_next None e a =
-            moves_on program code _ _ _ _ (idle (suc k) (item.Counter c ∷ base) ch) e a (is_inside code k p (does.Advance tail.2) advance.0) (inl (omega arith))
-            (tail.3.v, ap (λ n. idle n (item.Counter c ∷ base) ch) (next_is k tail.3.v advance.1), (tail.0, tail.1, p, inr (tail.3.e, tail.3.jump, tail.3.forget)))
+            moves_on program code _ _ _ _ (idle (suc k) (item.Counter c ∷ base) ch) e a (is_inside code k l.place (does.Advance tail.2) advance.0) (inl (omega arith))
+            (tail.3.v, ap (λ n. idle n (item.Counter c ∷ base) ch) (next_is k tail.3.v advance.1), (tail.0, tail.1, l.place, inr (tail.3.e, tail.3.f, tail.3.jump, (let y = (in_loop l tail.2 tail.3).2 in let z = advance.1 in let w = tail.4 in omega arith), tail.3.forget)))
+
+    pub running_done : (c : Counter) (l : Turns) (ch : List Environ) (k : ℕ) → Done program code (running c l) ch k b base home g
+    running_done c l ch k acc tail =
+        on_bare (running c l) ch k acc (item.Counter c ∷ base)
+        (progress_row program code _ _ _ _ (row_done program (running c l) ch acc)
+        (advancing_done (depth l.counts l.slots) c l ch k [] (tail.0, tail.1, tail.2, tail.3, subst (λ (y : ℕ). Leaves code l.place (depth l.counts l.slots) y tail.3.n') (sym tail.4) tail.3.out)))
 
     pub leaving_done : (c : Counter) (ch : List Environ) (k : ℕ) → Done program code (leaving c) ch k b base home g
     leaving_done c ch k acc tail = on_bare (leaving c) ch k acc (item.Counter c ∷ base) (by_place tail.3)
@@ -317,7 +465,7 @@ module _ (program : Program) (code : Code) where
         p : ℕ
         p = tail.2
 
-        by_place : (Has code tail.2 does.Forget k b ⊎ ((e : ℕ) × Has code tail.2 (does.Jump e) k e × Has code tail.2 does.Forget e b))
+        by_place : (Has code tail.2 does.Forget k b ⊎ ((e f : ℕ) × Has code tail.2 (does.Jump e) k f × (k < e) × Has code tail.2 does.Forget e b))
             → Progress program code (Sim code b base home g) (part (leaving c) ch (yields acc no_terms)) (idle k (item.Counter c ∷ base) ch)
         by_place (inl forget) =
             moves_on program code _ _ _ _ (idle (suc k) base ch) (row_done program (leaving c) ch acc)
@@ -325,16 +473,26 @@ module _ (program : Program) (code : Code) where
             (ap (λ n. idle n base ch) (next_is k b forget.1) ∙ ap (λ x. idle b base x) tail.1 ∙ ap (λ (x : Bool). idle b (push x void base) home) (sym tail.0))
         by_place (inr jump) = moves (record {
           what = goes (idle jump.0 (item.Counter c ∷ base) ch);
-          asks = at_instr code k tail.2 (item.Counter c ∷ base) ch (does.Jump jump.0) jump.1.0 refl;
+          asks = at_instr code k tail.2 (item.Counter c ∷ base) ch (does.Jump jump.0) jump.2.0 refl;
           follows = (
             part (leaving c) ch (yields acc no_terms),
             still,
             (
               jump.0,
               does_yields code acc no_terms jump.0 (item.Counter c ∷ base) ch false None _ (ap (λ s. idle jump.0 s ch) (sym (left_none acc (item.Counter c ∷ base)))),
-              (tail.0, tail.1, tail.2, inl jump.2),
+              (tail.0, tail.1, tail.2, inl jump.4),
             ),
           );
-          inside = is_inside code k tail.2 (does.Jump jump.0) jump.1.0;
-          forth = inl (let x = jump.1.1 in omega arith);
+          inside = is_inside code k tail.2 (does.Jump jump.0) jump.2.0;
+          forth = inl jump.3;
         })
+
+    pub quitting_done : (j p : ℕ) (c : Counter) (ch : List Environ) (k : ℕ) → Done program code (quitting j p c) ch k b base home g
+    quitting_done (suc j) p c ch k acc tail =
+        on_bare (quitting (suc j) p c) ch k acc (item.Counter c ∷ base)
+        (goes_outwards _ p k tail.3.0 (item.Counter c ∷ base) (λ out. part (quitting j p c) out no_terms) ch tail.3.1 (row_done program (quitting (suc j) p c) ch acc)
+        (tail.3.0, refl, (tail.0, tail.1, tail.2, tail.3.2, tail.4)))
+    quitting_done zero p c ch k acc tail =
+        on_bare (quitting zero p c) ch k acc (item.Counter c ∷ base)
+        (progress_row program code _ _ _ _ (row_done program (quitting zero p c) ch acc)
+        (leaving_done c ch k [] (tail.0, tail.1, p, inl (subst (λ (y : ℕ). Has code p does.Forget y b) (sym tail.3) tail.4))))

@@ -7,4 +7,6 @@ pub mod Operating
 pub mod Quiet
 pub mod Relation
 pub mod Settling
+pub mod Texts
+pub mod Turning
 pub mod Whole

@@ -1,7 +1,7 @@
 -- The relation between a strand's state and the term that it does.
-use Rattle.std.proofs.Common.{◌≡◌, ◌⊎◌, ◌+◌, ℕ, suc, arith, Bool, true, false, List, [], ◌∷◌, None, Some, refl, sym, ap, ◌∙◌, subst}
+use Rattle.std.proofs.Common.{◌≡◌, ◌<◌, ◌⊎◌, ◌+◌, ℕ, zero, suc, arith, Bool, true, false, List, [], ◌∷◌, None, Some, refl, sym, ap, ◌∙◌, subst}
 use Rattle.std.specs.Option.{option_map}
-use Rattle.std.specs.Prelude.{slice_get}
+use Rattle.std.specs.Prelude.{slice_get, if◌then◌else◌}
 use Rattle.std.specs.declared.option.Option.{Option}
 use Rattle.a68_acts.specs.Operations.{Operation, leaves}
 use Rattle.a68_acts.specs.declared.operation.Doing.{Doing}
@@ -10,16 +10,17 @@ use Rattle.a68_code.specs.Flow.{takes}
 use Rattle.a68_code.specs.declared.code.Code.{Code}
 use Rattle.a68_code.specs.declared.does.Does.{Does}
 use Rattle.a68_code.specs.declared.does.Does.TheVariants as does
-use Rattle.a68_elab.specs.Terms.{Range, no_frame, in_frame, Job, operating, resuming, preceding, ending, choosing, chosen, counting, stepping, turning, testing, running, leaving, Term, todo, part, yielded, Terms, no_terms, ◌and_term◌, todos, values}
-use Rattle.a68_elab.specs.Trees.{Tree, Trees, no_trees, ◌and_tree◌, count}
-use Rattle.a68_gen.specs.Stretches.{Has, Stands, StandAll, does_of, leave}
+use Rattle.a68_elab.specs.Terms.{Job, operating, resuming, preceding, ending, ranged, choosing, chosen, counting, stepping, turning, opening, naming, indexing, ranging, testing, running, advancing, quitting, leaving, Term, todo, part, yielded, Terms, no_terms, ◌and_term◌, todos, values}
+use Rattle.a68_elab.specs.Trees.{Tree, Turns, depth, Trees, no_trees, ◌and_tree◌, count}
+use Rattle.a68_gen.specs.Stretches.{Indexes, Opens, Leaves, Has, Stands, StandAll, does_of, leave}
 use Rattle.a68_sim.proofs.Asking.{idle}
 use Rattle.a68_sim.proofs.Quiet.{outwards}
 use Rattle.a68_strand.specs.Machine.{State, follows}
 use Rattle.a68_stack.specs.Values.{pop_values}
 use Rattle.a68_stack.specs.declared.stack.Item.{Item}
 use Rattle.a68_stack.specs.declared.stack.Item.TheVariants as item
-use Rattle.a68_values.specs.Content.{Content}
+use Rattle.a68_values.specs.Content.{Content, plain}
+use Rattle.a68_values.specs.declared.plain.Plain.TheVariants as value
 use Rattle.a68_values.specs.declared.chain.Environ.{Environ}
 
 -- pushed where a value is left
@@ -51,19 +52,26 @@ posed (Some d) k base ch g = follows (idle k [] ch) g base d
 abbrev pub parts_give : Job → Bool → Bool
 parts_give (operating p op o) g = true
 parts_give (resuming p d) g = g
-parts_give (ending range) g = g
+parts_give ending g = g
+parts_give (ranged out yields) g = g
 parts_give (choosing p if_true if_false) g = true
 parts_give chosen g = g
-parts_give (counting p test body) g = true
-parts_give (testing p c test body) g = true
+parts_give (counting l) g = true
+parts_give (testing c l) g = true
 parts_give _ g = false
 
 -- the stack on which the parts at hand are done
 abbrev pub inner : Job → List Item → List Item
-inner (stepping p c test body) base = item.Counter c ∷ base
-inner (turning p c test body) base = item.Counter c ∷ base
-inner (testing p c test body) base = item.Counter c ∷ base
-inner (running p c test body) base = item.Counter c ∷ base
+inner (stepping c l) base = item.Counter c ∷ base
+inner (turning c l) base = item.Counter c ∷ base
+inner (opening c l) base = item.Counter c ∷ base
+inner (naming c l) base = item.Counter c ∷ base
+inner (indexing c l) base = item.Value (plain (value.Int c.at)) ∷ (item.Counter c ∷ base)
+inner (ranging c l) base = item.Counter c ∷ base
+inner (testing c l) base = item.Counter c ∷ base
+inner (running c l) base = item.Counter c ∷ base
+inner (advancing n c l) base = item.Counter c ∷ base
+inner (quitting n p c) base = item.Counter c ∷ base
 inner (leaving c) base = item.Counter c ∷ base
 inner _ base = base
 
@@ -79,46 +87,67 @@ Continues code p (doing.Yields v) ch k b home g = (suc k ≡ b) × (ch ≡ home)
 Continues code p (doing.Asks w next) ch k b home g = (op : Operation) × (n : ℕ) × OperationAt code p op n k b g × (ch ≡ home)
 Continues code p (doing.Meets why) ch k b home g = (d : Does) × (slice_get code.list k ≡ Some (record { place = p; does = d }))
 
--- from k to b a range's end, in the chain ch, about which is home
-abbrev pub Closes : Code → Range → List Environ → ℕ → ℕ → List Environ → Bool → Type 0
-Closes code no_frame ch k b home g = (k ≡ b) × (ch ≡ home)
-Closes code (in_frame p yields) ch k b home g = (g ≡ yields) × Has code p (leave g) k b × (outwards ch ≡ home)
-
 -- a loop's stretch, from its Step at t up to b
-pub record LoopAt (code : Code) (p : ℕ) (test body : Tree) (t b : ℕ) : Type 0 where
+pub record LoopAt (code : Code) (l : Turns) (t b : ℕ) : Type 0 where
   pub t' : ℕ
   pub u : ℕ
+  pub w : ℕ
+  pub x : ℕ
   pub m : ℕ
   pub m' : ℕ
   pub n : ℕ
+  pub n' : ℕ
   pub v : ℕ
+  pub f : ℕ
   pub e : ℕ
-  pub step : Has code p (does.Step e) t t'
-  pub turn : Has code p does.Turn t' u
-  pub test_at : Stands code true test u m
-  pub unless : Has code p (does.Unless e) m m'
-  pub body_at : Stands code false body m' n
-  pub advance : Has code p (does.Advance t) n v
-  pub jump : Has code p (does.Jump e) v e
-  pub forget : Has code p does.Forget e b
+  pub step : Has code l.place (does.Step e) t t'
+  pub turn : Has code l.place does.Turn t' u
+  pub index : Indexes code l.counts l.place u w
+  pub opens : Opens code l.slots l.at w x
+  pub test_at : Stands code true l.test x m
+  pub unless : Has code l.place (does.Unless f) m m'
+  pub body_at : Stands code false l.body m' n
+  pub out : Leaves code l.place (depth l.counts l.slots) n n'
+  pub advance : Has code l.place (does.Advance t) n' v
+  pub jump : Has code l.place (does.Jump e) v f
+  pub quit : Leaves code l.place (depth l.counts l.slots) f e
+  pub forget : Has code l.place does.Forget e b
+
+-- so many frames outwards
+abbrev pub drops : ℕ → List Environ → List Environ
+drops zero ch = ch
+drops (suc n) ch = drops n (outwards ch)
+
+abbrev pub bit_of : Bool → ℕ
+bit_of c = if c then 1 else 0
 
 -- what stands behind the parts at hand, of which there are n, from k up to the end b of the whole
 abbrev pub Tail : Code → Job → ℕ → List Environ → ℕ → ℕ → List Environ → Bool → Type 0
 Tail code (operating p op o) n ch k b home g = OperationAt code p op n k b g × (ch ≡ home)
 Tail code (resuming p d) n ch k b home g = (n ≡ 0) × Continues code p d ch k b home g
-Tail code (preceding range final) n ch k b home g = (m : ℕ) × Stands code g final k m × Closes code range ch m b home g
-Tail code (ending range) n ch k b home g = (n ≡ 1) × Closes code range ch k b home g
+Tail code (preceding final) n ch k b home g = (ch ≡ home) × Stands code g final k b
+Tail code ending n ch k b home g = (n ≡ 1) × (k ≡ b) × (ch ≡ home)
+Tail code (ranged out yields) n ch k b home g = (n ≡ 1) × (g ≡ yields) × Has code out (leave g) k b × (outwards ch ≡ home)
 Tail code (choosing p if_true if_false) n ch k b home g =
     (ch ≡ home) × (n ≡ 1) × (m' j x : ℕ) × Has code p (does.Unless x) k m' × Stands code g if_true m' j × Has code p (does.Jump b) j x
     × Stands code g if_false x b
 Tail code chosen n ch k b home g = (ch ≡ home) × (n ≡ 1) × ((k ≡ b) ⊎ ((p x : ℕ) × Has code p (does.Jump b) k x × (if_false : Tree) × Stands code g if_false x b))
-Tail code (counting p test body) n ch k b home g = (g ≡ false) × (ch ≡ home) × (n ≡ 3) × (t : ℕ) × Has code p does.Counter k t × LoopAt code p test body t b
-Tail code (stepping p c test body) n ch k b home g = (g ≡ false) × (ch ≡ home) × LoopAt code p test body k b
-Tail code (turning p c test body) n ch k b home g = (g ≡ false) × (ch ≡ home) × (t : ℕ) × (l : LoopAt code p test body t b) × (k ≡ l.t')
-Tail code (testing p c test body) n ch k b home g = (g ≡ false) × (ch ≡ home) × (n ≡ 1) × (t : ℕ) × (l : LoopAt code p test body t b) × (k ≡ l.m)
-Tail code (running p c test body) n ch k b home g = (g ≡ false) × (ch ≡ home) × (t : ℕ) × (l : LoopAt code p test body t b) × (k ≡ l.n)
+Tail code (counting l) n ch k b home g = (g ≡ false) × (ch ≡ home) × (n ≡ 3) × (t : ℕ) × Has code l.place does.Counter k t × LoopAt code l t b
+Tail code (stepping c l) n ch k b home g = (g ≡ false) × (ch ≡ home) × LoopAt code l k b
+Tail code (turning c l) n ch k b home g = (g ≡ false) × (ch ≡ home) × (t : ℕ) × (x : LoopAt code l t b) × (k ≡ x.t')
+Tail code (opening c l) n ch k b home g = (g ≡ false) × (ch ≡ home) × (t : ℕ) × (x : LoopAt code l t b) × (k ≡ x.u) × (l.counts ≡ true)
+Tail code (naming c l) n ch k b home g =
+    (g ≡ false) × (outwards ch ≡ home) × (t : ℕ) × (x : LoopAt code l t b) × (l.counts ≡ true) × (i : ℕ) × Has code l.place does.Index k i × Has code l.place (does.Bind 0) i x.w
+Tail code (indexing c l) n ch k b home g =
+    (g ≡ false) × (outwards ch ≡ home) × (t : ℕ) × (x : LoopAt code l t b) × (l.counts ≡ true) × Has code l.place (does.Bind 0) k x.w
+Tail code (ranging c l) n ch k b home g =
+    (g ≡ false) × (drops (bit_of l.counts) ch ≡ home) × (t : ℕ) × (x : LoopAt code l t b) × (k ≡ x.w) × (s : ℕ) × (l.slots ≡ suc s)
+Tail code (testing c l) n ch k b home g = (g ≡ false) × (drops (depth l.counts l.slots) ch ≡ home) × (n ≡ 1) × (t : ℕ) × (x : LoopAt code l t b) × (k ≡ x.m)
+Tail code (running c l) n ch k b home g = (g ≡ false) × (drops (depth l.counts l.slots) ch ≡ home) × (t : ℕ) × (x : LoopAt code l t b) × (k ≡ x.n)
+Tail code (advancing j c l) n ch k b home g = (g ≡ false) × (drops j ch ≡ home) × (t : ℕ) × (x : LoopAt code l t b) × Leaves code l.place j k x.n'
+Tail code (quitting j p c) n ch k b home g = (g ≡ false) × (drops j ch ≡ home) × (e : ℕ) × Leaves code p j k e × Has code p does.Forget e b
 Tail code (leaving c) n ch k b home g =
-    (g ≡ false) × (ch ≡ home) × (p : ℕ) × (Has code p does.Forget k b ⊎ ((e : ℕ) × Has code p (does.Jump e) k e × Has code p does.Forget e b))
+    (g ≡ false) × (ch ≡ home) × (p : ℕ) × (Has code p does.Forget k b ⊎ ((e f : ℕ) × Has code p (does.Jump e) k f × (k < e) × Has code p does.Forget e b))
 
 -- the strand is about to begin a tree
 pub record Begins (code : Code) (tree : Tree) (c : List Environ) (b : ℕ) (base : List Item) (home : List Environ) (g : Bool) (st : State) : Type 0 where

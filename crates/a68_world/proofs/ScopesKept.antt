@@ -18,7 +18,7 @@ use Rattle.a68_code.specs.declared.code.Code.{Code}
 use Rattle.a68_code.specs.declared.does.Does.{Does}
 use Rattle.a68_code.specs.declared.does.Does.TheVariants as does
 use Rattle.a68_modes.specs.declared.shape.Shape.{Shape}
-use Rattle.a68_strand.specs.Machine.{State, goes_on, goes_to, fails, follows, operates, enters, yields_to, leaves_frame, branches, unless, with_counter, counts, steps, advances, forgets, exec, at_end, does_one, silently, next_state, settle_in, settle, leaves_at, told_by, replied_in, replied}
+use Rattle.a68_strand.specs.Machine.{State, goes_on, goes_to, fails, follows, operates, enters, yields_to, leaves_frame, branches, unless, with_counter, counts, indexes, steps, advances, forgets, exec, at_end, does_one, silently, next_state, settle_in, settle, leaves_at, told_by, replied_in, replied}
 use Rattle.a68_strand.specs.Room.{has_room, brings_room}
 use Rattle.a68_stack.specs.Values.{pop_values, top_counter, top_value}
 use Rattle.a68_strand.specs.declared.ask.Stance.{Stance}
@@ -27,7 +27,8 @@ use Rattle.a68_strand.specs.declared.ask.Waiting.{Waiting}
 use Rattle.a68_strand.specs.declared.ask.Waiting.TheVariants as waiting
 use Rattle.a68_stack.specs.declared.stack.Item.{Item}
 use Rattle.a68_stack.specs.declared.stack.Item.TheVariants as item
-use Rattle.a68_values.specs.Content.{Content, scope_of}
+use Rattle.a68_values.specs.Content.{Content, plain, scope_of}
+use Rattle.a68_values.specs.declared.plain.Plain.TheVariants as value
 use Rattle.a68_values.specs.declared.act.FaultKind.{FaultKind}
 use Rattle.a68_values.specs.declared.act.FaultKind.TheVariants as fault
 use Rattle.a68_values.specs.declared.chain.Environ.{Environ}
@@ -108,6 +109,10 @@ steps-below n st to (Some c) p = test (has_turn c)
     test true = on n st st.stack.items p
     test false = to-place n st to st.stack.items p
 
+indexes-below : (n : ℕ) (st : State) (o : Option Counter) → ChainBelow n st.chain → StateBelow n (indexes st o)
+indexes-below n st None p = failed n st fault.Kind p
+indexes-below n st (Some c) p = on n st (item.Value (plain (value.Int c.at)) ∷ st.stack.items) p
+
 advances-below : (n : ℕ) (st : State) (to : ℕ) (items : List Item) → ChainBelow n st.chain → StateBelow n (advances st to items)
 advances-below n st to (item.Counter c ∷ items) p = next (advanced c)
   where
@@ -136,6 +141,7 @@ exec-below n modes (does.Print count) st p = operates-below n modes st print cou
 exec-below n modes (does.Jump to) st p = to-place n st to st.stack.items p.chain
 exec-below n modes (does.Unless to) st p = unless-below n st to st.stack.items p.chain
 exec-below n modes does.Counter st p = counts-below n st st.stack.items p.chain
+exec-below n modes does.Index st p = indexes-below n st (top_counter st.stack.items) p.chain
 exec-below n modes (does.Step to) st p = steps-below n st to (top_counter st.stack.items) p.chain
 exec-below n modes does.Turn st p = record { chain = p.chain; stance = tt }
 exec-below n modes (does.Advance to) st p = advances-below n st to st.stack.items p.chain

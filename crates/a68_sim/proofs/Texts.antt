@@ -1,0 +1,102 @@
+-- The annotated trees of small texts, by hand. A later one of two parts has the smaller number.
+use Rattle.std.proofs.Common.{ℕ, List, [], ◌∷◌, None, Some, refl}
+use Rattle.a68_annot.specs.declared.annotated.Annotated.{Annotated}
+use Rattle.a68_annot.specs.declared.note.Note.{Note}
+use Rattle.a68_modes.specs.Nodes.{standard_shapes}
+use Rattle.a68_modes.specs.declared.coercion.Coercion.{Coercion}
+use Rattle.a68_modes.specs.declared.coercion.Coercion.TheVariants.{Deref, Drop}
+use Rattle.a68_tree.specs.declared.kind.NodeKind.{NodeKind}
+use Rattle.a68_tree.specs.declared.kind.NodeKind.TheVariants as kind
+use Rattle.a68_tree.specs.declared.node.Node.{Node}
+
+abbrev node : NodeKind → (from to name : ℕ) → List ℕ → Node
+node k from to name parts = record { kind = k; span = record { from = from; to = to }; name = name; parts = parts }
+
+-- a unit or a clause of a mode under these coercions
+abbrev has_mode : ℕ → List Coercion → Note
+has_mode mode path = record { mode = mode; path = path; op = None; definition = None; step = record { hops = 0; slot = 0 }; slots = 0; need = None }
+
+-- a range of a mode with one slot
+abbrev has_slot : ℕ → Note
+has_slot mode = record (has_mode mode []) { slots = 1 }
+
+-- a formula of a mode by a row of the table of operators
+abbrev has_row : (mode row : ℕ) → Note
+has_row mode row = record (has_mode mode []) { op = Some row }
+
+-- VOID, INT, BOOL and REF INT
+abbrev void : ℕ
+void = 0
+
+abbrev int : ℕ
+int = 1
+
+abbrev bool : ℕ
+bool = 2
+
+abbrev ref_int : ℕ
+ref_int = 9
+
+-- BEGIN INT x := 5; print(x) END
+abbrev pub five_printed : Annotated
+five_printed = record {
+  tree = record {
+    nodes =
+        node kind.Closed 0 30 0 (1 ∷ []) ∷ node kind.Serial 6 26 0 (5 ∷ 2 ∷ []) ∷ node kind.Call 18 26 0 (4 ∷ 3 ∷ []) ∷ node kind.Tag 24 25 0 [] ∷ node kind.Tag 18 23 1 []
+        ∷ node kind.Variable 6 16 0 (7 ∷ 6 ∷ []) ∷ node kind.Denotation 15 16 2 [] ∷ node kind.Declarer 6 9 3 [] ∷ [];
+    spellings = (120 ∷ []) ∷ (112 ∷ 114 ∷ 105 ∷ 110 ∷ 116 ∷ []) ∷ (53 ∷ []) ∷ (73 ∷ 78 ∷ 84 ∷ []) ∷ [];
+  };
+  modes = standard_shapes;
+  notes =
+      has_mode void [] ∷ has_slot void ∷ has_mode void [] ∷ has_mode ref_int (Deref ∷ []) ∷ has_mode void [] ∷ has_mode ref_int [] ∷ has_mode int [] ∷ has_mode int [] ∷ [];
+  noted = refl;
+}
+
+-- BEGIN INT x; print(x) END
+abbrev pub unset_printed : Annotated
+unset_printed = record {
+  tree = record {
+    nodes =
+        node kind.Closed 0 25 0 (1 ∷ []) ∷ node kind.Serial 6 21 0 (5 ∷ 2 ∷ []) ∷ node kind.Call 13 21 0 (4 ∷ 3 ∷ []) ∷ node kind.Tag 19 20 0 [] ∷ node kind.Tag 13 18 1 []
+        ∷ node kind.Variable 6 11 0 (6 ∷ []) ∷ node kind.Declarer 6 9 2 [] ∷ [];
+    spellings = (120 ∷ []) ∷ (112 ∷ 114 ∷ 105 ∷ 110 ∷ 116 ∷ []) ∷ (73 ∷ 78 ∷ 84 ∷ []) ∷ [];
+  };
+  modes = standard_shapes;
+  notes = has_mode void [] ∷ has_slot void ∷ has_mode void [] ∷ has_mode ref_int (Deref ∷ []) ∷ has_mode void [] ∷ has_mode ref_int [] ∷ has_mode int [] ∷ [];
+  noted = refl;
+}
+
+-- BEGIN (INT x; x) END
+abbrev pub newer_yielded : Annotated
+newer_yielded = record {
+  tree = record {
+    nodes =
+        node kind.Closed 0 20 0 (1 ∷ []) ∷ node kind.Serial 6 16 0 (2 ∷ []) ∷ node kind.Closed 6 16 0 (3 ∷ []) ∷ node kind.Serial 7 15 0 (5 ∷ 4 ∷ []) ∷ node kind.Tag 14 15 0 []
+        ∷ node kind.Variable 7 12 0 (6 ∷ []) ∷ node kind.Declarer 7 10 1 [] ∷ [];
+    spellings = (120 ∷ []) ∷ (73 ∷ 78 ∷ 84 ∷ []) ∷ [];
+  };
+  modes = standard_shapes;
+  notes = has_mode void [] ∷ has_mode void [] ∷ has_mode ref_int (Drop ∷ []) ∷ has_slot ref_int ∷ has_mode ref_int [] ∷ has_mode ref_int [] ∷ has_mode int [] ∷ [];
+  noted = refl;
+}
+
+-- BEGIN INT i := 0; WHILE i < 3 DO i := i + 1 OD; print(i) END
+abbrev pub three_counted : Annotated
+three_counted = record {
+  tree = record {
+    nodes =
+        node kind.Closed 0 60 0 (1 ∷ []) ∷ node kind.Serial 6 56 0 (17 ∷ 5 ∷ 2 ∷ []) ∷ node kind.Call 48 56 0 (4 ∷ 3 ∷ []) ∷ node kind.Tag 54 55 0 [] ∷ node kind.Tag 48 53 1 []
+        ∷ node kind.Loop 18 46 0 (12 ∷ 6 ∷ []) ∷ node kind.Serial 33 43 0 (7 ∷ []) ∷ node kind.Assignation 33 43 0 (11 ∷ 8 ∷ []) ∷ node kind.Dyadic 38 43 5 (10 ∷ 9 ∷ [])
+        ∷ node kind.Denotation 42 43 3 [] ∷ node kind.Tag 38 39 0 [] ∷ node kind.Tag 33 34 0 [] ∷ node kind.While 18 29 0 (13 ∷ []) ∷ node kind.Serial 24 29 0 (14 ∷ [])
+        ∷ node kind.Dyadic 24 29 6 (16 ∷ 15 ∷ []) ∷ node kind.Denotation 28 29 4 [] ∷ node kind.Tag 24 25 0 [] ∷ node kind.Variable 6 16 0 (19 ∷ 18 ∷ [])
+        ∷ node kind.Denotation 15 16 2 [] ∷ node kind.Declarer 6 9 7 [] ∷ [];
+    spellings =
+        (105 ∷ []) ∷ (112 ∷ 114 ∷ 105 ∷ 110 ∷ 116 ∷ []) ∷ (48 ∷ []) ∷ (49 ∷ []) ∷ (51 ∷ []) ∷ (43 ∷ []) ∷ (60 ∷ []) ∷ (73 ∷ 78 ∷ 84 ∷ []) ∷ [];
+  };
+  modes = standard_shapes;
+  notes =
+      has_mode void [] ∷ has_slot void ∷ has_mode void [] ∷ has_mode ref_int (Deref ∷ []) ∷ has_mode void [] ∷ has_mode void [] ∷ has_mode void [] ∷ has_mode ref_int (Drop ∷ [])
+      ∷ has_row int 15 ∷ has_mode int [] ∷ has_mode ref_int (Deref ∷ []) ∷ has_mode ref_int [] ∷ has_mode bool [] ∷ has_mode bool [] ∷ has_row bool 11 ∷ has_mode int []
+      ∷ has_mode ref_int (Deref ∷ []) ∷ has_mode ref_int [] ∷ has_mode int [] ∷ has_mode int [] ∷ [];
+  noted = refl;
+}
