@@ -16,6 +16,8 @@ mod nodes;
 #[cfg(test)]
 mod op_ident;
 #[cfg(test)]
+mod ranges;
+#[cfg(test)]
 mod table;
 #[cfg(test)]
 mod top;

@@ -1,0 +1,9 @@
+pub mod Nodes
+pub mod Surroundings
+pub mod Definitions
+pub mod Standard
+pub mod Twice
+pub mod Parents
+pub mod Links
+pub mod Tables
+pub mod Indexed

@@ -1,0 +1,18 @@
+//! Ranges: which words they declare, and the definition that counts at each place (Report, 3.0.2, 4.8 and 7.2).
+#![tactic(auto)]
+
+mod build;
+mod declared;
+mod index;
+mod layers;
+mod nests;
+mod reading;
+mod sort;
+mod standard;
+mod tables;
+mod written;
+
+pub use build::ranges;
+pub use nests::Layer;
+pub use sort::{Sort, defines};
+pub use tables::Ranges;
