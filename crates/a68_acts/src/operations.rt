@@ -2,7 +2,6 @@
 ghost use Rattle.std.specs.Prelude.{◌≡◌, ◌<◌, [], ◌∷◌, length, reverse, List, IfOk, ◌+ℤ◌, ◌-ℤ◌, ◌*ℤ◌};
 ghost use Rattle.a68_acts.specs.Operations as operations;
 ghost use Rattle.a68_acts.specs.Operations.{make};
-ghost use Rattle.a68_modes.specs.Nodes.{shape_at};
 ghost use Rattle.a68_acts.specs.Results.{doing_of, printing};
 ghost use Rattle.a68_values.specs.Content.{Content, plain};
 
@@ -15,7 +14,7 @@ use std::alloc::Global;
 
 /// The value of SKIP.
 pub fn skipped(modes: &Modes, mode: ModeId) -> Doing
-    ensures { result ≡ operations.skipped (shape_at modes.now mode) }
+    ensures { result ≡ operations.skipped modes.now mode }
 {
     if modes.is_void(mode) {
         Doing::Yields(Value {
@@ -42,7 +41,7 @@ fn given(name: Name, held: Plain) -> Doing
 
 /// A value assigned to a name.
 pub fn assigned(modes: &Modes, mode: ModeId, name: &Value, value: &Value) -> Doing
-    ensures { result ≡ operations.assigned (shape_at modes.now mode) name.now value.now }
+    ensures { result ≡ operations.assigned modes.now mode name.now value.now }
 {
     match (&name.node, &value.node) {
         (ValueNode::Plain(Plain::Unset), _) => Doing::Meets(FaultKind::Unset),

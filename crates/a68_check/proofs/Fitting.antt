@@ -1,7 +1,7 @@
 -- The trees of a program that runs fit what is taken of them, form by form.
 use Rattle.std.proofs.Common.{◌≡◌, ℕ, zero, suc, ◌<◌, Bool, true, false, List, [], ◌∷◌, length, refl, sym, ◌∙◌, ap, subst, arith, Some, slice_get, ⊎_elim}
-use Rattle.std.specs.Prelude.{IsTrue}
-use Rattle.std.proofs.lemmas.Bool.{cases_lt}
+use Rattle.std.specs.Prelude.{IsTrue, ◌&&◌, nat_le, if◌then◌else◌}
+use Rattle.std.proofs.lemmas.Bool.{cases_lt, false≢true, leb-true, le-leb}
 use Rattle.a68_acts.specs.Operations.{Operation, constant, skip, tag, make, bind, deref, store, apply, drop, print, leaves}
 use Rattle.a68_annot.specs.declared.annotated.Annotated.{Annotated}
 use Rattle.a68_check.specs.Constructs.{construct_of, parts_at}
@@ -14,6 +14,7 @@ use Rattle.a68_check.specs.declared.goals.Purpose.TheVariants as goal
 use Rattle.a68_check.proofs.Known.{IsConstruct, Known, IsGiven, known, made-as}
 use Rattle.a68_code.specs.Flow.{takes}
 use Rattle.a68_code.specs.Operands.{is_well_made}
+use Rattle.a68_code.specs.declared.does.Does.TheVariants as does
 use Rattle.a68_elab.specs.Made.{tree_at, trees_at, only, all_but_last, last_tree, serial_of, controls}
 use Rattle.a68_elab.specs.Made as made
 use Rattle.a68_elab.specs.Trees.{Order, collateral, serial, Tree, Trees, operation, no_trees, ◌and_tree◌}
@@ -82,6 +83,17 @@ phrases-fit f place slots (x ∷ xs) some each =
     let final = last-fit (f x) (trees_at f xs) here rest in
     in-range-fits place slots false _ (record { fits = (before.fits, final.fits); modes = (before.modes, final.modes) })
 
+second : (x y : Bool) → IsTrue (x && y) → IsTrue y
+second true y e = e
+second false y e = absurd (false≢true e)
+
+-- an operator that runs is on two values
+on-two : (row : ℕ) → IsTrue (is_well_made standard_shapes 0 (does.Apply row)) → takes (does.Apply row) ≡ 2
+on-two row made =
+    let most : IsTrue (nat_le row 17) = second (nat_le 9 row) (nat_le row 17) made in
+    let few = leb-true row 17 most in
+    ap (λ (b : Bool). if b then 2 else 1) (le-leb row 25 (omega arith))
+
 -- ---- a tree by what its node makes
 
 by-tree : (gives : Bool) (t u : Tree) → t ≡ u → IsFit gives u → IsFit gives t
@@ -108,14 +120,14 @@ sum-fits p id l r g k a b =
     let place = k.node.span.from in
     let parts = tree_at p l and_tree (tree_at p r and_tree no_trees) in
     by-tree true _ _ (made-as p id (construct.Sum l r) g k kind.Dyadic (l ∷ r ∷ []) k.spelt.kind k.spelt.parts ∙ ap (λ o. made.formula place o parts) k.spelt.is)
-    (fit-two true place (apply k.spelt.row) collateral (tree_at p l) (tree_at p r) refl refl k.spelt.fits a b)
+    (fit-two true place (apply k.spelt.row) collateral (tree_at p l) (tree_at p r) refl (on-two k.spelt.row k.spelt.fits) k.spelt.fits a b)
 
 test-fits : (p : Annotated) (id l r : ℕ) (g : Purpose) → Known p id (construct.Test l r) g → IsFit true (tree_at p l) → IsFit true (tree_at p r) → IsFit true (tree_at p id)
 test-fits p id l r g k a b =
     let place = k.node.span.from in
     let parts = tree_at p l and_tree (tree_at p r and_tree no_trees) in
     by-tree true _ _ (made-as p id (construct.Test l r) g k kind.Dyadic (l ∷ r ∷ []) k.spelt.kind k.spelt.parts ∙ ap (λ o. made.formula place o parts) k.spelt.is)
-    (fit-two true place (apply k.spelt.row) collateral (tree_at p l) (tree_at p r) refl refl k.spelt.fits a b)
+    (fit-two true place (apply k.spelt.row) collateral (tree_at p l) (tree_at p r) refl (on-two k.spelt.row k.spelt.fits) k.spelt.fits a b)
 
 enquiry-fits : (p : Annotated) (id test : ℕ) → Known p id construct.Serial goal.Enquiry → parts_at p.tree id ≡ test ∷ [] → IsFit true (tree_at p test) → IsFit true (tree_at p id)
 enquiry-fits p id test k e a =

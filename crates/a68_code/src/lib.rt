@@ -10,3 +10,4 @@ mod walk;
 
 pub use code::{Code, Instr, Instrs, RoutineEntrance, Routines};
 pub use does::Does;
+pub use operands::operands_of;

@@ -1,10 +1,18 @@
 //! The operands of an instruction, and the values that it takes and leaves.
 ghost use Rattle.std.specs.Prelude.{◌≡◌};
-ghost use Rattle.a68_code.specs.Flow.{takes, leaves};
+ghost use Rattle.a68_code.specs.Flow.{operands_of, takes, leaves};
 ghost use Rattle.a68_code.specs.Operands.{is_well_made};
 
 use crate::Does;
 use a68_modes::Modes;
+
+/// How many values an operator is on, by its row in the table of operators.
+#[inline(always)]
+pub fn operands_of(row: u32) -> u32
+    ensures { result ≡ operands_of row }
+{
+    if row <= 25 { 2 } else { 1 }
+}
 
 impl Does {
     /// Whether the operands are such as the instruction may have, in a list of so many instructions.
@@ -29,7 +37,8 @@ impl Does {
     {
         match self {
             Does::Counter => 3,
-            Does::Store(_) | Does::Apply(_) => 2,
+            Does::Store(_) => 2,
+            Does::Apply(row) => operands_of(*row),
             Does::Bind(_) | Does::Deref(_) | Does::Drop => 1,
             Does::Unless(_) | Does::Index | Does::Step(_) => 1,
             Does::Advance(_) | Does::Forget => 1,

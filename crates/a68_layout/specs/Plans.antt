@@ -13,6 +13,6 @@ pub data IsWidth (modes : List Shape) : (mode width : ℕ) → Type 0 where
 
 -- The cells of a new name of a mode with these bounds, where nothing is assigned yet. The modes that are not plain do
 -- not run yet.
-abbrev pub new_cells : Shape → List ℤ → Option (List Held)
-new_cells shape [] = if is_plain shape then Some (Plain Unset ∷ []) else None
-new_cells shape (b ∷ bs) = None
+abbrev pub new_cells : List Shape → (mode : ℕ) → List ℤ → Option (List Held)
+new_cells modes mode [] = if is_plain (shape_at modes mode) then Some (Plain Unset ∷ []) else None
+new_cells modes mode (b ∷ bs) = None

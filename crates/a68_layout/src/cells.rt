@@ -26,9 +26,9 @@ pub fn cells_of(modes: &Modes, mode: ModeId) -> Result<u32, NoMemory>
 /// bounds.
 pub fn plan(alloc: Global, modes: &Modes, mode: ModeId, bounds: &[i64]) -> Result<Plan, LayoutStop>
     requires there { mode < length modes.now }
-    ensures cells { IfOk result (λ plan. new_cells (shape_at modes.now mode) bounds.now ≡ Some plan.cells) }
+    ensures cells { IfOk result (λ plan. new_cells modes.now mode bounds.now ≡ Some plan.cells) }
     ensures unshifted { IfOk result (λ plan. plan.shifted ≡ false) }
-    ensures fault { (kind : FaultKind) → IsErrOf result (LayoutStop.Fault kind) → (kind ≡ FaultKind.Kind) × (new_cells (shape_at modes.now mode) bounds.now ≡ None) }
+    ensures fault { (kind : FaultKind) → IsErrOf result (LayoutStop.Fault kind) → (kind ≡ FaultKind.Kind) × (new_cells modes.now mode bounds.now ≡ None) }
 {
     if !bounds.is_empty() || !modes.is_plain(mode) {
         return Err(LayoutStop::Fault(FaultKind::Kind));

@@ -40,6 +40,8 @@ const CASES: &str = "\
 - the end goes forwards | Push, Push, Push, Counter, Advance 6, Jump 8, Step 8, Turn, Forget, End
 + a Step forwards | Push, Push, Push, Counter, Jump 6, Jump 8, Step 8, Jump 8, Forget, End
 - a Step backwards | Push, Push, Push, Counter, Jump 6, Jump 8, Step 5, Jump 8, Forget, End
++ a loop with frames | Push, Push, Push, Counter, Step 15, Turn, Enter 1, Index, Bind 0, Push, Unless 14, Leave 0, Advance 4, Jump 15, Leave 0, Forget, End
+- a count of no counter | Index, Drop, Drop, End
 - a turn that leaves a value | Push, Push, Push, Counter, Step 8, Turn, Push, Advance 4, Forget, End
 + SKIP of VOID | Skip 0, End
 - SKIP of VOID leaves nothing | Skip 0, Drop, End

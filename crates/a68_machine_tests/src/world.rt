@@ -35,6 +35,10 @@ const UNSET: &str = "Enter 1, Make 1 0, Bind 0, Tag 0 0, Deref 1, Print 1, Leave
 const ENDLESS: &str =
     "Push 5, Push 5, Skip 1, Counter, Step 8, Turn, Skip 0, Advance 4, Forget, End";
 
+/// ( FOR i TO 2 DO print(i) OD )
+const COUNTING: &str =
+    "Push 1, Push 1, Push 2, Counter, Step 14, Turn, Enter 1, Index, Bind 0, Tag 0 0, Print 1, Leave 0, Advance 4, Jump 14, Forget, End";
+
 const UNSET_AT_5: End = End::Fault {
     kind: FaultKind::Unset,
     place: 5,
@@ -75,6 +79,7 @@ const RUNS: &[(&str, u32, u64, End)] = &[
         CELLS_AT_1,
     ),
     (ENDLESS, 3, 3, End::Spent),
+    (COUNTING, 19, 10, End::Done),
 ];
 
 // The code of these instructions, which is valid.

@@ -1,10 +1,10 @@
 -- Journals that were computed by hand.
-use Rattle.std.proofs.Common.{◌≡◌, ◌≢◌, ◌<◌, ◌+◌, ℕ, pos, true, false, List, [], ◌∷◌, Some, None, refl, sym, ap, ◌∙◌, subst, arith}
+use Rattle.std.proofs.Common.{◌≡◌, ◌≢◌, ◌<◌, ◌+◌, ℕ, pos, List, [], ◌∷◌, Some, None, refl, sym, ap, ◌∙◌, subst, arith}
 use Rattle.std.proofs.lemmas.Fmt.{decimal_digit}
 use Rattle.std.proofs.lemmas.Option.{same_Some}
 use Rattle.std.specs.Prelude.{◌++◌, replicate, slice_get}
 use Rattle.a68_acts.specs.Does.{did, does}
-use Rattle.a68_acts.specs.Operations.{constant, tag, make, bind, deref, store, apply, drop, print, start, resumed}
+use Rattle.a68_acts.specs.Operations.{tag, apply, start, resumed}
 use Rattle.a68_acts.specs.Printed.{printed_int, right_in_20}
 use Rattle.a68_acts.specs.Store.{Store, opening_store, standard_frame, chain_of}
 use Rattle.a68_acts.specs.declared.operation.Next.TheVariants as next
@@ -19,7 +19,7 @@ use Rattle.a68_elab.specs.Elaborations.{Elaborates, stays, silently, by_act}
 use Rattle.a68_elab.specs.Permitted.{Permitted}
 use Rattle.a68_elab.specs.Positions.{here, within, in_this, beside}
 use Rattle.a68_elab.specs.Terms.{Term, todo, yielded}
-use Rattle.a68_elab.specs.Trees.{Tree, operation, phrases, range, no_trees, ◌and_tree◌, collateral, serial, Program}
+use Rattle.a68_elab.specs.Trees.{Tree, operation, no_trees, ◌and_tree◌, collateral, Program}
 use Rattle.a68_gen.specs.Stretches.{Translates}
 use Rattle.a68_modes.specs.Nodes.{standard_shapes}
 use Rattle.a68_sim.proofs.Texts.{five_printed, unset_printed, newer_yielded}

@@ -1,6 +1,5 @@
 -- Silent steps, and what a term does next, lifted from a part to the whole.
 use Rattle.std.proofs.Common.{◌≡◌, ◌<◌, ℕ, List, [], ◌∷◌, length, Some}
-use Rattle.std.specs.Prelude.{⊤}
 use Rattle.a68_acts.specs.Store.{Store}
 use Rattle.a68_acts.specs.declared.want.Reply.{Reply}
 use Rattle.a68_acts.specs.declared.want.Want.{Want}

@@ -3,7 +3,7 @@ use Rattle.std.proofs.Common.{◌≡◌, ℕ, zero, suc, arith, false, List, [],
 use Rattle.std.proofs.lemmas.Option.{same_Some}
 use Rattle.std.specs.Prelude.{slice_get}
 use Rattle.a68_acts.specs.Does.{Outcome, did, refuses, does}
-use Rattle.a68_acts.specs.Store.{Store, opening_store}
+use Rattle.a68_acts.specs.Store.{Store}
 use Rattle.a68_acts.specs.declared.want.Reply.{Reply}
 use Rattle.a68_acts.specs.declared.want.Want.{Want}
 use Rattle.a68_code.specs.declared.code.Code.{Code}

@@ -13,9 +13,8 @@ use Rattle.a68_acts.specs.declared.want.Reply.{Reply}
 use Rattle.a68_acts.specs.declared.want.Reply.TheVariants as reply
 use Rattle.a68_acts.specs.declared.want.Want.TheVariants as want
 use Rattle.a68_layout.specs.Plans.{new_cells}
-use Rattle.a68_modes.specs.Nodes.{shape_at, is_plain}
+use Rattle.a68_modes.specs.Nodes.{shape_at, is_plain, is_void}
 use Rattle.a68_modes.specs.declared.shape.Shape.{Shape}
-use Rattle.a68_modes.specs.declared.shape.Shape.TheVariants as shape
 use Rattle.a68_values.specs.Content.{Content, plain, scope_of}
 use Rattle.a68_values.specs.declared.act.FaultKind.TheVariants as fault
 use Rattle.a68_values.specs.declared.chain.Environ.{Environ}
@@ -33,23 +32,22 @@ option-below : {T : Type 0} (n : ℕ) (f : T → Doing) (o : Option T) (d : Doin
 option-below n f None d p q = q
 option-below n f (Some x) d p q = p x
 
-skipped-below : (n : ℕ) (mode : Shape) → DoingBelow n (skipped mode)
-skipped-below n shape.Void = tt
-skipped-below n mode = choose-below n (is_plain mode) (Yields (plain value.Unset)) (Meets fault.Kind) tt tt
+skipped-below : (n : ℕ) (modes : List Shape) (m : ℕ) → DoingBelow n (skipped modes m)
+skipped-below n modes m = choose-below n (is_void (shape_at modes m)) _ _ tt (choose-below n (is_plain (shape_at modes m)) (Yields (plain value.Unset)) (Meets fault.Kind) tt tt)
 
-fetched-below : (n : ℕ) (mode : Shape) (v : Content) → DoingBelow n (fetched mode v)
-fetched-below n mode (plain (value.Name m)) = choose-below n (is_plain mode) (Asks (want.Fetch m.cell) next.Held) (Meets fault.Kind) tt tt
-fetched-below n mode _ = tt
+fetched-below : (n : ℕ) (modes : List Shape) (m : ℕ) (v : Content) → DoingBelow n (fetched modes m v)
+fetched-below n modes m (plain (value.Name x)) = choose-below n (is_plain (shape_at modes m)) (Asks (want.Fetch x.cell) next.Held) (Meets fault.Kind) tt tt
+fetched-below n modes m _ = tt
 
 given-below : (n : ℕ) (m : Name) (v : Content) → DoingBelow n (given m v)
 given-below n m (plain p) =
     choose-below n (nat_lt m.scope (scope_of (plain p))) (Meets fault.Scope) (Asks (want.Assign m.cell (held.Plain p)) (next.Name m)) tt tt
 given-below n m _ = tt
 
-assigned-below : (n : ℕ) (mode : Shape) (name v : Content) → DoingBelow n (assigned mode name v)
-assigned-below n mode (plain value.Nil) (plain p) = choose-below n (is_plain mode) (Meets fault.Nil) (Meets fault.Kind) tt tt
-assigned-below n mode (plain (value.Name m)) v = choose-below n (is_plain mode) (given m v) (Meets fault.Kind) (given-below n m v) tt
-assigned-below n mode _ _ = tt
+assigned-below : (n : ℕ) (modes : List Shape) (m : ℕ) (name v : Content) → DoingBelow n (assigned modes m name v)
+assigned-below n modes m (plain value.Nil) (plain p) = choose-below n (is_plain (shape_at modes m)) (Meets fault.Nil) (Meets fault.Kind) tt tt
+assigned-below n modes m (plain (value.Name x)) v = choose-below n (is_plain (shape_at modes m)) (given x v) (Meets fault.Kind) (given-below n x v) tt
+assigned-below n modes m _ _ = tt
 
 int_result-below : (n : ℕ) (z : ℤ) → DoingBelow n (int_result z)
 int_result-below n z = choose-below n (is_int z) (Yields (plain (value.Int z))) (Meets fault.Overflow) tt tt
@@ -83,17 +81,17 @@ print_next-below n (v ∷ items) = item v
 pub start-below : (n : ℕ) (modes : List Shape) (op : Operation) (chain : List Environ) (vs : List Content) → DoingBelow n (start modes op chain vs)
 unfolding start
 start-below n modes (constant v) chain [] = tt
-start-below n modes (skip m) chain [] = skipped-below n (shape_at modes m)
+start-below n modes (skip m) chain [] = skipped-below n modes m
 start-below n modes (tag hops slot) chain [] =
     option-below n (λ (e : Environ). Asks (want.Look e.frame slot) next.Value) (slice_get chain hops) (Meets fault.Kind) (λ e. tt) tt
 start-below n modes (make m k) chain [] =
     option-below n (λ (e : Environ). option_map_or (λ cells. Asks (want.Make (record { cells = cells; shifted = false })) (next.Made e.scope))
-    (new_cells (shape_at modes m) []) (Meets fault.Kind)) (slice_get chain 0) (Meets fault.Kind)
-    (λ e. option-below n (λ (cells : List Held). Asks (want.Make (record { cells = cells; shifted = false })) (next.Made e.scope)) (new_cells (shape_at modes m) []) (Meets fault.Kind) (λ cells. tt) tt) tt
+    (new_cells modes m []) (Meets fault.Kind)) (slice_get chain 0) (Meets fault.Kind)
+    (λ e. option-below n (λ (cells : List Held). Asks (want.Make (record { cells = cells; shifted = false })) (next.Made e.scope)) (new_cells modes m []) (Meets fault.Kind) (λ cells. tt) tt) tt
 start-below n modes (bind slot) chain (v ∷ []) =
     option-below n (λ (e : Environ). Asks (want.Bind e.frame slot v) next.Void) (slice_get chain 0) (Meets fault.Kind) (λ e. tt) tt
-start-below n modes (deref m) chain (v ∷ []) = fetched-below n (shape_at modes m) v
-start-below n modes (store m) chain (name ∷ v ∷ []) = assigned-below n (shape_at modes m) name v
+start-below n modes (deref m) chain (v ∷ []) = fetched-below n modes m v
+start-below n modes (store m) chain (name ∷ v ∷ []) = assigned-below n modes m name v
 start-below n modes (apply row) chain (v ∷ w ∷ []) = applied-below n row v w
 start-below n modes drop chain (v ∷ []) = tt
 start-below n modes print chain items = print_next-below n items

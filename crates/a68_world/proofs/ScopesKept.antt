@@ -13,7 +13,7 @@ use Rattle.a68_acts.specs.declared.want.Reply.{Reply}
 use Rattle.a68_acts.specs.declared.want.Reply.TheVariants as reply
 use Rattle.a68_acts.specs.declared.want.Want.{Want}
 use Rattle.a68_acts.specs.declared.want.Want.TheVariants as want
-use Rattle.a68_code.specs.Flow.{does_at}
+use Rattle.a68_code.specs.Flow.{does_at, operands_of}
 use Rattle.a68_code.specs.declared.code.Code.{Code}
 use Rattle.a68_code.specs.declared.does.Does.{Does}
 use Rattle.a68_code.specs.declared.does.Does.TheVariants as does
@@ -135,7 +135,7 @@ exec-below n modes (does.Bind slot) st p = operates-below n modes st (bind slot)
 exec-below n modes (does.Make mode bounds) st p = operates-below n modes st (make mode bounds) bounds p.chain
 exec-below n modes (does.Deref mode) st p = operates-below n modes st (deref mode) 1 p.chain
 exec-below n modes (does.Store mode) st p = operates-below n modes st (store mode) 2 p.chain
-exec-below n modes (does.Apply row) st p = operates-below n modes st (apply row) 2 p.chain
+exec-below n modes (does.Apply row) st p = operates-below n modes st (apply row) (operands_of row) p.chain
 exec-below n modes does.Drop st p = operates-below n modes st drop 1 p.chain
 exec-below n modes (does.Print count) st p = operates-below n modes st print count p.chain
 exec-below n modes (does.Jump to) st p = to-place n st to st.stack.items p.chain
