@@ -4,7 +4,7 @@ use Rattle.std.proofs.Common.{subst}
 use Rattle.a68_base.specs.declared.refusal.Refusal.{Refusal}
 use Rattle.a68_base.specs.declared.refusal.Stop.{Stop}
 use Rattle.a68_base.specs.declared.refusal.Stop.TheVariants.{Refused, NoMemory}
-use Rattle.a68_check.specs.Annotates.{StopsBy}
+use Rattle.a68_ranges.specs.Twice.{StopsBy}
 use Rattle.std.specs.declared.result.Result.{Result}
 
 pub if-ok : {A B : Type 0} {P Q : A → Type 0} (r : Result A B) → ((a : A) → P a → Q a) → IfOk r P → IfOk r Q

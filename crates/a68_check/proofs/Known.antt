@@ -9,7 +9,7 @@ use Rattle.a68_annot.specs.declared.note.Note.{Note}
 use Rattle.a68_check.specs.Annotates.{IsAnnotated}
 use Rattle.a68_check.specs.Constructs.{construct_of, construct_of_node, parts_at}
 use Rattle.a68_check.specs.Goals.{goals_of}
-use Rattle.a68_check.specs.Notes.{mode_of, path_of, op_of, applied, slot_of, slots_of, spelling_at, found_at, note_of, notes_before}
+use Rattle.a68_check.specs.Notes.{mode_of, path_of, goal_of, op_of, applied, slot_of, slots_of, spelling_at, found_at, note_of, notes_before}
 use Rattle.a68_check.specs.Small.{goal_at}
 use Rattle.a68_check.specs.declared.construct.Construct.{Construct}
 use Rattle.a68_check.specs.declared.construct.Construct.TheVariants as construct
@@ -63,6 +63,7 @@ abbrev pub note_as : Construct → Purpose → (spelling : Option (List ℕ)) (d
 note_as f g spelling definition slot slots = record {
   mode = mode_of f g;
   path = path_of f g;
+  goal = goal_of f g;
   op = op_of f spelling;
   definition = definition;
   step = record { hops = 0; slot = slot };

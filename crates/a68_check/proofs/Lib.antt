@@ -1,4 +1,5 @@
 pub mod Answering
+pub mod Beginning
 pub mod Defining
 pub mod Fitting
 pub mod Forming
@@ -6,6 +7,6 @@ pub mod Known
 pub mod Leading
 pub mod Missing
 pub mod Noting
+pub mod One
 pub mod Parts
 pub mod Spelling
-pub mod One

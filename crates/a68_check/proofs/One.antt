@@ -1,17 +1,20 @@
--- A tree of shaped formulas breaks one rule at one place, or it has one annotation.
+-- A tree breaks one rule at one place, or it has one annotation.
 use Rattle.std.proofs.Common.{◌≡◌, ℕ, ◌<◌, ◌⊎◌, inl, inr, List, sym, ap, subst, ◌∙◌, arith, length}
 use Rattle.std.proofs.Math.Nat.{ℕ_set}
 use Rattle.a68_annot.specs.declared.note.Note.{Note}
 use Rattle.a68_modes.specs.declared.shape.Shape.{Shape}
 use Rattle.a68_annot.specs.declared.annotated.Annotated.{Annotated}
 use Rattle.a68_base.specs.declared.refusal.Refusal.{Refusal}
-use Rattle.a68_check.specs.Annotates.{IsAnnotated, Breaks, other, repeats, undefined, place_at}
+use Rattle.a68_check.specs.Annotates.{IsAnnotated, Annotates, Breaks, Refuses, broken, declared_twice, other, repeats, undefined, place_at}
 use Rattle.a68_check.specs.Goals.{goals_of}
 use Rattle.a68_check.specs.Misfits.{FirstOther}
 use Rattle.a68_check.specs.Notes.{notes_of}
 use Rattle.a68_check.specs.Small.{Runs}
 use Rattle.a68_check.proofs.Missing.{one_other, other_runs_not}
 use Rattle.a68_check.specs.Definitions.{in_text, FirstRepeat, FirstUndefined}
+use Rattle.a68_op_ident.specs.Shapes.{Shaped}
+use Rattle.a68_ranges.specs.Nodes as nodes
+use Rattle.a68_ranges.specs.Twice.{IsFirstInText, IsTwice}
 use Rattle.a68_tree.specs.Trees.{Built}
 
 three : (a b : ℕ) → (a ≡ b) ⊎ ((a < b) ⊎ (b < a))
@@ -75,3 +78,24 @@ same_annotated p q tree modes notes = same_made p.tree q.tree tree p.modes q.mod
 -- a tree has one annotation
 pub one_annotation : (a b : Annotated) → a.tree ≡ b.tree → IsAnnotated a → IsAnnotated b → a ≡ b
 one_annotation a b e p q = same_annotated a b e (p.modes ∙ sym q.modes) (p.notes ∙ ap notes_of e ∙ sym q.notes)
+
+-- ---- of flat trees
+
+-- the first places in the text for which something holds are one
+one_first : (tree : Built) (P : ℕ → Type 0) (i j : ℕ) → IsFirstInText tree P i → IsFirstInText tree P j → nodes.place_at tree i ≡ nodes.place_at tree j
+one_first tree P i j p q = let a = p.first j q.there q.broken in let b = q.first i p.there p.broken in omega arith
+
+module _ (shapes : (flat shaped another : Built) → Shaped flat shaped → Shaped flat another → another ≡ shaped) where
+  pub one_refusal : (flat : Built) (r s : Refusal) → Refuses flat r → Refuses flat s → AreOne r s
+  one_refusal flat r s (declared_twice t) (declared_twice u) = (t.rule_is ∙ sym u.rule_is, t.place_is ∙ one_first flat (IsTwice flat) t.id u.id t.first u.first ∙ sym u.place_is)
+  one_refusal flat r s (declared_twice t) (broken shaped once is b) = absurd (once t.id t.first.broken)
+  one_refusal flat r s (broken shaped once is b) (declared_twice t) = absurd (once t.id t.first.broken)
+  one_refusal flat r s (broken shaped once is b) (broken another also so c) =
+      one_break shaped r s b (subst (λ x. Breaks x s) (shapes flat shaped another is so) c)
+
+  pub not_refused : (flat : Built) (program : Annotated) (r : Refusal) → Annotates flat program → Refuses flat r → ⊥
+  not_refused flat program r a (declared_twice t) = a.once t.id t.first.broken
+  not_refused flat program r a (broken shaped once is b) = no_break program r a.annotated (subst (λ x. Breaks x r) (shapes flat program.tree shaped a.shaped is) b)
+
+  pub one_program : (flat : Built) (a b : Annotated) → Annotates flat a → Annotates flat b → a ≡ b
+  one_program flat a b p q = one_annotation a b (sym (shapes flat a.tree b.tree p.shaped q.shaped)) p.annotated q.annotated

@@ -4,8 +4,6 @@ use Rattle.std.specs.Option.{option_map_or}
 use Rattle.a68_annot.specs.declared.annotated.Annotated.{Annotated}
 use Rattle.a68_base.specs.declared.refusal.Refusal.{Refusal}
 use Rattle.a68_base.specs.declared.refusal.Rule.TheVariants.{X0, N1, N3}
-use Rattle.a68_base.specs.declared.refusal.Stop.{Stop}
-use Rattle.a68_base.specs.declared.refusal.Stop.TheVariants.{Refused, NoMemory}
 use Rattle.a68_check.specs.Definitions.{in_text, Repeats, FirstRepeat, Undefined, FirstUndefined}
 use Rattle.a68_check.specs.Goals.{goals_of}
 use Rattle.a68_check.specs.Misfits.{FirstOther}
@@ -13,6 +11,7 @@ use Rattle.a68_check.specs.Notes.{notes_of}
 use Rattle.a68_check.specs.Small.{Runs}
 use Rattle.a68_modes.specs.Nodes.{standard_shapes}
 use Rattle.a68_op_ident.specs.Shapes.{Shaped}
+use Rattle.a68_ranges.specs.Twice.{IsTwice, IsRefused}
 use Rattle.a68_tree.specs.Trees.{Built}
 use Rattle.a68_tree.specs.declared.node.Node.{Node}
 
@@ -41,13 +40,17 @@ pub data Breaks (tree : Built) (refusal : Refusal) : Type 0 where
   undefined : (n : ℕ) → (refusal.rule ≡ N1) → (refusal.place ≡ place_at tree (in_text tree n)) → Runs tree → ((k : ℕ) → k < length tree.nodes → Repeats tree k → ⊥)
       → FirstUndefined tree n → Breaks tree refusal
 
--- the rule that a flat tree breaks, once its formulas are shaped where they can be read
-pub record Refuses (flat : Built) (refusal : Refusal) : Type 0 where
-  pub shaped : Built
-  pub is_shaped : Shaped flat shaped
-  pub breaks : Breaks shaped refusal
+-- no range declares a word of one sort twice, and no structure has two fields of one tag
+abbrev pub DeclaresOnce : Built → Type 0
+DeclaresOnce flat = (id : ℕ) → IsTwice flat id → ⊥
 
--- what a stop says
-abbrev pub StopsBy : (Refusal → Type 0) → Stop → Type 0
-StopsBy P NoMemory = Unit {0}
-StopsBy P (Refused refusal) = P refusal
+-- The annotated tree of a flat one: its formulas are shaped where they can be read.
+pub record Annotates (flat : Built) (program : Annotated) : Type 0 where
+  pub once : DeclaresOnce flat
+  pub shaped : Shaped flat program.tree
+  pub annotated : IsAnnotated program
+
+-- The rule that a flat tree breaks: a word is declared twice; else what it breaks once its formulas are shaped.
+pub data Refuses (flat : Built) (refusal : Refusal) : Type 0 where
+  declared_twice : IsRefused flat refusal → Refuses flat refusal
+  broken : (shaped : Built) → DeclaresOnce flat → Shaped flat shaped → Breaks shaped refusal → Refuses flat refusal

@@ -47,6 +47,20 @@ path_of construct.Variable g = variable_path g
 path_of (construct.Assignation d s) g = coercion.Drop ∷ []
 path_of _ g = []
 
+-- the mode of a variable behind its coercions
+abbrev pub variable_goal : Purpose → ℕ
+variable_goal goal.Destination = 9
+variable_goal _ = 1
+
+-- the mode behind the coercions of a unit; VOID where nothing is asked
+abbrev pub goal_of : Construct → Purpose → ℕ
+goal_of construct.Number g = 1
+goal_of construct.Variable g = variable_goal g
+goal_of (construct.Sum l r) g = 1
+goal_of (construct.Test l r) g = 2
+goal_of construct.Serial g = serial_mode g
+goal_of _ g = 0
+
 -- the row of a formula's sign
 abbrev pub op_of : Construct → Option (List ℕ) → Option ℕ
 op_of (construct.Sum l r) spelling = option_and_then row_of spelling
@@ -88,6 +102,7 @@ abbrev pub note_of : Built → List Purpose → (id : ℕ) → Note
 note_of tree goals id = record {
   mode = mode_of (construct_of tree id) (goal_at goals id);
   path = path_of (construct_of tree id) (goal_at goals id);
+  goal = goal_of (construct_of tree id) (goal_at goals id);
   op = op_of (construct_of tree id) (spelling_at tree id);
   definition = applied (construct_of tree id) (found_at tree id);
   step = record { hops = 0; slot = slot_of (found_at tree id) };

@@ -1,11 +1,11 @@
 //! Trees that run, with what is known of each node.
 ghost use Rattle.std.specs.Prelude.{◌≡◌, ◌<◌, IfOk, IfErr, length};
 ghost use Rattle.a68_base.specs.declared.refusal.Stop.TheVariants as stop;
-ghost use Rattle.a68_check.specs.Annotates.{IsAnnotated, IsNamed, Breaks, Refuses, StopsBy, place_at};
+ghost use Rattle.a68_check.specs.Annotates.{IsAnnotated, IsNamed, Annotates, Breaks, Refuses, DeclaresOnce, place_at};
 ghost use Rattle.a68_check.specs.Notes.{notes_of};
 ghost use Rattle.a68_check.specs.Small.{Runs};
 ghost use Rattle.a68_modes.specs.Nodes.{standard_shapes};
-ghost use Rattle.a68_op_ident.specs.Shapes.{Shaped};
+ghost use Rattle.a68_ranges.specs.Twice.{IsRefused, StopsBy};
 
 use crate::definitions::{definitions, first_undefined, in_text};
 use crate::goals::goals;
@@ -15,6 +15,7 @@ use a68_annot::{Annotated, Notes};
 use a68_base::{Refusal, Rule, Stop};
 use a68_modes::Modes;
 use a68_op_ident::shape;
+use a68_ranges::ranges;
 use a68_tree::{NodeId, Tree};
 use std::alloc::Global;
 
@@ -35,7 +36,7 @@ fn known(alloc: Global, tree: &Tree) -> Result<(Modes, Notes), Stop>
     ensures named { IfOk result (λ known. IsNamed tree.now) }
     ensures modes { IfOk result (λ known. known.0 ≡ standard_shapes) }
     ensures notes { IfOk result (λ known. known.1 ≡ notes_of tree.now) }
-    ensures refused { IfErr result (λ why. StopsBy (λ refusal. Breaks tree.now refusal) why) }
+    ensures refused { IfErr result (λ why. StopsBy (Breaks tree.now) why) }
 {
     let asked = goals(alloc, tree)?;
     match program(tree, &asked) {
@@ -59,7 +60,7 @@ fn known(alloc: Global, tree: &Tree) -> Result<(Modes, Notes), Stop>
 fn annotate_shaped(alloc: Global, tree: Tree) -> Result<Annotated, Stop>
     ensures tree { IfOk result (λ program. program.tree ≡ tree) }
     ensures ok { IfOk result (λ program. IsAnnotated program) }
-    ensures refused { IfErr result (λ why. StopsBy (λ refusal. Breaks tree refusal) why) }
+    ensures refused { IfErr result (λ why. StopsBy (Breaks tree) why) }
 {
     match known(alloc, &tree) {
         Ok((modes, notes)) => Ok(Annotated { tree, modes, notes }),
@@ -70,13 +71,26 @@ fn annotate_shaped(alloc: Global, tree: Tree) -> Result<Annotated, Stop>
     }
 }
 
-/// What each node of a tree means, whose formulas are flat. The tree is refused by X0 where it has a form that does not
-/// run yet, by N3 where it defines a tag twice (Report, 7.1), and by N1 where it uses one that it does not define (7.2);
-/// each time at the first place in the text that breaks the rule.
-pub fn annotate(alloc: Global, tree: Tree) -> Result<Annotated, Stop>
-    ensures shaped { IfOk result (λ program. Shaped tree program.tree) }
-    ensures ok { IfOk result (λ program. IsAnnotated program) }
-    ensures refused { IfErr result (λ why. StopsBy (λ refusal. Refuses tree refusal) why) }
+// Tests that no range declares a word twice.
+fn declares_once(alloc: Global, tree: &Tree) -> Result<(), Stop>
+    ensures once { IfOk result (λ x. DeclaresOnce tree.now) }
+    ensures refused { IfErr result (λ why. StopsBy (IsRefused tree.now) why) }
 {
+    let _ranges = ranges(alloc, tree)?;
+    Ok(())
+}
+
+/// What each node of a tree means, whose formulas are flat. The tree is refused by N3 where a range declares a word of one
+/// sort twice, or a structure has two fields of one tag (Report, 7.1.1 and 7.2.1); by X0 where it has a form that does not
+/// run yet; and by N1 where it uses a tag that it does not define (7.2); each time at the first place in the text that
+/// breaks the rule.
+pub fn annotate(alloc: Global, tree: Tree) -> Result<Annotated, Stop>
+    ensures ok { IfOk result (λ program. Annotates tree program) }
+    ensures refused { IfErr result (λ why. StopsBy (Refuses tree) why) }
+{
+    if let Err(stop) = declares_once(alloc, &tree) {
+        drop(tree);
+        return Err(stop);
+    }
     annotate_shaped(alloc, shape(alloc, tree)?)
 }

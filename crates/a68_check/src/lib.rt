@@ -14,4 +14,4 @@ pub use annotation::annotate;
 pub use construct::Construct;
 pub use definitions::Definition;
 pub use goals::Purpose;
-pub use laws::{annotated_trees_fit, annotations_are_one};
+pub use laws::{annotated_trees_fit, annotations_are_one, annotations_begin_by};

@@ -64,6 +64,27 @@ fn path_of(alloc: Global, form: Construct, goal: Purpose) -> Result<Path, NoMemo
     Ok(Path { items })
 }
 
+fn variable_goal(goal: Purpose) -> ModeId
+    ensures { result ≡ notes_spec.variable_goal goal }
+{
+    match goal {
+        Purpose::Destination => REF_INT,
+        _ => INT,
+    }
+}
+
+fn goal_of(form: Construct, goal: Purpose) -> ModeId
+    ensures { result ≡ notes_spec.goal_of form goal }
+{
+    match form {
+        Construct::Number | Construct::Sum(_, _) => INT,
+        Construct::Variable => variable_goal(goal),
+        Construct::Test(_, _) => BOOL,
+        Construct::Serial => serial_mode(goal),
+        _ => VOID,
+    }
+}
+
 fn op_of(form: Construct, spelling: &[u8]) -> Option<u32>
     ensures { result ≡ notes_spec.op_of form (Some spelling.now) }
 {
@@ -145,6 +166,7 @@ fn note(
     Ok(Note {
         mode: mode_of(form, goal),
         path: path_of(alloc, form, goal)?,
+        goal: goal_of(form, goal),
         op: op_of(form, tree.spelling(name)),
         definition: applied(form, found),
         step: FrameStep {

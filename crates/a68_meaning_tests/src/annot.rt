@@ -14,6 +14,7 @@ fn note(alloc: Global, mode: u32) -> Note {
         path: Path {
             items: Vec::new(alloc),
         },
+        goal: mode,
         op: None,
         definition: None,
         step: FrameStep { hops: 0, slot: 0 },

@@ -94,12 +94,12 @@ fn are_sound(rt: &impl Abort, nodes: &[Node], names: usize)
     }
 }
 
-/// The tree of these nodes, a line each, and of these spellings.
+/// The tree of these nodes, a line each, and of these spellings; it does not tell where its symbols begin.
 pub fn tree_of(rt: &impl Abort, alloc: Global, lines: &str, names: &str) -> Tree {
     let spellings = spellings(rt, alloc, names);
     let nodes = nodes(rt, alloc, lines);
     holds(rt, nodes.len() > 0, "a node");
     holds(rt, nodes.len() < 1000, "few nodes");
     are_sound(rt, &nodes, spellings.len());
-    Tree::new(nodes, spellings)
+    Tree::new(nodes, spellings, Vec::new(alloc))
 }

@@ -1,5 +1,5 @@
 -- Shaping from the first node to the last.
-use Rattle.std.proofs.Common.{◌≡◌, ℕ, ◌+◌, ◌-◌, ◌*◌, ◌<◌, ◌≤◌, ◌⊎◌, inl, inr, Bool, true, false, List, length, refl, sym, ◌∙◌, ap, arith, Some, None, slice_get, nat_lt}
+use Rattle.std.proofs.Common.{◌≡◌, ℕ, ◌+◌, ◌-◌, ◌*◌, ◌<◌, ◌≤◌, ◌⊎◌, inl, inr, Bool, true, false, List, length, refl, sym, ◌∙◌, ap, arith, Some, None, slice_get, nat_lt, []}
 use Rattle.std.specs.Prelude.{if◌then◌else◌}
 use Rattle.std.specs.Option.{option_map, option_and_then}
 use Rattle.std.specs.declared.option.Option.{Option}
@@ -70,10 +70,10 @@ operands_same a b behind None same = refl
 operands_same a b behind (Some p) same = operand_same a b behind p (nat_lt behind p) refl same
 
 -- a formula reads the same where all nodes from its own on are the same
-pub reads_same : (nodes : List Node) (flat : Built) (id : ℕ) (parts : List ℕ) (os : List Operand) (ss : List Operator)
+pub reads_same : (nodes : List Node) (starts : List ℕ) (flat : Built) (id : ℕ) (parts : List ℕ) (os : List Operand) (ss : List Operator)
     → ((k : ℕ) → id ≤ k → slice_get nodes k ≡ slice_get flat.nodes k)
-    → Reads (record { nodes = nodes; spellings = flat.spellings }) id parts os ss → Reads flat id parts os ss
-reads_same nodes flat id parts os ss same reads = record {
+    → Reads (record { nodes = nodes; spellings = flat.spellings; starts = starts }) id parts os ss → Reads flat id parts os ss
+reads_same nodes starts flat id parts os ss same reads = record {
   count = reads.count;
   more = reads.more;
   some = reads.some;
@@ -86,12 +86,12 @@ reads_same nodes flat id parts os ss same reads = record {
 
 reads_back : (nodes : List Node) (flat : Built) (id : ℕ) (parts : List ℕ) (os : List Operand) (ss : List Operator)
     → ((k : ℕ) → id ≤ k → slice_get nodes k ≡ slice_get flat.nodes k)
-    → Reads flat id parts os ss → Reads (record { nodes = nodes; spellings = flat.spellings }) id parts os ss
-reads_back nodes flat id parts os ss same reads = reads_same flat.nodes (record { nodes = nodes; spellings = flat.spellings }) id parts os ss (λ k p. sym (same k p)) reads
+    → Reads flat id parts os ss → Reads (record { nodes = nodes; spellings = flat.spellings; starts = [] }) id parts os ss
+reads_back nodes flat id parts os ss same reads = reads_same flat.nodes flat.starts (record { nodes = nodes; spellings = flat.spellings; starts = [] }) id parts os ss (λ k p. sym (same k p)) reads
 
 -- a formula that cannot be read
 pub left : (flat : Built) (nodes : List Node) (id : ℕ) (n : Node) → Going flat nodes id → slice_get nodes id ≡ Some n
-    → IsUnread (record { nodes = nodes; spellings = flat.spellings }) id → Going flat nodes (id + 1)
+    → IsUnread (record { nodes = nodes; spellings = flat.spellings; starts = [] }) id → Going flat nodes (id + 1)
 left flat nodes id n going at none = record {
   shaped = record {
     long = going.shaped.long;
@@ -143,10 +143,10 @@ kept_on same (inr old) = inr (same ∙ old)
 
 -- a formula that is shaped
 pub shaped_formula : (flat : Built) (nodes new : List Node) (id count : ℕ) (n : Node) → Going flat nodes id → slice_get nodes id ≡ Some n → is_formula n.kind ≡ true
-    → IsPlaced (record { nodes = nodes; spellings = flat.spellings }) new id count → Going flat new (id + count + 1)
+    → IsPlaced (record { nodes = nodes; spellings = flat.spellings; starts = [] }) new id count → Going flat new (id + count + 1)
 shaped_formula flat nodes new id count n going at is placed =
     let same = placed.same in
-    let reads = reads_same nodes flat id placed.node.parts placed.operands placed.signs going.rest placed.reads in
+    let reads = reads_same nodes [] flat id placed.node.parts placed.operands placed.signs going.rest placed.reads in
     let long = placed.long in
     let here : slice_get flat.nodes id ≡ Some placed.node = sym (going.rest id (omega arith)) ∙ placed.there in
     let is_placed : is_formula placed.node.kind ≡ true = let e : Some placed.node ≡ Some n = sym placed.there ∙ at in let f : placed.node ≡ n = cc in ap (λ (x : Node). is_formula x.kind) f ∙ is in

@@ -123,4 +123,7 @@ pub one_shape : (flat one other : Built) → Shaped flat one → Shaped flat oth
 one_shape flat one other a b =
     let nodes = one_nodes flat one.nodes other.nodes a.nodes b.nodes in
     let spellings : other.spellings ≡ one.spellings = b.spellings ∙ sym a.spellings in
-    ap (λ n. let t : Built = record { nodes = n; spellings = other.spellings } in t) nodes ∙ ap (λ s. let t : Built = record { nodes = one.nodes; spellings = s } in t) spellings
+    let starts : other.starts ≡ one.starts = b.starts ∙ sym a.starts in
+    ap (λ n. let t : Built = record { nodes = n; spellings = other.spellings; starts = other.starts } in t) nodes
+    ∙ ap (λ s. let t : Built = record { nodes = one.nodes; spellings = s; starts = other.starts } in t) spellings
+    ∙ ap (λ s. let t : Built = record { nodes = one.nodes; spellings = one.spellings; starts = s } in t) starts

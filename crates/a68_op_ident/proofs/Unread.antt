@@ -51,9 +51,11 @@ module _ (tree : Built) (f count : ℕ) (node : Node) (parts : List ℕ) (there 
   }
 
 -- all formulas are shaped
-pub finished : (flat : Built) (nodes : List Node) (spellings : List (List ℕ)) (id : ℕ) → Going flat nodes id → id ≡ length nodes → spellings ≡ flat.spellings → Shaped flat (record { nodes = nodes; spellings = spellings })
-finished flat nodes spellings id going all same = record {
+pub finished : (flat : Built) (nodes : List Node) (spellings : List (List ℕ)) (starts : List ℕ) (id : ℕ) → Going flat nodes id → id ≡ length nodes
+    → spellings ≡ flat.spellings → starts ≡ flat.starts → Shaped flat (record { nodes = nodes; spellings = spellings; starts = starts })
+finished flat nodes spellings starts id going all same begin = record {
   nodes = subst (ShapedTo flat nodes) (all ∙ going.shaped.long) going.shaped;
   spellings = same;
+  starts = begin;
   sound = rw same going.sound;
 }

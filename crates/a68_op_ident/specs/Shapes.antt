@@ -51,4 +51,5 @@ pub record Going (flat : Built) (nodes : List Node) (id : ℕ) : Type 0 where
 pub record Shaped (flat shaped : Built) : Type 0 where
   pub nodes : ShapedTo flat shaped.nodes (length flat.nodes)
   pub spellings : shaped.spellings ≡ flat.spellings
+  pub starts : shaped.starts ≡ flat.starts
   pub sound : IsSound shaped.nodes (length shaped.spellings)

@@ -1,5 +1,5 @@
 //! The operands and the signs of a formula.
-ghost use Rattle.std.specs.Prelude.{◌≡◌, ◌+◌, ◌*◌, ◌<◌, ◌^◌, length, map, IfOk, IfSome, IfNone};
+ghost use Rattle.std.specs.Prelude.{◌≡◌, ◌+◌, ◌*◌, ◌<◌, ◌^◌, length, map, IfOk, IfSome, IfNone, []};
 ghost use Rattle.a68_op_ident.specs.Formulas as formulas;
 ghost use Rattle.a68_op_ident.specs.Formulas.{AreOperands, AreSigns, LacksOperand, LacksSign};
 ghost use Rattle.a68_op_ident.specs.Priorities as standard;
@@ -73,7 +73,7 @@ pub fn operands(
 
 // The sign that stands at a node, if one does that has a priority.
 fn sign_at(nodes: &[Node], spellings: &[Text], id: NodeId) -> Option<Operator>
-    ensures { result ≡ formulas.sign_at (record { nodes = nodes.now; spellings = spellings.now }) id }
+    ensures { result ≡ formulas.sign_at (record { nodes = nodes.now; spellings = spellings.now; starts = [] }) id }
 {
     let node = nodes.get(id as usize)?;
     if node.kind != NodeKind::Sign {
@@ -99,9 +99,9 @@ pub fn signs(
 ) -> Result<Option<Vec<Operator>>, NoMemory>
     requires long { length parts.now ≡ 2 * count + 1 }
     requires few { from + count < 2 ^ 32 }
-    ensures none { IfOk result (λ found. IfNone found (LacksSign (record { nodes = nodes.now; spellings = spellings.now }) parts.now from count)) }
+    ensures none { IfOk result (λ found. IfNone found (LacksSign (record { nodes = nodes.now; spellings = spellings.now; starts = [] }) parts.now from count)) }
     ensures long { IfOk result (λ found. IfSome found (λ signs. length signs.items ≡ count)) }
-    ensures each { IfOk result (λ found. IfSome found (λ signs. AreSigns (record { nodes = nodes.now; spellings = spellings.now }) parts.now from signs.items)) }
+    ensures each { IfOk result (λ found. IfSome found (λ signs. AreSigns (record { nodes = nodes.now; spellings = spellings.now; starts = [] }) parts.now from signs.items)) }
 {
     let mut signs = Vec::new(alloc);
     for i in 0..count {

@@ -1,5 +1,5 @@
 //! Trees whose formulas are shaped.
-ghost use Rattle.std.specs.Prelude.{◌≡◌, ◌≤◌, ◌<◌, ◌+◌, ◌-◌, ◌*◌, ◌^◌, length, vec_len, IfOk, IfSome, IfNone};
+ghost use Rattle.std.specs.Prelude.{◌≡◌, ◌≤◌, ◌<◌, ◌+◌, ◌-◌, ◌*◌, ◌^◌, length, vec_len, IfOk, IfSome, IfNone, []};
 ghost use Rattle.a68_op_ident.specs.Formulas as formulas;
 ghost use Rattle.a68_op_ident.specs.Readings.{IsReading, IsUnread, IsPlaced};
 ghost use Rattle.a68_op_ident.specs.Shapes.{Shaped, Going};
@@ -29,7 +29,7 @@ fn read(
 ) -> Result<Option<FormulaParts>, NoMemory>
     requires there { formula < length nodes.now }
     requires few { length nodes.now < 2 ^ 32 }
-    ensures { IfOk result (λ found. IsReading (record { nodes = nodes.now; spellings = spellings.now }) formula found) }
+    ensures { IfOk result (λ found. IsReading (record { nodes = nodes.now; spellings = spellings.now; starts = [] }) formula found) }
 {
     let node = &nodes[formula as usize];
     let parts = &node.parts.items;
@@ -63,8 +63,8 @@ fn shape_formula(
 ) -> Result<Option<u32>, NoMemory>
     requires there { formula < vec_len nodes.old }
     requires sound { IsSound nodes.old.items (length spellings.now) }
-    ensures none { IfOk result (λ count. IfNone count (IsUnread (record { nodes = nodes.old.items; spellings = spellings.now }) formula × (nodes.new.items ≡ nodes.old.items))) }
-    ensures some { IfOk result (λ count. IfSome count (λ signs. IsPlaced (record { nodes = nodes.old.items; spellings = spellings.now }) nodes.new.items formula signs)) }
+    ensures none { IfOk result (λ count. IfNone count (IsUnread (record { nodes = nodes.old.items; spellings = spellings.now; starts = [] }) formula × (nodes.new.items ≡ nodes.old.items))) }
+    ensures some { IfOk result (λ count. IfSome count (λ signs. IsPlaced (record { nodes = nodes.old.items; spellings = spellings.now; starts = [] }) nodes.new.items formula signs)) }
     ensures within { IfOk result (λ count. IfSome count (λ signs. formula + signs < vec_len nodes.new)) }
     ensures long { IfOk result (λ count. vec_len nodes.new ≡ vec_len nodes.old) }
 {
@@ -110,12 +110,12 @@ fn shape_at(
 pub fn shape(alloc: Global, tree: Tree) -> Result<Tree, NoMemory>
     ensures { IfOk result (λ shaped. Shaped tree shaped) }
 {
-    let (mut nodes, spellings) = tree.apart();
+    let (mut nodes, spellings, starts) = tree.apart();
     let mut id: u32 = 0;
     while (id as usize) < nodes.len() {
         id = shape_at(alloc, &mut nodes, &spellings, id)?;
     }
-    Ok(Tree::new(nodes, spellings))
+    Ok(Tree::new(nodes, spellings, starts))
 }
 
 /// A law: a flat tree has one shaped tree at most.

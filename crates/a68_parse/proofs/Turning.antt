@@ -1,9 +1,9 @@
 -- Drafts turned into nodes, and the spellings of names.
-use Rattle.std.proofs.Common.{◌≡◌, ℕ, suc, ◌<◌, ◌≤◌, ◌⊎◌, inl, inr, List, [], ◌∷◌, Some, None, length, map, reverse, refl, sym, ◌∙◌, arith, slice_get}
+use Rattle.std.proofs.Common.{◌≡◌, ℕ, suc, ◌+◌, ◌++◌, take, ap, ◌<◌, ◌≤◌, ◌⊎◌, inl, inr, List, [], ◌∷◌, Some, None, length, map, reverse, refl, sym, ◌∙◌, arith, slice_get}
 use Rattle.std.specs.Option.{option_map}
 use Rattle.a68_symbols.specs.declared.symbol.Symbol.{Symbol}
-use Rattle.std.proofs.lemmas.List.{length-map}
-use Rattle.std.proofs.lemmas.Option.{slice_get_past, slice_get-map}
+use Rattle.std.proofs.lemmas.List.{length-map, take_more, map-append}
+use Rattle.std.proofs.lemmas.Option.{slice_get_past, slice_get-map, slice_get_within, get_or_from_slice_get}
 use Rattle.a68_parse.specs.Drafted.{SpellsAlike}
 use Rattle.a68_symbols.specs.Names.{Named, Spelled}
 use Rattle.a68_tree.specs.declared.node.Node.{Node}
@@ -12,6 +12,11 @@ use Rattle.a68_tree.specs.Nodes.{Entry, turned_entry, node_of}
 -- the nodes of entries, backwards
 abbrev pub back : List Symbol → ℕ → List Entry → List Node
 back symbols last es = map (node_of symbols) (reverse (map (turned_entry last) es))
+
+-- what the first elements give, and the next one
+pub map_more : {X Y : Type 0} (f : X → Y) (xs : List X) (i : ℕ) (x : X) → slice_get xs i ≡ Some x → map f (take (i + 1) xs) ≡ map f (take i xs) ++ f x ∷ []
+map_more f xs i x e =
+    ap (map f) (take_more xs i x (slice_get_within xs i x e)) ∙ map-append f (take i xs) _ ∙ ap (λ y. map f (take i xs) ++ f y ∷ []) (get_or_from_slice_get xs i x x e)
 
 -- ---- spellings
 

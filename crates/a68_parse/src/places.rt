@@ -1,10 +1,12 @@
 //! Places in a text, by how many of its symbols are left there.
-ghost use Rattle.std.specs.Prelude.{◌≡◌, slice_get};
+ghost use Rattle.std.specs.Prelude.{◌≡◌, slice_get, IfOk};
 ghost use Rattle.a68_tree.specs.Nodes.{span_of, symbol_at, symbol_behind, name_of, first_byte, end_byte};
+ghost use Rattle.a68_parse.specs.Drafted.{AreStarts};
 ghost use Rattle.a68_parse.specs.Places.{place_of};
 
-use a68_base::Span;
+use a68_base::{NoMemory, Span};
 use a68_symbols::{Symbol, Symbols};
+use std::alloc::Global;
 
 /// The symbol of that number, if there is one.
 fn nth(symbols: &Symbols, at: usize) -> Option<Symbol>
@@ -69,4 +71,15 @@ pub fn span(symbols: &Symbols, before: usize, after: usize) -> Span
         let to = end_byte(symbols, after);
         Span { from, to }
     }
+}
+
+/// The first bytes of all symbols, in order.
+pub fn starts(alloc: Global, symbols: &Symbols) -> Result<Vec<u32>, NoMemory>
+    ensures { IfOk result (λ starts. AreStarts symbols.now starts.items) }
+{
+    let mut starts = Vec::new(alloc);
+    for i in 0..symbols.len() {
+        starts.push(symbols.at(i).span.from)?;
+    }
+    Ok(starts)
 }

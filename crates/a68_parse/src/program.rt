@@ -5,7 +5,7 @@ ghost use Rattle.a68_symbols.specs.declared.symbol.Symbol.{Symbol};
 ghost use Rattle.a68_symbols.specs.Limits.{most_symbols};
 ghost use Rattle.a68_symbols.specs.Names.{Named};
 ghost use Rattle.a68_symbols.specs.Symbols.{SymbolsAre, IsRefused, piece_of};
-ghost use Rattle.a68_parse.specs.Drafted.{SpellsAlike};
+ghost use Rattle.a68_parse.specs.Drafted.{SpellsAlike, AreStarts};
 ghost use Rattle.a68_parse.specs.Parses.{Parses, IsTree};
 ghost use Rattle.a68_tree.specs.declared.node.Node.{Node};
 ghost use Rattle.a68_words.specs.declared.class.Class.{Class};
@@ -27,6 +27,7 @@ pub fn parse(alloc: Global, symbols: &Symbols, classes: &Classed, end: u32) -> R
     requires { length symbols.now.symbols ≤ most_symbols }
     ensures parses { Parses symbols.now classes.now end result }
     ensures spellings { IfOk result (λ tree. SpellsAlike symbols.now tree.spellings) }
+    ensures starts { IfOk result (λ tree. AreStarts symbols.now tree.starts) }
 {
     let list = text(alloc, symbols, classes)?;
     match read(alloc, &list) {

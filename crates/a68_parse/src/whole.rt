@@ -3,9 +3,10 @@ ghost use Rattle.std.specs.Prelude.{◌≡◌, ◌<◌, ◌^◌, length, map, If
 ghost use Rattle.a68_tree.specs.Nodes.{node_of};
 ghost use Rattle.a68_tree.specs.Trees.{entries};
 ghost use Rattle.a68_nodes.specs.Views.{views};
-ghost use Rattle.a68_parse.specs.Drafted.{AreDrafted, SpellsAlike};
+ghost use Rattle.a68_parse.specs.Drafted.{AreDrafted, SpellsAlike, AreStarts};
 
 use crate::nodes::turned;
+use crate::places::starts;
 use crate::spellings::spellings;
 use a68_base::NoMemory;
 use a68_nodes::Draft;
@@ -20,7 +21,9 @@ pub fn tree(alloc: Global, symbols: &Symbols, drafts: Vec<Draft>) -> Result<Tree
     requires drafted { AreDrafted (views drafts.items) }
     ensures listed { IfOk result (λ tree. (d : AreDrafted (views drafts.items)) → tree.nodes ≡ map (node_of symbols.now.symbols) (entries d.kind d.under)) }
     ensures spellings { IfOk result (λ tree. SpellsAlike symbols.now tree.spellings) }
+    ensures starts { IfOk result (λ tree. AreStarts symbols.now tree.starts) }
 {
     let nodes = turned(alloc, symbols, drafts)?;
-    Ok(Tree::new(nodes, spellings(alloc, symbols)?))
+    let spellings = spellings(alloc, symbols)?;
+    Ok(Tree::new(nodes, spellings, starts(alloc, symbols)?))
 }

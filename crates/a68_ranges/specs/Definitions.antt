@@ -1,4 +1,3 @@
--- Inner: the headline does not rest on this file.
 -- What a range declares, and the definition of an applied word (Report, 4.8 and 7.2.1).
 use Rattle.std.specs.Prelude.{◌≡◌, ◌<◌, ℕ, Bool, true, false, List, [], ◌∷◌, ◌++◌, length, slice_get, Option, Some, None, if◌then◌else◌}
 use Rattle.std.specs.List.{Contains}

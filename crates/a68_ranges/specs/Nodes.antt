@@ -1,4 +1,3 @@
--- Inner: the headline does not rest on this file.
 -- Nodes of a tree, as the definitions of ranges read them (own).
 use Rattle.std.specs.Prelude.{◌≡◌, ◌<◌, ℕ, List, [], length, slice_get, Option, Some}
 use Rattle.std.specs.Option.{option_map_or}

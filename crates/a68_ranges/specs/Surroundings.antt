@@ -1,4 +1,3 @@
--- Inner: the headline does not rest on this file.
 -- The ranges about a node (Report, 3.0.2, 3.2, 3.4, 3.5 and 5.4.1: where nests get a new layer). A range is named by a node: a
 -- Serial, a RoutineText, a Loop (the range of the tag behind FOR) or a Spec (that of its tag).
 use Rattle.std.specs.Prelude.{◌≡◌, ◌<◌, ◌≤◌, ◌⊎◌, ◌-◌, ℕ, Bool, true, false, nat_eq, List, [], ◌∷◌, ◌++◌, slice_get, if◌then◌else◌}

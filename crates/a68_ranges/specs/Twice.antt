@@ -1,4 +1,3 @@
--- Inner: the headline does not rest on this file.
 -- Words that one range declares twice, and field tags that one structure has twice (Report, 4.8.1, 7.1.1 and 7.2.1).
 use Rattle.std.specs.Prelude.{◌≡◌, ◌<◌, ◌≤◌, ℕ, length, slice_get, Some}
 use Rattle.a68_base.specs.declared.refusal.Refusal.{Refusal}

@@ -12,17 +12,17 @@ use Rattle.a68_tree.specs.declared.node.Node.{Node}
 abbrev node : NodeKind → (from to name : ℕ) → List ℕ → Node
 node k from to name parts = record { kind = k; span = record { from = from; to = to }; name = name; parts = parts }
 
--- a unit or a clause of a mode under these coercions
-abbrev has_mode : ℕ → List Coercion → Note
-has_mode mode path = record { mode = mode; path = path; op = None; definition = None; step = record { hops = 0; slot = 0 }; slots = 0; need = None }
+-- a unit or a clause of a mode under these coercions, behind which it has that mode
+abbrev has_mode : ℕ → List Coercion → (goal : ℕ) → Note
+has_mode mode path goal = record { mode = mode; path = path; goal = goal; op = None; definition = None; step = record { hops = 0; slot = 0 }; slots = 0; need = None }
 
 -- a range of a mode with one slot
 abbrev has_slot : ℕ → Note
-has_slot mode = record (has_mode mode []) { slots = 1 }
+has_slot mode = record (has_mode mode [] mode) { slots = 1 }
 
 -- a formula of a mode by a row of the table of operators
 abbrev has_row : (mode row : ℕ) → Note
-has_row mode row = record (has_mode mode []) { op = Some row }
+has_row mode row = record (has_mode mode [] mode) { op = Some row }
 
 -- VOID, INT, BOOL and REF INT
 abbrev void : ℕ
@@ -45,10 +45,11 @@ five_printed = record {
         node kind.Closed 0 30 0 (1 ∷ []) ∷ node kind.Serial 6 26 0 (5 ∷ 2 ∷ []) ∷ node kind.Call 18 26 0 (4 ∷ 3 ∷ []) ∷ node kind.Tag 24 25 0 [] ∷ node kind.Tag 18 23 1 []
         ∷ node kind.Variable 6 16 0 (7 ∷ 6 ∷ []) ∷ node kind.Denotation 15 16 2 [] ∷ node kind.Declarer 6 9 3 [] ∷ [];
     spellings = (120 ∷ []) ∷ (112 ∷ 114 ∷ 105 ∷ 110 ∷ 116 ∷ []) ∷ (53 ∷ []) ∷ (73 ∷ 78 ∷ 84 ∷ []) ∷ [];
+    starts = 0 ∷ 6 ∷ 10 ∷ 12 ∷ 15 ∷ 16 ∷ 18 ∷ 23 ∷ 24 ∷ 25 ∷ 27 ∷ [];
   };
   modes = standard_shapes;
   notes =
-      has_mode void [] ∷ has_slot void ∷ has_mode void [] ∷ has_mode ref_int (Deref ∷ []) ∷ has_mode void [] ∷ has_mode ref_int [] ∷ has_mode int [] ∷ has_mode int [] ∷ [];
+      has_mode void [] void ∷ has_slot void ∷ has_mode void [] void ∷ has_mode ref_int (Deref ∷ []) int ∷ has_mode void [] void ∷ has_mode ref_int [] void ∷ has_mode int [] int ∷ has_mode int [] void ∷ [];
   noted = refl;
 }
 
@@ -60,9 +61,10 @@ unset_printed = record {
         node kind.Closed 0 25 0 (1 ∷ []) ∷ node kind.Serial 6 21 0 (5 ∷ 2 ∷ []) ∷ node kind.Call 13 21 0 (4 ∷ 3 ∷ []) ∷ node kind.Tag 19 20 0 [] ∷ node kind.Tag 13 18 1 []
         ∷ node kind.Variable 6 11 0 (6 ∷ []) ∷ node kind.Declarer 6 9 2 [] ∷ [];
     spellings = (120 ∷ []) ∷ (112 ∷ 114 ∷ 105 ∷ 110 ∷ 116 ∷ []) ∷ (73 ∷ 78 ∷ 84 ∷ []) ∷ [];
+    starts = 0 ∷ 6 ∷ 10 ∷ 11 ∷ 13 ∷ 18 ∷ 19 ∷ 20 ∷ 22 ∷ [];
   };
   modes = standard_shapes;
-  notes = has_mode void [] ∷ has_slot void ∷ has_mode void [] ∷ has_mode ref_int (Deref ∷ []) ∷ has_mode void [] ∷ has_mode ref_int [] ∷ has_mode int [] ∷ [];
+  notes = has_mode void [] void ∷ has_slot void ∷ has_mode void [] void ∷ has_mode ref_int (Deref ∷ []) int ∷ has_mode void [] void ∷ has_mode ref_int [] void ∷ has_mode int [] void ∷ [];
   noted = refl;
 }
 
@@ -74,9 +76,10 @@ newer_yielded = record {
         node kind.Closed 0 20 0 (1 ∷ []) ∷ node kind.Serial 6 16 0 (2 ∷ []) ∷ node kind.Closed 6 16 0 (3 ∷ []) ∷ node kind.Serial 7 15 0 (5 ∷ 4 ∷ []) ∷ node kind.Tag 14 15 0 []
         ∷ node kind.Variable 7 12 0 (6 ∷ []) ∷ node kind.Declarer 7 10 1 [] ∷ [];
     spellings = (120 ∷ []) ∷ (73 ∷ 78 ∷ 84 ∷ []) ∷ [];
+    starts = 0 ∷ 6 ∷ 7 ∷ 11 ∷ 12 ∷ 14 ∷ 15 ∷ 17 ∷ [];
   };
   modes = standard_shapes;
-  notes = has_mode void [] ∷ has_mode void [] ∷ has_mode ref_int (Drop ∷ []) ∷ has_slot ref_int ∷ has_mode ref_int [] ∷ has_mode ref_int [] ∷ has_mode int [] ∷ [];
+  notes = has_mode void [] void ∷ has_mode void [] void ∷ has_mode ref_int (Drop ∷ []) void ∷ has_slot ref_int ∷ has_mode ref_int [] ref_int ∷ has_mode ref_int [] void ∷ has_mode int [] void ∷ [];
   noted = refl;
 }
 
@@ -92,11 +95,10 @@ three_counted = record {
         ∷ node kind.Denotation 15 16 2 [] ∷ node kind.Declarer 6 9 7 [] ∷ [];
     spellings =
         (105 ∷ []) ∷ (112 ∷ 114 ∷ 105 ∷ 110 ∷ 116 ∷ []) ∷ (48 ∷ []) ∷ (49 ∷ []) ∷ (51 ∷ []) ∷ (43 ∷ []) ∷ (60 ∷ []) ∷ (73 ∷ 78 ∷ 84 ∷ []) ∷ [];
+    starts = 0 ∷ 6 ∷ 10 ∷ 12 ∷ 15 ∷ 16 ∷ 18 ∷ 24 ∷ 26 ∷ 28 ∷ 30 ∷ 33 ∷ 35 ∷ 38 ∷ 40 ∷ 42 ∷ 44 ∷ 46 ∷ 48 ∷ 53 ∷ 54 ∷ 55 ∷ 57 ∷ [];
   };
   modes = standard_shapes;
   notes =
-      has_mode void [] ∷ has_slot void ∷ has_mode void [] ∷ has_mode ref_int (Deref ∷ []) ∷ has_mode void [] ∷ has_mode void [] ∷ has_mode void [] ∷ has_mode ref_int (Drop ∷ [])
-      ∷ has_row int 15 ∷ has_mode int [] ∷ has_mode ref_int (Deref ∷ []) ∷ has_mode ref_int [] ∷ has_mode bool [] ∷ has_mode bool [] ∷ has_row bool 11 ∷ has_mode int []
-      ∷ has_mode ref_int (Deref ∷ []) ∷ has_mode ref_int [] ∷ has_mode int [] ∷ has_mode int [] ∷ [];
+      has_mode void [] void ∷ has_slot void ∷ has_mode void [] void ∷ has_mode ref_int (Deref ∷ []) int ∷ has_mode void [] void ∷ has_mode void [] void ∷ has_mode void [] void ∷ has_mode ref_int (Drop ∷ []) void ∷ has_row int 15 ∷ has_mode int [] int ∷ has_mode ref_int (Deref ∷ []) int ∷ has_mode ref_int [] ref_int ∷ has_mode bool [] void ∷ has_mode bool [] bool ∷ has_row bool 11 ∷ has_mode int [] int ∷ has_mode ref_int (Deref ∷ []) int ∷ has_mode ref_int [] void ∷ has_mode int [] int ∷ has_mode int [] void ∷ [];
   noted = refl;
 }

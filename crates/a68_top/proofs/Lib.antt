@@ -1,4 +1,3 @@
-pub mod Beginning
 pub mod Compiled
 pub mod Lined
 pub mod One

@@ -6,18 +6,17 @@ use Rattle.a68_annot.specs.declared.annotated.Annotated.{Annotated}
 use Rattle.a68_base.specs.declared.refusal.Refusal.{Refusal}
 use Rattle.a68_base.specs.declared.refusal.Rule.{Rule}
 use Rattle.a68_base.specs.declared.refusal.Rule.TheVariants.{S6, X0}
-use Rattle.a68_check.specs.Annotates.{IsAnnotated, Refuses, Breaks}
+use Rattle.a68_check.specs.Annotates.{Annotates, Refuses}
 use Rattle.a68_elab.specs.Made.{program_of}
 use Rattle.a68_gen.specs.Listing.{listing}
 use Rattle.a68_gen.specs.Writing.{IsTooLong, places, most}
-use Rattle.a68_op_ident.specs.Shapes.{Shaped}
 use Rattle.a68_parse.specs.Parses.{IsTree}
 use Rattle.a68_symbols.specs.Names.{Named, AreNamed}
 use Rattle.a68_symbols.specs.Symbols.{SymbolsAre, RefusalIs, Piece, piece_of}
 use Rattle.a68_top.specs.Compiles.{IsTreeOf, IsProgramOf, RefusedAs, unlike_symbols, unclassed, no_tree, no_meaning, too_long}
 use Rattle.a68_tree.specs.Trees.{Built}
 use Rattle.a68_tree.specs.declared.node.Node.{Node}
-use Rattle.a68_parse.specs.Drafted.{SpellsAlike}
+use Rattle.a68_parse.specs.Drafted.{SpellsAlike, AreStarts}
 use Rattle.a68_words.specs.Classes.{IsClassed, IsRefused}
 use Rattle.a68_words.specs.declared.class.Class.{Class}
 use Rattle.std.specs.declared.option.Option.{Option}
@@ -28,10 +27,9 @@ pub record Laws : Type 0 where
   pub classes : (found : Named) (classes others : List (Option Class)) → IsClassed found classes → IsClassed found others → others ≡ classes
   pub unclassed : (found : Named) (rule other : Rule) (place at : ℕ) → IsRefused found rule place → IsRefused found other at → (other ≡ rule) × (at ≡ place)
   pub apart : (found : Named) (rule : Rule) (place : ℕ) (classes : List (Option Class)) → IsRefused found rule place → IsClassed found classes → ⊥
-  pub shapes : (flat one other : Built) → Shaped flat one → Shaped flat other → other ≡ one
-  pub breaks : (tree : Built) (r s : Refusal) → Breaks tree r → Breaks tree s → (r.rule ≡ s.rule) × (r.place ≡ s.place)
-  pub unbroken : (program : Annotated) (r : Refusal) → IsAnnotated program → Breaks program.tree r → ⊥
-  pub notes : (a b : Annotated) → a.tree ≡ b.tree → IsAnnotated a → IsAnnotated b → a ≡ b
+  pub broken : (flat : Built) (r s : Refusal) → Refuses flat r → Refuses flat s → (r.rule ≡ s.rule) × (r.place ≡ s.place)
+  pub unbroken : (flat : Built) (program : Annotated) (r : Refusal) → Annotates flat program → Refuses flat r → ⊥
+  pub programs : (flat : Built) (a b : Annotated) → Annotates flat a → Annotates flat b → a ≡ b
 
 abbrev pub AreOne : Refusal → Refusal → Type 0
 AreOne r s = (r.rule ≡ s.rule) × ((r.rule ≡ S6) ⊎ (r.place ≡ s.place))
@@ -50,14 +48,16 @@ module _ (laws : Laws) (text : List ℕ) where
       let nodes : a.nodes ≡ b.nodes = q.only a.nodes derived' in
       let alike : SpellsAlike q.found a.spellings = subst (λ f. SpellsAlike f a.spellings) found p.spelled in
       let spellings : a.spellings ≡ b.spellings = alike ∙ sym q.spelled in
-      ap {A = List Node} {B = Built} (λ ns. record { nodes = ns; spellings = a.spellings }) nodes ∙ ap {A = List (List ℕ)} {B = Built} (λ ss. record { nodes = b.nodes; spellings = ss }) spellings
+      let begun : AreStarts q.found a.starts = subst (λ f. AreStarts f a.starts) found p.begun in
+      let starts : a.starts ≡ b.starts = begun ∙ sym q.begun in
+      ap {A = List Node} {B = Built} (λ ns. record { nodes = ns; spellings = a.spellings; starts = a.starts }) nodes
+      ∙ ap {A = List (List ℕ)} {B = Built} (λ ss. record { nodes = b.nodes; spellings = ss; starts = a.starts }) spellings
+      ∙ ap {A = List ℕ} {B = Built} (λ ss. record { nodes = b.nodes; spellings = b.spellings; starts = ss }) starts
 
   pub same_program : (a b : Annotated) → IsProgramOf text a → IsProgramOf text b → a ≡ b
   same_program a b p q =
       let flat : p.tree ≡ q.tree = same_tree p.tree q.tree p.is q.is in
-      let shaped : Shaped q.tree a.tree = subst (λ t. Shaped t a.tree) flat p.shaped in
-      let tree : a.tree ≡ b.tree = laws.shapes q.tree b.tree a.tree q.shaped shaped in
-      laws.notes a b tree p.annotated q.annotated
+      laws.programs q.tree a b (subst (λ t. Annotates t a) flat p.annotates) q.annotates
 
   -- a tree of the text, and no symbols, classes or tree
   tree_symbols : (tree : Built) (rule : Rule) (place : ℕ) → IsTreeOf text tree → RefusalIs text rule place → ⊥
@@ -92,17 +92,13 @@ module _ (laws : Laws) (text : List ℕ) where
   broken_once : (t u : Built) (r s : Refusal) → IsTreeOf text t → IsTreeOf text u → Refuses t r → Refuses u s → AreOne r s
   broken_once t u r s is also p q =
       let flat : t ≡ u = same_tree t u is also in
-      let shaped : Shaped u p.shaped = subst (λ x. Shaped x p.shaped) flat p.is_shaped in
-      let same : p.shaped ≡ q.shaped = laws.shapes u q.shaped p.shaped q.is_shaped shaped in
-      let one = laws.breaks q.shaped r s (subst (λ x. Breaks x r) same p.breaks) q.breaks in
+      let one = laws.broken u r s (subst (λ x. Refuses x r) flat p) q in
       (one.0, inr one.1)
 
   pub not_both : (t : Built) (program : Annotated) (r : Refusal) → IsTreeOf text t → IsProgramOf text program → Refuses t r → ⊥
   not_both t program r is q p =
       let flat : t ≡ q.tree = same_tree t q.tree is q.is in
-      let shaped : Shaped q.tree p.shaped = subst (λ x. Shaped x p.shaped) flat p.is_shaped in
-      let same : p.shaped ≡ program.tree = laws.shapes q.tree program.tree p.shaped q.shaped shaped in
-      laws.unbroken program r q.annotated (subst (λ x. Breaks x r) same p.breaks)
+      laws.unbroken q.tree program r q.annotates (subst (λ x. Refuses x r) flat p)
 
   long_once : (p q : Annotated) (r s : Refusal) → IsProgramOf text p → IsProgramOf text q → IsTooLong (listing (program_of p)) r → IsTooLong (listing (program_of q)) s → AreOne r s
   long_once p q r s i j u v =

@@ -5,7 +5,8 @@ use Rattle.std.specs.declared.result.Result.{Result}
 use Rattle.a68_annot.specs.declared.annotated.Annotated.{Annotated}
 use Rattle.a68_base.specs.declared.refusal.Stop.{Stop}
 use Rattle.a68_base.specs.declared.refusal.Stop.TheVariants.{Refused, NoMemory}
-use Rattle.a68_check.specs.Annotates.{Refuses, StopsBy}
+use Rattle.a68_check.specs.Annotates.{Refuses}
+use Rattle.a68_ranges.specs.Twice.{StopsBy}
 use Rattle.a68_elab.specs.Made.{program_of}
 use Rattle.a68_gen.specs.Listing.{listing}
 use Rattle.a68_gen.specs.Writing.{Stops}
@@ -27,7 +28,7 @@ pub unsorted : (text : List ℕ) (found : Named) → SymbolsAre text (map piece_
 unsorted text found symbols named NoMemory p = tt
 unsorted text found symbols named (Refused f) p = unclassed found symbols named p
 
-pub stopped : (text : List ℕ) (tree : Built) → IsTreeOf text tree → (s : Stop) → StopsBy (λ f. Refuses tree f) s → StopsBy (RefusedAs text) s
+pub stopped : (text : List ℕ) (tree : Built) → IsTreeOf text tree → (s : Stop) → StopsBy (Refuses tree) s → StopsBy (RefusedAs text) s
 stopped text tree is NoMemory p = tt
 stopped text tree is (Refused f) p = no_meaning tree is p
 

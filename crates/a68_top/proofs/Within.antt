@@ -1,23 +1,19 @@
 -- A text is refused at a place within it.
 use Rattle.std.proofs.Common.{◌≡◌, ℕ, ◌≤◌, List, length, map, refl, inl, inr, arith, Some, None, slice_get}
-use Rattle.std.specs.Option.{option_map_or}
 use Rattle.std.specs.declared.option.Option.{Option}
 use Rattle.a68_annot.specs.declared.annotated.Annotated.{Annotated}
 use Rattle.a68_base.specs.declared.refusal.Refusal.{Refusal}
 use Rattle.a68_base.specs.declared.refusal.Rule.{Rule}
-use Rattle.a68_check.specs.Annotates.{Breaks, place_at, other, repeats, undefined}
-use Rattle.a68_check.specs.Definitions.{in_text}
+use Rattle.a68_check.specs.Annotates.{Annotates, Refuses}
 use Rattle.a68_elab.specs.Made.{program_of}
 use Rattle.a68_elab.specs.Places.{ProgramBeginsBy}
 use Rattle.a68_elab.specs.Trees.{Program}
 use Rattle.a68_gen.specs.Listing.{listing}
 use Rattle.a68_gen.specs.Writing.{IsTooLong}
-use Rattle.a68_op_ident.specs.Shapes.{Shaped}
 use Rattle.a68_parse.specs.Parses.{IsTree}
 use Rattle.a68_symbols.specs.Names.{Named}
 use Rattle.a68_symbols.specs.Symbols.{SymbolsAre, piece_of, IsRefused as IsBroken}
 use Rattle.a68_symbols.specs.declared.symbol.Symbol.{Symbol}
-use Rattle.a68_top.proofs.Beginning.{begun}
 use Rattle.a68_top.specs.Compiles.{IsTreeOf, RefusedAs, unlike_symbols, unclassed, no_tree, no_meaning, too_long}
 use Rattle.a68_tree.specs.Trees.{Built}
 use Rattle.a68_tree.specs.declared.node.Node.{Node}
@@ -30,6 +26,9 @@ pub record Bounds : Type 0 where
   pub symbols : (text : List ℕ) (found : Named) → SymbolsAre text (map piece_of found.symbols) → (i : ℕ) (s : Symbol) → slice_get found.symbols i ≡ Some s → s.span.from ≤ length text
   pub nodes : (text : List ℕ) (found : Named) (classes : List (Option Class)) (list : List Node) → SymbolsAre text (map piece_of found.symbols) → IsTree found classes list
       → (id : ℕ) (n : Node) → slice_get list id ≡ Some n → n.span.from ≤ length text
+  pub refused : (flat : Built) (end : ℕ) (r : Refusal) → ((id : ℕ) (n : Node) → slice_get flat.nodes id ≡ Some n → n.span.from ≤ end) → Refuses flat r → r.place ≤ end
+  pub annotated : (flat : Built) (end : ℕ) (program : Annotated) → ((id : ℕ) (n : Node) → slice_get flat.nodes id ≡ Some n → n.span.from ≤ end)
+      → Annotates flat program → (id : ℕ) (n : Node) → slice_get program.tree.nodes id ≡ Some n → n.span.from ≤ end
   pub constructs : (program : Annotated) (end : ℕ) → ((id : ℕ) (n : Node) → slice_get program.tree.nodes id ≡ Some n → n.span.from ≤ end) → ProgramBeginsBy end (program_of program)
   pub instructions : (program : Program) (end : ℕ) (refusal : Refusal) → ProgramBeginsBy end program → IsTooLong (listing program) refusal → refusal.place ≤ end
 
@@ -37,32 +36,16 @@ at_place : (symbols : List Symbol) (end place : ℕ) → ((i : ℕ) (s : Symbol)
 at_place symbols end place h (inl e) = omega arith
 at_place symbols end place h (inr p) = let e = p.3 in let w = h p.0 p.1 p.2 in omega arith
 
-begins_at : (end : ℕ) (o : Option Node) → ((n : Node) → o ≡ Some n → n.span.from ≤ end) → option_map_or (λ (n : Node). n.span.from) o 0 ≤ end
-begins_at end None h = omega arith
-begins_at end (Some n) h = h n refl
-
 module _ (laws : Bounds) (text : List ℕ) where
-  -- a node of the shaped tree of a text begins within it
-  shaped_within : (tree shaped : Built) → IsTreeOf text tree → Shaped tree shaped → (id : ℕ) (n : Node) → slice_get shaped.nodes id ≡ Some n → n.span.from ≤ length text
-  shaped_within tree shaped is s id n at =
-      let b = begun tree shaped s id n at in
-      let e = b.here in
-      let w = laws.nodes text is.found is.classes tree.nodes is.symbols is.derived b.id b.node b.there in
-      omega arith
-
-  place_at_within : (tree shaped : Built) → IsTreeOf text tree → Shaped tree shaped → (id : ℕ) → place_at shaped id ≤ length text
-  place_at_within tree shaped is s id = begins_at (length text) (slice_get shaped.nodes id) (λ n at. shaped_within tree shaped is s id n at)
-
-  breaks_within : (tree shaped : Built) (r : Refusal) → IsTreeOf text tree → Shaped tree shaped → Breaks shaped r → r.place ≤ length text
-  breaks_within tree shaped r is s (other id rule place lt not) = let w = place_at_within tree shaped is s id in omega arith
-  breaks_within tree shaped r is s (repeats n rule place runs first) = let w = place_at_within tree shaped is s (in_text shaped n) in omega arith
-  breaks_within tree shaped r is s (undefined n rule place runs new first) = let w = place_at_within tree shaped is s (in_text shaped n) in omega arith
+  -- a node of the tree of a text begins within it
+  tree_within : (tree : Built) → IsTreeOf text tree → (id : ℕ) (n : Node) → slice_get tree.nodes id ≡ Some n → n.span.from ≤ length text
+  tree_within tree is = laws.nodes text is.found is.classes tree.nodes is.symbols is.derived
 
   pub place_within : (r : Refusal) → RefusedAs text r → r.place ≤ length text
   place_within r (unlike_symbols v) = laws.broken text r.rule r.place v.refused
   place_within r (unclassed found symbols named v) = let e = v.here in let w = laws.symbols text found symbols v.at v.symbol v.is in omega arith
   place_within r (no_tree found classes symbols named classed v) = at_place found.symbols (length text) r.place (laws.symbols text found symbols) v.1
-  place_within r (no_meaning tree is v) = breaks_within tree v.shaped r is v.is_shaped v.breaks
+  place_within r (no_meaning tree is v) = laws.refused tree (length text) r (tree_within tree is) v
   place_within r (too_long program is v) =
       laws.instructions (program_of program) (length text) r
-      (laws.constructs program (length text) (λ id n at. shaped_within is.tree program.tree is.is is.shaped id n at)) v
+      (laws.constructs program (length text) (laws.annotated is.tree (length text) program (tree_within is.tree is.is) is.annotates)) v

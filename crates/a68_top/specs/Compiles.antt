@@ -3,12 +3,11 @@ use Rattle.std.specs.Prelude.{◌≡◌, ◌≤◌, ℕ, List, [], length, map, 
 use Rattle.a68_annot.specs.declared.annotated.Annotated.{Annotated}
 use Rattle.a68_base.specs.declared.refusal.Refusal.{Refusal}
 use Rattle.a68_base.specs.declared.refusal.Stop.TheVariants.{Refused}
-use Rattle.a68_check.specs.Annotates.{IsAnnotated, Refuses}
+use Rattle.a68_check.specs.Annotates.{Annotates, Refuses}
 use Rattle.a68_elab.specs.Made.{program_of}
 use Rattle.a68_gen.specs.Listing.{listing}
 use Rattle.a68_gen.specs.Stretches.{Translates}
 use Rattle.a68_gen.specs.Writing.{IsTooLong, most}
-use Rattle.a68_op_ident.specs.Shapes.{Shaped}
 use Rattle.a68_parse.specs.Parses.{IsTree, Parses}
 use Rattle.a68_symbols.specs.Names.{Named, AreNamed}
 use Rattle.a68_symbols.specs.Symbols.{SymbolsAre, RefusalIs, piece_of}
@@ -18,9 +17,9 @@ use Rattle.a68_words.specs.declared.class.Class.{Class}
 use Rattle.std.specs.declared.option.Option.{Option}
 use Rattle.a68_tree.specs.Trees.{Built}
 use Rattle.a68_tree.specs.declared.node.Node.{Node}
-use Rattle.a68_parse.specs.Drafted.{SpellsAlike}
+use Rattle.a68_parse.specs.Drafted.{SpellsAlike, AreStarts}
 
--- the tree of the text's symbols, by the grammar, with their spellings; each bold word has its class
+-- the tree of the text's symbols, by the grammar, with their spellings and where they begin; each bold word has its class
 pub record IsTreeOf (text : List ℕ) (tree : Built) : Type 0 where
   pub found : Named
   pub symbols : SymbolsAre text (map piece_of found.symbols)
@@ -30,13 +29,13 @@ pub record IsTreeOf (text : List ℕ) (tree : Built) : Type 0 where
   pub derived : IsTree found classes tree.nodes
   pub only : (others : List Node) → IsTree found classes others → others ≡ tree.nodes
   pub spelled : SpellsAlike found tree.spellings
+  pub begun : AreStarts found tree.starts
 
 -- The tree of the text with its formulas shaped by the priorities of their signs, and what is known of each node.
 pub record IsProgramOf (text : List ℕ) (program : Annotated) : Type 0 where
   pub tree : Built
   pub is : IsTreeOf text tree
-  pub shaped : Shaped tree program.tree
-  pub annotated : IsAnnotated program
+  pub annotates : Annotates tree program
 
 -- the program of the text, and its code, which has no more instructions than a program may have
 pub record Compiles (text : List ℕ) (made : Made) : Type 0 where

@@ -1,6 +1,6 @@
 //! A text made into a program that can run.
 ghost use Rattle.std.specs.Prelude.{◌≡◌, ◌<◌, ◌≤◌, ◌^◌, List, length, map, IfOk, IfErr};
-ghost use Rattle.a68_check.specs.Annotates.{StopsBy};
+ghost use Rattle.a68_ranges.specs.Twice.{StopsBy};
 ghost use Rattle.a68_code.specs.Valid.{IsValid};
 ghost use Rattle.a68_parse.specs.Parses.{IsTree};
 ghost use Rattle.a68_symbols.specs.Names.{AreNamed};

@@ -5,10 +5,11 @@ use Rattle.a68_tree.specs.declared.node.Node.{Node}
 use Rattle.a68_tree.specs.Forest.{Forest, end, part}
 use Rattle.a68_tree.specs.Nodes.{Entry, nodes, turned}
 
--- the nodes of a tree in order, and the spellings by their numbers
+-- the nodes of a tree in order, the spellings by their numbers, and the first bytes of all symbols in order
 pub record Built : Type 0 where
   pub nodes : List Node
   pub spellings : List (List ℕ)
+  pub starts : List ℕ
 
 -- all parts stand behind place i, and before the end
 abbrev pub AllBetween : ℕ → ℕ → List ℕ → Type 0

@@ -7,11 +7,13 @@ use crate::{Node, NodeId};
 use a68_base::Text;
 use std::marker::Model;
 
-/// A tree: its nodes, each before its parts, and the spellings of the names.
+/// A tree: its nodes, each before its parts, the spellings of the names, and where the symbols of the text begin.
 #[derive(Drop)]
 pub struct Tree {
     nodes: Vec<Node>,
     spellings: Vec<Text>,
+    // The first byte of each symbol, in order of text: some places stand at a symbol that begins no node.
+    starts: Vec<u32>,
 }
 
 impl Model for Tree {
@@ -20,28 +22,37 @@ impl Model for Tree {
 
     ghost Value = { Built };
 
-    ghost view = { λ tree. record { nodes = tree.nodes.items; spellings = tree.spellings.items } };
+    ghost view = { λ tree. record { nodes = tree.nodes.items; spellings = tree.spellings.items; starts = tree.starts.items } };
 
     ghost invariant = { λ tree. IsSound tree.nodes.items (length tree.spellings.items) };
 }
 
 impl Tree {
-    /// A tree of these nodes and spellings.
-    pub fn new(nodes: Vec<Node>, spellings: Vec<Text>) -> Tree
+    /// A tree of these nodes and spellings, whose symbols begin at these bytes.
+    pub fn new(nodes: Vec<Node>, spellings: Vec<Text>, starts: Vec<u32>) -> Tree
         requires { IsSound nodes.items (length spellings.items) }
-        ensures { result ≡ record { nodes = nodes.items; spellings = spellings.items } }
+        ensures { result ≡ record { nodes = nodes.items; spellings = spellings.items; starts = starts.items } }
     {
-        Tree { nodes, spellings }
+        Tree {
+            nodes,
+            spellings,
+            starts,
+        }
     }
 
-    /// The nodes and the spellings of the tree.
-    pub fn apart(self) -> (Vec<Node>, Vec<Text>)
+    /// The nodes, the spellings, and where the symbols begin.
+    pub fn apart(self) -> (Vec<Node>, Vec<Text>, Vec<u32>)
         ensures nodes { result.0.items ≡ self.nodes }
         ensures spellings { result.1.items ≡ self.spellings }
+        ensures starts { result.2.items ≡ self.starts }
         ensures sound { IsSound self.nodes (length self.spellings) }
     {
-        let Tree { nodes, spellings } = self;
-        (nodes, spellings)
+        let Tree {
+            nodes,
+            spellings,
+            starts,
+        } = self;
+        (nodes, spellings, starts)
     }
 
     /// How many names there are.
@@ -84,6 +95,13 @@ impl Tree {
         ensures behind { AllBetween id (length self.now.nodes) result.now }
     {
         &self.nodes[id as usize].parts.items
+    }
+
+    /// The first bytes of all symbols of the text, in order.
+    pub fn starts(&self) -> &[u32]
+        ensures { result.now ≡ self.now.starts }
+    {
+        &self.starts
     }
 
     /// The bytes that spell the symbols of that name, without layout; of a string all of them.

@@ -1,5 +1,9 @@
-use Rattle.a68_check.proofs.One.{one_break, no_break, one_annotation}
+use Rattle.a68_check.proofs.One.{one_refusal, not_refused, one_program}
 use Rattle.a68_check.proofs.laws.annotations_are_one.Goals as goal
 
 pub returns : goal.returns
-returns c = record { refusal = one_break; apart = no_break; notes = one_annotation }
+returns c = record {
+  refusal = one_refusal c.shapes_are_one.ensures;
+  apart = not_refused c.shapes_are_one.ensures;
+  programs = one_program c.shapes_are_one.ensures;
+}

@@ -1,4 +1,4 @@
-use Rattle.std.proofs.Common.{◌≡◌, ◌+◌, ◌*◌, ◌/◌, ◌∙◌, length, sym, ap, arith, Some, slice_get}
+use Rattle.std.proofs.Common.{◌≡◌, ◌+◌, ◌*◌, ◌/◌, ◌∙◌, length, sym, ap, arith, Some, slice_get, []}
 use Rattle.std.proofs.lemmas.Grind.{elements}
 use Rattle.std.proofs.lemmas.Option.{slice_get-get_or}
 use Rattle.a68_tree.specs.Trees.{Built}
@@ -7,7 +7,7 @@ use Rattle.a68_op_ident.proofs.trees.read.Goals as goal
 
 pub returns : goal.returns
 returns c =
-    let tree : Built = record { nodes = c.args.nodes.now; spellings = c.args.spellings.now } in
+    let tree : Built = record { nodes = c.args.nodes.now; spellings = c.args.spellings.now; starts = [] } in
     let node = c.index-nodes-formula.result in
     let there : slice_get c.args.nodes.now c.args.formula ≡ Some node = slice_get-get_or c.args.nodes.now c.args.formula node c.requires.there ∙ ap Some (sym c.index-nodes-formula.is) in
     let parts : c.deref.result.now ≡ node.parts = cc in
@@ -20,7 +20,7 @@ returns c =
 
 pub returns-in_default : goal.returns-in_default
 returns-in_default c =
-    let tree : Built = record { nodes = c.args.nodes.now; spellings = c.args.spellings.now } in
+    let tree : Built = record { nodes = c.args.nodes.now; spellings = c.args.spellings.now; starts = [] } in
     let node = c.index-nodes-formula.result in
     let there : slice_get c.args.nodes.now c.args.formula ≡ Some node = slice_get-get_or c.args.nodes.now c.args.formula node c.requires.there ∙ ap Some (sym c.index-nodes-formula.is) in
     let parts : c.deref.result.now ≡ node.parts = cc in
@@ -30,7 +30,7 @@ returns-in_default c =
 
 pub returns-in_default-2 : goal.returns-in_default-2
 returns-in_default-2 c =
-    let tree : Built = record { nodes = c.args.nodes.now; spellings = c.args.spellings.now } in
+    let tree : Built = record { nodes = c.args.nodes.now; spellings = c.args.spellings.now; starts = [] } in
     let node = c.index-nodes-formula.result in
     let there : slice_get c.args.nodes.now c.args.formula ≡ Some node = slice_get-get_or c.args.nodes.now c.args.formula node c.requires.there ∙ ap Some (sym c.index-nodes-formula.is) in
     let parts : c.deref-2.result.now ≡ node.parts = cc in

@@ -6,7 +6,8 @@ pub returns : goal.returns
 returns c =
     let w = c.loop-id.invariant.within in
     let all : c.loop-id.id ≡ length c.loop-id.nodes.items = omega (arith, c.loop-id.nodes.ok, c.len.ensures) in
-    rw c.new.ensures (finished c.args.tree c.loop-id.nodes.items c.apart-nodes.result.1.items c.loop-id.id c.loop-id.invariant.going all c.apart-nodes.ensures.spellings)
+    rw c.new.ensures (finished c.args.tree c.loop-id.nodes.items c.apart-nodes.result.1.items c.apart-nodes.result.2.items c.loop-id.id c.loop-id.invariant.going all
+    c.apart-nodes.ensures.spellings c.apart-nodes.ensures.starts)
 
 pub loop-id-preserved : goal.loop-id-preserved
 loop-id-preserved c = record {

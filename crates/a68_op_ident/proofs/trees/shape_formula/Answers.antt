@@ -1,4 +1,4 @@
-use Rattle.std.proofs.Common.{length, arith, sym, ◌∙◌, List, ap}
+use Rattle.std.proofs.Common.{length, arith, sym, ◌∙◌, List, ap, []}
 use Rattle.std.proofs.lemmas.Grind.{elements}
 use Rattle.a68_op_ident.specs.declared.formula.Operator.{Operator}
 use Rattle.a68_tree.specs.declared.node.Node.{Node}
@@ -9,7 +9,7 @@ pub place-requires-clause-room : goal.place-requires-clause-room
 place-requires-clause-room c =
     let read = rw (c.in-Some.is, c.deref.ensures.value) at c.in_ok-parts.ensures in
     let count = c.len-count.ensures ∙ sym c.deref-3.ensures.len ∙ ap (λ (l : List Operator). length l) c.deref-3.ensures.value in
-    let less = room (record { nodes = c.args.nodes.now.items; spellings = c.args.spellings.now }) c.args.formula c.len-count.result c.in-Some.parts read count in
+    let less = room (record { nodes = c.args.nodes.now.items; spellings = c.args.spellings.now; starts = [] }) c.args.formula c.len-count.result c.in-Some.parts read count in
     let long = sym c.deref.ensures.len ∙ ap (λ (l : List Node). length l) c.deref.ensures.value in
     omega arith
 
@@ -24,7 +24,7 @@ pub returns-clause-within : goal.returns-clause-within
 returns-clause-within c =
     let read = rw (c.in-Some.is, c.deref.ensures.value) at c.in_ok-parts.ensures in
     let count = c.len-count.ensures ∙ sym c.deref-3.ensures.len ∙ ap (λ (l : List Operator). length l) c.deref-3.ensures.value in
-    let less = room (record { nodes = c.args.nodes.now.items; spellings = c.args.spellings.now }) c.args.formula c.len-count.result c.in-Some.parts read count in
+    let less = room (record { nodes = c.args.nodes.now.items; spellings = c.args.spellings.now; starts = [] }) c.args.formula c.len-count.result c.in-Some.parts read count in
     let same = c.in_ok-place.ensures.same in
     let long = same.long in
     omega arith

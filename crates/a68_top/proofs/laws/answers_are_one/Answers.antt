@@ -9,10 +9,9 @@ laws c = record {
   classes = c.classes_are_one.ensures.list;
   unclassed = c.classes_are_one.ensures.refusal;
   apart = c.classes_are_one.ensures.apart;
-  shapes = c.shapes_are_one.ensures;
-  breaks = c.annotations_are_one.ensures.refusal;
+  broken = c.annotations_are_one.ensures.refusal;
   unbroken = c.annotations_are_one.ensures.apart;
-  notes = c.annotations_are_one.ensures.notes;
+  programs = c.annotations_are_one.ensures.programs;
 }
 
 codes : goal.After-translations_are_listings → Codes
@@ -27,6 +26,8 @@ bounds c = record {
   broken = c.symbols_are_bounded.ensures.refused;
   symbols = c.symbols_are_bounded.ensures.within;
   nodes = c.trees_lie_in_texts.ensures;
+  refused = c.annotations_begin_by.ensures.refused;
+  annotated = c.annotations_begin_by.ensures.nodes;
   constructs = c.constructs_begin_by.ensures;
   instructions = c.translations_are_listings.ensures.place;
 }

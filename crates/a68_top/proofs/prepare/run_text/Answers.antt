@@ -1,7 +1,7 @@
 use Rattle.std.proofs.Common.{subst}
 use Rattle.a68_elab.specs.Made.{program_of}
 use Rattle.a68_top.specs.Answer.{refused, ran}
-use Rattle.a68_check.specs.Annotates.{StopsBy}
+use Rattle.a68_ranges.specs.Twice.{StopsBy}
 use Rattle.a68_top.specs.Compiles.{RefusedAs}
 use Rattle.a68_top.proofs.Refusing.{if_ok}
 use Rattle.a68_top.proofs.prepare.run_text.Goals as goal

@@ -1,10 +1,14 @@
--- The nodes of a shaped tree begin where nodes of the flat one do.
+-- The nodes of a shaped tree begin where nodes of the flat one do; so a tree is refused at a place of its own.
 use Rattle.std.proofs.Common.{◌≡◌, ℕ, ◌+◌, ◌*◌, ◌<◌, ◌≤◌, Bool, true, false, inl, inr, ◌⊎◌, ⊎_elim, List, [], length, refl, sym, ◌∙◌, ap, arith, Some, None, slice_get, nat_lt}
 use Rattle.std.proofs.lemmas.Bool.{cases_lt}
 use Rattle.std.proofs.lemmas.Option.{same_Some, slice_get_within, slice_get-get_or}
-use Rattle.std.specs.Option.{option_map, option_and_then}
+use Rattle.std.specs.Option.{option_map, option_map_or, option_and_then}
 use Rattle.std.specs.Prelude.{if◌then◌else◌}
 use Rattle.std.specs.declared.option.Option.{Option}
+use Rattle.a68_annot.specs.declared.annotated.Annotated.{Annotated}
+use Rattle.a68_base.specs.declared.refusal.Refusal.{Refusal}
+use Rattle.a68_check.specs.Annotates.{Annotates, Breaks, Refuses, broken, declared_twice, place_at, other, repeats, undefined}
+use Rattle.a68_check.specs.Definitions.{in_text}
 use Rattle.a68_op_ident.specs.Formulas.{AreOperands, Reads, Placed, alone, over, dyadic_node, operand_at}
 use Rattle.a68_op_ident.specs.Shapes.{Shaped, ShapedTo, IsShaped, IsLeft, IsOperatorNode}
 use Rattle.a68_op_ident.specs.declared.formula.Operand.{Operand}
@@ -93,3 +97,35 @@ begun flat shaped s id n at =
     let within : id < length flat.nodes = omega arith in
     let there = slice_get-get_or flat.nodes id (record { kind = Sign; span = record { from = 0; to = 0 }; name = 0; parts = [] }) within in
     node_begun flat shaped.nodes (length flat.nodes) id _ n s.nodes (omega arith) there at (s.nodes.kept id _ within there)
+
+-- ---- refusals
+
+-- all nodes of a list begin by a byte
+abbrev BeginBy : List Node → (end : ℕ) → Type 0
+BeginBy nodes end = (id : ℕ) (n : Node) → slice_get nodes id ≡ Some n → n.span.from ≤ end
+
+begins_at : (end : ℕ) (o : Option Node) → ((n : Node) → o ≡ Some n → n.span.from ≤ end) → option_map_or (λ (n : Node). n.span.from) o 0 ≤ end
+begins_at end None h = omega arith
+begins_at end (Some n) h = h n refl
+
+pub shaped_by : (flat shaped : Built) (end : ℕ) → BeginBy flat.nodes end → Shaped flat shaped → BeginBy shaped.nodes end
+shaped_by flat shaped end by s id n at =
+    let b = begun flat shaped s id n at in
+    let e = b.here in
+    let w = by b.id b.node b.there in
+    omega arith
+
+place_by : (tree : Built) (end : ℕ) → BeginBy tree.nodes end → (id : ℕ) → place_at tree id ≤ end
+place_by tree end by id = begins_at end (slice_get tree.nodes id) (λ n at. by id n at)
+
+broken_by : (tree : Built) (end : ℕ) (r : Refusal) → BeginBy tree.nodes end → Breaks tree r → r.place ≤ end
+broken_by tree end r by (other id rule place lt not) = let w = place_by tree end by id in omega arith
+broken_by tree end r by (repeats n rule place runs first) = let w = place_by tree end by (in_text tree n) in omega arith
+broken_by tree end r by (undefined n rule place runs new first) = let w = place_by tree end by (in_text tree n) in omega arith
+
+pub refused_by : (flat : Built) (end : ℕ) (r : Refusal) → BeginBy flat.nodes end → Refuses flat r → r.place ≤ end
+refused_by flat end r by (declared_twice t) = let e = t.place_is in let w = place_by flat end by t.id in omega arith
+refused_by flat end r by (broken shaped once is b) = broken_by shaped end r (shaped_by flat shaped end by is) b
+
+pub annotated_by : (flat : Built) (end : ℕ) (program : Annotated) → BeginBy flat.nodes end → Annotates flat program → BeginBy program.tree.nodes end
+annotated_by flat end program by a = shaped_by flat program.tree end by a.shaped

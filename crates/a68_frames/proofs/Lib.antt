@@ -1,0 +1,5 @@
+pub mod Slotting
+pub mod Chaining
+pub mod Finding
+pub mod Needing
+pub mod Counting

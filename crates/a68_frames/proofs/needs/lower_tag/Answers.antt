@@ -1,0 +1,32 @@
+use Rattle.std.proofs.Common.{None, arith}
+use Rattle.std.specs.Prelude.{slice_index_or}
+use Rattle.a68_ranges.proofs.Taking.{read}
+use Rattle.a68_frames.specs.Tables.{UsesAtFrame}
+use Rattle.a68_frames.proofs.Finding.{placed}
+use Rattle.a68_frames.proofs.Needing.{lowered_none, unused, is_found, lowered_at}
+use Rattle.a68_frames.proofs.needs.lower_tag.Goals as goal
+
+pub returns-in_default : goal.returns-in_default
+returns-in_default c = lowered_none (UsesAtFrame c.args.tree.now c.args.at) c.args.needs.now (λ range hops u. unused c.args.tree.now c.args.at range hops c.in_default.ensures u)
+
+pub returns-in_default-find : goal.returns-in_default-find
+returns-in_default-find c =
+    let tree = c.args.tree.now in
+    let chain = c.args.chains.now in
+    let entries = c.args.slots.now.places.entries in
+    let at = c.args.at in
+    let d = c.in-Some.definition in
+    let tells = c.requires.chains.tells at (slice_index_or chain.about at None) (read chain.about at None (omega (arith, c.requires.chains.long, c.requires.there))) in
+    absurd (is_found tree at d chain.frames entries (λ range. placed tree entries c.args.slots.now.counts.items c.args.slots.now.makes.items c.requires.slots range d) (slice_index_or chain.about at None) c.find.result
+    tells c.in-Some.ensures.1 (rw c.about-start.ensures.is at c.find.ensures) c.in_default-find.is)
+
+pub returns : goal.returns
+returns c =
+    let tree = c.args.tree.now in
+    let chain = c.args.chains.now in
+    let entries = c.args.slots.now.places.entries in
+    let at = c.args.at in
+    let d = c.in-Some.definition in
+    let tells = c.requires.chains.tells at (slice_index_or chain.about at None) (read chain.about at None (omega (arith, c.requires.chains.long, c.requires.there))) in
+    lowered_at tree at d chain.frames entries (λ range. placed tree entries c.args.slots.now.counts.items c.args.slots.now.makes.items c.requires.slots range d) (slice_index_or chain.about at None) c.in-Some-find.step c.args.needs.now c.lower.new.needs
+    tells c.in-Some.ensures.0 c.in-Some.ensures.1 (rw c.about-start.ensures.is at c.in-Some-find.ensures) (rw c.about-start.ensures.is at c.lower.ensures)

@@ -1,0 +1,233 @@
+//! The chains of the frames about nodes.
+ghost use Rattle.std.specs.Prelude.{◌≡◌, ◌<◌, ◌^◌, ℕ, List, IfOk, OnOk, None, Some, false, length, slice_get, slice_index_or};
+ghost use Rattle.std.specs.Option.{option_map};
+ghost use Rattle.a68_frames.specs.Frames.{frames_of};
+ghost use Rattle.a68_frames.specs.Tables.{AreMade, AreChained, StayChained, AreAboutBefore, Extends, Framed, Reaches, IsLayerAdded, frame_at};
+ghost use Rattle.a68_ranges.specs.Links.{IsBelow, AreLinked};
+ghost use Rattle.a68_ranges.specs.Tables.{AreRanges};
+ghost use Rattle.a68_tree.specs.Trees.{Built};
+
+use crate::reading;
+use crate::slots::{Places, slot_at};
+use a68_base::NoMemory;
+use a68_ranges::{Layer, Ranges};
+use a68_tree::{FrameStep, NodeId, Tree};
+use std::alloc::Global;
+use std::marker::Model;
+
+/// The innermost frame about each node, and each frame with the next outer one. Ranges that make no frame are left out.
+#[derive(Drop)]
+pub struct Chains {
+    about: Vec<Option<usize>>,
+    frames: Vec<Layer>,
+}
+
+impl Model for Chains {
+    ghost use Rattle.std.specs.Prelude.{◌<◌, ◌^◌, length};
+    ghost use Rattle.a68_frames.specs.Tables.{Chain};
+    ghost use Rattle.a68_ranges.specs.Links.{AreLinked};
+
+    ghost Value = { Chain };
+
+    ghost view = { λ chains. record { about = chains.about.items; frames = chains.frames.items } };
+
+    ghost invariant = { λ chains. AreLinked chains.about.items chains.frames.items × (length chains.frames.items < 2 ^ 32) };
+}
+
+/// The frames of the layers so far: the innermost frame of each layer, and the frames.
+#[derive(Drop)]
+pub struct Growing {
+    by_layer: Vec<Option<usize>>,
+    frames: Vec<Layer>,
+}
+
+// The innermost frame of a layer.
+fn frame_of(by_layer: &[Option<usize>], layer: Option<usize>) -> Option<usize>
+    requires { IsBelow (length by_layer.now) layer }
+    ensures { result ≡ frame_at by_layer.now layer }
+{
+    match layer {
+        None => None,
+        Some(number) => by_layer[number],
+    }
+}
+
+// Adds the frame of the next layer, where its range makes one.
+fn add_layer(growing: &mut Growing, makes: &[bool], layer: Layer) -> Result<(), NoMemory>
+    requires { IsBelow (length growing.old.by_layer.items) layer.outer }
+    ensures { OnOk result (IsLayerAdded growing.old.by_layer.items growing.old.frames.items growing.new.by_layer.items growing.new.frames.items layer (slice_index_or makes.now layer.range false)) }
+{
+    let outer = frame_of(&growing.by_layer, layer.outer);
+    if !reading::makes_frame(makes, layer.range) {
+        growing.by_layer.push(outer)?;
+        return Ok(());
+    }
+    let number = growing.frames.len();
+    growing.by_layer.push(Some(number))?;
+    growing.frames.push(Layer {
+        range: layer.range,
+        outer,
+    })?;
+    Ok(())
+}
+
+// Adds the frames of the layers up to that one.
+fn grow(
+    growing: &mut Growing,
+    makes: &[bool],
+    ranges: &Ranges,
+    number: usize,
+) -> Result<(), NoMemory>
+    requires there { number < length ranges.now.nests.layers }
+    requires linked { AreLinked growing.old.by_layer.items growing.old.frames.items }
+    ensures linked { OnOk result (AreLinked growing.new.by_layer.items growing.new.frames.items) }
+    ensures extends { OnOk result (Extends growing.old.frames.items growing.new.frames.items) }
+    ensures reached { OnOk result (number < length growing.new.by_layer.items) }
+    ensures chained { OnOk result (StayChained ranges.now.nests.layers makes.now growing.old.by_layer.items growing.old.frames.items growing.new.by_layer.items growing.new.frames.items) }
+{
+    'layers: while growing.by_layer.len() <= number {
+        let layer = ranges.layer(growing.by_layer.len());
+        add_layer(growing, makes, layer)?;
+    }
+    Ok(())
+}
+
+// The innermost frame of a layer, as far as there is one.
+fn reach(
+    growing: &mut Growing,
+    makes: &[bool],
+    ranges: &Ranges,
+    layer: Option<usize>,
+) -> Result<Option<usize>, NoMemory>
+    requires there { IsBelow (length ranges.now.nests.layers) layer }
+    requires linked { AreLinked growing.old.by_layer.items growing.old.frames.items }
+    ensures linked { OnOk result (AreLinked growing.new.by_layer.items growing.new.frames.items) }
+    ensures extends { OnOk result (Extends growing.old.frames.items growing.new.frames.items) }
+    ensures chained { OnOk result (StayChained ranges.now.nests.layers makes.now growing.old.by_layer.items growing.old.frames.items growing.new.by_layer.items growing.new.frames.items) }
+    ensures below { IfOk result (λ nest. IsBelow (length growing.new.frames.items) nest) }
+    ensures is { IfOk result (λ nest. (nest ≡ frame_at growing.new.by_layer.items layer) × IsBelow (length growing.new.by_layer.items) layer) }
+{
+    if let Some(number) = layer {
+        grow(growing, makes, ranges, number)?;
+    }
+    Ok(frame_of(&growing.by_layer, layer))
+}
+
+// Adds the innermost frame about each node.
+fn add_abouts(
+    about: &mut Vec<Option<usize>>,
+    growing: &mut Growing,
+    makes: &[bool],
+    tree: &Tree,
+    ranges: &Ranges,
+) -> Result<(), NoMemory>
+    requires ranges { AreRanges tree.now ranges.now }
+    requires makes { AreMade tree.now makes.now }
+    requires linked { AreLinked growing.old.by_layer.items growing.old.frames.items }
+    requires chained { AreChained tree.now ranges.now.nests.layers growing.old.by_layer.items growing.old.frames.items }
+    requires before { AreAboutBefore tree.now 0 about.old.items growing.old.frames.items }
+    ensures { OnOk result (AreAboutBefore tree.now (length tree.now.nodes) about.new.items growing.new.frames.items) }
+{
+    for at in 0..tree.len() {
+        let nest = reach(growing, makes, ranges, ranges.about(at))?;
+        about.push(nest)?;
+    }
+    Ok(())
+}
+
+/// The frames about each node of a tree. More than have numbers of 32 bits are want of memory.
+pub fn chains_of(
+    alloc: Global,
+    tree: &Tree,
+    ranges: &Ranges,
+    makes: &[bool],
+) -> Result<Chains, NoMemory>
+    requires ranges { AreRanges tree.now ranges.now }
+    requires makes { AreMade tree.now makes.now }
+    ensures { IfOk result (λ chains. AreAboutBefore tree.now (length tree.now.nodes) chains.about chains.frames) }
+{
+    let mut about = Vec::new(alloc);
+    let mut growing = Growing {
+        by_layer: Vec::new(alloc),
+        frames: Vec::new(alloc),
+    };
+    add_abouts(&mut about, &mut growing, makes, tree, ranges)?;
+    let Growing {
+        by_layer: _,
+        frames,
+    } = growing;
+    if frames.len() > u32::MAX as usize {
+        return Err(NoMemory);
+    }
+    Ok(Chains { about, frames })
+}
+
+impl Chains {
+    /// The innermost frame about a node.
+    pub fn about(&self, at: NodeId) -> Option<usize>
+        requires { at < length self.now.about }
+        ensures is { result ≡ slice_index_or self.now.about at None }
+        ensures there { IsBelow (length self.now.frames) result }
+    {
+        self.about[at as usize]
+    }
+
+    /// The frame of that number.
+    pub fn frame(&self, number: usize) -> Layer
+        requires { number < length self.now.frames }
+        ensures is { slice_get self.now.frames number ≡ Some result }
+        ensures outer { IsBelow number result.outer }
+        ensures few { length self.now.frames < 2 ^ 32 }
+    {
+        self.frames[number]
+    }
+}
+
+/// Where a definition has a slot: in the innermost of the frames from that one outwards that has a slot for it.
+pub fn find(
+    chains: &Chains,
+    places: &Places,
+    start: Option<usize>,
+    definition: NodeId,
+) -> Option<FrameStep>
+    requires { IsBelow (length chains.now.frames) start }
+    ensures { Reaches chains.now.frames places.now.entries definition start result }
+{
+    let mut hops = 0;
+    let mut next = start;
+    'outwards: while let Some(number) = next {
+        let frame = chains.frame(number);
+        let slot = slot_at(places, frame.range, definition);
+        if slot.is_some() {
+            return step_of(hops, slot);
+        }
+        hops += 1;
+        next = frame.outer;
+    }
+    None
+}
+
+// So many frames outwards, in that slot.
+fn step_of(hops: u32, slot: Option<u32>) -> Option<FrameStep>
+    ensures { result ≡ option_map (λ s. record { hops = hops; slot = s }) slot }
+{
+    match slot {
+        None => None,
+        Some(slot) => Some(FrameStep { hops, slot }),
+    }
+}
+
+/// How many frames there are from that one outwards.
+pub fn count(chains: &Chains, start: Option<usize>) -> u32
+    requires { IsBelow (length chains.now.frames) start }
+    ensures { (tree : Built) (ranges : List ℕ) → Framed tree chains.now.frames start ranges → result ≡ frames_of tree ranges }
+{
+    let mut frames = 0;
+    let mut next = start;
+    'outwards: while let Some(number) = next {
+        let frame = chains.frame(number);
+        frames += 1;
+        next = frame.outer;
+    }
+    frames
+}

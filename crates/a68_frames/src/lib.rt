@@ -1,0 +1,12 @@
+//! Frames: the slots of definitions, the way to them, and what routine texts use from outside (own; Report, 2.1.1.3 and 7.2.2).
+#![tactic(auto)]
+
+mod build;
+mod chain;
+mod map;
+mod needs;
+mod reading;
+mod slots;
+
+pub use build::frames;
+pub use map::FrameMap;

@@ -1,0 +1,60 @@
+//! Nodes, read at any number.
+ghost use Rattle.std.specs.Prelude.{◌≡◌, false, slice_index_or};
+ghost use Rattle.a68_frames.specs.Frames as frames;
+ghost use Rattle.a68_ranges.specs.Definitions as definitions;
+ghost use Rattle.a68_ranges.specs.Nodes as nodes;
+ghost use Rattle.a68_frames.specs.Tables as tables;
+
+use a68_ranges::{Sort, defines};
+use a68_tree::{NodeId, NodeKind, Tree};
+
+/// The kind of a node; a number of no node has that of a skip.
+pub fn kind_of(tree: &Tree, id: NodeId) -> NodeKind
+    ensures { result ≡ nodes.kind_at tree.now id }
+{
+    if id < tree.len() {
+        tree.node(id).kind
+    } else {
+        NodeKind::Skip
+    }
+}
+
+/// Has a definition of that kind a slot?
+pub fn has_slot(kind: NodeKind) -> bool
+    ensures { result ≡ frames.has_slot (definitions.defines kind) }
+{
+    match defines(kind) {
+        Some(Sort::Tag) => true,
+        Some(Sort::Operator) => true,
+        Some(_) => false,
+        None => false,
+    }
+}
+
+/// Does a range of that kind make a frame, with so many slots?
+pub fn makes(kind: NodeKind, slots: u32) -> bool
+    ensures { result ≡ frames.makes kind slots }
+{
+    match kind {
+        NodeKind::RoutineText => true,
+        _ => slots > 0,
+    }
+}
+
+/// Does that range make a frame? A number of no node makes none.
+pub fn makes_frame(makes: &[bool], range: NodeId) -> bool
+    ensures { result ≡ slice_index_or makes.now range false }
+{
+    if (range as usize) < makes.len() {
+        makes[range as usize]
+    } else {
+        false
+    }
+}
+
+/// Is a node of that kind an applied tag?
+pub fn is_tag(kind: NodeKind) -> bool
+    ensures { result ≡ tables.is_tag kind }
+{
+    matches!(kind, NodeKind::Tag)
+}
