@@ -3,18 +3,12 @@
 use Rattle.std.specs.Prelude.{List, Ok, Err, reverse}
 use Rattle.std.specs.declared.result.Result.{Result}
 use Rattle.a68_acts.specs.declared.operation.Doing.{Doing}
-use Rattle.a68_acts.specs.declared.operation.Doing.TheVariants.{Yields, Asks, Meets}
+use Rattle.a68_acts.specs.declared.operation.Doing.TheVariants.{Asks, Meets}
 use Rattle.a68_acts.specs.declared.operation.Next.TheVariants as next
 use Rattle.a68_acts.specs.declared.want.Want.TheVariants as want
 use Rattle.a68_base.specs.declared.text.Text.{Text}
-use Rattle.a68_values.specs.Content.{Content, plain}
+use Rattle.a68_values.specs.Content.{Content}
 use Rattle.a68_values.specs.declared.act.FaultKind.{FaultKind}
-use Rattle.a68_values.specs.declared.plain.Plain.{Plain}
-
--- what an operation does that yields a plain value or meets a fault
-abbrev pub doing_of : Result Plain FaultKind → Doing
-doing_of (Ok p) = Yields (plain p)
-doing_of (Err kind) = Meets kind
 
 -- what the printing of items does, by the text of the first one, or the fault that it meets
 abbrev pub printing : Result Text FaultKind → List Content → Doing

@@ -9,7 +9,8 @@ mod want;
 
 pub use operation::{Counter, Doing, Next};
 pub use operations::{
-    advanced, applied, assigned, counter_of, has_turn, made, on_plain, print_next, resumed, skipped,
+    advanced, applied, assigned, case_of, counter_of, has_turn, made, monadic, on_plain,
+    print_next, resumed, skipped,
 };
 pub use printed::printed_int;
 pub use want::{Reply, Want};

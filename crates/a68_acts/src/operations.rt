@@ -1,9 +1,10 @@
 //! Operations on the values of their parts.
 ghost use Rattle.std.specs.Prelude.{◌≡◌, ◌<◌, [], ◌∷◌, length, reverse, List, IfOk, ◌+ℤ◌, ◌-ℤ◌, ◌*ℤ◌};
 ghost use Rattle.a68_acts.specs.Operations as operations;
-ghost use Rattle.a68_acts.specs.Operations.{make};
-ghost use Rattle.a68_acts.specs.Results.{doing_of, printing};
+ghost use Rattle.a68_acts.specs.Operations.{doing_of, make};
+ghost use Rattle.a68_acts.specs.Results.{printing};
 ghost use Rattle.a68_values.specs.Content.{Content, plain};
+ghost use Rattle.a68_values.specs.declared.plain.Plain.TheVariants as value_of;
 
 use crate::{Counter, Doing, Next, Reply, Want, printed_int};
 use a68_base::{NoMemory, Text};
@@ -221,6 +222,42 @@ pub fn applied(row: u32, left: &Value, right: &Value) -> Doing
             done_on_ints(row, *left, *right)
         }
         _ => Doing::Meets(FaultKind::Kind),
+    }
+}
+
+/// A monadic operator on a value that fits one cell. Of them + alone runs yet.
+#[inline(always)]
+pub fn monadic(row: u32, operand: Plain) -> Result<Plain, FaultKind>
+    ensures { result ≡ operations.monadic row (plain operand) }
+{
+    match operand {
+        Plain::Int(value) if row == 26 => Ok(Plain::Int(value)),
+        Plain::Unset => Err(FaultKind::Unset),
+        _ => Err(FaultKind::Kind),
+    }
+}
+
+// Which of so many parts a number chooses, from 0; that number of parts itself where it chooses none.
+#[inline(always)]
+fn chosen(parts: usize, number: i64) -> usize
+    ensures { Ok result ≡ operations.case_of parts (plain (value_of.Int number)) }
+{
+    match usize::try_from(number) {
+        Ok(number) if 1 <= number && number <= parts => number - 1,
+        _ => parts,
+    }
+}
+
+/// Which of so many parts a value chooses, from 0; that number of parts itself where it chooses none.
+#[tactic(auto, unfolding(crate::specs::Operations::case_of))]
+#[inline(always)]
+pub fn case_of(parts: usize, value: Plain) -> Result<usize, FaultKind>
+    ensures { result ≡ operations.case_of parts (plain value) }
+{
+    match value {
+        Plain::Int(number) => Ok(chosen(parts, number)),
+        Plain::Unset => Err(FaultKind::Unset),
+        _ => Err(FaultKind::Kind),
     }
 }
 

@@ -1,6 +1,6 @@
 -- The trees of a program that runs fit what is taken of them, form by form.
 use Rattle.std.proofs.Common.{◌≡◌, ℕ, zero, suc, ◌<◌, Bool, true, false, List, [], ◌∷◌, length, refl, sym, ◌∙◌, ap, subst, arith, Some, slice_get, ⊎_elim}
-use Rattle.std.specs.Prelude.{IsTrue, ◌&&◌, nat_le, if◌then◌else◌}
+use Rattle.std.specs.Prelude.{IsTrue, ◌&&◌, ◌||◌, nat_le, if◌then◌else◌}
 use Rattle.std.proofs.lemmas.Bool.{cases_lt, false≢true, leb-true, le-leb}
 use Rattle.a68_acts.specs.Operations.{Operation, constant, skip, tag, make, bind, deref, store, apply, drop, print, leaves}
 use Rattle.a68_annot.specs.declared.annotated.Annotated.{Annotated}
@@ -87,8 +87,12 @@ second : (x y : Bool) → IsTrue (x && y) → IsTrue y
 second true y e = e
 second false y e = absurd (false≢true e)
 
--- an operator that runs is on two values
-on-two : (row : ℕ) → IsTrue (is_well_made standard_shapes 0 (does.Apply row)) → takes (does.Apply row) ≡ 2
+or-first : (x y : Bool) → IsTrue x → IsTrue (x || y)
+or-first true y e = refl
+or-first false y e = absurd (false≢true e)
+
+-- an operator on two integers is on two values
+on-two : (row : ℕ) → IsTrue (nat_le 9 row && nat_le row 17) → takes (does.Apply row) ≡ 2
 on-two row made =
     let most : IsTrue (nat_le row 17) = second (nat_le 9 row) (nat_le row 17) made in
     let few = leb-true row 17 most in
@@ -120,14 +124,14 @@ sum-fits p id l r g k a b =
     let place = k.node.span.from in
     let parts = tree_at p l and_tree (tree_at p r and_tree no_trees) in
     by-tree true _ _ (made-as p id (construct.Sum l r) g k kind.Dyadic (l ∷ r ∷ []) k.spelt.kind k.spelt.parts ∙ ap (λ o. made.formula place o parts) k.spelt.is)
-    (fit-two true place (apply k.spelt.row) collateral (tree_at p l) (tree_at p r) refl (on-two k.spelt.row k.spelt.fits) k.spelt.fits a b)
+    (fit-two true place (apply k.spelt.row) collateral (tree_at p l) (tree_at p r) refl (on-two k.spelt.row k.spelt.fits) (or-first _ _ k.spelt.fits) a b)
 
 test-fits : (p : Annotated) (id l r : ℕ) (g : Purpose) → Known p id (construct.Test l r) g → IsFit true (tree_at p l) → IsFit true (tree_at p r) → IsFit true (tree_at p id)
 test-fits p id l r g k a b =
     let place = k.node.span.from in
     let parts = tree_at p l and_tree (tree_at p r and_tree no_trees) in
     by-tree true _ _ (made-as p id (construct.Test l r) g k kind.Dyadic (l ∷ r ∷ []) k.spelt.kind k.spelt.parts ∙ ap (λ o. made.formula place o parts) k.spelt.is)
-    (fit-two true place (apply k.spelt.row) collateral (tree_at p l) (tree_at p r) refl (on-two k.spelt.row k.spelt.fits) k.spelt.fits a b)
+    (fit-two true place (apply k.spelt.row) collateral (tree_at p l) (tree_at p r) refl (on-two k.spelt.row k.spelt.fits) (or-first _ _ k.spelt.fits) a b)
 
 enquiry-fits : (p : Annotated) (id test : ℕ) → Known p id construct.Serial goal.Enquiry → parts_at p.tree id ≡ test ∷ [] → IsFit true (tree_at p test) → IsFit true (tree_at p id)
 enquiry-fits p id test k e a =

@@ -1,8 +1,9 @@
 -- How many instructions the machine runs without a turn of a loop.
-use Rattle.std.proofs.Common.{◌≡◌, ◌≢◌, ◌<◌, ◌≤◌, ◌⊎◌, ◌+◌, ◌-◌, ℕ, zero, suc, Bool, true, false, ◌||◌, eqb, IsTrue, nat_lt, List, [], ◌∷◌, length, Some, refl, sym, ap, ◌∙◌, add-zero, add-suc, zero-add, arith, inl, inr, ⊎_elim, subst}
-use Rattle.std.specs.List.{Contains}
+use Rattle.std.proofs.Common.{◌≡◌, ◌≢◌, ◌<◌, ◌≤◌, ◌⊎◌, ◌+◌, ◌-◌, ℕ, zero, suc, Bool, true, false, ◌||◌, ◌&&◌, eqb, IsTrue, nat_lt, List, [], ◌∷◌, length, Some, refl, sym, ap, ◌∙◌, add-zero, add-suc, zero-add, arith, inl, inr, ⊎_elim, subst}
+use Rattle.std.specs.List.{Contains, list_all}
+use Rattle.std.proofs.lemmas.List.Sums.{AllPass-from_list_all}
 use Rattle.std.proofs.lemmas.Bool.{cases_eq, eqb-true, eq-eqb, ltb-true, or_cases}
-use Rattle.std.proofs.lemmas.List.Elements.{Contains-push_cases}
+use Rattle.std.proofs.lemmas.List.Elements.{All-contains, Contains-push_cases}
 use Rattle.std.proofs.lemmas.Option.{same_Some}
 use Rattle.a68_code.proofs.Reading.{does_at_within}
 use Rattle.a68_code.specs.Flow.{does_at, landings}
@@ -12,7 +13,7 @@ use Rattle.a68_code.specs.Valid.{IsValid}
 use Rattle.a68_code.specs.declared.code.Code.{Code}
 use Rattle.a68_code.specs.declared.code.Instr.{Instr}
 use Rattle.a68_code.specs.declared.does.Does.{Does}
-use Rattle.a68_code.specs.declared.does.Does.TheVariants.{Jump, Unless, Step, Turn, Advance, End}
+use Rattle.a68_code.specs.declared.does.Does.TheVariants.{Jump, Unless, Case, Step, Turn, Advance, End}
 
 -- a way leads from one place over so many instructions, none of which is a Turn, to another
 pub data Walks (list : List Instr) : ℕ → ℕ → ℕ → Type 0 where
@@ -107,19 +108,29 @@ opens_most : (list : List Instr) (from k d : ℕ) → opens list from (k + d) �
 opens_most list from k zero = rw (add-zero k) (omega arith)
 opens_most list from k (suc d) = rw (add-suc k d) (let h = opens_most list from k d in let b = bit_most (has_end list from (k + d)) in omega arith)
 
+-- what holds of all places of a list
+all_in : (p : ℕ → Bool) (places : List ℕ) (to : ℕ) → IsTrue (list_all p places) → Contains places to → IsTrue (p to)
+all_in p places to e i = All-contains (λ x. p x ≡ true) places to (AllPass-from_list_all p places e) i
+
+all_second : (x y : Bool) → IsTrue (x && y) → IsTrue y
+all_second true y e = e
+all_second false y e = absurd (cc)
+
 -- how far the machine can still go: the places from this one on, and the steps before it to which it may go back
 abbrev ahead : List Instr → ℕ → ℕ
 ahead list at = (length list - at) + opens list at at
 
 -- the next place, or the landing place of an instruction that has one
 abbrev Landing : ℕ → ℕ → Does → Type 0
-Landing at to does = (to ≡ at + 1) ⊎ ((does ≡ Jump to) ⊎ ((does ≡ Unless to) ⊎ ((does ≡ Step to) ⊎ (does ≡ Advance to))))
+Landing at to does =
+    (to ≡ at + 1) ⊎ ((does ≡ Jump to) ⊎ ((does ≡ Unless to) ⊎ ((does ≡ Step to) ⊎ ((does ≡ Advance to) ⊎ ((places : List ℕ) × (does ≡ Case places) × Contains places to)))))
 
 landing_cases : (at to : ℕ) (does : Does) → Contains (landings at does) to → Landing at to does
 landing_cases at to (Jump x) i = inr (inl (ap (λ (n : ℕ). Jump n) (only x to i)))
 landing_cases at to (Unless x) i = ⊎_elim (λ e. inl (sym e)) (λ e. inr (inr (inl (ap (λ (n : ℕ). Unless n) e)))) (either (at + 1) x to i)
 landing_cases at to (Step x) i = ⊎_elim (λ e. inl (sym e)) (λ e. inr (inr (inr (inl (ap (λ (n : ℕ). Step n) e))))) (either (at + 1) x to i)
-landing_cases at to (Advance x) i = ⊎_elim (λ e. inl (sym e)) (λ e. inr (inr (inr (inr (ap (λ (n : ℕ). Advance n) e))))) (either (at + 1) x to i)
+landing_cases at to (Advance x) i = ⊎_elim (λ e. inl (sym e)) (λ e. inr (inr (inr (inr (inl (ap (λ (n : ℕ). Advance n) e)))))) (either (at + 1) x to i)
+landing_cases at to (Case places) i = inr (inr (inr (inr (inr (places, refl, i)))))
 landing_cases at to End i = absurd (let h = i.1 in omega arith)
 landing_cases at to _ i = inl (sym (only (at + 1) to i))
 
@@ -214,7 +225,10 @@ module _ (code : Code) (valid : IsValid code) where
     this (inr (inl j)) = jumps (ordered (Jump to) j) (inside_from (made (Jump to) j)) (no_end to at does is (λ x e. cc))
     this (inr (inr (inl u))) = jumps (ordered (Unless to) u) (inside_from (made (Unless to) u)) (no_end to at does is (λ x e. cc))
     this (inr (inr (inr (inl s)))) = jumps (ordered (Step to) s) (inside_from (made (Step to) s)) (no_end_behind to at to (is ∙ ap (λ (d : Does). Some d) s) (omega arith))
-    this (inr (inr (inr (inr a)))) = short.1 at (is ∙ ap (λ (d : Does). Some d) a)
+    this (inr (inr (inr (inr (inl a))))) = short.1 at (is ∙ ap (λ (d : Does). Some d) a)
+    this (inr (inr (inr (inr (inr (places, e, i)))))) =
+        jumps (ltb-true at to (all_in (λ x. nat_lt at x) places to (ordered (Case places) e) i))
+        (inside_from (all_in (λ x. nat_lt x (length code.list)) places to (all_second _ _ (made (Case places) e)) i)) (no_end to at does is (λ x f. cc))
 
     -- the step at which the walk stands leads behind the end that goes back to it
     behind_end : Landing at to does → (advance : ℕ) → does_at code.list advance ≡ Some (Advance at) → suc (suc count) ≤ ahead code.list advance
@@ -243,7 +257,8 @@ module _ (code : Code) (valid : IsValid code) where
             let two = out.0 in
             let rest = short.0 in
             omega arith
-        go (inr (inr (inr (inr a)))) = let e : Advance to ≡ Step l.behind = sym a ∙ step in absurd (cc)
+        go (inr (inr (inr (inr (inl a))))) = let e : Advance to ≡ Step l.behind = sym a ∙ step in absurd (cc)
+        go (inr (inr (inr (inr (inr (places, f, i)))))) = let e : Case places ≡ Step l.behind = sym f ∙ step in absurd (cc)
 
   short_walk : {at count end : ℕ} → Walks code.list at count end → Short at count
   short_walk stands = (omega arith, λ advance is. some_ahead advance _ is)

@@ -1,6 +1,7 @@
 //! The instruction set.
 ghost use Rattle.std.specs.Prelude.{◌≡◌, IfOk};
 
+use crate::Places;
 use a68_base::NoMemory;
 use a68_values::Value;
 use std::alloc::Global;
@@ -25,6 +26,7 @@ use std::alloc::Global;
 /// | Print | count | the items | | Print | one for each item in order |
 /// | Jump | place | | | | goes there |
 /// | Unless | place | truth value | | | goes there for false |
+/// | Case | places | number | | | goes to the place of that number, counted from 1; to the last one for any other number |
 /// | Counter | | FROM, BY, TO | counter | | TO may be unset: no limit |
 /// | Index | | counter | counter, value | | the count of the counter |
 /// | Step | place | counter | counter | | goes there where the loop has no further turn |
@@ -49,6 +51,7 @@ pub enum Does {
     Print(u32),
     Jump(u32),
     Unless(u32),
+    Case(Places),
     Counter,
     Index,
     Step(u32),
@@ -75,6 +78,7 @@ impl Drop for Does {
             | Does::Print(_)
             | Does::Jump(_)
             | Does::Unless(_)
+            | Does::Case(_)
             | Does::Counter
             | Does::Index
             | Does::Step(_)
@@ -87,7 +91,7 @@ impl Drop for Does {
 }
 
 impl Does {
-    /// An equal instruction. One without a value that is made of others takes no memory.
+    /// An equal instruction. One without a list of places, and without a value that is made of others, takes no memory.
     pub fn copy(&self, alloc: Global) -> Result<Does, NoMemory>
         ensures { IfOk result (λ does. does ≡ self.now) }
     {
@@ -112,6 +116,7 @@ impl Does {
             Does::Print(count) => Does::Print(*count),
             Does::Jump(to) => Does::Jump(*to),
             Does::Unless(to) => Does::Unless(*to),
+            Does::Case(places) => Does::Case(places.copy(alloc)?),
             Does::Counter => Does::Counter,
             Does::Index => Does::Index,
             Does::Step(to) => Does::Step(*to),

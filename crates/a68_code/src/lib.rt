@@ -5,9 +5,11 @@ mod code;
 mod does;
 mod operands;
 mod order;
+mod places;
 mod valid;
 mod walk;
 
 pub use code::{Code, Instr, Instrs, RoutineEntrance, Routines};
 pub use does::Does;
 pub use operands::operands_of;
+pub use places::Places;

@@ -24,9 +24,10 @@ impl Does {
             Does::Leave(kept) => *kept <= 1,
             Does::Make { mode, bounds } => modes.is_plain(*mode) && *bounds == 0,
             Does::Deref(mode) | Does::Store(mode) => modes.is_plain(*mode),
-            Does::Apply(row) => 9 <= *row && *row <= 17,
+            Does::Apply(row) => (9 <= *row && *row <= 17) || *row == 26,
             Does::Jump(to) | Does::Unless(to) | Does::Step(to) | Does::Advance(to) => (*to as usize)
                 < count,
+            Does::Case(places) => places.are_inside(count),
             _ => true,
         }
     }
@@ -40,7 +41,7 @@ impl Does {
             Does::Store(_) => 2,
             Does::Apply(row) => operands_of(*row),
             Does::Bind(_) | Does::Deref(_) | Does::Drop => 1,
-            Does::Unless(_) | Does::Index | Does::Step(_) => 1,
+            Does::Unless(_) | Does::Case(_) | Does::Index | Does::Step(_) => 1,
             Does::Advance(_) | Does::Forget => 1,
             Does::Leave(count) | Does::Print(count) | Does::Make { bounds: count, .. } => *count,
             _ => 0,
@@ -56,7 +57,7 @@ impl Does {
             Does::Index => 2,
             Does::Skip(mode) => u32::from(!modes.is_void(*mode)),
             Does::Enter(_) | Does::Bind(_) | Does::Drop | Does::Print(_) | Does::Jump(_) => 0,
-            Does::Unless(_) | Does::Turn | Does::Forget | Does::End => 0,
+            Does::Unless(_) | Does::Case(_) | Does::Turn | Does::Forget | Does::End => 0,
             _ => 1,
         }
     }

@@ -72,6 +72,21 @@ impl Walk {
         Ok(true)
     }
 
+    /// Ways come to the places of a list with this height.
+    fn note_places(&mut self, places: &[u32], height: usize) -> Result<bool, NoMemory>
+        ensures { IfOk result (λ fits. MatchBool fits
+            (NotesAll places.now height self.old.heights.items self.old.todo.items
+            self.new.heights.items self.new.todo.items)
+            (AnyClashes places.now height self.old.heights.items)) }
+    {
+        for to in places {
+            if !self.note(*to as usize, height)? {
+                return Ok(false);
+            }
+        }
+        Ok(true)
+    }
+
     /// Ways come to the places where the machine may go on behind the instruction at this place.
     fn note_landings(&mut self, at: usize, does: &Does, height: usize) -> Result<bool, NoMemory>
         requires { at + 1 < 2 ^ 64 }
@@ -83,6 +98,7 @@ impl Walk {
         match does {
             Does::End => self.note_all(&[], height),
             Does::Jump(to) => self.note_all(&[*to as usize], height),
+            Does::Case(places) => self.note_places(&places.items, height),
             Does::Unless(to) | Does::Step(to) | Does::Advance(to) => self.note_all(
                 &[at + 1, *to as usize],
                 height,

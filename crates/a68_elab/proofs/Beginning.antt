@@ -62,7 +62,7 @@ module _ (end : ℕ) where
   choice_begins place _ p b = tt
 
   loop_begins : (place : ℕ) (ts : Trees) → place ≤ end → AllBeginBy end ts → BeginsBy end (made.loop_of place ts)
-  loop_begins place (test and_tree (body and_tree no_trees)) p b = (p, p, ((p, tt), ((p, tt), ((p, tt), tt))), b.0, b.1.0)
+  loop_begins place (test and_tree (body and_tree no_trees)) p b = (p, ((p, tt), ((p, tt), ((p, tt), tt))), (p, b.0), b.1.0)
   loop_begins place _ p b = tt
 
   denoted_begins : (place : ℕ) (o : Option ℤ) → place ≤ end → BeginsBy end (made.denoted place o)

@@ -6,7 +6,7 @@ use Rattle.a68_acts.specs.Operations.{constant, skip, tag, make, bind, deref, st
 use Rattle.a68_annot.specs.declared.annotated.Annotated.{Annotated}
 use Rattle.a68_annot.specs.declared.note.Note.{Note}
 use Rattle.a68_denote.specs.Numbers.{int_in}
-use Rattle.a68_elab.specs.Trees.{collateral, serial, Tree, Trees, operation, phrases, range, choice, loop, unbuilt, no_trees, ◌and_tree◌, Program}
+use Rattle.a68_elab.specs.Trees.{collateral, serial, Tree, Trees, operation, phrases, range, choice, loop, unbuilt, while_in, no_trees, ◌and_tree◌, Program}
 use Rattle.a68_modes.specs.Nodes.{shape_at, is_void}
 use Rattle.a68_modes.specs.declared.coercion.Coercion.{Coercion}
 use Rattle.a68_modes.specs.declared.coercion.Coercion.TheVariants as coercion
@@ -94,9 +94,9 @@ choice_of place (enquiry and_tree (t and_tree no_trees)) = choice place enquiry 
 choice_of place (enquiry and_tree (t and_tree (e and_tree no_trees))) = choice place enquiry t e
 choice_of place _ = unbuilt
 
--- a loop with WHILE and DO; FOR, and a range of WHILE that has slots, are not built yet (Report, 3.5)
+-- a loop with WHILE and DO; the others are not built yet (Report, 3.5)
 abbrev pub loop_of : (place : ℕ) → Trees → Tree
-loop_of place (test and_tree (body and_tree no_trees)) = loop place (controls place) false place 0 test body
+loop_of place (test and_tree (body and_tree no_trees)) = loop place (controls place) false false (while_in place 0 test) body
 loop_of place _ = unbuilt
 
 -- a formula, which applies its operator to the values of its operands (Report, 5.4.2)

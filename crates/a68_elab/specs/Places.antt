@@ -1,7 +1,7 @@
 -- Inner: the headline does not rest on this file.
 -- Where the constructs of a program begin.
 use Rattle.std.specs.Prelude.{ℕ, ◌≤◌}
-use Rattle.a68_elab.specs.Trees.{Tree, Trees, operation, phrases, range, choice, loop, unbuilt, no_trees, ◌and_tree◌, Program}
+use Rattle.a68_elab.specs.Trees.{Tree, Trees, operation, phrases, range, choice, cases, loop, unbuilt, Test, no_test, while_in, no_trees, ◌and_tree◌, Program}
 
 -- each construct of the tree begins at this byte or before it
 abbrev mutual
@@ -10,12 +10,17 @@ abbrev mutual
   BeginsBy end (phrases place before final) = (place ≤ end) × AllBeginBy end before × BeginsBy end final
   BeginsBy end (range place out slots yields within) = (place ≤ end) × (out ≤ end) × BeginsBy end within
   BeginsBy end (choice place enquiry if_true if_false) = (place ≤ end) × BeginsBy end enquiry × BeginsBy end if_true × BeginsBy end if_false
-  BeginsBy end (loop place controls counts at slots test body) = (place ≤ end) × (at ≤ end) × AllBeginBy end controls × BeginsBy end test × BeginsBy end body
+  BeginsBy end (cases place enquiry arms out) = (place ≤ end) × BeginsBy end enquiry × AllBeginBy end arms × BeginsBy end out
+  BeginsBy end (loop place controls limited counts test body) = (place ≤ end) × AllBeginBy end controls × TestBeginsBy end test × BeginsBy end body
   BeginsBy end unbuilt = Unit {0}
 
   pub AllBeginBy : (end : ℕ) → Trees → Type 0
   AllBeginBy end no_trees = Unit {0}
   AllBeginBy end (tree and_tree trees) = BeginsBy end tree × AllBeginBy end trees
+
+  pub TestBeginsBy : (end : ℕ) → Test → Type 0
+  TestBeginsBy end no_test = Unit {0}
+  TestBeginsBy end (while_in at slots test) = (at ≤ end) × BeginsBy end test
 
 -- the program and each construct in it begin there or before
 pub record ProgramBeginsBy (end : ℕ) (program : Program) : Type 0 where

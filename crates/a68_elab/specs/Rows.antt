@@ -1,9 +1,9 @@
 -- The rules of elaboration: what comes next for a term.
-use Rattle.std.specs.Prelude.{ℕ, zero, suc, Bool, ◌&&◌, List, [], ◌∷◌, None, Some, Ok, Err, nat_lt, if◌then◌else◌}
+use Rattle.std.specs.Prelude.{ℕ, zero, suc, Bool, true, false, ◌&&◌, List, [], ◌∷◌, None, Some, Ok, Err, nat_lt, if◌then◌else◌}
 use Rattle.std.specs.Option.{option_map, option_map_or}
 use Rattle.std.specs.declared.option.Option.{Option}
 use Rattle.std.specs.declared.result.Result.{Result}
-use Rattle.a68_acts.specs.Operations.{start, resumed, tested, counter_of, has_turn, advanced}
+use Rattle.a68_acts.specs.Operations.{start, resumed, tested, case_of, monadic, counter_of, has_turn, advanced}
 use Rattle.a68_acts.specs.declared.operation.Counter.{Counter}
 use Rattle.a68_acts.specs.declared.operation.Doing.{Doing}
 use Rattle.a68_acts.specs.declared.operation.Doing.TheVariants as doing
@@ -11,8 +11,8 @@ use Rattle.a68_acts.specs.declared.want.Reply.{Reply}
 use Rattle.a68_acts.specs.declared.want.Reply.TheVariants as reply
 use Rattle.a68_acts.specs.declared.want.Want.{Want}
 use Rattle.a68_acts.specs.declared.want.Want.TheVariants as want
-use Rattle.a68_elab.specs.Terms.{Job, operating, resuming, preceding, ending, ranged, choosing, chosen, counting, stepping, turning, opening, naming, indexing, ranging, testing, running, advancing, quitting, leaving, Term, todo, part, yielded, no_terms, only, todos, values, last_of}
-use Rattle.a68_elab.specs.Trees.{Tree, operation, phrases, range, choice, loop, unbuilt, Turns, depth, Program}
+use Rattle.a68_elab.specs.Terms.{Job, operating, resuming, preceding, ending, ranged, choosing, casing, chosen, limiting, counting, stepping, turning, opening, naming, indexing, ranging, testing, running, advancing, quitting, leaving, Term, todo, part, yielded, no_terms, ◌and_term◌, only, todos, values, last_of}
+use Rattle.a68_elab.specs.Trees.{Tree, operation, phrases, range, choice, cases, loop, unbuilt, Trees, no_trees, ◌and_tree◌, count, Test, no_test, while_in, Turns, depth, Program}
 use Rattle.a68_values.specs.Content.{Content, plain, void, scope_of}
 use Rattle.a68_values.specs.declared.act.FaultKind.{FaultKind}
 use Rattle.a68_values.specs.declared.act.FaultKind.TheVariants as fault
@@ -61,7 +61,25 @@ abbrev pub leaves : (place : ℕ) (yields : Bool) → List Environ → Content �
 leaves place yields (inner ∷ e ∷ outer) v = if yields && nat_lt e.scope (scope_of v) then meets fault.Scope place else goes (yielded v)
 leaves place yields _ v = meets fault.Kind place
 
+-- ---- choices
+
+-- the chosen part, whose yield is that of the clause
+abbrev pub chooses : List Environ → Tree → Term
+chooses chain t = part chosen chain (only (todo t chain))
+
+-- the part of this number from 0; the other one where there is none
+abbrev pub arm : Trees → ℕ → (out : Tree) → Tree
+arm no_trees k out = out
+arm (t and_tree ts) zero out = t
+arm (t and_tree ts) (suc k) out = arm ts k out
+
 -- ---- loops
+
+-- TO is looked at alone: it is the operand of a monadic + (own)
+abbrev pub limits : Turns → List Environ → List Content → Then Term
+limits l chain (from ∷ by ∷ to ∷ []) =
+    goes_with l.place (λ t. part (counting l) chain (yielded from and_term (yielded by and_term only (yielded (plain t))))) (monadic 26 to)
+limits l chain _ = meets fault.Kind l.place
 
 -- the counter of the values of FROM, BY and TO (Report, 3.5.2)
 abbrev pub counted : List Content → Result Counter FaultKind
@@ -73,15 +91,16 @@ abbrev pub turned : (place : ℕ) → List Environ → Term → Reply → Term
 turned place chain t reply.Go = t
 turned place chain t _ = misled place chain
 
--- the test of a turn, in the range of WHILE where it has slots
-abbrev pub in_turn : (slots : ℕ) → Counter → Turns → List Environ → Term
-in_turn zero c l chain = part (testing c l) chain (only (todo l.test chain))
-in_turn (suc n) c l chain = part (ranging c l) chain no_terms
+-- a turn: WHILE, in a frame where it has slots, or at once the body
+abbrev pub in_turn : Test → Counter → Turns → List Environ → Term
+in_turn no_test c l chain = part (running c l) chain (only (todo l.body chain))
+in_turn (while_in at zero test) c l chain = part (testing c l) chain (only (todo test chain))
+in_turn (while_in at (suc n) test) c l chain = part (ranging c l at (suc n) test) chain no_terms
 
 -- FOR's tag is the count
 abbrev pub binds_count : Counter → Turns → List Environ → Then Term
 binds_count c l [] = meets fault.Kind l.place
-binds_count c l (e ∷ outer) = acts l.place (want.Bind e.frame 0 (plain (value.Int c.at))) (turned l.place (e ∷ outer) (in_turn l.slots c l (e ∷ outer)))
+binds_count c l (e ∷ outer) = acts l.place (want.Bind e.frame 0 (plain (value.Int c.at))) (turned l.place (e ∷ outer) (in_turn l.test c l (e ∷ outer)))
 
 -- a frame is left that yields nothing
 abbrev pub goes_out : (place : ℕ) → List Environ → (List Environ → Term) → Then Term
@@ -100,9 +119,13 @@ begin (phrases place before final) chain = goes (part (preceding final) chain (t
 begin (range place out slots yields within) chain = enters place slots chain (λ inner. part (ranged out yields) inner (only (todo within inner)))
 -- a conditional clause: the enquiry (Report, 3.4.2)
 begin (choice place enquiry if_true if_false) chain = goes (part (choosing place if_true if_false) chain (only (todo enquiry chain)))
+-- a case clause: the enquiry (Report, 3.4.2)
+begin (cases place enquiry arms out) chain = goes (part (casing place arms out) chain (only (todo enquiry chain)))
 -- a loop clause: FROM, BY and TO (Report, 3.5.2)
-begin (loop place controls counts at slots test body) chain =
-    goes (part (counting (record { place = place; counts = counts; at = at; slots = slots; test = test; body = body })) chain (todos controls chain))
+begin (loop place controls true counts test body) chain =
+    goes (part (limiting (record { place = place; counts = counts; test = test; body = body })) chain (todos controls chain))
+begin (loop place controls false counts test body) chain =
+    goes (part (counting (record { place = place; counts = counts; test = test; body = body })) chain (todos controls chain))
 -- what is not built has no rule; no program that fits comes here (own)
 begin unbuilt chain = meets fault.Kind 0
 
@@ -118,23 +141,25 @@ finish program ending chain vs = goes (yielded (last_of vs))
 finish program (ranged out yields) chain vs = leaves out yields chain (last_of vs)
 -- the enquiry chooses a part, and its yield is that of the clause (Report, 3.4.2)
 finish program (choosing place if_true if_false) chain vs =
-    goes_with place (λ b. part chosen chain (only (todo (if b then if_true else if_false) chain))) (tested (last_of vs))
+    goes_with place (λ b. chooses chain (if b then if_true else if_false)) (tested (last_of vs))
+finish program (casing place arms out) chain vs = goes_with place (λ k. chooses chain (arm arms k out)) (case_of (count arms) (last_of vs))
 finish program chosen chain vs = goes (yielded (last_of vs))
--- A loop counts. While it has a turn it takes one: FOR makes a frame in which its tag is the count, and WHILE makes one
--- where it has slots. Where the test holds the body is done. Behind it and behind a test that fails the frames are left.
--- A loop yields nothing (Report, 3.5.2).
+-- A loop counts; where TO is there, it is looked at before FROM and BY. While the loop has a turn it takes one: FOR makes
+-- a frame in which its tag is the count, and WHILE makes one where it has slots. Where the test holds, or there is none,
+-- the body is done. Behind it and behind a test that fails the frames are left. A loop yields nothing (Report, 3.5.2).
+finish program (limiting l) chain vs = limits l chain vs
 finish program (counting l) chain vs = goes_with l.place (λ c. part (stepping c l) chain no_terms) (counted vs)
 finish program (stepping c l) chain vs = goes (if has_turn c then part (turning c l) chain no_terms else part (leaving c) chain no_terms)
 finish program (turning c l) chain vs =
-    acts l.place want.Turn (turned l.place chain (if l.counts then part (opening c l) chain no_terms else in_turn l.slots c l chain))
+    acts l.place want.Turn (turned l.place chain (if l.counts then part (opening c l) chain no_terms else in_turn l.test c l chain))
 finish program (opening c l) chain vs = enters l.place 1 chain (λ inner. part (naming c l) inner no_terms)
 finish program (naming c l) chain vs = goes (part (indexing c l) chain no_terms)
 finish program (indexing c l) chain vs = binds_count c l chain
-finish program (ranging c l) chain vs = enters l.at l.slots chain (λ inner. part (testing c l) inner (only (todo l.test inner)))
+finish program (ranging c l at slots test) chain vs = enters at slots chain (λ inner. part (testing c l) inner (only (todo test inner)))
 finish program (testing c l) chain vs =
-    goes_with l.place (λ b. if b then part (running c l) chain (only (todo l.body chain)) else part (quitting (depth l.counts l.slots) l.place c) chain no_terms)
+    goes_with l.place (λ b. if b then part (running c l) chain (only (todo l.body chain)) else part (quitting (depth l) l.place c) chain no_terms)
     (tested (last_of vs))
-finish program (running c l) chain vs = goes (part (advancing (depth l.counts l.slots) c l) chain no_terms)
+finish program (running c l) chain vs = goes (part (advancing (depth l) c l) chain no_terms)
 finish program (advancing zero c l) chain vs =
     goes (option_map_or (λ next. part (stepping next l) chain no_terms) (advanced c) (part (leaving c) chain no_terms))
 finish program (advancing (suc n) c l) chain vs = goes_out l.place chain (λ out. part (advancing n c l) out no_terms)

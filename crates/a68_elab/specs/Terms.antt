@@ -23,8 +23,12 @@ pub data Job : Type 0 where
   ranged : (out : ℕ) (yields : Bool) → Job
   -- one of two parts, by the value of an enquiry
   choosing : (place : ℕ) (if_true if_false : Tree) → Job
+  -- one of several parts, by a number
+  casing : (place : ℕ) (arms : Trees) (out : Tree) → Job
   -- the yield of the chosen part
   chosen : Job
+  -- FROM, BY and TO are there, and TO alone is looked at
+  limiting : (l : Turns) → Job
   -- the counter of a loop, of the values of FROM, BY and TO
   counting : (l : Turns) → Job
   -- the question whether the counter has one more turn
@@ -37,7 +41,7 @@ pub data Job : Type 0 where
   naming : (counter : Counter) (l : Turns) → Job
   indexing : (counter : Counter) (l : Turns) → Job
   -- the frame of WHILE
-  ranging : (counter : Counter) (l : Turns) → Job
+  ranging : (counter : Counter) (l : Turns) (at slots : ℕ) (test : Tree) → Job
   -- the body, by the value of WHILE
   testing : (counter : Counter) (l : Turns) → Job
   -- the end of a turn
@@ -73,6 +77,7 @@ todos (tree and_tree trees) chain = todo tree chain and_term todos trees chain
 -- others one after another (Report, 2.1.4.2 and 3.5.2)
 abbrev pub order_of : Job → Order
 order_of (operating place op order) = order
+order_of (limiting l) = collateral
 order_of (counting l) = collateral
 order_of _ = serial
 

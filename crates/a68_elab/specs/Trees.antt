@@ -22,9 +22,11 @@ mutual
     range : (place out slots : ℕ) (yields : Bool) (within : Tree) → Tree
     -- a conditional clause: the enquiry, and the part for each answer (Report, 3.4)
     choice : (place : ℕ) (enquiry if_true if_false : Tree) → Tree
-    -- a loop clause: FROM, BY and TO; whether FOR is there, whose frame has one slot; where the range of WHILE begins,
-    -- and the slots of its frame, which also spans DO and is made where there are some; WHILE, and DO (Report, 3.5)
-    loop : (place : ℕ) (controls : Trees) (counts : Bool) (at slots : ℕ) (test body : Tree) → Tree
+    -- a case clause: the enquiry, the part for each number from 1, and the part for no number (Report, 3.4)
+    cases : (place : ℕ) (enquiry : Tree) (arms : Trees) (out : Tree) → Tree
+    -- a loop clause: FROM, BY and TO, whether TO is there, whether FOR is there, whose frame has one slot, WHILE, and DO
+    -- (Report, 3.5)
+    loop : (place : ℕ) (controls : Trees) (limited counts : Bool) (test : Test) (body : Tree) → Tree
     -- a construct that is not built yet: no program that fits has one, and no code is its translation (own)
     unbuilt : Tree
 
@@ -32,18 +34,23 @@ mutual
     no_trees : Trees
     ◌and_tree◌ : Tree → Trees → Trees
 
+  pub data Test : Type 0 where
+    -- a loop without WHILE
+    no_test : Test
+    -- where the range of WHILE begins, the slots of its frame, which also spans DO and is made where there are some, and
+    -- the enquiry
+    while_in : (at slots : ℕ) (test : Tree) → Test
+
 infixr 50 ◌and_tree◌
 abbrev pub count : Trees → ℕ
 count no_trees = 0
 count (tree and_tree trees) = suc (count trees)
 
--- the turns of a loop: where it begins, whether FOR is there, the range of WHILE, and its test and its body
+-- the turns of a loop: where it begins, whether FOR is there, its test and its body
 pub record Turns : Type 0 where
   pub place : ℕ
   pub counts : Bool
-  pub at : ℕ
-  pub slots : ℕ
-  pub test : Tree
+  pub test : Test
   pub body : Tree
 
 -- one frame more where there are slots
@@ -51,9 +58,16 @@ abbrev pub deeper : (slots n : ℕ) → ℕ
 deeper zero n = n
 deeper (suc s) n = suc n
 
+abbrev pub deeper_in : Test → ℕ → ℕ
+deeper_in no_test n = n
+deeper_in (while_in at slots test) n = deeper slots n
+
 -- how many frames a turn makes: that of FOR, and that of WHILE
-abbrev pub depth : (counts : Bool) (slots : ℕ) → ℕ
-depth counts slots = deeper slots (if counts then 1 else 0)
+abbrev pub depth_of : (counts : Bool) → Test → ℕ
+depth_of counts test = deeper_in test (if counts then 1 else 0)
+
+abbrev pub depth : Turns → ℕ
+depth l = depth_of l.counts l.test
 
 -- a program: where it begins, its tree, and the modes that its operations name
 pub record Program : Type 0 where

@@ -8,7 +8,8 @@ use Rattle.a68_elab.specs.Made as made
 use Rattle.a68_elab.specs.Made.{coerced, behind_ref, only, trees_at, all_but_last, last_tree}
 use Rattle.a68_elab.specs.Trees.{Tree, Trees, unbuilt, no_trees, ◌and_tree◌}
 use Rattle.a68_gen.specs.Coercing.{coercions, are_built}
-use Rattle.a68_gen.specs.Listing.{instr, stretch, stretches}
+use Rattle.a68_gen.specs.Listing.{instr, size, sizes, stretch, stretches}
+use Rattle.a68_gen.proofs.Sizes.{size_stretch}
 use Rattle.a68_modes.specs.Nodes.{shape_at}
 use Rattle.a68_modes.specs.declared.coercion.Coercion.{Coercion}
 use Rattle.a68_modes.specs.declared.coercion.Coercion.TheVariants as coercion
@@ -48,7 +49,7 @@ between-each a b (suc i) (x ∷ ids) all p = between-each a b i ids all.2 (omega
 -- the parts from one on
 pub part-cons : (f : ℕ → Tree) (at i : ℕ) (ids : List ℕ) → i < length ids
     → stretches (trees_at f (drop i ids)) at ≡ stretch (f (get_or ids i 0)) at ++ stretches (trees_at f (drop (i + 1) ids)) (at + length (stretch (f (get_or ids i 0)) at))
-part-cons f at i ids p = rw (add-one, drop-cons ids i 0) refl
+part-cons f at i ids p = rw (add-one, drop-cons ids i 0, size_stretch (f (get_or ids i 0)) at) refl
 
 pub two_parts : (ids : List ℕ) → length ids ≡ 2 → ids ≡ get_or ids 0 0 ∷ get_or ids 1 0 ∷ []
 two_parts [] e = absurd (omega arith)
@@ -64,14 +65,15 @@ call_whole place at called item = ap (λ l. l ++ instr place (does.Print 1) ∷ 
 -- ---- serial clauses
 
 pub phrases_list : (t : Tree) (ts : Trees) (at : ℕ)
-    → stretches (all_but_last (t and_tree ts)) at ++ stretch (last_tree (t and_tree ts)) (at + length (stretches (all_but_last (t and_tree ts)) at)) ≡ stretches (t and_tree ts) at
+    → stretches (all_but_last (t and_tree ts)) at ++ stretch (last_tree (t and_tree ts)) (at + sizes (all_but_last (t and_tree ts))) ≡ stretches (t and_tree ts) at
 phrases_list t no_trees at = let e : at + 0 ≡ at = omega arith in rw e (sym (append-nil (stretch t at)))
 phrases_list t (u and_tree ts) at =
     let s = stretch t at in
-    let m = at + length s in
+    let m = at + size t in
     let before = stretches (all_but_last (u and_tree ts)) m in
-    let e : at + length (s ++ before) ≡ m + length before = omega (arith, length-append s before) in
-    rw e (append_assoc s before (stretch (last_tree (u and_tree ts)) (m + length before)) ∙ ap (λ l. s ++ l) (phrases_list u ts m))
+    let n = sizes (all_but_last (u and_tree ts)) in
+    let e : at + (size t + n) ≡ m + n = omega arith in
+    rw e (append_assoc s before (stretch (last_tree (u and_tree ts)) (m + n)) ∙ ap (λ l. s ++ l) (phrases_list u ts m))
 
 -- a clause without a frame
 pub plain_serial : (place slots at : ℕ) (yields : Bool) (t : Tree) (ts : Trees) → slots ≡ 0

@@ -1,10 +1,11 @@
 -- Each instruction of a stretch finds what it takes, and goes on where the heights say so.
-use Rattle.std.proofs.Common.{◌≡◌, ◌<◌, ◌⊎◌, ◌+◌, ℕ, zero, suc, arith, Bool, true, false, IsTrue, List, [], ◌∷◌, length, Some, refl, sym, ap, ◌∙◌, subst, inl, inr, ⊎_elim, nat_lt}
+use Rattle.std.proofs.Common.{◌≡◌, ◌<◌, ◌≤◌, ◌⊎◌, ◌+◌, ℕ, zero, suc, arith, Bool, true, false, IsTrue, List, [], ◌∷◌, length, Some, refl, sym, ap, ◌∙◌, subst, inl, inr, ⊎_elim, nat_lt}
 use Rattle.std.proofs.lemmas.Bool.{lt-ltb}
-use Rattle.std.proofs.lemmas.List.Elements.{Contains-push_cases}
-use Rattle.std.specs.List.{Contains}
+use Rattle.std.proofs.lemmas.List.Elements.{All-cons, All-contains, All-from_recursion, Contains-push_cases}
+use Rattle.std.proofs.lemmas.List.Sums.{list_all-from_AllPass}
+use Rattle.std.specs.List.{All, Contains, list_all}
 use Rattle.std.specs.Option.{option_map}
-use Rattle.std.specs.Prelude.{not, if◌then◌else◌}
+use Rattle.std.specs.Prelude.{not, ◌&&◌, if◌then◌else◌}
 use Rattle.std.specs.declared.option.Option.{Option}
 use Rattle.a68_acts.specs.Operations.{Operation, constant, skip, tag, make, bind, deref, store, apply, drop, print, leaves}
 use Rattle.a68_code.specs.Flow.{does_at, takes, landings}
@@ -15,11 +16,11 @@ use Rattle.a68_code.specs.declared.code.Code.{Code}
 use Rattle.a68_code.specs.declared.code.Instr.{Instr}
 use Rattle.a68_code.specs.declared.does.Does.{Does}
 use Rattle.a68_code.specs.declared.does.Does.TheVariants as does
-use Rattle.a68_elab.specs.Trees.{Tree, Trees, operation, phrases, range, choice, loop, unbuilt, depth, no_trees, ◌and_tree◌, count}
-use Rattle.a68_gen.proofs.Forward.{forward, forward_index, forward_open, forward_leaves}
-use Rattle.a68_gen.proofs.Heights.{bit, after, after_true, after_false, At, IndexHeights, OpenHeights, LeaveHeights, HeightsOf, AllHeights, starts, starts_all, starts_index, starts_open, starts_leave}
-use Rattle.a68_gen.specs.Operands.{FitsModes, FitAll}
-use Rattle.a68_gen.specs.Stretches.{Has, Indexes, Opens, Leaves, Stands, StandAll, does_of, leave}
+use Rattle.a68_elab.specs.Trees.{Tree, Trees, operation, phrases, range, choice, cases, loop, unbuilt, no_trees, ◌and_tree◌, count, Test, no_test, while_in, depth_of}
+use Rattle.a68_gen.proofs.Forward.{forward, forward_limit, forward_index, forward_leaves, forward_arms, forward_test}
+use Rattle.a68_gen.proofs.Heights.{bit, after, after_true, after_false, At, LimitHeights, IndexHeights, OpenHeights, LeaveHeights, HeightsOf, AllHeights, ArmHeights, TestHeights, starts, starts_all, starts_limit, starts_index, starts_leave, starts_test}
+use Rattle.a68_gen.specs.Operands.{FitsModes, FitAll, TestFitsModes}
+use Rattle.a68_gen.specs.Stretches.{Has, Limits, Indexes, Opens, Leaves, Stands, StandAll, StandArms, Tests, with_last, does_of, leave}
 use Rattle.a68_modes.specs.Nodes.{shape_at, is_void}
 use Rattle.a68_modes.specs.declared.shape.Shape.{Shape}
 
@@ -128,6 +129,13 @@ module _ (code : Code) (W : ℕ → ℕ → Type 0) (is_inside : (k h : ℕ) →
   leave_leaves true = refl
   leave_leaves false = refl
 
+  -- TO's own step
+  limit_flows : (limited : Bool) (p a b : ℕ) (s : Limits code limited p a b) (base : ℕ) → W b (base + 3) → (k h : ℕ) → LimitHeights code limited p a b s base k h → Flows code W k h
+  limit_flows false p a b s base out k h x = absurd x
+  limit_flows true p a b s base out k h x =
+      at_flows a (base + 3)
+      (next a b p (does.Apply 26) (base + 2) (base + 3) s refl (omega arith) (at_place b b (base + 3) (base + 2 + 1) refl (omega arith) out) refl tt) k h x
+
   -- the frame of FOR
   index_flows : (counts : Bool) (p a b : ℕ) (s : Indexes code counts p a b) (base : ℕ) → ((k h : ℕ) → IndexHeights code counts p a b s base k h → W k h) → W b (base + 1)
       → (k h : ℕ) → IndexHeights code counts p a b s base k h → Flows code W k h
@@ -158,15 +166,69 @@ module _ (code : Code) (W : ℕ → ℕ → Type 0) (is_inside : (k h : ℕ) →
       first = ⊎_elim (λ y. into s.0 base (inr y)) (λ e. subst (λ (y : ℕ). W y base) (sym e) out) (starts_leave code p n s.0 b s.2 base)
   leave_flows p (suc n) a b s base into out k h (inr x) = leave_flows p n s.0 b s.2 base (λ k h y. into k h (inr y)) out k h x
 
+  -- what holds where the parts of a choice begin, and at one place more, holds at all places of a list
+  arms_all : (g : Bool) (p e : ℕ) (ts : Trees) (ps : List ℕ) (a b : ℕ) (s : StandArms code g p e ts ps a b) (base x : ℕ) (P : ℕ → Type 0)
+      → ((k : ℕ) → a ≤ k → ArmHeights code g p e ts ps a b s base k base → P k) → P x → All P (with_last ps x)
+  arms_all g p e no_trees [] a b s base x P each last = All-cons P x [] last (All-from_recursion P [] tt)
+  arms_all g p e no_trees (q ∷ ps) a b s base x P each last = absurd s
+  arms_all g p e (t and_tree ts) [] a b s base x P each last = absurd s
+  arms_all g p e (t and_tree ts) (q ∷ ps) a b s base x P each last =
+      All-cons P q (with_last ps x) (subst P (sym s.2) (each a (omega arith) (inl (starts code g t a s.0 s.3 base))))
+      (arms_all g p e ts ps s.1 b s.5 base x P (λ k le y. each k (let f = forward code g t a s.0 s.3 in let z = s.4.1 in omega arith) (inr (inr y))) last)
+
+  some_last : (ps : List ℕ) (x : ℕ) → nat_lt 0 (length (with_last ps x)) ≡ true
+  some_last [] x = refl
+  some_last (p ∷ ps) x = lt-ltb 0 (length (with_last (p ∷ ps) x)) (omega arith)
+
+  both_true : {x y : Bool} → x ≡ true → y ≡ true → IsTrue (x && y)
+  both_true {x = x} {y = y} e f = rw (e, f) refl
+
   -- the places of a loop, in order
-  in_loop : (g : Bool) (p : ℕ) (controls : Trees) (counts : Bool) (at slots : ℕ) (test body : Tree) (a b : ℕ) (s : Stands code g (loop p controls counts at slots test body) a b)
-      → (s.1 < s.12) × (s.6 < s.11) × (s.1 < s.9) × (s.9 < s.12) × (s.10 < s.12)
-  in_loop g p controls counts at slots test body a b s =
-      let x = forward code true test s.5 s.6 s.21 in let y = forward code false body s.7 s.8 s.23 in
-      let i = forward_index code counts p s.3 s.4 s.19 in let o = forward_open code slots at s.4 s.5 s.20 in
-      let l = forward_leaves code p (depth counts slots) s.8 s.9 s.24 in let r = forward_leaves code p (depth counts slots) s.11 s.12 s.27 in
-      let p2 = s.17.1 in let p3 = s.18.1 in let p4 = s.22.1 in let p5 = s.25.1 in let p6 = s.26.1 in
+  in_loop : (g : Bool) (p : ℕ) (controls : Trees) (limited counts : Bool) (test : Test) (body : Tree) (a b : ℕ) (s : Stands code g (loop p controls limited counts test body) a b)
+      → (s.2 < s.11) × (s.6 ≤ s.10) × (s.2 < s.8) × (s.8 < s.11) × (s.9 < s.11)
+  in_loop g p controls limited counts test body a b s =
+      let i = forward_index code counts p s.4 s.5 s.19 in let o = forward_test code test p s.10 s.5 s.6 s.20 in let y = forward code false body s.6 s.7 s.21 in
+      let l = forward_leaves code p (depth_of counts test) s.7 s.8 s.22 in let r = forward_leaves code p (depth_of counts test) s.10 s.11 s.25 in
+      let p2 = s.17.1 in let p3 = s.18.1 in let p5 = s.23.1 in let p6 = s.24.1 in
       (omega arith, omega arith, omega arith, omega arith, omega arith)
+
+  -- the places of a loop with their heights
+  record LoopHeights (g : Bool) (p : ℕ) (controls : Trees) (limited counts : Bool) (test : Test) (body : Tree) (a b : ℕ) (s : Stands code g (loop p controls limited counts test body) a b) (base : ℕ) : Type 0 where
+    at_c : W s.0 (base + 3)
+    at_c' : W s.1 (base + 3)
+    at_t : W s.2 (base + 1)
+    at_t' : W s.3 (base + 1)
+    at_u : W s.4 (base + 1)
+    at_w : W s.5 (base + 1)
+    at_x : W s.6 (base + 1)
+    at_n : W s.7 (base + 1)
+    at_n' : W s.8 (base + 1)
+    at_v : W s.9 (base + 1)
+    at_f : W s.10 (base + 1)
+    at_e : W s.11 (base + 1)
+
+  loop_heights : (g : Bool) (p : ℕ) (controls : Trees) (limited counts : Bool) (test : Test) (body : Tree) (a b : ℕ) (s : Stands code g (loop p controls limited counts test body) a b) (base : ℕ) → ((k h : ℕ) → HeightsOf code g (loop p controls limited counts test body) a b s base k h → W k h) → LoopHeights g p controls limited counts test body a b s base
+  loop_heights g p controls limited counts test body a b s base into =
+      let at_e : W s.11 (base + 1) = into s.11 (base + 1) (inr (inr (inr (inr (inr (inr (inr (inr (inr (inr (inr (inr (refl, refl))))))))))))) in
+      let at_v : W s.9 (base + 1) = into s.9 (base + 1) (inr (inr (inr (inr (inr (inr (inr (inr (inr (inr (inl (refl, refl)))))))))))) in
+      let at_n' : W s.8 (base + 1) = into s.8 (base + 1) (inr (inr (inr (inr (inr (inr (inr (inr (inr (inl (refl, refl))))))))))) in
+      let at_x : W s.6 (base + 1) = into s.6 (base + 1) (inr (inr (inr (inr (inr (inr (inr (inl (starts code false body s.6 s.7 s.21 (base + 1)))))))))) in
+      let at_c' : W s.1 (base + 3) = into s.1 (base + 3) (inr (inr (inl (refl, refl)))) in
+      let at_w : W s.5 (base + 1) = ⊎_elim (λ y. into s.5 (base + 1) (inr (inr (inr (inr (inr (inr (inl y)))))))) (λ e. subst (λ (y : ℕ). W y (base + 1)) (sym e) at_x) (starts_test code test p s.10 s.5 s.6 s.20 (base + 1)) in
+      record {
+        at_c = ⊎_elim (λ y. into s.0 (base + 3) (inr (inl y))) (λ e. subst (λ (y : ℕ). W y (base + 3)) (sym e) at_c') (starts_limit code limited p s.0 s.1 s.15 base);
+        at_c' = at_c';
+        at_t = into s.2 (base + 1) (inr (inr (inr (inl (refl, refl)))));
+        at_t' = into s.3 (base + 1) (inr (inr (inr (inr (inl (refl, refl))))));
+        at_u = ⊎_elim (λ y. into s.4 (base + 1) (inr (inr (inr (inr (inr (inl y))))))) (λ e. subst (λ (y : ℕ). W y (base + 1)) (sym e) at_w) (starts_index code counts p s.4 s.5 s.19 base);
+        at_w = at_w;
+        at_x = at_x;
+        at_n = ⊎_elim (λ y. into s.7 (base + 1) (inr (inr (inr (inr (inr (inr (inr (inr (inl y)))))))))) (λ e. subst (λ (y : ℕ). W y (base + 1)) (sym e) at_n') (starts_leave code p (depth_of counts test) s.7 s.8 s.22 (base + 1));
+        at_n' = at_n';
+        at_v = at_v;
+        at_f = ⊎_elim (λ y. into s.10 (base + 1) (inr (inr (inr (inr (inr (inr (inr (inr (inr (inr (inr (inl y))))))))))))) (λ e. subst (λ (y : ℕ). W y (base + 1)) (sym e) at_e) (starts_leave code p (depth_of counts test) s.10 s.11 s.25 (base + 1));
+        at_e = at_e;
+      }
 
   mutual
     pub flows : (g : Bool) (t : Tree) (a b : ℕ) (s : Stands code g t a b) (base : ℕ) → FitsModes code.modes t → ((k h : ℕ) → HeightsOf code g t a b s base k h → W k h)
@@ -221,54 +283,93 @@ module _ (code : Code) (W : ℕ → ℕ → Type 0) (is_inside : (k h : ℕ) →
         at_flows s.2 (base + bit g) (jump s.2 s.3 p b (base + bit g) s.7 (let x = forward code g if_false s.3 b s.8 in let y = s.7.1 in omega arith) out) k h x
     flows g (choice p enquiry if_true if_false) a b s base fit into out k h (inr (inr (inr (inr x)))) =
         flows g if_false s.3 b s.8 base fit.2 (λ k h y. into k h (inr (inr (inr (inr y))))) out k h x
-    flows g (loop p controls counts at slots test body) a b s base fit into out k h (inl x) =
-        flows_all true controls a s.0 s.15 base fit.0 (λ k h y. into k h (inl y))
-        (subst (W s.0) (sym (after_true controls base ∙ ap (λ (n : ℕ). base + n) s.14)) (into s.0 (base + 3) (inr (inl (refl, refl))))) k h x
-    flows g (loop p controls counts at slots test body) a b s base fit into out k h (inr (inl x)) =
-        at_flows s.0 (base + 3) (next s.0 s.1 p does.Counter base (base + 3) s.16 refl refl (into s.1 (base + 1) (inr (inr (inl (refl, refl))))) refl tt) k h x
-    flows g (loop p controls counts at slots test body) a b s base fit into out k h (inr (inr (inl x))) =
-        let w = (into s.12 (base + 1) (inr (inr (inr (inr (inr (inr (inr (inr (inr (inr (inr (inr (inr (refl, refl))))))))))))))) in
-        at_flows s.1 (base + 1)
-        (branch s.1 s.2 p (does.Step s.12) base (base + 1) s.12 s.17 refl refl (into s.2 (base + 1) (inr (inr (inr (inl (refl, refl)))))) w (is_place s.12 (base + 1) w) (in_loop g p controls counts at slots test body a b s).0) k h x
-    flows g (loop p controls counts at slots test body) a b s base fit into out k h (inr (inr (inr (inl x)))) =
-        let at_w = (⊎_elim (λ y. into s.4 (base + 1) (inr (inr (inr (inr (inr (inl y))))))) (λ e. subst (λ (y : ℕ). W y (base + 1)) (sym e) (into s.5 (base + 1) (inr (inr (inr (inr (inr (inr (inl (starts code true test s.5 s.6 s.21 (base + 1))))))))))) (starts_open code slots at s.4 s.5 s.20 (base + 1))) in
-        let at_u = (⊎_elim (λ y. into s.3 (base + 1) (inr (inr (inr (inr (inl y)))))) (λ e. subst (λ (y : ℕ). W y (base + 1)) (sym e) at_w) (starts_index code counts p s.3 s.4 s.19 base)) in
-        at_flows s.2 (base + 1) (next s.2 s.3 p does.Turn (base + 1) (base + 1) s.18 refl (omega arith) (at_place s.3 s.3 (base + 1) (base + 1 + 0) refl (omega arith) at_u) refl tt) k h x
-    flows g (loop p controls counts at slots test body) a b s base fit into out k h (inr (inr (inr (inr (inl x))))) =
-        let at_w = (⊎_elim (λ y. into s.4 (base + 1) (inr (inr (inr (inr (inr (inl y))))))) (λ e. subst (λ (y : ℕ). W y (base + 1)) (sym e) (into s.5 (base + 1) (inr (inr (inr (inr (inr (inr (inl (starts code true test s.5 s.6 s.21 (base + 1))))))))))) (starts_open code slots at s.4 s.5 s.20 (base + 1))) in
-        index_flows counts p s.3 s.4 s.19 base (λ k h y. into k h (inr (inr (inr (inr (inl y)))))) at_w k h x
-    flows g (loop p controls counts at slots test body) a b s base fit into out k h (inr (inr (inr (inr (inr (inl x)))))) =
-        open_flows slots at s.4 s.5 s.20 (base + 1) (into s.5 (base + 1) (inr (inr (inr (inr (inr (inr (inl (starts code true test s.5 s.6 s.21 (base + 1)))))))))) k h x
-    flows g (loop p controls counts at slots test body) a b s base fit into out k h (inr (inr (inr (inr (inr (inr (inl x))))))) =
-        flows true test s.5 s.6 s.21 (base + 1) fit.1 (λ k h y. into k h (inr (inr (inr (inr (inr (inr (inl y))))))))
-        (at_place s.6 s.6 (base + 2) (base + 1 + 1) refl (omega arith) (into s.6 (base + 2) (inr (inr (inr (inr (inr (inr (inr (inl (refl, refl))))))))))) k h x
-    flows g (loop p controls counts at slots test body) a b s base fit into out k h (inr (inr (inr (inr (inr (inr (inr (inl x)))))))) =
-        let w = (⊎_elim (λ y. into s.11 (base + 1) (inr (inr (inr (inr (inr (inr (inr (inr (inr (inr (inr (inr (inl y)))))))))))))) (λ e. subst (λ (y : ℕ). W y (base + 1)) (sym e) (into s.12 (base + 1) (inr (inr (inr (inr (inr (inr (inr (inr (inr (inr (inr (inr (inr (refl, refl)))))))))))))))) (starts_leave code p (depth counts slots) s.11 s.12 s.27 (base + 1))) in
-        at_flows s.6 (base + 2)
-        (branch s.6 s.7 p (does.Unless s.11) (base + 1) (base + 2) s.11 s.22 refl (omega arith) (at_place s.7 s.7 (base + 1) (base + 1 + 0) refl (omega arith) (into s.7 (base + 1) (inr (inr (inr (inr (inr (inr (inr (inr (inl (starts code false body s.7 s.8 s.23 (base + 1)))))))))))))
-        (at_place s.11 s.11 (base + 1) (base + 1 + 0) refl (omega arith) w) (is_place s.11 (base + 1) w) (in_loop g p controls counts at slots test body a b s).1) k h x
-    flows g (loop p controls counts at slots test body) a b s base fit into out k h (inr (inr (inr (inr (inr (inr (inr (inr (inl x))))))))) =
-        let w = (⊎_elim (λ y. into s.8 (base + 1) (inr (inr (inr (inr (inr (inr (inr (inr (inr (inl y))))))))))) (λ e. subst (λ (y : ℕ). W y (base + 1)) (sym e) (into s.9 (base + 1) (inr (inr (inr (inr (inr (inr (inr (inr (inr (inr (inl (refl, refl)))))))))))))) (starts_leave code p (depth counts slots) s.8 s.9 s.24 (base + 1))) in
-        flows false body s.7 s.8 s.23 (base + 1) fit.2 (λ k h y. into k h (inr (inr (inr (inr (inr (inr (inr (inr (inl y)))))))))) (at_place s.8 s.8 (base + 1) (base + 1 + 0) refl (omega arith) w) k h x
-    flows g (loop p controls counts at slots test body) a b s base fit into out k h (inr (inr (inr (inr (inr (inr (inr (inr (inr (inl x)))))))))) =
-        leave_flows p (depth counts slots) s.8 s.9 s.24 (base + 1) (λ k h y. into k h (inr (inr (inr (inr (inr (inr (inr (inr (inr (inl y))))))))))) (into s.9 (base + 1) (inr (inr (inr (inr (inr (inr (inr (inr (inr (inr (inl (refl, refl))))))))))))) k h x
-    flows g (loop p controls counts at slots test body) a b s base fit into out k h (inr (inr (inr (inr (inr (inr (inr (inr (inr (inr (inl x))))))))))) =
-        let w = (into s.1 (base + 1) (inr (inr (inl (refl, refl))))) in
-        at_flows s.9 (base + 1)
-        (branch s.9 s.10 p (does.Advance s.1) base (base + 1) s.1 s.25 refl refl (into s.10 (base + 1) (inr (inr (inr (inr (inr (inr (inr (inr (inr (inr (inr (inl (refl, refl)))))))))))))) w (is_place s.1 (base + 1) w)
+    flows g (cases p enquiry arms final) a b s base fit into out k h (inl x) =
+        flows true enquiry a s.0 s.4 base fit.0 (λ k h y. into k h (inl y)) (into s.0 (base + 1) (inr (inl (refl, refl)))) k h x
+    flows g (cases p enquiry arms final) a b s base fit into out k h (inr (inl x)) = at_flows s.0 (base + 1) here k h x
+      where
+        places : List ℕ
+        places = with_last s.3 s.2
+
+        last : W s.2 base
+        last = into s.2 base (inr (inr (inr (starts code g final s.2 b s.7 base))))
+
+        each : (k : ℕ) → ArmHeights code g p b arms s.3 s.1 s.2 s.6 base k base → W k base
+        each k y = into k base (inr (inr (inl y)))
+
+        behind : s.0 < s.2
+        behind = let y = forward_arms code g p b arms s.3 s.1 s.2 s.6 in let z = s.5.1 in omega arith
+
+        inside : All (λ to. nat_lt to (length code.list) ≡ true) (with_last s.3 s.2)
+        inside = arms_all g p b arms s.3 s.1 s.2 s.6 base s.2 (λ to. nat_lt to (length code.list) ≡ true) (λ k le y. is_place k base (each k y)) (is_place s.2 base last)
+
+        onward : All (λ to. nat_lt s.0 to ≡ true) (with_last s.3 s.2)
+        onward = arms_all g p b arms s.3 s.1 s.2 s.6 base s.2 (λ to. nat_lt s.0 to ≡ true) (λ k le y. let z = s.5.1 in lt-ltb s.0 k (omega arith)) (lt-ltb s.0 s.2 behind)
+
+        led : All (λ to. W to base) (with_last s.3 s.2)
+        led = arms_all g p b arms s.3 s.1 s.2 s.6 base s.2 (λ to. W to base) (λ k le y. each k y) last
+
+        here : Flows code W s.0 (base + 1)
+        here = record {
+          does = does.Case places;
+          is = does_is s.0 s.1 p (does.Case places) s.5;
+          below = base;
+          finds = refl;
+          leads = λ to i. at_place to to base (base + 0) refl (omega arith) (All-contains (λ z. W z base) places to led i);
+          made = both_true (some_last s.3 s.2) (list_all-from_AllPass (λ to. nat_lt to (length code.list)) places inside);
+          ordered = list_all-from_AllPass (λ to. nat_lt s.0 to) places onward;
+        }
+    flows g (cases p enquiry arms final) a b s base fit into out k h (inr (inr (inl x))) =
+        arms_flow g p b arms s.3 s.1 s.2 s.6 base fit.1 (λ k h y. into k h (inr (inr (inl y)))) out
+        (let y = forward_arms code g p b arms s.3 s.1 s.2 s.6 in let z = forward code g final s.2 b s.7 in omega arith) k h x
+    flows g (cases p enquiry arms final) a b s base fit into out k h (inr (inr (inr x))) =
+        flows g final s.2 b s.7 base fit.2 (λ k h y. into k h (inr (inr (inr y)))) out k h x
+    flows g (loop p controls limited counts test body) a b s base fit into out k h (inl x) =
+        let l = loop_heights g p controls limited counts test body a b s base into in
+        flows_all true controls a s.0 s.14 base fit.0 (λ k h y. into k h (inl y)) (subst (W s.0) (sym (after_true controls base ∙ ap (λ (n : ℕ). base + n) s.13)) l.at_c) k h x
+    flows g (loop p controls limited counts test body) a b s base fit into out k h (inr (inl x)) =
+        let l = loop_heights g p controls limited counts test body a b s base into in
+        limit_flows limited p s.0 s.1 s.15 base l.at_c' k h x
+    flows g (loop p controls limited counts test body) a b s base fit into out k h (inr (inr (inl x))) =
+        let l = loop_heights g p controls limited counts test body a b s base into in
+        at_flows s.1 (base + 3) (next s.1 s.2 p does.Counter base (base + 3) s.16 refl refl l.at_t refl tt) k h x
+    flows g (loop p controls limited counts test body) a b s base fit into out k h (inr (inr (inr (inl x)))) =
+        let l = loop_heights g p controls limited counts test body a b s base into in
+        at_flows s.2 (base + 1)
+        (branch s.2 s.3 p (does.Step s.11) base (base + 1) s.11 s.17 refl refl l.at_t' l.at_e (is_place s.11 (base + 1) l.at_e) (in_loop g p controls limited counts test body a b s).0) k h x
+    flows g (loop p controls limited counts test body) a b s base fit into out k h (inr (inr (inr (inr (inl x))))) =
+        let l = loop_heights g p controls limited counts test body a b s base into in
+        at_flows s.3 (base + 1) (next s.3 s.4 p does.Turn (base + 1) (base + 1) s.18 refl (omega arith) (at_place s.4 s.4 (base + 1) (base + 1 + 0) refl (omega arith) l.at_u) refl tt) k h x
+    flows g (loop p controls limited counts test body) a b s base fit into out k h (inr (inr (inr (inr (inr (inl x)))))) =
+        let l = loop_heights g p controls limited counts test body a b s base into in
+        index_flows counts p s.4 s.5 s.19 base (λ k h y. into k h (inr (inr (inr (inr (inr (inl y))))))) l.at_w k h x
+    flows g (loop p controls limited counts test body) a b s base fit into out k h (inr (inr (inr (inr (inr (inr (inl x))))))) =
+        let l = loop_heights g p controls limited counts test body a b s base into in
+        test_flows test p s.10 s.5 s.6 s.20 (base + 1) fit.1 (λ k h y. into k h (inr (inr (inr (inr (inr (inr (inl y)))))))) l.at_x l.at_f (in_loop g p controls limited counts test body a b s).1 k h x
+    flows g (loop p controls limited counts test body) a b s base fit into out k h (inr (inr (inr (inr (inr (inr (inr (inl x)))))))) =
+        let l = loop_heights g p controls limited counts test body a b s base into in
+        flows false body s.6 s.7 s.21 (base + 1) fit.2 (λ k h y. into k h (inr (inr (inr (inr (inr (inr (inr (inl y))))))))) (at_place s.7 s.7 (base + 1) (base + 1 + 0) refl (omega arith) l.at_n) k h x
+    flows g (loop p controls limited counts test body) a b s base fit into out k h (inr (inr (inr (inr (inr (inr (inr (inr (inl x))))))))) =
+        let l = loop_heights g p controls limited counts test body a b s base into in
+        leave_flows p (depth_of counts test) s.7 s.8 s.22 (base + 1) (λ k h y. into k h (inr (inr (inr (inr (inr (inr (inr (inr (inl y)))))))))) l.at_n' k h x
+    flows g (loop p controls limited counts test body) a b s base fit into out k h (inr (inr (inr (inr (inr (inr (inr (inr (inr (inl x)))))))))) =
+        let l = loop_heights g p controls limited counts test body a b s base into in
+        at_flows s.8 (base + 1)
+        (branch s.8 s.9 p (does.Advance s.2) base (base + 1) s.2 s.23 refl refl l.at_v l.at_t (is_place s.2 (base + 1) l.at_t)
         (record {
-          back = (in_loop g p controls counts at slots test body a b s).2;
-          behind = s.12;
-          step = does_is s.1 s.2 p (does.Step s.12) s.17;
-          turn = ap (does_at code.list) s.17.1 ∙ does_is s.2 s.3 p does.Turn s.18;
-          leaves_loop = (in_loop g p controls counts at slots test body a b s).3;
+          back = (in_loop g p controls limited counts test body a b s).2;
+          behind = s.11;
+          step = does_is s.2 s.3 p (does.Step s.11) s.17;
+          turn = ap (does_at code.list) s.17.1 ∙ does_is s.3 s.4 p does.Turn s.18;
+          leaves_loop = (in_loop g p controls limited counts test body a b s).3;
         })) k h x
-    flows g (loop p controls counts at slots test body) a b s base fit into out k h (inr (inr (inr (inr (inr (inr (inr (inr (inr (inr (inr (inl x)))))))))))) =
-        at_flows s.10 (base + 1) (jump s.10 s.11 p s.12 (base + 1) s.26 (in_loop g p controls counts at slots test body a b s).4 (into s.12 (base + 1) (inr (inr (inr (inr (inr (inr (inr (inr (inr (inr (inr (inr (inr (refl, refl)))))))))))))))) k h x
-    flows g (loop p controls counts at slots test body) a b s base fit into out k h (inr (inr (inr (inr (inr (inr (inr (inr (inr (inr (inr (inr (inl x))))))))))))) =
-        leave_flows p (depth counts slots) s.11 s.12 s.27 (base + 1) (λ k h y. into k h (inr (inr (inr (inr (inr (inr (inr (inr (inr (inr (inr (inr (inl y)))))))))))))) (into s.12 (base + 1) (inr (inr (inr (inr (inr (inr (inr (inr (inr (inr (inr (inr (inr (refl, refl))))))))))))))) k h x
-    flows g (loop p controls counts at slots test body) a b s base fit into out k h (inr (inr (inr (inr (inr (inr (inr (inr (inr (inr (inr (inr (inr x))))))))))))) =
-        at_flows s.12 (base + 1) (next s.12 b p does.Forget base (base + 1) s.28 refl refl (subst (λ (x : Bool). W b (base + bit x)) s.13 out) refl tt) k h x
+    flows g (loop p controls limited counts test body) a b s base fit into out k h (inr (inr (inr (inr (inr (inr (inr (inr (inr (inr (inl x))))))))))) =
+        let l = loop_heights g p controls limited counts test body a b s base into in
+        at_flows s.9 (base + 1) (jump s.9 s.10 p s.11 (base + 1) s.24 (in_loop g p controls limited counts test body a b s).4 l.at_e) k h x
+    flows g (loop p controls limited counts test body) a b s base fit into out k h (inr (inr (inr (inr (inr (inr (inr (inr (inr (inr (inr (inl x)))))))))))) =
+        let l = loop_heights g p controls limited counts test body a b s base into in
+        leave_flows p (depth_of counts test) s.10 s.11 s.25 (base + 1) (λ k h y. into k h (inr (inr (inr (inr (inr (inr (inr (inr (inr (inr (inr (inl y))))))))))))) l.at_e k h x
+    flows g (loop p controls limited counts test body) a b s base fit into out k h (inr (inr (inr (inr (inr (inr (inr (inr (inr (inr (inr (inr x)))))))))))) =
+        at_flows s.11 (base + 1) (next s.11 b p does.Forget base (base + 1) s.26 refl refl (subst (λ (y : Bool). W b (base + bit y)) s.12 out) refl tt) k h x
     flows g unbuilt a b s base fit into out k h x = absurd s
 
     pub flows_all : (g : Bool) (ts : Trees) (a b : ℕ) (s : StandAll code g ts a b) (base : ℕ) → FitAll code.modes ts → ((k h : ℕ) → AllHeights code g ts a b s base k h → W k h)
@@ -282,3 +383,29 @@ module _ (code : Code) (W : ℕ → ℕ → Type 0) (is_inside : (k h : ℕ) →
             ⊎_elim (λ y. into s.0 (base + bit g) (inr y)) (λ e. at_place b s.0 (after g ts (base + bit g)) (base + bit g) e.0 (sym e.1) out)
             (starts_all code g ts s.0 b s.2 (base + bit g))
     flows_all g (t and_tree ts) a b s base fit into out k h (inr x) = flows_all g ts s.0 b s.2 (base + bit g) fit.1 (λ k h y. into k h (inr y)) out k h x
+
+    -- parts that are chosen among
+    arms_flow : (g : Bool) (p e : ℕ) (ts : Trees) (ps : List ℕ) (a b : ℕ) (s : StandArms code g p e ts ps a b) (base : ℕ) → FitAll code.modes ts
+        → ((k h : ℕ) → ArmHeights code g p e ts ps a b s base k h → W k h) → W e (base + bit g) → b ≤ e → (k h : ℕ) → ArmHeights code g p e ts ps a b s base k h → Flows code W k h
+    arms_flow g p e no_trees [] a b s base fit into quit le k h x = absurd x
+    arms_flow g p e no_trees (q ∷ ps) a b s base fit into quit le k h x = absurd s
+    arms_flow g p e (t and_tree ts) [] a b s base fit into quit le k h x = absurd s
+    arms_flow g p e (t and_tree ts) (q ∷ ps) a b s base fit into quit le k h (inl x) =
+        flows g t a s.0 s.3 base fit.0 (λ k h y. into k h (inl y)) (into s.0 (base + bit g) (inr (inl (refl, refl)))) k h x
+    arms_flow g p e (t and_tree ts) (q ∷ ps) a b s base fit into quit le k h (inr (inl x)) =
+        at_flows s.0 (base + bit g) (jump s.0 s.1 p e (base + bit g) s.4 (let y = forward_arms code g p e ts ps s.1 b s.5 in let z = s.4.1 in omega arith) quit) k h x
+    arms_flow g p e (t and_tree ts) (q ∷ ps) a b s base fit into quit le k h (inr (inr x)) =
+        arms_flow g p e ts ps s.1 b s.5 base fit.1 (λ k h y. into k h (inr (inr y))) quit le k h x
+
+    -- the test of a loop
+    test_flows : (t : Test) (p f a b : ℕ) (s : Tests code t p f a b) (base : ℕ) → TestFitsModes code.modes t → ((k h : ℕ) → TestHeights code t p f a b s base k h → W k h)
+        → W b base → W f base → b ≤ f → (k h : ℕ) → TestHeights code t p f a b s base k h → Flows code W k h
+    test_flows no_test p f a b s base fit into out quit le k h x = absurd x
+    test_flows (while_in at slots t) p f a b s base fit into out quit le k h (inl x) =
+        open_flows slots at a s.0 s.2 base (into s.0 base (inr (inl (starts code true t s.0 s.1 s.3 base)))) k h x
+    test_flows (while_in at slots t) p f a b s base fit into out quit le k h (inr (inl x)) =
+        flows true t s.0 s.1 s.3 base fit (λ k h y. into k h (inr (inl y))) (into s.1 (base + 1) (inr (inr (refl, refl)))) k h x
+    test_flows (while_in at slots t) p f a b s base fit into out quit le k h (inr (inr x)) =
+        at_flows s.1 (base + 1)
+        (branch s.1 b p (does.Unless f) base (base + 1) f s.4 refl refl (at_place b b base (base + 0) refl (omega arith) out)
+        (at_place f f base (base + 0) refl (omega arith) quit) (is_place f base quit) (let y = s.4.1 in omega arith)) k h x

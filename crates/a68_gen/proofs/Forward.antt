@@ -1,11 +1,15 @@
 -- A stretch goes forward.
-use Rattle.std.proofs.Common.{◌≡◌, ◌≤◌, ◌+◌, ℕ, zero, suc, arith, Bool, true, false}
+use Rattle.std.proofs.Common.{◌≡◌, ◌≤◌, ◌+◌, ℕ, zero, suc, arith, Bool, true, false, List, [], ◌∷◌}
 use Rattle.a68_code.specs.declared.code.Code.{Code}
-use Rattle.a68_elab.specs.Trees.{Tree, Trees, operation, phrases, range, choice, loop, unbuilt, depth, no_trees, ◌and_tree◌}
-use Rattle.a68_gen.specs.Stretches.{Indexes, Opens, Leaves, Stands, StandAll}
+use Rattle.a68_elab.specs.Trees.{Tree, Trees, operation, phrases, range, choice, cases, loop, unbuilt, no_trees, ◌and_tree◌, Test, no_test, while_in, depth_of}
+use Rattle.a68_gen.specs.Stretches.{Limits, Indexes, Opens, Leaves, Stands, StandAll, StandArms, Tests}
 
 pub next_is : (k m : ℕ) → k + 1 ≡ m → suc k ≡ m
 next_is k m e = omega arith
+
+pub forward_limit : (code : Code) (c : Bool) (p a b : ℕ) → Limits code c p a b → a ≤ b
+forward_limit code false p a b s = omega arith
+forward_limit code true p a b s = let x = s.1 in omega arith
 
 pub forward_index : (code : Code) (c : Bool) (p a b : ℕ) → Indexes code c p a b → a ≤ b
 forward_index code false p a b s = omega arith
@@ -29,13 +33,28 @@ mutual
   forward code g (choice p enquiry if_true if_false) a b s =
       let x = forward code true enquiry a s.0 s.4 in let y = forward code g if_true s.1 s.2 s.6 in let z = forward code g if_false s.3 b s.8 in
       let v = s.5.1 in let w = s.7.1 in omega arith
-  forward code g (loop p controls counts at slots test body) a b s =
-      let x = forward_all code true controls a s.0 s.15 in let y = forward code true test s.5 s.6 s.21 in let z = forward code false body s.7 s.8 s.23 in
-      let i = forward_index code counts p s.3 s.4 s.19 in let o = forward_open code slots at s.4 s.5 s.20 in
-      let l = forward_leaves code p (depth counts slots) s.8 s.9 s.24 in let r = forward_leaves code p (depth counts slots) s.11 s.12 s.27 in
-      let p1 = s.16.1 in let p2 = s.17.1 in let p3 = s.18.1 in let p4 = s.22.1 in let p5 = s.25.1 in let p6 = s.26.1 in let p7 = s.28.1 in omega arith
+  forward code g (cases p enquiry arms out) a b s =
+      let x = forward code true enquiry a s.0 s.4 in let y = forward_arms code g p b arms s.3 s.1 s.2 s.6 in let z = forward code g out s.2 b s.7 in
+      let v = s.5.1 in omega arith
+  forward code g (loop p controls limited counts test body) a b s =
+      let x = forward_all code true controls a s.0 s.14 in let y = forward_limit code limited p s.0 s.1 s.15 in let i = forward_index code counts p s.4 s.5 s.19 in
+      let o = forward_test code test p s.10 s.5 s.6 s.20 in let z = forward code false body s.6 s.7 s.21 in
+      let l = forward_leaves code p (depth_of counts test) s.7 s.8 s.22 in let r = forward_leaves code p (depth_of counts test) s.10 s.11 s.25 in
+      let p1 = s.16.1 in let p2 = s.17.1 in let p3 = s.18.1 in let p4 = s.23.1 in let p5 = s.24.1 in let p6 = s.26.1 in omega arith
   forward code g unbuilt a b s = absurd s
 
   pub forward_all : (code : Code) (g : Bool) (ts : Trees) (a b : ℕ) → StandAll code g ts a b → a ≤ b
   forward_all code g no_trees a b s = omega arith
   forward_all code g (t and_tree ts) a b s = let x = forward code g t a s.0 s.1 in let y = forward_all code g ts s.0 b s.2 in omega arith
+
+  pub forward_arms : (code : Code) (g : Bool) (p e : ℕ) (ts : Trees) (ps : List ℕ) (a b : ℕ) → StandArms code g p e ts ps a b → a ≤ b
+  forward_arms code g p e no_trees [] a b s = omega arith
+  forward_arms code g p e no_trees (q ∷ ps) a b s = absurd s
+  forward_arms code g p e (t and_tree ts) [] a b s = absurd s
+  forward_arms code g p e (t and_tree ts) (q ∷ ps) a b s =
+      let x = forward code g t a s.0 s.3 in let y = forward_arms code g p e ts ps s.1 b s.5 in let z = s.4.1 in omega arith
+
+  pub forward_test : (code : Code) (t : Test) (p f a b : ℕ) → Tests code t p f a b → a ≤ b
+  forward_test code no_test p f a b s = omega arith
+  forward_test code (while_in at slots t) p f a b s =
+      let x = forward_open code slots at a s.0 s.2 in let y = forward code true t s.0 s.1 s.3 in let z = s.4.1 in omega arith

@@ -1,9 +1,9 @@
 -- How many values are on the stack at each place of a stretch.
-use Rattle.std.proofs.Common.{◌≡◌, ◌<◌, ◌≤◌, ◌⊎◌, ◌+◌, ℕ, zero, suc, arith, Bool, true, false, refl, sym, ap, ◌∙◌, subst, inl, inr, ⊎_elim}
+use Rattle.std.proofs.Common.{◌≡◌, ◌<◌, ◌≤◌, ◌⊎◌, ◌+◌, ℕ, zero, suc, arith, Bool, true, false, List, [], ◌∷◌, refl, sym, ap, ◌∙◌, subst, inl, inr, ⊎_elim}
 use Rattle.std.proofs.lemmas.Bool.{cases_lt}
 use Rattle.a68_code.specs.declared.code.Code.{Code}
-use Rattle.a68_elab.specs.Trees.{Tree, Trees, operation, phrases, range, choice, loop, unbuilt, depth, no_trees, ◌and_tree◌, count}
-use Rattle.a68_gen.specs.Stretches.{Indexes, Opens, Leaves, Stands, StandAll}
+use Rattle.a68_elab.specs.Trees.{Tree, Trees, operation, phrases, range, choice, cases, loop, unbuilt, no_trees, ◌and_tree◌, count, Test, no_test, while_in, depth_of}
+use Rattle.a68_gen.specs.Stretches.{Limits, Indexes, Opens, Leaves, Stands, StandAll, StandArms, Tests}
 
 abbrev pub bit : Bool → ℕ
 bit true = 1
@@ -25,6 +25,11 @@ after_false (t and_tree ts) base = let e = after_false ts (base + 0) in omega ar
 -- one place, with its height
 abbrev pub At : (m c : ℕ) → ℕ → ℕ → Type 0
 At m c k h = (k ≡ m) × (h ≡ c)
+
+-- the height at TO's own step, over the values of FROM, BY and TO on so many
+abbrev pub LimitHeights : (code : Code) (limited : Bool) (p a b : ℕ) → Limits code limited p a b → (base : ℕ) → ℕ → ℕ → Type 0
+LimitHeights code false p a b s base k h = ⊥
+LimitHeights code true p a b s base k h = At a (base + 3) k h
 
 -- the heights at the frame of FOR, over a counter on so many values
 abbrev pub IndexHeights : (code : Code) (counts : Bool) (p a b : ℕ) → Indexes code counts p a b → (base : ℕ) → ℕ → ℕ → Type 0
@@ -51,16 +56,32 @@ abbrev mutual
   HeightsOf code g (choice p enquiry if_true if_false) a b s base k h =
       HeightsOf code true enquiry a s.0 s.4 base k h
       ⊎ (At s.0 (base + 1) k h ⊎ (HeightsOf code g if_true s.1 s.2 s.6 base k h ⊎ (At s.2 (base + bit g) k h ⊎ HeightsOf code g if_false s.3 b s.8 base k h)))
-  HeightsOf code g (loop p controls counts at slots test body) a b s base k h =
-      AllHeights code true controls a s.0 s.15 base k h ⊎ (At s.0 (base + 3) k h ⊎ (At s.1 (base + 1) k h ⊎ (At s.2 (base + 1) k h
-      ⊎ (IndexHeights code counts p s.3 s.4 s.19 base k h ⊎ (OpenHeights code slots at s.4 s.5 s.20 (base + 1) k h ⊎ (HeightsOf code true test s.5 s.6 s.21 (base + 1) k h
-      ⊎ (At s.6 (base + 2) k h ⊎ (HeightsOf code false body s.7 s.8 s.23 (base + 1) k h ⊎ (LeaveHeights code p (depth counts slots) s.8 s.9 s.24 (base + 1) k h
-      ⊎ (At s.9 (base + 1) k h ⊎ (At s.10 (base + 1) k h ⊎ (LeaveHeights code p (depth counts slots) s.11 s.12 s.27 (base + 1) k h ⊎ (At s.12 (base + 1) k h)))))))))))))
+  HeightsOf code g (cases p enquiry arms out) a b s base k h =
+      HeightsOf code true enquiry a s.0 s.4 base k h
+      ⊎ (At s.0 (base + 1) k h ⊎ (ArmHeights code g p b arms s.3 s.1 s.2 s.6 base k h ⊎ HeightsOf code g out s.2 b s.7 base k h))
+  HeightsOf code g (loop p controls limited counts test body) a b s base k h =
+      AllHeights code true controls a s.0 s.14 base k h ⊎ (LimitHeights code limited p s.0 s.1 s.15 base k h ⊎ (At s.1 (base + 3) k h ⊎ (At s.2 (base + 1) k h
+      ⊎ (At s.3 (base + 1) k h ⊎ (IndexHeights code counts p s.4 s.5 s.19 base k h ⊎ (TestHeights code test p s.10 s.5 s.6 s.20 (base + 1) k h
+      ⊎ (HeightsOf code false body s.6 s.7 s.21 (base + 1) k h ⊎ (LeaveHeights code p (depth_of counts test) s.7 s.8 s.22 (base + 1) k h ⊎ (At s.8 (base + 1) k h
+      ⊎ (At s.9 (base + 1) k h ⊎ (LeaveHeights code p (depth_of counts test) s.10 s.11 s.25 (base + 1) k h ⊎ (At s.11 (base + 1) k h))))))))))))
   HeightsOf code g unbuilt a b s base k h = ⊥
 
   pub AllHeights : (code : Code) (g : Bool) (ts : Trees) (a b : ℕ) → StandAll code g ts a b → (base : ℕ) → ℕ → ℕ → Type 0
   AllHeights code g no_trees a b s base k h = ⊥
   AllHeights code g (t and_tree ts) a b s base k h = HeightsOf code g t a s.0 s.1 base k h ⊎ AllHeights code g ts s.0 b s.2 (base + bit g) k h
+
+  -- at parts that are chosen among
+  pub ArmHeights : (code : Code) (g : Bool) (p e : ℕ) (ts : Trees) (ps : List ℕ) (a b : ℕ) → StandArms code g p e ts ps a b → (base : ℕ) → ℕ → ℕ → Type 0
+  ArmHeights code g p e no_trees [] a b s base k h = ⊥
+  ArmHeights code g p e (t and_tree ts) (q ∷ ps) a b s base k h =
+      HeightsOf code g t a s.0 s.3 base k h ⊎ (At s.0 (base + bit g) k h ⊎ ArmHeights code g p e ts ps s.1 b s.5 base k h)
+  ArmHeights code g p e _ _ a b s base k h = ⊥
+
+  -- at the test of a loop, over so many values
+  pub TestHeights : (code : Code) (t : Test) (p f a b : ℕ) → Tests code t p f a b → (base : ℕ) → ℕ → ℕ → Type 0
+  TestHeights code no_test p f a b s base k h = ⊥
+  TestHeights code (while_in at slots t) p f a b s base k h =
+      OpenHeights code slots at a s.0 s.2 base k h ⊎ (HeightsOf code true t s.0 s.1 s.3 base k h ⊎ At s.1 (base + 1) k h)
 
 -- each place from a up to b has one height, and no other place has any
 pub record Piece (a b : ℕ) (P : ℕ → ℕ → Type 0) : Type 0 where
@@ -103,6 +124,10 @@ both a m b P Q p q = record {
     same_one k h h' (inl x) (inr y) = let i = (p.inside k h x).1 in let j = (q.inside k h' y).0 in absurd (omega arith)
     same_one k h h' (inr x) (inl y) = let i = (q.inside k h x).0 in let j = (p.inside k h' y).1 in absurd (omega arith)
 
+limit_piece : (code : Code) (limited : Bool) (p a b : ℕ) (s : Limits code limited p a b) (base : ℕ) → Piece a b (LimitHeights code limited p a b s base)
+limit_piece code false p a b s base = nothing a b s
+limit_piece code true p a b s base = one a b (base + 3) s.1
+
 index_piece : (code : Code) (counts : Bool) (p a b : ℕ) (s : Indexes code counts p a b) (base : ℕ) → Piece a b (IndexHeights code counts p a b s base)
 index_piece code false p a b s base = nothing a b s
 index_piece code true p a b s base = both _ _ _ _ _ (one a s.0 (base + 1) s.2.1) (both _ _ _ _ _ (one s.0 s.1 (base + 1) s.3.1) (one s.1 b (base + 2) s.4.1))
@@ -125,26 +150,40 @@ mutual
       both _ _ _ _ _ (piece code true enquiry a s.0 s.4 base)
       (both _ _ _ _ _ (one s.0 s.1 (base + 1) s.5.1)
       (both _ _ _ _ _ (piece code g if_true s.1 s.2 s.6 base) (both _ _ _ _ _ (one s.2 s.3 (base + bit g) s.7.1) (piece code g if_false s.3 b s.8 base))))
-  piece code g (loop p controls counts at slots test body) a b s base =
-      both _ _ _ _ _ (pieces code true controls a s.0 s.15 base)
-      (both _ _ _ _ _ (one s.0 s.1 (base + 3) s.16.1)
-      (both _ _ _ _ _ (one s.1 s.2 (base + 1) s.17.1)
-      (both _ _ _ _ _ (one s.2 s.3 (base + 1) s.18.1)
-      (both _ _ _ _ _ (index_piece code counts p s.3 s.4 s.19 base)
-      (both _ _ _ _ _ (open_piece code slots at s.4 s.5 s.20 (base + 1))
-      (both _ _ _ _ _ (piece code true test s.5 s.6 s.21 (base + 1))
-      (both _ _ _ _ _ (one s.6 s.7 (base + 2) s.22.1)
-      (both _ _ _ _ _ (piece code false body s.7 s.8 s.23 (base + 1))
-      (both _ _ _ _ _ (leave_piece code p (depth counts slots) s.8 s.9 s.24 (base + 1))
-      (both _ _ _ _ _ (one s.9 s.10 (base + 1) s.25.1)
-      (both _ _ _ _ _ (one s.10 s.11 (base + 1) s.26.1)
-      (both _ _ _ _ _ (leave_piece code p (depth counts slots) s.11 s.12 s.27 (base + 1))
-      (one s.12 b (base + 1) s.28.1)))))))))))))
+  piece code g (cases p enquiry arms out) a b s base =
+      both _ _ _ _ _ (piece code true enquiry a s.0 s.4 base)
+      (both _ _ _ _ _ (one s.0 s.1 (base + 1) s.5.1) (both _ _ _ _ _ (arms_piece code g p b arms s.3 s.1 s.2 s.6 base) (piece code g out s.2 b s.7 base)))
+  piece code g (loop p controls limited counts test body) a b s base =
+      both _ _ _ _ _ (pieces code true controls a s.0 s.14 base)
+      (both _ _ _ _ _ (limit_piece code limited p s.0 s.1 s.15 base)
+      (both _ _ _ _ _ (one s.1 s.2 (base + 3) s.16.1)
+      (both _ _ _ _ _ (one s.2 s.3 (base + 1) s.17.1)
+      (both _ _ _ _ _ (one s.3 s.4 (base + 1) s.18.1)
+      (both _ _ _ _ _ (index_piece code counts p s.4 s.5 s.19 base)
+      (both _ _ _ _ _ (test_piece code test p s.10 s.5 s.6 s.20 (base + 1))
+      (both _ _ _ _ _ (piece code false body s.6 s.7 s.21 (base + 1))
+      (both _ _ _ _ _ (leave_piece code p (depth_of counts test) s.7 s.8 s.22 (base + 1))
+      (both _ _ _ _ _ (one s.8 s.9 (base + 1) s.23.1)
+      (both _ _ _ _ _ (one s.9 s.10 (base + 1) s.24.1)
+      (both _ _ _ _ _ (leave_piece code p (depth_of counts test) s.10 s.11 s.25 (base + 1))
+      (one s.11 b (base + 1) s.26.1))))))))))))
   piece code g unbuilt a b s base = absurd s
 
   pieces : (code : Code) (g : Bool) (ts : Trees) (a b : ℕ) (s : StandAll code g ts a b) (base : ℕ) → Piece a b (AllHeights code g ts a b s base)
   pieces code g no_trees a b s base = nothing a b s
   pieces code g (t and_tree ts) a b s base = both _ _ _ _ _ (piece code g t a s.0 s.1 base) (pieces code g ts s.0 b s.2 (base + bit g))
+
+  arms_piece : (code : Code) (g : Bool) (p e : ℕ) (ts : Trees) (ps : List ℕ) (a b : ℕ) (s : StandArms code g p e ts ps a b) (base : ℕ) → Piece a b (ArmHeights code g p e ts ps a b s base)
+  arms_piece code g p e no_trees [] a b s base = nothing a b s
+  arms_piece code g p e no_trees (q ∷ ps) a b s base = absurd s
+  arms_piece code g p e (t and_tree ts) [] a b s base = absurd s
+  arms_piece code g p e (t and_tree ts) (q ∷ ps) a b s base =
+      both _ _ _ _ _ (piece code g t a s.0 s.3 base) (both _ _ _ _ _ (one s.0 s.1 (base + bit g) s.4.1) (arms_piece code g p e ts ps s.1 b s.5 base))
+
+  test_piece : (code : Code) (t : Test) (p f a b : ℕ) (s : Tests code t p f a b) (base : ℕ) → Piece a b (TestHeights code t p f a b s base)
+  test_piece code no_test p f a b s base = nothing a b s
+  test_piece code (while_in at slots t) p f a b s base =
+      both _ _ _ _ _ (open_piece code slots at a s.0 s.2 base) (both _ _ _ _ _ (piece code true t s.0 s.1 s.3 base) (one s.1 b (base + 1) s.4.1))
 
 mutual
   -- a stretch begins at its height
@@ -154,8 +193,9 @@ mutual
       ⊎_elim inl (λ e. inr (subst (λ (x : ℕ). HeightsOf code g final s.0 b s.2 base x base) (sym e.0) (starts code g final s.0 b s.2 base))) (starts_all code false before a s.0 s.1 base)
   starts code g (range p out n yields within) a b s base = inl (refl, refl)
   starts code g (choice p enquiry if_true if_false) a b s base = inl (starts code true enquiry a s.0 s.4 base)
-  starts code g (loop p controls counts at slots test body) a b s base =
-      ⊎_elim inl (λ e. inr (inl (e.0, e.1 ∙ after_true controls base ∙ ap (λ (n : ℕ). base + n) s.14))) (starts_all code true controls a s.0 s.15 base)
+  starts code g (cases p enquiry arms out) a b s base = inl (starts code true enquiry a s.0 s.4 base)
+  starts code g (loop p controls limited counts test body) a b s base =
+      ⊎_elim inl (λ e. absurd (omega (arith, e.1 ∙ after_true controls base ∙ ap (λ (n : ℕ). base + n) s.13))) (starts_all code true controls a s.0 s.14 base)
   starts code g unbuilt a b s base = absurd s
 
   pub starts_all : (code : Code) (g : Bool) (ts : Trees) (a b : ℕ) (s : StandAll code g ts a b) (base : ℕ) → AllHeights code g ts a b s base a base ⊎ ((a ≡ b) × (base ≡ after g ts base))
@@ -174,3 +214,13 @@ starts_open code (suc n) p a b s base = inl (refl, refl)
 pub starts_leave : (code : Code) (p n a b : ℕ) (s : Leaves code p n a b) (base : ℕ) → LeaveHeights code p n a b s base a base ⊎ (a ≡ b)
 starts_leave code p zero a b s base = inr s
 starts_leave code p (suc n) a b s base = inl (inl (refl, refl))
+
+pub starts_limit : (code : Code) (limited : Bool) (p a b : ℕ) (s : Limits code limited p a b) (base : ℕ) → LimitHeights code limited p a b s base a (base + 3) ⊎ (a ≡ b)
+starts_limit code false p a b s base = inr s
+starts_limit code true p a b s base = inl (refl, refl)
+
+pub starts_test : (code : Code) (t : Test) (p f a b : ℕ) (s : Tests code t p f a b) (base : ℕ) → TestHeights code t p f a b s base a base ⊎ (a ≡ b)
+starts_test code no_test p f a b s base = inr s
+starts_test code (while_in at slots t) p f a b s base =
+    ⊎_elim (λ y. inl (inl y)) (λ e. inl (inr (inl (subst (λ (y : ℕ). HeightsOf code true t s.0 s.1 s.3 base y base) (sym e) (starts code true t s.0 s.1 s.3 base)))))
+    (starts_open code slots at a s.0 s.2 base)

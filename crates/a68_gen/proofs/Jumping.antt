@@ -7,11 +7,11 @@ use Rattle.a68_code.specs.declared.code.Instr.{Instr}
 use Rattle.a68_code.specs.declared.does.Does.TheVariants as does
 use Rattle.a68_elab.specs.Made as made
 use Rattle.a68_elab.specs.Trees as trees
-use Rattle.a68_elab.specs.Trees.{Tree}
+use Rattle.a68_elab.specs.Trees.{Tree, while_in}
 use Rattle.a68_gen.specs.Coercing.{head_of}
 use Rattle.a68_gen.specs.Listing.{instr, stretch}
 use Rattle.a68_gen.specs.Writing.{Writes}
-use Rattle.a68_gen.proofs.Patching.{choice_writes, loop_writes, loop_list}
+use Rattle.a68_gen.proofs.Patching.{choice_writes, choice_list, loop_writes, loop_list}
 use Rattle.a68_gen.proofs.Writing.{and_behind, writes-as, had_not, is_written}
 
 -- what a writer that has stopped was to write does not matter
@@ -50,14 +50,14 @@ choice_all s0 s1 s2 s3 s4 s5 s6 s7 l0 l1 l2 l3 l4 l5 l6 l7 place u j x end e a b
     let w46 : Writes s4 s6 l5 l6 (stretch b (length l5)) = rw t5 at w6 in
     let w46' : Writes s4 s6 l5 l6 z = writes-at s4 s6 l5 l6 _ _ (λ n. ap (λ k. stretch b k) (n5 ∙ n4 n)) w46 in
     let n6 : s6 ≡ None → end ≡ xs + length z = λ n. let k = long l5 l6 z (is_written s4 s6 l5 l6 z w46' n) in omega (arith, ee, k, n5, n4 (had_not s4 s6 l5 l6 z w46' n)) in
-    rw t7 (choice_writes s0 s4 s6 l0 l4 l5 l6 l7 q t z place u j x xs end (xs + length z) w04 n1 n3 (λ n. ex ∙ n4 n) n6 e5 w46' e7)
+    rw t7 (writes-as s0 s6 l0 l7 _ _ (choice_list place at e a b) (choice_writes s0 s4 s6 l0 l4 l5 l6 l7 q t z place u j x xs end (xs + length z) w04 n1 n3 (λ n. ex ∙ n4 n) n6 e5 w46' e7))
 
 pub loop_all : (s0 s1 s2 s3 s4 s5 s6 s7 s8 s9 : Option Stop) (l0 l1 l2 l3 l4 l5 l6 l7 l8 l9 : List Instr) (place step u end : ℕ) (test body : Tree)
     → step ≡ length l0 + 4 → Writes s0 s1 l0 l1 (head_of place 0) → Writes s1 s2 l1 l2 (stretch test (length l1)) → u ≡ length l2
     → Writes s2 s3 l2 l3 (instr place (does.Unless 0) ∷ []) → Writes s3 s4 l3 l4 (stretch body (length l3)) → end ≡ length l4 + 2
     → l5 ≡ slice_set l4 step (instr place (does.Step end)) → s5 ≡ s4 → l6 ≡ slice_set l5 u (instr place (does.Unless end)) → s6 ≡ s5
     → Writes s6 s7 l6 l7 (instr place (does.Advance step) ∷ []) → Writes s7 s8 l7 l8 (instr place (does.Jump end) ∷ []) → Writes s8 s9 l8 l9 (instr place does.Forget ∷ [])
-    → Writes s0 s9 l0 l9 (stretch (trees.loop place (made.controls place) false place 0 test body) (length l0))
+    → Writes s0 s9 l0 l9 (stretch (trees.loop place (made.controls place) false false (while_in place 0 test) body) (length l0))
 loop_all s0 s1 s2 s3 s4 s5 s6 s7 s8 s9 l0 l1 l2 l3 l4 l5 l6 l7 l8 l9 place step u end test body es w1 w2 eu w3 w4 ee e5 t5 e6 t6 w7 w8 w9 =
     let at = length l0 in
     let ts = stretch test (at + 6) in

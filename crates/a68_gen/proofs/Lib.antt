@@ -7,6 +7,7 @@ pub mod Jumping
 pub mod Listed
 pub mod Patching
 pub mod Places
+pub mod Sizes
 pub mod Standing
 pub mod Validity
 pub mod Writing

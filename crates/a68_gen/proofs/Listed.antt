@@ -7,9 +7,10 @@ use Rattle.a68_code.specs.declared.code.Code.{Code}
 use Rattle.a68_code.specs.declared.code.Instr.{Instr}
 use Rattle.a68_code.specs.declared.code.RoutineEntrance.{RoutineEntrance}
 use Rattle.a68_code.specs.declared.does.Does.TheVariants as does
-use Rattle.a68_elab.specs.Trees.{Tree, Trees, operation, phrases, range, choice, loop, unbuilt, depth, no_trees, ◌and_tree◌, count, Program}
-use Rattle.a68_gen.specs.Listing.{instr, indexes, opens, leaves, stretch, stretches, listing}
-use Rattle.a68_gen.specs.Stretches.{does_of, leave, Indexes, Opens, Leaves, Stands, StandAll, Translates}
+use Rattle.a68_elab.specs.Trees.{Tree, Trees, operation, phrases, range, choice, cases, loop, unbuilt, no_trees, ◌and_tree◌, count, Test, no_test, while_in, depth_of, Program}
+use Rattle.a68_gen.specs.Listing.{instr, limits, indexes, opens, leaves, size, sizes, test_size, arm_places, stretch, stretches, arm_stretches, test_stretch, listing}
+use Rattle.a68_gen.proofs.Sizes.{size_leaves, size_stretch, size_stretches, size_arms, size_test}
+use Rattle.a68_gen.specs.Stretches.{does_of, leave, Limits, Indexes, Opens, Leaves, Stands, StandAll, StandArms, Tests, with_last, Translates}
 use Rattle.a68_gen.specs.Writing.{IsTooLong, most, places}
 use Rattle.a68_modes.specs.declared.shape.Shape.{Shape}
 
@@ -43,8 +44,8 @@ last list a b x g e = one list a b b x [] g e (none list b b refl)
 
 -- ---- the forms of trees, where the lists of their parts depend on their places
 
-both_part : (list : List Instr) (a m b : ℕ) (first : List Instr) (f : ℕ → List Instr) → Part list a first m → Part list m (f m) b → Part list a (first ++ f (a + length first)) b
-both_part list a m b first f p q = subst (λ (z : ℕ). Part list a (first ++ f z) b) p.ends (behind list a m b first (f m) p q)
+both_part : (list : List Instr) (a m b n : ℕ) (first : List Instr) (f : ℕ → List Instr) → length first ≡ n → Part list a first m → Part list m (f m) b → Part list a (first ++ f (a + n)) b
+both_part list a m b n first f e p q = subst (λ (z : ℕ). Part list a (first ++ f z) b) (p.ends ∙ ap (λ k. a + k) e) (behind list a m b first (f m) p q)
 
 range_part : (list : List Instr) (a a' b' b : ℕ) (enter left : Instr) (f : ℕ → List Instr) → slice_get list a ≡ Some enter → a + 1 ≡ a' → Part list a' (f a') b'
     → slice_get list b' ≡ Some left → b' + 1 ≡ b → Part list a (enter ∷ (f (a + 1) ++ left ∷ [])) b
@@ -52,7 +53,11 @@ range_part list a a' b' b enter left f e1 n1 p e2 n2 =
     subst (λ (z : ℕ). Part list a (enter ∷ (f z ++ left ∷ [])) b) (sym n1)
     (one list a a' b enter (f a' ++ left ∷ []) e1 n1 (behind list a' b' b (f a') (left ∷ []) p (last list b' b left e2 n2)))
 
--- the frame of FOR, a frame that is made, and frames that are left
+-- TO's own step, the frame of FOR, a frame that is made, and frames that are left
+limit_part : (code : Code) (limited : Bool) (place a b : ℕ) → Limits code limited place a b → Part code.list a (limits limited place) b
+limit_part code false place a b s = none code.list a b s
+limit_part code true place a b s = last code.list a b (instr place (does.Apply 26)) s.0 s.1
+
 index_part : (code : Code) (counts : Bool) (place a b : ℕ) → Indexes code counts place a b → Part code.list a (indexes counts place) b
 index_part code false place a b s = none code.list a b s
 index_part code true place a b s =
@@ -67,54 +72,82 @@ leave_part : (code : Code) (place n a b : ℕ) → Leaves code place n a b → P
 leave_part code place zero a b s = none code.list a b s
 leave_part code place (suc n) a b s = one code.list a s.0 b (instr place (does.Leave 0)) (leaves place n) s.1.0 s.1.1 (leave_part code place n s.0 b s.2)
 
-choice_part : (list : List Instr) (place a m m' n x b : ℕ) (first : List Instr) (f g : ℕ → List Instr) → Part list a first m → slice_get list m ≡ Some (instr place (does.Unless x)) → m + 1 ≡ m'
+-- a choice, with these places
+abbrev choice_form : (place : ℕ) (first : List Instr) (f g : ℕ → List Instr) (m x e : ℕ) → List Instr
+choice_form place first f g m x e = first ++ (instr place (does.Unless x) ∷ (f m ++ (instr place (does.Jump e) ∷ g x)))
+
+choice_part : (list : List Instr) (place a m m' n x b n1 n2 n3 : ℕ) (first : List Instr) (f g : ℕ → List Instr) → length first ≡ n1 → ((z : ℕ) → length (f z) ≡ n2) → ((z : ℕ) → length (g z) ≡ n3)
+    → Part list a first m → slice_get list m ≡ Some (instr place (does.Unless x)) → m + 1 ≡ m'
     → Part list m' (f m') n → slice_get list n ≡ Some (instr place (does.Jump b)) → n + 1 ≡ x → Part list x (g x) b
-    → Part list a (
-    let second = f (a + length first + 1) in
-    let y = a + length first + 1 + length second + 1 in
-    let third = g y in
-    first ++ (instr place (does.Unless y) ∷ (second ++ (instr place (does.Jump (y + length third)) ∷ third)))) b
-choice_part list place a m m' n x b first f g p u nu q j nj r =
-    let M = a + length first + 1 in
+    → Part list a (choice_form place first f g (a + n1 + 1) (a + n1 + 1 + n2 + 1) (a + n1 + 1 + n2 + 1 + n3)) b
+choice_part list place a m m' n x b n1 n2 n3 first f g l1 l2 l3 p u nu q j nj r =
+    let M = a + n1 + 1 in
     let e1 : m' ≡ M = (let e = p.ends in omega arith) in
-    let Y = M + length (f M) + 1 in
-    let e2 : x ≡ Y = (let e = q.ends in omega (arith, ap (λ (z : ℕ). z + length (f z)) e1)) in
-    let e3 : b ≡ Y + length (g Y) = r.ends ∙ ap (λ (z : ℕ). z + length (g z)) e2 in
+    let X = M + n2 + 1 in
+    let e2 : x ≡ X = (let e = q.ends in omega (arith, l2 m')) in
+    let e3 : b ≡ X + n3 = (let e = r.ends in omega (arith, l3 x)) in
     let unless = instr place (does.Unless x) in
     let jump = instr place (does.Jump b) in
     let w = behind list a m b first (unless ∷ (f m' ++ (jump ∷ g x))) p (one list m m' b unless (f m' ++ (jump ∷ g x)) u nu (behind list m' n b (f m') (jump ∷ g x) q (one list n x b jump (g x) j nj r))) in
-    let w1 = subst (λ (z : ℕ). Part list a (first ++ (unless ∷ (f z ++ (jump ∷ g x)))) b) e1 w in
-    let w2 = subst (λ (z : ℕ). Part list a (first ++ (instr place (does.Unless z) ∷ (f M ++ (jump ∷ g z)))) b) e2 w1 in
-    subst (λ (z : ℕ). Part list a (first ++ (instr place (does.Unless Y) ∷ (f M ++ (instr place (does.Jump z) ∷ g Y)))) b) e3 w2
+    let w1 = subst (λ (z : ℕ). Part list a (choice_form place first f g z x b) b) e1 w in
+    let w2 = subst (λ (z : ℕ). Part list a (choice_form place first f g M z b) b) e2 w1 in
+    subst (λ (z : ℕ). Part list a (choice_form place first f g M X z) b) e3 w2
 
-loop_part : (list : List Instr) (place a c t t' u x m m' n n' v q e b : ℕ) (first frames out : List Instr) (f g : ℕ → List Instr) → Part list a first c
-    → slice_get list c ≡ Some (instr place does.Counter) → c + 1 ≡ t → slice_get list t ≡ Some (instr place (does.Step e)) → t + 1 ≡ t'
-    → slice_get list t' ≡ Some (instr place does.Turn) → t' + 1 ≡ u → Part list u frames x → Part list x (f x) m → slice_get list m ≡ Some (instr place (does.Unless q)) → m + 1 ≡ m'
-    → Part list m' (g m') n → Part list n out n' → slice_get list n' ≡ Some (instr place (does.Advance t)) → n' + 1 ≡ v → slice_get list v ≡ Some (instr place (does.Jump e)) → v + 1 ≡ q
+-- a choice among several parts, with these places
+abbrev cases_form : (place : ℕ) (first : List Instr) (f : ℕ → ℕ → List Instr) (g : ℕ → List Instr) (ps : List ℕ) (m x e : ℕ) → List Instr
+cases_form place first f g ps m x e = first ++ (instr place (does.Case (with_last ps x)) ∷ (f e m ++ g x))
+
+cases_part : (list : List Instr) (place a m m' x b n1 n2 n3 n4 : ℕ) (ps : List ℕ) (all : ℕ → List ℕ) (first : List Instr) (f : ℕ → ℕ → List Instr) (g : ℕ → List Instr) → length first ≡ n1
+    → ((y z : ℕ) → length (f y z) ≡ n2 + n3) → ((z : ℕ) → length (g z) ≡ n4) → ps ≡ all m' → Part list a first m → slice_get list m ≡ Some (instr place (does.Case (with_last ps x))) → m + 1 ≡ m'
+    → Part list m' (f b m') x → Part list x (g x) b
+    → Part list a (
+    let M = a + n1 + 1 in
+    let X = M + n2 + n3 in
+    cases_form place first f g (all M) M X (X + n4)) b
+cases_part list place a m m' x b n1 n2 n3 n4 ps all first f g l1 l2 l3 same p i n q r =
+    let M = a + n1 + 1 in
+    let e1 : m' ≡ M = (let e = p.ends in omega arith) in
+    let X = M + n2 + n3 in
+    let e2 : x ≡ X = (let e = q.ends in omega (arith, l2 b m')) in
+    let e3 : b ≡ X + n4 = (let e = r.ends in omega (arith, l3 x)) in
+    let case = instr place (does.Case (with_last ps x)) in
+    let w = behind list a m b first (case ∷ (f b m' ++ g x)) p (one list m m' b case (f b m' ++ g x) i n (behind list m' x b (f b m') (g x) q r)) in
+    let w0 = subst (λ (z : List ℕ). Part list a (cases_form place first f g z m' x b) b) same w in
+    let w1 = subst (λ (z : ℕ). Part list a (cases_form place first f g (all z) z x b) b) e1 w0 in
+    let w2 = subst (λ (z : ℕ). Part list a (cases_form place first f g (all M) M z b) b) e2 w1 in
+    subst (λ (z : ℕ). Part list a (cases_form place first f g (all M) M X z) b) e3 w2
+
+-- a loop, with these places
+abbrev loop_form : (place : ℕ) (first lim idx out : List Instr) (f : ℕ → ℕ → List Instr) (g : ℕ → List Instr) (t w x q e : ℕ) → List Instr
+loop_form place first lim idx out f g t w x q e =
+    first ++ (lim ++ (instr place does.Counter ∷ instr place (does.Step e) ∷ instr place does.Turn ∷ (idx
+    ++ (f q w ++ (g x ++ (out ++ instr place (does.Advance t) ∷ instr place (does.Jump e) ∷ (out ++ instr place does.Forget ∷ [])))))))
+
+loop_part : (list : List Instr) (place a c c' t t' u w x n n' v q e b nc nt nb k : ℕ) (first lim idx out : List Instr) (f : ℕ → ℕ → List Instr) (g : ℕ → List Instr)
+    → length first ≡ nc → ((y z : ℕ) → length (f y z) ≡ nt) → ((z : ℕ) → length (g z) ≡ nb) → length out ≡ k
+    → Part list a first c → Part list c lim c' → slice_get list c' ≡ Some (instr place does.Counter) → c' + 1 ≡ t → slice_get list t ≡ Some (instr place (does.Step e)) → t + 1 ≡ t'
+    → slice_get list t' ≡ Some (instr place does.Turn) → t' + 1 ≡ u → Part list u idx w → Part list w (f q w) x
+    → Part list x (g x) n → Part list n out n' → slice_get list n' ≡ Some (instr place (does.Advance t)) → n' + 1 ≡ v → slice_get list v ≡ Some (instr place (does.Jump e)) → v + 1 ≡ q
     → Part list q out e → slice_get list e ≡ Some (instr place does.Forget) → e + 1 ≡ b
     → Part list a (
-    let s = a + length first + 1 in
-    let second = f (s + 2 + length frames) in
-    let third = g (s + 2 + length frames + length second + 1) in
-    let y = s + 2 + length frames + length second + 1 + length third + length out + 2 in
-    let z = y + length out in
-    first ++ (instr place does.Counter ∷ instr place (does.Step z) ∷ instr place does.Turn ∷ (frames ++ (second
-    ++ (instr place (does.Unless y) ∷ (third ++ (out ++ instr place (does.Advance s) ∷ instr place (does.Jump z) ∷ (out ++ instr place does.Forget ∷ [])))))))) b
-loop_part list place a c t t' u x m m' n n' v q e b first frames out f g p i1 n1 i2 n2 i3 n3 pf pt i4 n4 pb po i5 n5 i6 n6 pq i7 n7 =
-    let S = a + length first + 1 in
-    let e1 : t ≡ S = (let y = p.ends in omega arith) in
-    let X = S + 2 + length frames in
-    let e2 : x ≡ X = (let y = pf.ends in omega arith) in
-    let M = X + length (f X) + 1 in
-    let e3 : m' ≡ M = (let y = pt.ends in omega (arith, ap (λ (z : ℕ). z + length (f z)) e2)) in
-    let Y = M + length (g M) + length out + 2 in
-    let e4 : q ≡ Y = (let y = pb.ends in let z = po.ends in omega (arith, ap (λ (z : ℕ). z + length (g z)) e3)) in
-    let Z = Y + length out in
-    let e5 : e ≡ Z = (let y = pq.ends in omega arith) in
+    let s = a + nc + length lim + 1 in
+    let y = s + 2 + length idx in
+    let z = y + nt in
+    let r = z + nb + k + 2 in
+    loop_form place first lim idx out f g s y z r (r + k)) b
+loop_part list place a c c' t t' u w x n n' v q e b nc nt nb k first lim idx out f g l1 l2 l3 l4 p pl i1 n1 i2 n2 i3 n3 pi pt pb po i5 n5 i6 n6 pq i7 n7 =
+    let S = a + nc + length lim + 1 in
+    let e1 : t ≡ S = (let y = p.ends in let z = pl.ends in omega arith) in
+    let Y = S + 2 + length idx in
+    let e2 : w ≡ Y = (let y = pi.ends in omega arith) in
+    let Z = Y + nt in
+    let e3 : x ≡ Z = (let y = pt.ends in omega (arith, l2 q w)) in
+    let R = Z + nb + k + 2 in
+    let e4 : q ≡ R = (let y = pb.ends in let z = po.ends in omega (arith, l3 x)) in
+    let e5 : e ≡ R + k = (let y = pq.ends in omega arith) in
     let counter = instr place does.Counter in
     let step = instr place (does.Step e) in
     let turn = instr place does.Turn in
-    let unless = instr place (does.Unless q) in
     let advance = instr place (does.Advance t) in
     let jump = instr place (does.Jump e) in
     let forget = instr place does.Forget in
@@ -122,17 +155,20 @@ loop_part list place a c t t' u x m m' n n' v q e b first frames out f g p i1 n1
     let w5 = behind list q e b out (forget ∷ []) pq (last list e b forget i7 n7) in
     let r4 = out ++ advance ∷ jump ∷ r5 in
     let w4 = behind list n n' b out (advance ∷ jump ∷ r5) po (one list n' v b advance (jump ∷ r5) i5 n5 (one list v q b jump r5 i6 n6 w5)) in
-    let r3 = g m' ++ r4 in
-    let w3 = one list m m' b unless r3 i4 n4 (behind list m' n b (g m') r4 pb w4) in
-    let r2 = f x ++ (unless ∷ r3) in
-    let w2 = behind list u x b frames r2 pf (behind list x m b (f x) (unless ∷ r3) pt w3) in
-    let r1 = frames ++ r2 in
-    let w1 = behind list a c b first (counter ∷ step ∷ turn ∷ r1) p (one list c t b counter (step ∷ turn ∷ r1) i1 n1 (one list t t' b step (turn ∷ r1) i2 n2 (one list t' u b turn r1 i3 n3 w2))) in
-    let v1 = subst (λ (z : ℕ). Part list a (first ++ (counter ∷ step ∷ turn ∷ (frames ++ (f x ++ (unless ∷ (g m' ++ (out ++ instr place (does.Advance z) ∷ jump ∷ (out ++ forget ∷ [])))))))) b) e1 w1 in
-    let v2 = subst (λ (z : ℕ). Part list a (first ++ (counter ∷ step ∷ turn ∷ (frames ++ (f z ++ (unless ∷ (g m' ++ (out ++ instr place (does.Advance S) ∷ jump ∷ (out ++ forget ∷ [])))))))) b) e2 v1 in
-    let v3 = subst (λ (z : ℕ). Part list a (first ++ (counter ∷ step ∷ turn ∷ (frames ++ (f X ++ (unless ∷ (g z ++ (out ++ instr place (does.Advance S) ∷ jump ∷ (out ++ forget ∷ [])))))))) b) e3 v2 in
-    let v4 = subst (λ (z : ℕ). Part list a (first ++ (counter ∷ step ∷ turn ∷ (frames ++ (f X ++ (instr place (does.Unless z) ∷ (g M ++ (out ++ instr place (does.Advance S) ∷ jump ∷ (out ++ forget ∷ [])))))))) b) e4 v3 in
-    subst (λ (z : ℕ). Part list a (first ++ (counter ∷ instr place (does.Step z) ∷ turn ∷ (frames ++ (f X ++ (instr place (does.Unless Y) ∷ (g M ++ (out ++ instr place (does.Advance S) ∷ instr place (does.Jump z) ∷ (out ++ forget ∷ [])))))))) b) e5 v4
+    let r3 = g x ++ r4 in
+    let w3 = behind list x n b (g x) r4 pb w4 in
+    let r2 = f q w ++ r3 in
+    let w2 = behind list w x b (f q w) r3 pt w3 in
+    let r1 = idx ++ r2 in
+    let w1 = behind list u w b idx r2 pi w2 in
+    let head = counter ∷ step ∷ turn ∷ r1 in
+    let w0 = behind list c c' b lim head pl (one list c' t b counter (step ∷ turn ∷ r1) i1 n1 (one list t t' b step (turn ∷ r1) i2 n2 (one list t' u b turn r1 i3 n3 w1))) in
+    let all = behind list a c b first (lim ++ head) p w0 in
+    let v1 = subst (λ (z : ℕ). Part list a (loop_form place first lim idx out f g z w x q e) b) e1 all in
+    let v2 = subst (λ (z : ℕ). Part list a (loop_form place first lim idx out f g S z x q e) b) e2 v1 in
+    let v3 = subst (λ (z : ℕ). Part list a (loop_form place first lim idx out f g S Y z q e) b) e3 v2 in
+    let v4 = subst (λ (z : ℕ). Part list a (loop_form place first lim idx out f g S Y Z z e) b) e4 v3 in
+    subst (λ (z : ℕ). Part list a (loop_form place first lim idx out f g S Y Z R z) b) e5 v4
 
 -- ---- trees
 
@@ -142,25 +178,61 @@ mutual
       let i = instr place (does_of op (count parts)) in
       behind code.list a s.0 b (stretches parts a) (i ∷ []) (all_part code true parts a s.0 s.3) (last code.list s.0 b i s.4.0 s.4.1)
   part code gives (phrases place before final) a b s =
-      both_part code.list a s.0 b (stretches before a) (λ z. stretch final z) (all_part code false before a s.0 s.1) (part code gives final s.0 b s.2)
+      both_part code.list a s.0 b (sizes before) (stretches before a) (λ z. stretch final z) (size_stretches before a) (all_part code false before a s.0 s.1) (part code gives final s.0 b s.2)
   part code gives (range place out slots yields within) a b s =
       range_part code.list a s.0 s.1 b (instr place (does.Enter slots)) (instr out (leave yields)) (λ z. stretch within z) s.3.0 s.3.1 (part code gives within s.0 s.1 s.4)
       (s.5.0 ∙ ap (λ (x : Bool). Some (instr out (leave x))) s.2) s.5.1
   part code gives (choice place enquiry if_true if_false) a b s =
-      choice_part code.list place a s.0 s.1 s.2 s.3 b (stretch enquiry a) (λ z. stretch if_true z) (λ z. stretch if_false z) (part code true enquiry a s.0 s.4) s.5.0 s.5.1
+      choice_part code.list place a s.0 s.1 s.2 s.3 b (size enquiry) (size if_true) (size if_false) (stretch enquiry a) (λ z. stretch if_true z) (λ z. stretch if_false z)
+      (size_stretch enquiry a) (λ z. size_stretch if_true z) (λ z. size_stretch if_false z) (part code true enquiry a s.0 s.4) s.5.0 s.5.1
       (part code gives if_true s.1 s.2 s.6) s.7.0 s.7.1 (part code gives if_false s.3 b s.8)
-  part code gives (loop place controls counts begin slots test body) a b s =
-      loop_part code.list place a s.0 s.1 s.2 s.3 s.5 s.6 s.7 s.8 s.9 s.10 s.11 s.12 b (stretches controls a) (indexes counts place ++ opens slots begin) (leaves place (depth counts slots))
-      (λ z. stretch test z) (λ z. stretch body z) (all_part code true controls a s.0 s.15) s.16.0 s.16.1 s.17.0 s.17.1 s.18.0 s.18.1
-      (behind code.list s.3 s.4 s.5 (indexes counts place) (opens slots begin) (index_part code counts place s.3 s.4 s.19) (open_part code slots begin s.4 s.5 s.20))
-      (part code true test s.5 s.6 s.21) s.22.0 s.22.1 (part code false body s.7 s.8 s.23) (leave_part code place (depth counts slots) s.8 s.9 s.24) s.25.0 s.25.1 s.26.0 s.26.1
-      (leave_part code place (depth counts slots) s.11 s.12 s.27) s.28.0 s.28.1
+  part code gives (cases place enquiry arms out) a b s =
+      cases_part code.list place a s.0 s.1 s.2 b (size enquiry) (sizes arms) (count arms) (size out) s.3 (arm_places arms) (stretch enquiry a) (λ y z. arm_stretches place y arms z) (λ z. stretch out z)
+      (size_stretch enquiry a) (λ y z. size_arms place y arms z) (λ z. size_stretch out z) (arms_places code gives place b arms s.3 s.1 s.2 s.6)
+      (part code true enquiry a s.0 s.4) s.5.0 s.5.1 (arms_part code gives place b arms s.3 s.1 s.2 s.6) (part code gives out s.2 b s.7)
+  part code gives (loop place controls limited counts test body) a b s =
+      let k = depth_of counts test in
+      loop_part code.list place a s.0 s.1 s.2 s.3 s.4 s.5 s.6 s.7 s.8 s.9 s.10 s.11 b (sizes controls) (test_size test) (size body) k
+      (stretches controls a) (limits limited place) (indexes counts place) (leaves place k) (λ y z. test_stretch place y test z) (λ z. stretch body z)
+      (size_stretches controls a) (λ y z. size_test place y test z) (λ z. size_stretch body z) (size_leaves place k)
+      (all_part code true controls a s.0 s.14) (limit_part code limited place s.0 s.1 s.15) s.16.0 s.16.1 s.17.0 s.17.1 s.18.0 s.18.1 (index_part code counts place s.4 s.5 s.19)
+      (test_part code test place s.10 s.5 s.6 s.20) (part code false body s.6 s.7 s.21) (leave_part code place k s.7 s.8 s.22) s.23.0 s.23.1 s.24.0 s.24.1
+      (leave_part code place k s.10 s.11 s.25) s.26.0 s.26.1
   part code gives unbuilt a b s = absurd s
 
   all_part : (code : Code) (gives : Bool) (trees : Trees) (a b : ℕ) → StandAll code gives trees a b → Part code.list a (stretches trees a) b
   all_part code gives no_trees a b s = none code.list a b s
   all_part code gives (tree and_tree trees) a b s =
-      both_part code.list a s.0 b (stretch tree a) (λ z. stretches trees z) (part code gives tree a s.0 s.1) (all_part code gives trees s.0 b s.2)
+      both_part code.list a s.0 b (size tree) (stretch tree a) (λ z. stretches trees z) (size_stretch tree a) (part code gives tree a s.0 s.1) (all_part code gives trees s.0 b s.2)
+
+  arms_part : (code : Code) (gives : Bool) (place e : ℕ) (trees : Trees) (ps : List ℕ) (a b : ℕ) → StandArms code gives place e trees ps a b → Part code.list a (arm_stretches place e trees a) b
+  arms_part code gives place e no_trees [] a b s = none code.list a b s
+  arms_part code gives place e no_trees (p ∷ ps) a b s = absurd s
+  arms_part code gives place e (tree and_tree trees) [] a b s = absurd s
+  arms_part code gives place e (tree and_tree trees) (p ∷ ps) a b s =
+      let jump = instr place (does.Jump e) in
+      let rest : Part code.list s.1 (arm_stretches place e trees (s.0 + 1)) b =
+      subst (λ (z : ℕ). Part code.list s.1 (arm_stretches place e trees z) b) (sym s.4.1) (arms_part code gives place e trees ps s.1 b s.5) in
+      both_part code.list a s.0 b (size tree) (stretch tree a) (λ z. jump ∷ arm_stretches place e trees (z + 1)) (size_stretch tree a) (part code gives tree a s.0 s.3)
+      (one code.list s.0 s.1 b jump (arm_stretches place e trees (s.0 + 1)) s.4.0 s.4.1 rest)
+
+  arms_places : (code : Code) (gives : Bool) (place e : ℕ) (trees : Trees) (ps : List ℕ) (a b : ℕ) → StandArms code gives place e trees ps a b → ps ≡ arm_places trees a
+  arms_places code gives place e no_trees [] a b s = refl
+  arms_places code gives place e no_trees (p ∷ ps) a b s = absurd s
+  arms_places code gives place e (tree and_tree trees) [] a b s = absurd s
+  arms_places code gives place e (tree and_tree trees) (p ∷ ps) a b s =
+      let ends = (part code gives tree a s.0 s.3).ends in
+      let long = size_stretch tree a in
+      let next = s.4.1 in
+      let same : s.1 ≡ a + size tree + 1 = omega arith in
+      ap (λ (x : ℕ). x ∷ ps) s.2 ∙ ap (λ (l : List ℕ). a ∷ l) (arms_places code gives place e trees ps s.1 b s.5) ∙ ap (λ (z : ℕ). a ∷ arm_places trees z) same
+
+  test_part : (code : Code) (test : Test) (place f a b : ℕ) → Tests code test place f a b → Part code.list a (test_stretch place f test a) b
+  test_part code no_test place f a b s = none code.list a b s
+  test_part code (while_in begin slots test) place f a b s =
+      let unless = instr place (does.Unless f) in
+      both_part code.list a s.0 b (length (opens slots begin)) (opens slots begin) (λ z. stretch test z ++ unless ∷ []) refl (open_part code slots begin a s.0 s.2)
+      (behind code.list s.0 s.1 b (stretch test s.0) (unless ∷ []) (part code true test s.0 s.1 s.3) (last code.list s.1 b unless s.4.0 s.4.1))
 
 -- the code of a program is its listing
 pub listed : (program : Program) (code : Code) → Translates program code → code.list ≡ listing program

@@ -6,9 +6,10 @@ use Rattle.a68_code.specs.declared.code.Instr.{Instr}
 use Rattle.a68_code.specs.declared.does.Does.TheVariants as does
 use Rattle.a68_elab.specs.Made as made
 use Rattle.a68_elab.specs.Trees as trees
-use Rattle.a68_elab.specs.Trees.{Tree, Trees, no_trees, ◌and_tree◌}
+use Rattle.a68_elab.specs.Trees.{Tree, Trees, while_in, no_trees, ◌and_tree◌}
 use Rattle.a68_gen.specs.Coercing.{head_of}
-use Rattle.a68_gen.specs.Listing.{instr, stretch}
+use Rattle.a68_gen.specs.Listing.{instr, size, stretch}
+use Rattle.a68_gen.proofs.Sizes.{size_stretch}
 use Rattle.a68_gen.specs.Writing.{places, Stops, Writes}
 use Rattle.a68_values.specs.Content.{plain}
 use Rattle.a68_values.specs.declared.plain.Plain.TheVariants as value
@@ -79,6 +80,12 @@ choice_writes None None (Some s) l0 l4 l5 l6 l7 q t z place u j x xs end ends w 
     let five = set_unless l0 q t l4 l5 place u x w (eu refl) e5 in
     let v' : Stops s ((l0 ++ (q ++ instr place (does.Unless x) ∷ (t ++ instr place (does.Jump 0) ∷ []))) ++ z) = rw (five, append_assoc l0 q (instr place (does.Unless x) ∷ (t ++ instr place (does.Jump 0) ∷ []))) at v in
     stops-places s _ _ [] v' (append-nil _ ∙ places-append _ z ∙ places_on l0 q t z place x 0 ∙ sym (choice_places l0 q t z place xs ends))
+
+-- the instructions of a choice, by how many there are of each part
+pub choice_list : (place at : ℕ) (e a b : Tree)
+    → let q = stretch e at in let m = at + length q + 1 in let t = stretch a m in let x = m + length t + 1 in let z = stretch b x in
+    q ++ (instr place (does.Unless x) ∷ (t ++ (instr place (does.Jump (x + length z)) ∷ z))) ≡ stretch (trees.choice place e a b) at
+choice_list place at e a b = rw (size_stretch e at, size_stretch a (at + size e + 1), size_stretch b (at + size e + 1 + size a + 1)) refl
 
 -- ---- loops
 
@@ -161,11 +168,17 @@ loop_writes None None (Some s) l0 l4 l5 l6 l9 ts bs place step unless end ends t
 pub loop_list : (place at : ℕ) (test body : Tree)
     → let ts = stretch test (at + 6) in let bs = stretch body (at + 6 + length ts + 1) in let e = at + 6 + length ts + 1 + length bs + 2 in
     head_of place e ++ (ts ++ instr place (does.Unless e) ∷ (bs ++ instr place (does.Advance (at + 4)) ∷ instr place (does.Jump e) ∷ instr place does.Forget ∷ []))
-    ≡ stretch (trees.loop place (made.controls place) false place 0 test body) at
+    ≡ stretch (trees.loop place (made.controls place) false false (while_in place 0 test) body) at
 loop_list place at test body =
-    let four : at + 3 + 1 ≡ at + 4 = omega arith in
-    let six : at + 4 + 2 + 0 ≡ at + 6 = omega arith in
-    let n = at + 6 + length (stretch test (at + 6)) + 1 + length (stretch body (at + 6 + length (stretch test (at + 6)) + 1)) in
-    let last : n + 0 ≡ n = omega arith in
-    let end : n + 2 + 0 ≡ n + 2 = omega arith in
-    rw (four, six, last, end) refl
+    let m = at + 6 + size test + 1 in
+    let e = m + size body + 2 in
+    let u = instr place (does.Unless e) in
+    let rest = stretch body m ++ instr place (does.Advance (at + 4)) ∷ instr place (does.Jump e) ∷ instr place does.Forget ∷ [] in
+    let step : at + 3 + 0 + 1 ≡ at + 4 = omega arith in
+    let begins : at + 4 + 2 + 0 ≡ at + 6 = omega arith in
+    let asks : at + 6 + 0 ≡ at + 6 = omega arith in
+    let behind_test : at + 6 + (0 + size test + 1) ≡ m = omega arith in
+    let quits : m + size body + 0 + 2 ≡ e = omega arith in
+    let ends : e + 0 ≡ e = omega arith in
+    rw (size_stretch test (at + 6), size_stretch body m, step, begins, asks, behind_test, quits, ends)
+    (ap (λ (l : List Instr). head_of place e ++ l) (sym (append_assoc (stretch test (at + 6)) (u ∷ []) rest)))

@@ -4,10 +4,10 @@ use Rattle.std.proofs.lemmas.Option.{same_Some}
 use Rattle.a68_base.specs.declared.refusal.Refusal.{Refusal}
 use Rattle.a68_code.specs.declared.code.Instr.{Instr}
 use Rattle.a68_code.specs.declared.does.Does.TheVariants as does
-use Rattle.a68_elab.specs.Places.{BeginsBy, AllBeginBy, ProgramBeginsBy}
-use Rattle.a68_elab.specs.Trees.{Tree, Trees, operation, phrases, range, choice, loop, unbuilt, depth, no_trees, ◌and_tree◌, count, Program}
-use Rattle.a68_gen.specs.Listing.{instr, indexes, opens, leaves, stretch, stretches, listing}
-use Rattle.a68_gen.specs.Stretches.{does_of, leave}
+use Rattle.a68_elab.specs.Places.{BeginsBy, AllBeginBy, TestBeginsBy, ProgramBeginsBy}
+use Rattle.a68_elab.specs.Trees.{Tree, Trees, operation, phrases, range, choice, cases, loop, unbuilt, no_trees, ◌and_tree◌, count, Test, no_test, while_in, depth_of, Program}
+use Rattle.a68_gen.specs.Listing.{instr, limits, indexes, opens, leaves, size, sizes, test_size, arm_places, stretch, stretches, arm_stretches, test_stretch, listing}
+use Rattle.a68_gen.specs.Stretches.{does_of, leave, with_last}
 use Rattle.a68_gen.specs.Writing.{IsTooLong, most, places}
 
 -- the construct of each instruction begins at this byte or before it
@@ -25,6 +25,10 @@ module _ (end : ℕ) where
   lie-get (x ∷ list) zero p l e = subst (λ (z : ℕ). z ≤ end) (same_Some x.place p e) l.0
   lie-get (x ∷ list) (suc k) p l e = lie-get list k p l.1 e
 
+  limit_lies : (limited : Bool) (place : ℕ) → place ≤ end → LieBy end (limits limited place)
+  limit_lies false place p = tt
+  limit_lies true place p = (p, tt)
+
   index_lies : (counts : Bool) (place : ℕ) → place ≤ end → LieBy end (indexes counts place)
   index_lies false place p = tt
   index_lies true place p = (p, (p, (p, tt)))
@@ -41,44 +45,62 @@ module _ (end : ℕ) where
     lies : (tree : Tree) (at : ℕ) → BeginsBy end tree → LieBy end (stretch tree at)
     lies (operation place op order parts) at b = lie-append (stretches parts at) (instr place (does_of op (count parts)) ∷ []) (all_lie parts at b.1) (b.0, tt)
     lies (phrases place before final) at b =
-        let m = at + length (stretches before at) in lie-append (stretches before at) (stretch final m) (all_lie before at b.1) (lies final m b.2)
+        let m = at + sizes before in lie-append (stretches before at) (stretch final m) (all_lie before at b.1) (lies final m b.2)
     lies (range place out slots yields within) at b =
         (b.0, lie-append (stretch within (at + 1)) (instr out (leave yields) ∷ []) (lies within (at + 1) b.2) (b.1, tt))
     lies (choice place enquiry if_true if_false) at b =
-        let first = stretch enquiry at in
-        let m = at + length first + 1 in
-        let second = stretch if_true m in
-        let x = m + length second + 1 in
+        let m = at + size enquiry + 1 in
+        let x = m + size if_true + 1 in
         let third = stretch if_false x in
-        let jump = instr place (does.Jump (x + length third)) in
-        lie-append first (instr place (does.Unless x) ∷ (second ++ (jump ∷ third))) (lies enquiry at b.1)
-        (b.0, lie-append second (jump ∷ third) (lies if_true m b.2) (b.0, lies if_false x b.3))
-    lies (loop place controls counts begin slots test body) at b =
-        let first = stretches controls at in
-        let t = at + length first + 1 in
-        let frames = indexes counts place ++ opens slots begin in
-        let out = leaves place (depth counts slots) in
-        let out_lies = leave_lies place (depth counts slots) b.0 in
-        let x = t + 2 + length frames in
-        let second = stretch test x in
-        let n = x + length second + 1 in
-        let third = stretch body n in
-        let q = n + length third + length out + 2 in
-        let e = q + length out in
+        let jump = instr place (does.Jump (x + size if_false)) in
+        lie-append (stretch enquiry at) (instr place (does.Unless x) ∷ (stretch if_true m ++ (jump ∷ third))) (lies enquiry at b.1)
+        (b.0, lie-append (stretch if_true m) (jump ∷ third) (lies if_true m b.2) (b.0, lies if_false x b.3))
+    lies (cases place enquiry arms out) at b =
+        let m = at + size enquiry + 1 in
+        let x = m + sizes arms + count arms in
+        let each = arm_stretches place (x + size out) arms m in
+        lie-append (stretch enquiry at) (instr place (does.Case (with_last (arm_places arms m) x)) ∷ (each ++ stretch out x)) (lies enquiry at b.1)
+        (b.0, lie-append each (stretch out x) (arms_lie place (x + size out) arms m b.0 b.2) (lies out x b.3))
+    lies (loop place controls limited counts test body) at b =
+        let n = depth_of counts test in
+        let out = leaves place n in
+        let lim = limits limited place in
+        let idx = indexes counts place in
+        let t = at + sizes controls + length lim + 1 in
+        let w = t + 2 + length idx in
+        let x = w + test_size test in
+        let f = x + size body + n + 2 in
+        let e = f + n in
+        let out_lies = leave_lies place n b.0 in
         let last = instr place does.Forget ∷ [] in
         let tail = instr place (does.Advance t) ∷ instr place (does.Jump e) ∷ (out ++ last) in
         let tail_lies : LieBy end tail = (b.0, (b.0, lie-append out last out_lies (b.0, tt))) in
-        let behind = instr place (does.Unless q) ∷ (third ++ (out ++ tail)) in
-        let behind_lies : LieBy end behind = (b.0, lie-append third (out ++ tail) (lies body n b.4) (lie-append out tail out_lies tail_lies)) in
-        let frames_lie : LieBy end frames = lie-append (indexes counts place) (opens slots begin) (index_lies counts place b.0) (open_lies slots begin b.1) in
-        lie-append first (instr place does.Counter ∷ instr place (does.Step e) ∷ instr place does.Turn ∷ (frames ++ (second ++ behind))) (all_lie controls at b.2)
-        (b.0, (b.0, (b.0, lie-append frames (second ++ behind) frames_lie (lie-append second behind (lies test x b.3) behind_lies))))
+        let r3 = stretch body x ++ (out ++ tail) in
+        let r3_lies : LieBy end r3 = lie-append (stretch body x) (out ++ tail) (lies body x b.3) (lie-append out tail out_lies tail_lies) in
+        let r2 = test_stretch place f test w ++ r3 in
+        let r2_lies : LieBy end r2 = lie-append (test_stretch place f test w) r3 (test_lies place f test w b.0 b.2) r3_lies in
+        let head = instr place does.Counter ∷ instr place (does.Step e) ∷ instr place does.Turn ∷ (idx ++ r2) in
+        let head_lies : LieBy end head = (b.0, (b.0, (b.0, lie-append idx r2 (index_lies counts place b.0) r2_lies))) in
+        lie-append (stretches controls at) (lim ++ head) (all_lie controls at b.1) (lie-append lim head (limit_lies limited place b.0) head_lies)
     lies unbuilt at b = tt
 
     all_lie : (trees : Trees) (at : ℕ) → AllBeginBy end trees → LieBy end (stretches trees at)
     all_lie no_trees at b = tt
     all_lie (tree and_tree trees) at b =
-        let m = at + length (stretch tree at) in lie-append (stretch tree at) (stretches trees m) (lies tree at b.0) (all_lie trees m b.1)
+        let m = at + size tree in lie-append (stretch tree at) (stretches trees m) (lies tree at b.0) (all_lie trees m b.1)
+
+    arms_lie : (place e : ℕ) (trees : Trees) (at : ℕ) → place ≤ end → AllBeginBy end trees → LieBy end (arm_stretches place e trees at)
+    arms_lie place e no_trees at p b = tt
+    arms_lie place e (tree and_tree trees) at p b =
+        let m = at + size tree + 1 in
+        lie-append (stretch tree at) (instr place (does.Jump e) ∷ arm_stretches place e trees m) (lies tree at b.0) (p, arms_lie place e trees m p b.1)
+
+    test_lies : (place f : ℕ) (test : Test) (at : ℕ) → place ≤ end → TestBeginsBy end test → LieBy end (test_stretch place f test at)
+    test_lies place f no_test at p b = tt
+    test_lies place f (while_in begin slots test) at p b =
+        let m = at + length (opens slots begin) in
+        lie-append (opens slots begin) (stretch test m ++ instr place (does.Unless f) ∷ []) (open_lies slots begin b.0)
+        (lie-append (stretch test m) (instr place (does.Unless f) ∷ []) (lies test m b.1) (p, tt))
 
 -- a program that is too long is refused at one of its constructs
 pub refused_by : (program : Program) (end : ℕ) (refusal : Refusal) → ProgramBeginsBy end program → IsTooLong (listing program) refusal → refusal.place ≤ end

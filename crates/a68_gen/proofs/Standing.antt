@@ -4,10 +4,11 @@ use Rattle.a68_code.specs.declared.code.Code.{Code}
 use Rattle.a68_code.specs.declared.code.Instr.{Instr}
 use Rattle.a68_code.specs.declared.does.Does.{Does}
 use Rattle.a68_code.specs.declared.does.Does.TheVariants as does
-use Rattle.a68_elab.specs.Trees.{Tree, Trees, operation, phrases, range, choice, loop, unbuilt, depth, no_trees, ◌and_tree◌, count, Program}
-use Rattle.a68_gen.specs.Listing.{instr, indexes, opens, leaves, stretch, stretches, listing}
-use Rattle.a68_gen.specs.Fits.{Fits, AllFit}
-use Rattle.a68_gen.specs.Stretches.{does_of, leave, Has, Indexes, Opens, Leaves, Stands, StandAll, Translates}
+use Rattle.a68_elab.specs.Trees.{Tree, Trees, operation, phrases, range, choice, cases, loop, unbuilt, no_trees, ◌and_tree◌, count, Test, no_test, while_in, depth_of, Program}
+use Rattle.a68_gen.specs.Listing.{instr, limits, indexes, opens, leaves, size, sizes, test_size, arm_places, stretch, stretches, arm_stretches, test_stretch, listing}
+use Rattle.a68_gen.specs.Fits.{Fits, AllFit, TestFits}
+use Rattle.a68_gen.specs.Stretches.{does_of, leave, Has, Limits, Indexes, Opens, Leaves, Stands, StandAll, StandArms, Tests, with_last, Translates}
+use Rattle.a68_gen.proofs.Sizes.{size_leaves, size_stretch, size_stretches, size_arms, size_test}
 
 -- the instructions stand in the code from a place on
 pub record Holds (code : Code) (at : ℕ) (list : List Instr) : Type 0 where
@@ -30,6 +31,10 @@ pub holds-behind : {code : Code} {at : ℕ} (xs ys : List Instr) → Holds code 
 holds-behind {code = code} {at = at} xs ys h =
     record { each = λ k i p. let e : at + length xs + k ≡ at + (length xs + k) = omega arith in rw e (h.each (length xs + k) i (get-behind xs ys k ∙ p)) }
 
+-- the rest behind a front of a known length
+pub holds-on : {code : Code} {at : ℕ} (n : ℕ) (xs ys : List Instr) → length xs ≡ n → Holds code at (xs ++ ys) → Holds code (at + n) ys
+holds-on {code = code} {at = at} n xs ys e h = subst (λ (k : ℕ). Holds code (at + k) ys) e (holds-behind xs ys h)
+
 pub holds-tail : {code : Code} {at : ℕ} (x : Instr) (xs : List Instr) → Holds code at (x ∷ xs) → Holds code (at + 1) xs
 holds-tail {code = code} {at = at} x xs h = record { each = λ k i p. let e : at + 1 + k ≡ at + suc k = omega arith in rw e (h.each (suc k) i p) }
 
@@ -46,6 +51,11 @@ all_to_end code gives trees a e s = subst (λ z. StandAll code gives trees a z) 
 -- one instruction at the front of what stands
 has : (code : Code) (place : ℕ) (d : Does) (at : ℕ) (xs : List Instr) → Holds code at (instr place d ∷ xs) → Has code place d at (at + 1)
 has code place d at xs h = (holds-head (instr place d) xs h, refl)
+
+-- TO's own step
+limit_stands : (code : Code) (limited : Bool) (place at : ℕ) → Holds code at (limits limited place) → Limits code limited place at (at + length (limits limited place))
+limit_stands code false place at h = omega arith
+limit_stands code true place at h = (holds-head (instr place (does.Apply 26)) [] h, refl)
 
 -- the frame of FOR
 index_stands : (code : Code) (counts : Bool) (place at : ℕ) → Holds code at (indexes counts place) → Indexes code counts place at (at + length (indexes counts place))
@@ -66,127 +76,145 @@ open_stands code (suc n) place at h =
     let e : at + 1 ≡ at + length (instr place (does.Enter (suc n)) ∷ []) = omega arith in (holds-head (instr place (does.Enter (suc n))) [] h, e)
 
 -- frames that are left
-leave_stands : (code : Code) (place n at : ℕ) → Holds code at (leaves place n) → Leaves code place n at (at + length (leaves place n))
+leave_stands : (code : Code) (place n at : ℕ) → Holds code at (leaves place n) → Leaves code place n at (at + n)
 leave_stands code place zero at h = omega arith
 leave_stands code place (suc n) at h =
     let i = instr place (does.Leave 0) in
-    let e : at + 1 + length (leaves place n) ≡ at + suc (length (leaves place n)) = omega arith in
+    let e : at + 1 + n ≡ at + suc n = omega arith in
     (at + 1, has code place (does.Leave 0) at (leaves place n) h, subst (λ z. Leaves code place n (at + 1) z) e (leave_stands code place n (at + 1) (holds-tail {at = at} i (leaves place n) h)))
 
 mutual
-  pub stands : (code : Code) (gives : Bool) (tree : Tree) (at : ℕ) → Fits code.modes gives tree → Holds code at (stretch tree at) → Stands code gives tree at (at + length (stretch tree at))
+  pub stands : (code : Code) (gives : Bool) (tree : Tree) (at : ℕ) → Fits code.modes gives tree → Holds code at (stretch tree at) → Stands code gives tree at (at + size tree)
   stands code gives (operation place op order parts) at f h =
       let ps = stretches parts at in
       let i = instr place (does_of op (count parts)) in
-      let parts_stand = all_stand code true parts at f.2 (holds-front ps (i ∷ []) h) in
-      let e : at + length ps + 1 ≡ at + length (ps ++ i ∷ []) = omega (arith, length-append ps (i ∷ [])) in
-      (at + length ps, f.0, f.1, parts_stand, (holds-head i [] (holds-behind ps (i ∷ []) h), e))
+      let e : at + sizes parts + 1 ≡ at + (sizes parts + 1) = omega arith in
+      (at + sizes parts, f.0, f.1, all_stand code true parts at f.2 (holds-front ps (i ∷ []) h), (holds-head i [] (holds-on (sizes parts) ps (i ∷ []) (size_stretches parts at) h), e))
   stands code gives (phrases place before final) at f h =
+      let m = at + sizes before in
       let first = stretches before at in
-      let second = stretch final (at + length first) in
-      let e : at + length first + length second ≡ at + length (first ++ second) = omega (arith, length-append first second) in
-      (at + length first, all_stand code false before at f.0 (holds-front first second h), to_end code gives final (at + length first) e (stands code gives final (at + length first) f.1 (holds-behind first second h)))
+      let e : m + size final ≡ at + (sizes before + size final) = omega arith in (
+        m,
+        all_stand code false before at f.0 (holds-front first (stretch final m) h),
+        to_end code gives final m e (stands code gives final m f.1 (holds-on (sizes before) first (stretch final m) (size_stretches before at) h)),
+      )
   stands code gives (range place out slots yields within) at f h =
       let inside = stretch within (at + 1) in
       let l = instr out (leave yields) in
       let enter = instr place (does.Enter slots) in
       let h1 = holds-tail {at = at} enter (inside ++ l ∷ []) h in
-      let h2 = holds-behind {at = at + 1} inside (l ∷ []) h1 in
-      let e : at + 1 + length inside + 1 ≡ at + suc (length (inside ++ l ∷ [])) = omega (arith, length-append inside (l ∷ [])) in (
+      let h2 = holds-on {at = at + 1} (size within) inside (l ∷ []) (size_stretch within (at + 1)) h1 in
+      let e : at + 1 + size within + 1 ≡ at + (size within + 2) = omega arith in (
         at + 1,
-        at + 1 + length inside,
+        at + 1 + size within,
         f.0,
         has code place (does.Enter slots) at (inside ++ l ∷ []) h,
         stands code gives within (at + 1) f.1 (holds-front inside (l ∷ []) h1),
         (holds-head l [] h2 ∙ ap (λ (b : Bool). Some (instr out (leave b))) (sym f.0), e),
       )
   stands code gives (choice place enquiry if_true if_false) at f h =
+      let m = at + size enquiry in
+      let n = m + 1 + size if_true in
+      let x = n + 1 in
       let first = stretch enquiry at in
-      let m = at + length first in
       let second = stretch if_true (m + 1) in
-      let n = m + 1 + length second in
-      let third = stretch if_false (n + 1) in
-      let unless = instr place (does.Unless (n + 1)) in
-      let jump = instr place (does.Jump (n + 1 + length third)) in
+      let third = stretch if_false x in
+      let unless = instr place (does.Unless x) in
+      let jump = instr place (does.Jump (x + size if_false)) in
       let behind = second ++ (jump ∷ third) in
-      let h1 = holds-behind {at = at} first (unless ∷ behind) h in
+      let h1 = holds-on {at = at} (size enquiry) first (unless ∷ behind) (size_stretch enquiry at) h in
       let h2 = holds-tail {at = m} unless behind h1 in
-      let h3 = holds-behind {at = m + 1} second (jump ∷ third) h2 in
-      let e : n + 1 + length third ≡ at + length (first ++ (unless ∷ behind)) =
-      omega (arith, length-append first (unless ∷ behind), length-append second (jump ∷ third)) in
-      let jumps : slice_get code.list n ≡ Some (instr place (does.Jump (at + length (first ++ (unless ∷ behind))))) = holds-head {at = n} jump third h3 ∙ ap (λ (z : ℕ). Some (instr place (does.Jump z))) e in (
+      let h3 = holds-on {at = m + 1} (size if_true) second (jump ∷ third) (size_stretch if_true (m + 1)) h2 in
+      let e : x + size if_false ≡ at + (size enquiry + 1 + size if_true + 1 + size if_false) = omega arith in
+      let jumps : slice_get code.list n ≡ Some (instr place (does.Jump (at + size (choice place enquiry if_true if_false)))) =
+      holds-head {at = n} jump third h3 ∙ ap (λ (z : ℕ). Some (instr place (does.Jump z))) e in (
         m,
         m + 1,
         n,
-        n + 1,
+        x,
         stands code true enquiry at f.0 (holds-front first (unless ∷ behind) h),
-        has code place (does.Unless (n + 1)) m behind h1,
+        has code place (does.Unless x) m behind h1,
         stands code gives if_true (m + 1) f.1 (holds-front second (jump ∷ third) h2),
         (jumps, refl),
-        to_end code gives if_false (n + 1) e (stands code gives if_false (n + 1) f.2 (holds-tail {at = n} jump third h3)),
+        to_end code gives if_false x e (stands code gives if_false x f.2 (holds-tail {at = n} jump third h3)),
       )
-  stands code gives (loop place controls counts begin slots test body) at f h =
-      let first = stretches controls at in
-      let c = at + length first in
-      let t = c + 1 in
-      let index = indexes counts place in
-      let open_ = opens slots begin in
-      let frames = index ++ open_ in
-      let out = leaves place (depth counts slots) in
-      let x = t + 2 + length frames in
-      let second = stretch test x in
-      let m = x + length second in
-      let third = stretch body (m + 1) in
-      let n = m + 1 + length third in
-      let n' = n + length out in
+  stands code gives (cases place enquiry arms out) at f h =
+      let m = at + size enquiry in
+      let x = m + 1 + sizes arms + count arms in
+      let e = x + size out in
+      let b = at + size (cases place enquiry arms out) in
+      let last : e ≡ b = omega arith in
+      let first = stretch enquiry at in
+      let second = arm_stretches place e arms (m + 1) in
+      let third = stretch out x in
+      let case = instr place (does.Case (with_last (arm_places arms (m + 1)) x)) in
+      let h1 = holds-on {at = at} (size enquiry) first (case ∷ (second ++ third)) (size_stretch enquiry at) h in
+      let h2 = holds-tail {at = m} case (second ++ third) h1 in
+      let h3 = holds-on {at = m + 1} (sizes arms + count arms) second third (size_arms place e arms (m + 1)) h2 in
+      let same : m + 1 + (sizes arms + count arms) ≡ x = omega arith in
+      let h4 : Holds code x third = subst (λ z. Holds code z third) same h3 in
+      let each = arms_stand code gives place e arms (m + 1) f.1 (holds-front second third h2) in (
+        m,
+        m + 1,
+        x,
+        arm_places arms (m + 1),
+        stands code true enquiry at f.0 (holds-front first (case ∷ (second ++ third)) h),
+        has code place (does.Case (with_last (arm_places arms (m + 1)) x)) m (second ++ third) h1,
+        subst (λ z. StandArms code gives place z arms (arm_places arms (m + 1)) (m + 1) x) last each,
+        to_end code gives out x last (stands code gives out x f.2 h4),
+      )
+  stands code gives (loop place controls limited counts test body) at f h =
+      let k = depth_of counts test in
+      let lim = limits limited place in
+      let idx = indexes counts place in
+      let out = leaves place k in
+      let c = at + sizes controls in
+      let c' = c + length lim in
+      let t = c' + 1 in
+      let u = t + 2 in
+      let w = u + length idx in
+      let x = w + test_size test in
+      let n = x + size body in
+      let n' = n + k in
       let q = n' + 2 in
-      let e = q + length out in
+      let e = q + k in
+      let first = stretches controls at in
+      let asks = test_stretch place q test w in
+      let does_body = stretch body x in
       let counter = instr place does.Counter in
       let step = instr place (does.Step e) in
       let turn = instr place does.Turn in
-      let unless = instr place (does.Unless q) in
       let advance = instr place (does.Advance t) in
       let jump = instr place (does.Jump e) in
       let forget = instr place does.Forget in
       let rest5 = out ++ (forget ∷ []) in
       let rest4 = out ++ (advance ∷ jump ∷ rest5) in
-      let rest3 = third ++ rest4 in
-      let rest2 = second ++ (unless ∷ rest3) in
-      let rest1 = frames ++ rest2 in
-      let h1 = holds-behind {at = at} first (counter ∷ step ∷ turn ∷ rest1) h in
-      let h2 = holds-tail {at = c} counter (step ∷ turn ∷ rest1) h1 in
+      let rest3 = does_body ++ rest4 in
+      let rest2 = asks ++ rest3 in
+      let rest1 = idx ++ rest2 in
+      let head = counter ∷ step ∷ turn ∷ rest1 in
+      let h0 = holds-on {at = at} (sizes controls) first (lim ++ head) (size_stretches controls at) h in
+      let h1 = holds-behind {at = c} lim head h0 in
+      let h2 = holds-tail {at = c'} counter (step ∷ turn ∷ rest1) h1 in
       let h3 = holds-tail {at = t} step (turn ∷ rest1) h2 in
-      let two : t + 1 + 1 ≡ t + 2 = omega arith in
-      let h4 : Holds code (t + 2) rest1 = subst (λ z. Holds code z rest1) two (holds-tail {at = t + 1} turn rest1 h3) in
-      let hf = holds-front {at = t + 2} frames rest2 h4 in
-      let h5 = holds-behind {at = t + 2} frames rest2 h4 in
-      let h6 = holds-behind {at = x} second (unless ∷ rest3) h5 in
-      let h7 = holds-tail {at = m} unless rest3 h6 in
-      let h8 = holds-behind {at = m + 1} third rest4 h7 in
-      let h9 = holds-behind {at = n} out (advance ∷ jump ∷ rest5) h8 in
-      let h10 = holds-tail {at = n'} advance (jump ∷ rest5) h9 in
+      let two : t + 1 + 1 ≡ u = omega arith in
+      let h4 : Holds code u rest1 = subst (λ z. Holds code z rest1) two (holds-tail {at = t + 1} turn rest1 h3) in
+      let h5 = holds-behind {at = u} idx rest2 h4 in
+      let h6 = holds-on {at = w} (test_size test) asks rest3 (size_test place q test w) h5 in
+      let h7 = holds-on {at = x} (size body) does_body rest4 (size_stretch body x) h6 in
+      let h8 = holds-on {at = n} k out (advance ∷ jump ∷ rest5) (size_leaves place k) h7 in
+      let h9 = holds-tail {at = n'} advance (jump ∷ rest5) h8 in
       let three : n' + 1 + 1 ≡ q = omega arith in
-      let h11 : Holds code q rest5 = subst (λ z. Holds code z rest5) three (holds-tail {at = n' + 1} jump rest5 h10) in
-      let h12 = holds-behind {at = q} out (forget ∷ []) h11 in
-      let opened : t + 2 + length index + length open_ ≡ x = omega (arith, length-append index open_) in
-      let last : e + 1 ≡ at + length (first ++ (counter ∷ step ∷ turn ∷ rest1)) =
-      omega (
-        arith,
-        length-append first (counter ∷ step ∷ turn ∷ rest1),
-        length-append frames rest2,
-        length-append second (unless ∷ rest3),
-        length-append third rest4,
-        length-append out (advance ∷ jump ∷ rest5),
-        length-append out (forget ∷ []),
-      ) in (
+      let h10 : Holds code q rest5 = subst (λ z. Holds code z rest5) three (holds-tail {at = n' + 1} jump rest5 h9) in
+      let h11 = holds-on {at = q} k out (forget ∷ []) (size_leaves place k) h10 in
+      let last : e + 1 ≡ at + size (loop place controls limited counts test body) = omega arith in (
         c,
+        c',
         t,
         t + 1,
-        t + 2,
-        t + 2 + length index,
+        u,
+        w,
         x,
-        m,
-        m + 1,
         n,
         n',
         n' + 1,
@@ -194,30 +222,68 @@ mutual
         e,
         f.0,
         f.1,
-        all_stand code true controls at f.2 (holds-front first (counter ∷ step ∷ turn ∷ rest1) h),
-        has code place does.Counter c (step ∷ turn ∷ rest1) h1,
+        all_stand code true controls at f.2 (holds-front first (lim ++ head) h),
+        limit_stands code limited place c (holds-front lim head h0),
+        has code place does.Counter c' (step ∷ turn ∷ rest1) h1,
         has code place (does.Step e) t (turn ∷ rest1) h2,
         (holds-head {at = t + 1} turn rest1 h3, two),
-        index_stands code counts place (t + 2) (holds-front {at = t + 2} index open_ hf),
-        subst (λ z. Opens code slots begin (t + 2 + length index) z) opened (open_stands code slots begin (t + 2 + length index) (holds-behind {at = t + 2} index open_ hf)),
-        stands code true test x f.3 (holds-front second (unless ∷ rest3) h5),
-        has code place (does.Unless q) m rest3 h6,
-        stands code false body (m + 1) f.4 (holds-front third rest4 h7),
-        leave_stands code place (depth counts slots) n (holds-front out (advance ∷ jump ∷ rest5) h8),
-        has code place (does.Advance t) n' (jump ∷ rest5) h9,
-        (holds-head {at = n' + 1} jump rest5 h10, three),
-        leave_stands code place (depth counts slots) q (holds-front out (forget ∷ []) h11),
-        (holds-head {at = e} forget [] h12, last),
+        index_stands code counts place u (holds-front {at = u} idx rest2 h4),
+        test_stands code place q test w f.3 (holds-front asks rest3 h5),
+        stands code false body x f.4 (holds-front does_body rest4 h6),
+        leave_stands code place k n (holds-front out (advance ∷ jump ∷ rest5) h7),
+        has code place (does.Advance t) n' (jump ∷ rest5) h8,
+        (holds-head {at = n' + 1} jump rest5 h9, three),
+        leave_stands code place k q (holds-front out (forget ∷ []) h10),
+        (holds-head {at = e} forget [] h11, last),
       )
   stands code gives unbuilt at f h = absurd f
 
-  pub all_stand : (code : Code) (gives : Bool) (trees : Trees) (at : ℕ) → AllFit code.modes gives trees → Holds code at (stretches trees at) → StandAll code gives trees at (at + length (stretches trees at))
+  pub all_stand : (code : Code) (gives : Bool) (trees : Trees) (at : ℕ) → AllFit code.modes gives trees → Holds code at (stretches trees at) → StandAll code gives trees at (at + sizes trees)
   all_stand code gives no_trees at f h = omega arith
   all_stand code gives (tree and_tree trees) at f h =
+      let m = at + size tree in
       let first = stretch tree at in
-      let rest = stretches trees (at + length first) in
-      let e : at + length first + length rest ≡ at + length (first ++ rest) = omega (arith, length-append first rest) in
-      (at + length first, stands code gives tree at f.0 (holds-front first rest h), all_to_end code gives trees (at + length first) e (all_stand code gives trees (at + length first) f.1 (holds-behind first rest h)))
+      let e : m + sizes trees ≡ at + (size tree + sizes trees) = omega arith in (
+        m,
+        stands code gives tree at f.0 (holds-front first (stretches trees m) h),
+        all_to_end code gives trees m e (all_stand code gives trees m f.1 (holds-on (size tree) first (stretches trees m) (size_stretch tree at) h)),
+      )
+
+  arms_stand : (code : Code) (gives : Bool) (place e : ℕ) (trees : Trees) (at : ℕ) → AllFit code.modes gives trees → Holds code at (arm_stretches place e trees at)
+      → StandArms code gives place e trees (arm_places trees at) at (at + sizes trees + count trees)
+  arms_stand code gives place e no_trees at f h = omega arith
+  arms_stand code gives place e (tree and_tree trees) at f h =
+      let m = at + size tree in
+      let first = stretch tree at in
+      let jump = instr place (does.Jump e) in
+      let rest = arm_stretches place e trees (m + 1) in
+      let h1 = holds-on {at = at} (size tree) first (jump ∷ rest) (size_stretch tree at) h in
+      let end : m + 1 + sizes trees + count trees ≡ at + (size tree + sizes trees) + suc (count trees) = omega arith in
+      let each = arms_stand code gives place e trees (m + 1) f.1 (holds-tail {at = m} jump rest h1) in (
+        m,
+        m + 1,
+        refl,
+        stands code gives tree at f.0 (holds-front first (jump ∷ rest) h),
+        has code place (does.Jump e) m rest h1,
+        subst (λ z. StandArms code gives place e trees (arm_places trees (m + 1)) (m + 1) z) end each,
+      )
+
+  test_stands : (code : Code) (place f : ℕ) (test : Test) (at : ℕ) → TestFits code.modes test → Holds code at (test_stretch place f test at) → Tests code test place f at (at + test_size test)
+  test_stands code place f no_test at fit h = omega arith
+  test_stands code place f (while_in begin slots test) at fit h =
+      let open_ = opens slots begin in
+      let m = at + length open_ in
+      let n = m + size test in
+      let unless = instr place (does.Unless f) in
+      let asks = stretch test m in
+      let h1 = holds-behind {at = at} open_ (asks ++ unless ∷ []) h in
+      let e : n + 1 ≡ at + (length open_ + size test + 1) = omega arith in (
+        m,
+        n,
+        open_stands code slots begin at (holds-front open_ (asks ++ unless ∷ []) h),
+        stands code true test m fit (holds-front asks (unless ∷ []) h1),
+        (holds-head unless [] (holds-on {at = m} (size test) asks (unless ∷ []) (size_stretch test m) h1), e),
+      )
 
 -- a list that is all of the code stands from its first place on
 holds-all : (code : Code) (list : List Instr) → code.list ≡ list → Holds code 0 list
@@ -228,15 +294,17 @@ pub translated : (program : Program) (code : Code) → code.list ≡ listing pro
 translated program code listed texts modes fits =
     let list = stretch program.tree 0 in
     let i = instr program.place does.End in
+    let n = size program.tree in
     let h = holds-all code (list ++ i ∷ []) listed in
-    let zero_end : 0 + length list ≡ length list = omega arith in
-    let end_at : slice_get code.list (length list) ≡ Some i = subst (λ z. slice_get code.list z ≡ Some i) zero_end (holds-head {at = 0 + length list} i [] (holds-behind list (i ∷ []) h)) in
+    let zero_end : 0 + n ≡ n = omega arith in
+    let end_at : slice_get code.list n ≡ Some i = subst (λ z. slice_get code.list z ≡ Some i) zero_end (holds-head {at = 0 + n} i [] (holds-on n list (i ∷ []) (size_stretch program.tree 0) h)) in
     let fit : Fits code.modes false program.tree = subst (λ m. Fits m false program.tree) (sym modes) fits in
+    let long = size_stretch program.tree 0 in
     record {
-      end = length list;
+      end = n;
       stands = to_end code false program.tree 0 zero_end (stands code false program.tree 0 fit (holds-front list (i ∷ []) h));
       ends = (end_at, refl);
-      no_more = ap (λ (l : List Instr). length l) listed ∙ length-append list (i ∷ []);
+      no_more = ap (λ (l : List Instr). length l) listed ∙ length-append list (i ∷ []) ∙ ap (λ (k : ℕ). k + 1) long;
       texts = texts;
       modes = modes;
     }

@@ -3,7 +3,7 @@
 use Rattle.std.specs.Prelude.{◌≡◌, Bool, true, false, List}
 use Rattle.a68_acts.specs.Operations.{leaves}
 use Rattle.a68_code.specs.Flow.{takes}
-use Rattle.a68_elab.specs.Trees.{Tree, Trees, operation, phrases, range, choice, loop, unbuilt, no_trees, ◌and_tree◌, count}
+use Rattle.a68_elab.specs.Trees.{Tree, Trees, operation, phrases, range, choice, cases, loop, unbuilt, Test, no_test, while_in, no_trees, ◌and_tree◌, count}
 use Rattle.a68_gen.specs.Stretches.{does_of}
 use Rattle.a68_modes.specs.declared.shape.Shape.{Shape}
 
@@ -17,10 +17,15 @@ abbrev mutual
   Fits modes gives (range place out slots yields within) = (gives ≡ yields) × Fits modes gives within
   Fits modes gives (choice place enquiry if_true if_false) =
       Fits modes true enquiry × Fits modes gives if_true × Fits modes gives if_false
-  Fits modes gives (loop place controls counts at slots test body) =
-      (gives ≡ false) × (count controls ≡ 3) × AllFit modes true controls × Fits modes true test × Fits modes false body
+  Fits modes gives (cases place enquiry arms out) = Fits modes true enquiry × AllFit modes gives arms × Fits modes gives out
+  Fits modes gives (loop place controls limited counts test body) =
+      (gives ≡ false) × (count controls ≡ 3) × AllFit modes true controls × TestFits modes test × Fits modes false body
   Fits modes gives unbuilt = ⊥
 
   pub AllFit : List Shape → (gives : Bool) → Trees → Type 0
   AllFit modes gives no_trees = Unit {0}
   AllFit modes gives (tree and_tree trees) = Fits modes gives tree × AllFit modes gives trees
+
+  pub TestFits : List Shape → Test → Type 0
+  TestFits modes no_test = Unit {0}
+  TestFits modes (while_in at slots test) = Fits modes true test

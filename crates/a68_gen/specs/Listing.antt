@@ -3,12 +3,17 @@ use Rattle.std.specs.Prelude.{ℕ, zero, suc, Bool, true, false, ◌+◌, List, 
 use Rattle.a68_code.specs.declared.code.Instr.{Instr}
 use Rattle.a68_code.specs.declared.does.Does.{Does}
 use Rattle.a68_code.specs.declared.does.Does.TheVariants as does
-use Rattle.a68_elab.specs.Trees.{Tree, Trees, operation, phrases, range, choice, loop, unbuilt, no_trees, ◌and_tree◌, count, depth, Program}
-use Rattle.a68_gen.specs.Stretches.{does_of, leave}
+use Rattle.a68_elab.specs.Trees.{Tree, Trees, operation, phrases, range, choice, cases, loop, unbuilt, no_trees, ◌and_tree◌, count, Test, no_test, while_in, depth_of, Program}
+use Rattle.a68_gen.specs.Stretches.{does_of, leave, with_last}
 
 -- an instruction keeps the place of its construct
 abbrev pub instr : (place : ℕ) → Does → Instr
 instr place d = record { place = place; does = d }
+
+-- where TO is there: Apply 26
+abbrev pub limits : (limited : Bool) (place : ℕ) → List Instr
+limits false place = []
+limits true place = instr place (does.Apply 26) ∷ []
 
 -- with FOR: Enter 1, Index, Bind 0
 abbrev pub indexes : (counts : Bool) (place : ℕ) → List Instr
@@ -25,46 +30,78 @@ abbrev pub leaves : (place count : ℕ) → List Instr
 leaves place zero = []
 leaves place (suc n) = instr place (does.Leave 0) ∷ leaves place n
 
+-- how many instructions a tree becomes: the same wherever it stands
+abbrev mutual
+  pub size : Tree → ℕ
+  size (operation place op order parts) = sizes parts + 1
+  size (phrases place before final) = sizes before + size final
+  size (range place out slots yields within) = size within + 2
+  size (choice place enquiry if_true if_false) = size enquiry + 1 + size if_true + 1 + size if_false
+  size (cases place enquiry arms out) = size enquiry + 1 + sizes arms + count arms + size out
+  size (loop place controls limited counts test body) =
+      sizes controls + length (limits limited place) + 3 + length (indexes counts place) + test_size test + size body + depth_of counts test + 2 + depth_of counts test + 1
+  size unbuilt = 0
+
+  pub sizes : Trees → ℕ
+  sizes no_trees = 0
+  sizes (tree and_tree trees) = size tree + sizes trees
+
+  pub test_size : Test → ℕ
+  test_size no_test = 0
+  test_size (while_in at slots test) = length (opens slots at) + size test + 1
+
+-- the places of parts that are chosen among, from this one on, each with a Jump behind it
+abbrev pub arm_places : Trees → (at : ℕ) → List ℕ
+arm_places no_trees at = []
+arm_places (tree and_tree trees) at = at ∷ arm_places trees (at + size tree + 1)
+
 -- the instructions of a tree, where the first of them is number `at`
 abbrev mutual
   pub stretch : Tree → (at : ℕ) → List Instr
   -- the parts, and then the instruction of the operation, which takes their values
   stretch (operation place op order parts) at = stretches parts at ++ instr place (does_of op (count parts)) ∷ []
   -- the phrases
-  stretch (phrases place before final) at =
-      let first = stretches before at in
-      first ++ stretch final (at + length first)
+  stretch (phrases place before final) at = stretches before at ++ stretch final (at + sizes before)
   -- Enter, the construct, Leave
   stretch (range place out slots yields within) at = instr place (does.Enter slots) ∷ (stretch within (at + 1) ++ instr out (leave yields) ∷ [])
   -- the enquiry, Unless x, the one part, Jump e, x: the other part, e:
   stretch (choice place enquiry if_true if_false) at =
-      let first = stretch enquiry at in
-      let second = stretch if_true (at + length first + 1) in
-      let x = at + length first + 1 + length second + 1 in
-      let third = stretch if_false x in
-      first ++ (instr place (does.Unless x) ∷ (second ++ (instr place (does.Jump (x + length third)) ∷ third)))
-  -- FROM, BY and TO, Counter, t: Step e, Turn, the frames of FOR and of WHILE, the test, Unless f, the body, a Leave for
-  -- each frame, Advance t, Jump e, f: a Leave for each frame, e: Forget
-  stretch (loop place controls counts begin slots test body) at =
-      let first = stretches controls at in
-      let t = at + length first + 1 in
-      let frames = indexes counts place ++ opens slots begin in
-      let out = leaves place (depth counts slots) in
-      let second = stretch test (t + 2 + length frames) in
-      let third = stretch body (t + 2 + length frames + length second + 1) in
-      let f = t + 2 + length frames + length second + 1 + length third + length out + 2 in
-      let e = f + length out in
-      first ++ (instr place does.Counter ∷ instr place (does.Step e) ∷ instr place does.Turn ∷ (frames ++ (second
-      ++ (instr place (does.Unless f) ∷ (third ++ (out ++ instr place (does.Advance t) ∷ instr place (does.Jump e) ∷ (out ++ instr place does.Forget ∷ [])))))))
+      let m = at + size enquiry + 1 in
+      let x = m + size if_true + 1 in
+      stretch enquiry at ++ (instr place (does.Unless x) ∷ (stretch if_true m ++ (instr place (does.Jump (x + size if_false)) ∷ stretch if_false x)))
+  -- the enquiry, Case, each part and Jump e, x: the part for no number, e:
+  stretch (cases place enquiry arms out) at =
+      let m = at + size enquiry + 1 in
+      let x = m + sizes arms + count arms in
+      stretch enquiry at ++ (instr place (does.Case (with_last (arm_places arms m) x)) ∷ (arm_stretches place (x + size out) arms m ++ stretch out x))
+  -- FROM, BY and TO, what TO's own step is, Counter, t: Step e, Turn, the frame of FOR, WHILE, the body, a Leave for each
+  -- frame, Advance t, Jump e, f: a Leave for each frame, e: Forget
+  stretch (loop place controls limited counts test body) at =
+      let out = leaves place (depth_of counts test) in
+      let t = at + sizes controls + length (limits limited place) + 1 in
+      let w = t + 2 + length (indexes counts place) in
+      let x = w + test_size test in
+      let f = x + size body + depth_of counts test + 2 in
+      let e = f + depth_of counts test in
+      stretches controls at ++ (limits limited place ++ (instr place does.Counter ∷ instr place (does.Step e) ∷ instr place does.Turn ∷ (indexes counts place
+      ++ (test_stretch place f test w ++ (stretch body x ++ (out ++ instr place (does.Advance t) ∷ instr place (does.Jump e) ∷ (out ++ instr place does.Forget ∷ [])))))))
   -- what is not built has none
   stretch unbuilt at = []
 
   -- those of trees, one behind the other
   pub stretches : Trees → (at : ℕ) → List Instr
   stretches no_trees at = []
-  stretches (tree and_tree trees) at =
-      let first = stretch tree at in
-      first ++ stretches trees (at + length first)
+  stretches (tree and_tree trees) at = stretch tree at ++ stretches trees (at + size tree)
+
+  -- parts that are chosen among, each with Jump e behind it
+  pub arm_stretches : (place e : ℕ) → Trees → (at : ℕ) → List Instr
+  arm_stretches place e no_trees at = []
+  arm_stretches place e (tree and_tree trees) at = stretch tree at ++ (instr place (does.Jump e) ∷ arm_stretches place e trees (at + size tree + 1))
+
+  -- the frame of WHILE, the enquiry, and Unless f
+  pub test_stretch : (place f : ℕ) → Test → (at : ℕ) → List Instr
+  test_stretch place f no_test at = []
+  test_stretch place f (while_in begin slots test) at = opens slots begin ++ (stretch test (at + length (opens slots begin)) ++ instr place (does.Unless f) ∷ [])
 
 -- the instructions of a program, which yields nothing, and End behind them
 abbrev pub listing : Program → List Instr

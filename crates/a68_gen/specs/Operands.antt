@@ -2,7 +2,7 @@
 -- Trees whose operations have operands that the instructions may have.
 use Rattle.std.specs.Prelude.{⊤, IsTrue, List}
 use Rattle.a68_code.specs.Operands.{is_well_made}
-use Rattle.a68_elab.specs.Trees.{Tree, Trees, operation, phrases, range, choice, loop, unbuilt, no_trees, ◌and_tree◌, count}
+use Rattle.a68_elab.specs.Trees.{Tree, Trees, operation, phrases, range, choice, cases, loop, unbuilt, Test, no_test, while_in, no_trees, ◌and_tree◌, count}
 use Rattle.a68_gen.specs.Stretches.{does_of}
 use Rattle.a68_modes.specs.declared.shape.Shape.{Shape}
 
@@ -14,9 +14,14 @@ abbrev mutual
   FitsModes modes (phrases place before final) = FitAll modes before × FitsModes modes final
   FitsModes modes (range place out slots yields within) = FitsModes modes within
   FitsModes modes (choice place enquiry if_true if_false) = FitsModes modes enquiry × FitsModes modes if_true × FitsModes modes if_false
-  FitsModes modes (loop place controls counts at slots test body) = FitAll modes controls × FitsModes modes test × FitsModes modes body
+  FitsModes modes (cases place enquiry arms out) = FitsModes modes enquiry × FitAll modes arms × FitsModes modes out
+  FitsModes modes (loop place controls limited counts test body) = FitAll modes controls × TestFitsModes modes test × FitsModes modes body
   FitsModes modes unbuilt = ⊥
 
   pub FitAll : List Shape → Trees → Type 0
   FitAll modes no_trees = ⊤
   FitAll modes (tree and_tree trees) = FitsModes modes tree × FitAll modes trees
+
+  pub TestFitsModes : List Shape → Test → Type 0
+  TestFitsModes modes no_test = ⊤
+  TestFitsModes modes (while_in at slots test) = FitsModes modes test

@@ -1,11 +1,11 @@
 -- Translation: which instructions a construct becomes, and where they stand.
-use Rattle.std.specs.Prelude.{◌≡◌, ℕ, zero, suc, ◌+◌, Bool, true, false, [], length, Some, slice_get, if◌then◌else◌}
+use Rattle.std.specs.Prelude.{◌≡◌, ℕ, zero, suc, ◌+◌, Bool, true, false, List, [], ◌∷◌, length, Some, slice_get, if◌then◌else◌}
 use Rattle.a68_acts.specs.Operations.{Operation, constant, skip, tag, make, bind, deref, store, apply, drop, print, leaves}
 use Rattle.a68_code.specs.Flow.{takes}
 use Rattle.a68_code.specs.declared.code.Code.{Code}
 use Rattle.a68_code.specs.declared.does.Does.{Does}
 use Rattle.a68_code.specs.declared.does.Does.TheVariants as does
-use Rattle.a68_elab.specs.Trees.{Tree, Trees, operation, phrases, range, choice, loop, unbuilt, no_trees, ◌and_tree◌, count, depth, Program}
+use Rattle.a68_elab.specs.Trees.{Tree, Trees, operation, phrases, range, choice, cases, loop, unbuilt, no_trees, ◌and_tree◌, count, Test, no_test, while_in, depth_of, Program}
 
 -- the instruction of an operation on so many values
 abbrev pub does_of : Operation → ℕ → Does
@@ -28,6 +28,11 @@ Has code place d a b = (slice_get code.list a ≡ Some (record { place = place; 
 abbrev pub leave : Bool → Does
 leave gives = does.Leave (if gives then 1 else 0)
 
+-- where TO is there: Apply 26
+abbrev pub Limits : Code → (limited : Bool) → (place a b : ℕ) → Type 0
+Limits code false place a b = a ≡ b
+Limits code true place a b = Has code place (does.Apply 26) a b
+
 -- with FOR: Enter 1, Index, Bind 0
 abbrev pub Indexes : Code → (counts : Bool) → (place a b : ℕ) → Type 0
 Indexes code false place a b = a ≡ b
@@ -42,6 +47,11 @@ Opens code (suc n) place a b = Has code place (does.Enter (suc n)) a b
 abbrev pub Leaves : Code → (place count a b : ℕ) → Type 0
 Leaves code place zero a b = a ≡ b
 Leaves code place (suc n) a b = (m : ℕ) × Has code place (does.Leave 0) a m × Leaves code place n m b
+
+-- places, and one more behind them
+abbrev pub with_last : List ℕ → ℕ → List ℕ
+with_last [] e = e ∷ []
+with_last (p ∷ ps) e = p ∷ with_last ps e
 
 -- The stretch of a tree stands from a up to b. It leaves a value or none, as `gives` says.
 abbrev mutual
@@ -59,15 +69,18 @@ abbrev mutual
   Stands code gives (choice place enquiry if_true if_false) a b =
       (m m' n x : ℕ) × Stands code true enquiry a m × Has code place (does.Unless x) m m' × Stands code gives if_true m' n
       × Has code place (does.Jump b) n x × Stands code gives if_false x b
-  -- FROM, BY and TO, Counter, t: Step e, Turn, the frames of FOR and of WHILE, the test, Unless f, the body, a Leave for
-  -- each frame, Advance t, Jump e, f: a Leave for each frame, e: Forget
-  Stands code gives (loop place controls counts at slots test body) a b =
-      (c t t' u w x m m' n n' v f e : ℕ) × (gives ≡ false) × (count controls ≡ 3) × StandAll code true controls a c
-      × Has code place does.Counter c t × Has code place (does.Step e) t t' × Has code place does.Turn t' u
-      × Indexes code counts place u w × Opens code slots at w x
-      × Stands code true test x m × Has code place (does.Unless f) m m' × Stands code false body m' n
-      × Leaves code place (depth counts slots) n n' × Has code place (does.Advance t) n' v × Has code place (does.Jump e) v f
-      × Leaves code place (depth counts slots) f e × Has code place does.Forget e b
+  -- the enquiry, Case, each part and Jump b, x: the part for no number, b:
+  Stands code gives (cases place enquiry arms out) a b =
+      (m m' x : ℕ) × (places : List ℕ) × Stands code true enquiry a m × Has code place (does.Case (with_last places x)) m m'
+      × StandArms code gives place b arms places m' x × Stands code gives out x b
+  -- FROM, BY and TO, what TO's own step is, Counter, t: Step e, Turn, the frame of FOR, WHILE, the body, a Leave for each
+  -- frame, Advance t, Jump e, f: a Leave for each frame, e: Forget
+  Stands code gives (loop place controls limited counts test body) a b =
+      (c c' t t' u w x n n' v f e : ℕ) × (gives ≡ false) × (count controls ≡ 3) × StandAll code true controls a c × Limits code limited place c c'
+      × Has code place does.Counter c' t × Has code place (does.Step e) t t' × Has code place does.Turn t' u
+      × Indexes code counts place u w × Tests code test place f w x × Stands code false body x n
+      × Leaves code place (depth_of counts test) n n' × Has code place (does.Advance t) n' v × Has code place (does.Jump e) v f
+      × Leaves code place (depth_of counts test) f e × Has code place does.Forget e b
   -- what is not built stands nowhere
   Stands code gives unbuilt a b = ⊥
 
@@ -75,6 +88,18 @@ abbrev mutual
   pub StandAll : Code → (gives : Bool) → Trees → (a b : ℕ) → Type 0
   StandAll code gives no_trees a b = a ≡ b
   StandAll code gives (tree and_tree trees) a b = (m : ℕ) × Stands code gives tree a m × StandAll code gives trees m b
+
+  -- parts that are chosen among, each at its place, with Jump e behind it
+  pub StandArms : Code → (gives : Bool) → (place e : ℕ) → Trees → (places : List ℕ) → (a b : ℕ) → Type 0
+  StandArms code gives place e no_trees [] a b = a ≡ b
+  StandArms code gives place e (tree and_tree trees) (p ∷ ps) a b =
+      (m n : ℕ) × (p ≡ a) × Stands code gives tree a m × Has code place (does.Jump e) m n × StandArms code gives place e trees ps n b
+  StandArms code gives place e _ _ a b = ⊥
+
+  -- the frame of WHILE, the enquiry, and Unless f
+  pub Tests : Code → Test → (place f a b : ℕ) → Type 0
+  Tests code no_test place f a b = a ≡ b
+  Tests code (while_in at slots test) place f a b = (m n : ℕ) × Opens code slots at a m × Stands code true test m n × Has code place (does.Unless f) n b
 
 -- the code is the stretch of the program, which yields nothing, and End behind it, and no more; it has no routine texts,
 -- since these do not run yet, and its modes are those of the program

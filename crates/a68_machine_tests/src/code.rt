@@ -64,6 +64,18 @@ const CASES: &str = "\
 + row 17 | Push, Push, Apply 17, Drop, End
 - row 18 | Push, Push, Apply 18, Drop, End
 - row 40 | Push, Push, Apply 40, Drop, End
++ row 26 | Push, Apply 26, Drop, End
+- row 26 on nothing | Apply 26, Drop, End
+- row 27 | Push, Apply 27, Drop, End
++ a limit's own step | Push, Push, Push, Apply 26, Counter, Step 9, Turn, Advance 5, Jump 9, Forget, End
++ a choice by a number | Push, Case 2 4 6, Skip 0, Jump 6, Skip 0, Jump 6, End
++ one part for every number | Push, Case 2, End
+- a choice by no number | Case 1, End
+- a part outside | Push, Case 2 9, End
+- a part at the choice itself | Push, Case 1 2, End
+- a part before the choice | Skip 0, Push, Case 0 3, End
+- two parts of two heights | Push, Case 2 3, Push, End
++ two parts of one height | Push, Case 2 4, Push, Jump 5, Push, Drop, End
 + nothing is printed | Print 0, End
 ";
 

@@ -1,6 +1,7 @@
-//! Codes by their instructions in words: a name and at most two numbers each, with commas between.
+//! Codes by their instructions in words: a name and at most two numbers each, with commas between. A Case has any
+//! number of them.
 use a68_base::find;
-use a68_code::{Code, Does, Instr, Instrs, Routines};
+use a68_code::{Code, Does, Instr, Instrs, Places, Routines};
 use a68_modes::Modes;
 use a68_values::{Plain, Value};
 use std::alloc::Global;
@@ -98,9 +99,20 @@ fn number(rt: &impl Abort, word: &str) -> u32 {
     word.parse().expect(rt, "a number")
 }
 
+fn places(rt: &impl Abort, alloc: Global, numbers: &str) -> Places {
+    let mut items = Vec::new(alloc);
+    for word in numbers.split(' ') {
+        items.push(number(rt, word)).expect(rt, "memory");
+    }
+    Places { items }
+}
+
 // A number that is left out is 0.
-fn does(rt: &impl Abort, op: &str) -> Does {
+fn does(rt: &impl Abort, alloc: Global, op: &str) -> Does {
     let (name, numbers) = apart(op);
+    if name == "Case" {
+        return Does::Case(places(rt, alloc, numbers));
+    }
     let (one, two) = apart(numbers);
     let form = find(FORMS, name.as_bytes()).expect(rt, "an instruction");
     instruction(form, number(rt, one), number(rt, two))
@@ -112,7 +124,7 @@ fn instructions(rt: &impl Abort, alloc: Global, ops: &str) -> Instrs {
     for op in ops.split(',') {
         let op = op.trim();
         if !op.is_empty() {
-            let does = does(rt, op);
+            let does = does(rt, alloc, op);
             items.push(Instr { place, does }).expect(rt, "memory");
             place = place.saturating_add(1);
         }

@@ -3,7 +3,7 @@ use crate::shown;
 use crate::table::{agrees, cut, holds};
 use a68_acts::{Doing, Next, Reply, *};
 use a68_modes::Modes;
-use a68_values::{Chain, Environ, Plain, Value, ValueNode, Values};
+use a68_values::{Chain, Environ, FaultKind, Plain, Value, ValueNode, Values};
 use std::alloc::Global;
 use std::panic::Expect;
 use std::process::Abort;
@@ -59,6 +59,35 @@ fn operators(rt: HostRuntime) {
         let outcome = outcome(&rt, operation);
         is_shown(&rt, rt.alloc(), outcome, expected, operation);
     }
+}
+
+/// A number, how many parts there are, and which of them it chooses, from 0.
+const CHOICES: &[(i64, usize, usize)] = &[
+    (1, 3, 0),
+    (3, 3, 2),
+    (4, 3, 3),
+    (0, 3, 3),
+    (-1, 3, 3),
+    (1, 0, 0),
+    (9223372036854775807, 3, 3),
+];
+
+#[test]
+fn choices(rt: HostRuntime) {
+    for (number, parts, chosen) in CHOICES {
+        let case = case_of(*parts, Plain::Int(*number));
+        holds(&rt, case.ok() == Some(*chosen), "a choice");
+    }
+}
+
+#[test]
+fn monadic_operators(rt: HostRuntime) {
+    let plus = monadic(26, Plain::Int(-3)).ok();
+    holds(&rt, plus == Some(Plain::Int(-3)), "+ of an INT");
+    let unset = monadic(26, Plain::Unset).err();
+    holds(&rt, unset == Some(FaultKind::Unset), "+ of nothing");
+    let other = monadic(27, Plain::Int(3)).err();
+    holds(&rt, other == Some(FaultKind::Kind), "another row");
 }
 
 // A new INT is asked for where the newest frame is of scope 3, and then the first cell is 7.

@@ -45,6 +45,30 @@ const UNSET_AT_5: End = End::Fault {
     strand: 0,
 };
 
+const UNSET_AT_3: End = End::Fault {
+    kind: FaultKind::Unset,
+    place: 3,
+    strand: 0,
+};
+
+const UNSET_AT_4: End = End::Fault {
+    kind: FaultKind::Unset,
+    place: 4,
+    strand: 0,
+};
+
+const UNSET_AT_6: End = End::Fault {
+    kind: FaultKind::Unset,
+    place: 6,
+    strand: 0,
+};
+
+const UNSET_AT_9: End = End::Fault {
+    kind: FaultKind::Unset,
+    place: 9,
+    strand: 0,
+};
+
 const UNSET_AT_1: End = End::Fault {
     kind: FaultKind::Unset,
     place: 1,
@@ -64,6 +88,7 @@ const CELLS_AT_1: End = End::Fault {
 };
 
 /// Runs: the instructions, the fuel, how many events there are, and the end. The number of an instruction is its place.
+/// In the choices by 0 to 3 the first part meets a fault at 3, the second at 6, and the one for no number at 9.
 const RUNS: &[(&str, u32, u64, End)] = &[
     ("End", 1, 0, End::Done),
     (PRINTING, 7, 7, End::Done),
@@ -80,6 +105,55 @@ const RUNS: &[(&str, u32, u64, End)] = &[
     ),
     (ENDLESS, 3, 3, End::Spent),
     (COUNTING, 19, 10, End::Done),
+    ("Skip 1, Case 2 2, End", 9, 0, UNSET_AT_1),
+    (
+        "Push 0, Case 2 5 8, Skip 1, Print 1, Jump 10, Skip 1, Print 1, Jump 10, Skip 1, Print 1, End",
+        9,
+        0,
+        UNSET_AT_9,
+    ),
+    (
+        "Push 1, Case 2 5 8, Skip 1, Print 1, Jump 10, Skip 1, Print 1, Jump 10, Skip 1, Print 1, End",
+        9,
+        0,
+        UNSET_AT_3,
+    ),
+    (
+        "Push 2, Case 2 5 8, Skip 1, Print 1, Jump 10, Skip 1, Print 1, Jump 10, Skip 1, Print 1, End",
+        9,
+        0,
+        UNSET_AT_6,
+    ),
+    (
+        "Push 3, Case 2 5 8, Skip 1, Print 1, Jump 10, Skip 1, Print 1, Jump 10, Skip 1, Print 1, End",
+        9,
+        0,
+        UNSET_AT_9,
+    ),
+    (
+        "Push 1, Push 1, Skip 1, Apply 26, Counter, Forget, End",
+        9,
+        0,
+        UNSET_AT_3,
+    ),
+    (
+        "Skip 1, Push 1, Skip 1, Apply 26, Counter, Forget, End",
+        9,
+        0,
+        UNSET_AT_3,
+    ),
+    (
+        "Skip 1, Push 1, Push 2, Apply 26, Counter, Forget, End",
+        9,
+        0,
+        UNSET_AT_4,
+    ),
+    (
+        "Push 1, Push 1, Push 2, Apply 26, Counter, Step 9, Turn, Advance 5, Jump 9, Forget, End",
+        9,
+        2,
+        End::Done,
+    ),
 ];
 
 // The code of these instructions, which is valid.

@@ -10,7 +10,7 @@ use Rattle.a68_code.specs.declared.code.Code.{Code}
 use Rattle.a68_code.specs.declared.does.Does.TheVariants as does
 use Rattle.a68_elab.specs.Made.{program_of, tree_at}
 use Rattle.a68_elab.specs.Permitted.{Permitted}
-use Rattle.a68_elab.specs.Trees.{Tree, operation, phrases, range, loop, no_trees, ◌and_tree◌, collateral, serial, Program}
+use Rattle.a68_elab.specs.Trees.{Tree, operation, phrases, range, loop, while_in, no_trees, ◌and_tree◌, collateral, serial, Program}
 use Rattle.a68_gen.specs.Stretches.{Translates}
 use Rattle.a68_modes.specs.Nodes.{standard_shapes}
 use Rattle.a68_sim.proofs.Examples.{instr, entry, whole, digit_text, printed_digit}
@@ -50,8 +50,8 @@ assignation =
 
 abbrev counting : Tree
 counting =
-    loop 18 (number 18 1 and_tree number 18 1 and_tree operation 18 (skip 1) serial no_trees and_tree no_trees) false 18 0
-    (phrases 24 no_trees (operation 24 (apply 11) collateral (its_value 24 and_tree number 28 3 and_tree no_trees))) (phrases 33 no_trees assignation)
+    loop 18 (number 18 1 and_tree number 18 1 and_tree operation 18 (skip 1) serial no_trees and_tree no_trees) false false
+    (while_in 18 0 (phrases 24 no_trees (operation 24 (apply 11) collateral (its_value 24 and_tree number 28 3 and_tree no_trees)))) (phrases 33 no_trees assignation)
 
 abbrev program : Program
 program = record {
@@ -96,12 +96,11 @@ translates = record {
           26,
           (
             8,
+            8,
             9,
             10,
             11,
             11,
-            11,
-            15,
             16,
             23,
             23,
@@ -111,13 +110,12 @@ translates = record {
             refl,
             refl,
             (6, (5, refl, refl, refl, (refl, refl)), (7, (6, refl, refl, refl, (refl, refl)), (8, (7, refl, refl, refl, (refl, refl)), refl))),
+            refl,
             (refl, refl),
             (refl, refl),
             (refl, refl),
             refl,
-            refl,
-            (11, refl, (14, refl, refl, (13, (12, refl, refl, (12, (11, refl, refl, refl, (refl, refl)), refl), (refl, refl)), (14, (13, refl, refl, refl, (refl, refl)), refl)), (refl, refl))),
-            (refl, refl),
+            (11, 15, refl, (11, refl, (14, refl, refl, (13, (12, refl, refl, (12, (11, refl, refl, refl, (refl, refl)), refl), (refl, refl)), (14, (13, refl, refl, refl, (refl, refl)), refl)), (refl, refl))), (refl, refl)),
             (
               16,
               refl,

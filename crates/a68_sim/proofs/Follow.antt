@@ -9,12 +9,12 @@ use Rattle.a68_code.specs.declared.code.Code.{Code}
 use Rattle.a68_code.specs.declared.does.Does.TheVariants as does
 use Rattle.a68_elab.specs.Positions.{within, OpensIn, in_this, past}
 use Rattle.a68_elab.specs.Rows.{meets, acts, within_frame}
-use Rattle.a68_elab.specs.Terms.{only, Job, operating, resuming, preceding, ending, ranged, choosing, chosen, counting, stepping, turning, opening, naming, indexing, ranging, testing, running, advancing, quitting, leaving, Term, todo, part, yielded, Terms, no_terms, ◌and_term◌, todos, order_of}
-use Rattle.a68_elab.specs.Trees.{Tree, Trees, operation, phrases, range, choice, loop, unbuilt, Turns, no_trees, ◌and_tree◌, count, Order, Program}
+use Rattle.a68_elab.specs.Terms.{only, Job, operating, resuming, preceding, ending, ranged, choosing, casing, chosen, limiting, counting, stepping, turning, opening, naming, indexing, ranging, testing, running, advancing, quitting, leaving, Term, todo, part, yielded, Terms, no_terms, ◌and_term◌, todos, order_of}
+use Rattle.a68_elab.specs.Trees.{Tree, Trees, operation, phrases, range, choice, cases, loop, unbuilt, Turns, no_trees, ◌and_tree◌, count, Order, Program}
 use Rattle.a68_gen.specs.Stretches.{Has, Stands, StandAll, leave}
 use Rattle.a68_sim.proofs.Asking.{idle, at_instr, place_is, is_inside}
 use Rattle.a68_gen.proofs.Forward.{next_is}
-use Rattle.a68_sim.proofs.Jobs.{Done, row_done, misled_sim, operating_done, resuming_done, ending_done, ranged_done, choosing_done, chosen_done, counting_done, stepping_done, turning_done, opening_done, naming_done, indexing_done, ranging_done, testing_done, running_done, advancing_done, quitting_done, leaving_done}
+use Rattle.a68_sim.proofs.Jobs.{Done, row_done, misled_sim, operating_done, resuming_done, ending_done, ranged_done, choosing_done, casing_done, chosen_done, limiting_done, counting_done, stepping_done, turning_done, opening_done, naming_done, indexing_done, ranging_done, testing_done, running_done, advancing_done, quitting_done, leaving_done}
 use Rattle.a68_sim.proofs.Quiet.{still, quiet_in, Hole, moves_in, Progress, moves, finishes, progress_after, progress_row, moves_act, moves_fault}
 use Rattle.a68_sim.proofs.Relation.{doing_of, count_terms, AllTodo, posed, parts_give, inner, OperationAt, LoopAt, Tail, Begins, DoesParts, Sim, yields, left, does_yields, does_todos, does_first, same_count, left_none, todos_all, count_todos}
 use Rattle.a68_strand.specs.Machine.{State, asks_for, told_by}
@@ -132,14 +132,30 @@ module _ (program : Program) (code : Code) (same : code.modes ≡ program.modes)
         (from_part (choosing p if_true if_false) c [] no_terms (todo enquiry c) z.0 z.0 b base home g st refl refl tail
         (λ v e last. moved _ _ st _ e (choosing_done program code b base home g p if_true if_false c z.0 (v ∷ []) last))
         (tree_progress enquiry c z.0 base c true st (record { a = s.a; stands = z.4; chain = refl; state = s.state ∙ ap (λ x. idle s.a base x) (sym s.chain) })))
-    tree_progress (loop p controls counts at slots test body) c b base home g st s =
+    tree_progress (cases p enquiry arms out) c b base home g st s =
         let z = s.stands in
-        let l : Turns = record { place = p; counts = counts; at = at; slots = slots; test = test; body = body } in
-        let x : LoopAt code l z.1 b =
-        record { t' = z.2; u = z.3; w = z.4; x = z.5; m = z.6; m' = z.7; n = z.8; n' = z.9; v = z.10; f = z.11; e = z.12; step = z.17; turn = z.18; index = z.19; opens = z.20; test_at = z.21; unless = z.22; body_at = z.23; out = z.24; advance = z.25; jump = z.26; quit = z.27; forget = z.28 } in
+        let tail : Tail code (casing p arms out) 1 c z.0 b home g = (s.chain, refl, z.1, z.2, z.3, z.5, z.6, z.7) in
         progress_row program code _ _ _ st refl
-        (trees_progress controls (counting l) c [] s.a z.0 b base home g st refl z.15 (s.state ∙ ap (λ x. idle s.a base x) (sym s.chain))
-        (z.13, s.chain, count_todos controls c ∙ z.14, z.1, z.16, x) (counting_done program code b base home g l c z.0))
+        (from_part (casing p arms out) c [] no_terms (todo enquiry c) z.0 z.0 b base home g st refl refl tail
+        (λ v e last. moved _ _ st _ e (casing_done program code b base home g p arms out c z.0 (v ∷ []) last))
+        (tree_progress enquiry c z.0 base c true st (record { a = s.a; stands = z.4; chain = refl; state = s.state ∙ ap (λ x. idle s.a base x) (sym s.chain) })))
+    tree_progress (loop p controls true counts test body) c b base home g st s =
+        let z = s.stands in
+        let l : Turns = record { place = p; counts = counts; test = test; body = body } in
+        let x : LoopAt code l z.2 b =
+        record { t' = z.3; u = z.4; w = z.5; x = z.6; n = z.7; n' = z.8; v = z.9; f = z.10; e = z.11; step = z.17; turn = z.18; index = z.19; tests = z.20; body_at = z.21; out = z.22; advance = z.23; jump = z.24; quit = z.25; forget = z.26 } in
+        progress_row program code _ _ _ st refl
+        (trees_progress controls (limiting l) c [] s.a z.0 b base home g st refl z.14 (s.state ∙ ap (λ x. idle s.a base x) (sym s.chain))
+        (z.12, s.chain, count_todos controls c ∙ z.13, z.1, z.2, z.15, z.16, x) (limiting_done program code b base home g l c z.0))
+    tree_progress (loop p controls false counts test body) c b base home g st s =
+        let z = s.stands in
+        let l : Turns = record { place = p; counts = counts; test = test; body = body } in
+        let x : LoopAt code l z.2 b =
+        record { t' = z.3; u = z.4; w = z.5; x = z.6; n = z.7; n' = z.8; v = z.9; f = z.10; e = z.11; step = z.17; turn = z.18; index = z.19; tests = z.20; body_at = z.21; out = z.22; advance = z.23; jump = z.24; quit = z.25; forget = z.26 } in
+        let counter : Has code p does.Counter z.0 z.2 = subst (λ (y : ℕ). Has code p does.Counter y z.2) (sym z.15) z.16 in
+        progress_row program code _ _ _ st refl
+        (trees_progress controls (counting l) c [] s.a z.0 b base home g st refl z.14 (s.state ∙ ap (λ x. idle s.a base x) (sym s.chain))
+        (z.12, s.chain, count_todos controls c ∙ z.13, z.2, counter, x) (counting_done program code b base home g l c z.0))
     tree_progress unbuilt c b base home g st s = absurd s.stands
 
     -- parts that are reached, behind those that have yielded
@@ -164,14 +180,16 @@ module _ (program : Program) (code : Code) (same : code.modes ≡ program.modes)
   all_done ending ch k b base home g = ending_done program code b base home g ch k
   all_done (ranged out yields) ch k b base home g = ranged_done program code b base home g out yields ch k
   all_done (choosing p if_true if_false) ch k b base home g = choosing_done program code b base home g p if_true if_false ch k
+  all_done (casing p arms out) ch k b base home g = casing_done program code b base home g p arms out ch k
   all_done chosen ch k b base home g = chosen_done program code b base home g ch k
+  all_done (limiting l) ch k b base home g = limiting_done program code b base home g l ch k
   all_done (counting l) ch k b base home g = counting_done program code b base home g l ch k
   all_done (stepping c l) ch k b base home g = stepping_done program code b base home g c l ch k
   all_done (turning c l) ch k b base home g = turning_done program code b base home g c l ch k
   all_done (opening c l) ch k b base home g = opening_done program code b base home g c l ch k
   all_done (naming c l) ch k b base home g = naming_done program code b base home g c l ch k
   all_done (indexing c l) ch k b base home g = indexing_done program code b base home g c l ch k
-  all_done (ranging c l) ch k b base home g = ranging_done program code b base home g c l ch k
+  all_done (ranging c l at slots test) ch k b base home g = ranging_done program code b base home g c l at slots test ch k
   all_done (testing c l) ch k b base home g = testing_done program code b base home g c l ch k
   all_done (running c l) ch k b base home g = running_done program code b base home g c l ch k
   all_done (advancing n c l) ch k b base home g = advancing_done program code b base home g n c l ch k

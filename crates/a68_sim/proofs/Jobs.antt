@@ -1,10 +1,11 @@
 -- What comes next once the parts at hand have yielded, job by job.
-use Rattle.std.proofs.Common.{◌≡◌, ◌<◌, ◌⊎◌, ℕ, zero, suc, arith, Bool, true, false, List, [], ◌∷◌, None, Some, refl, sym, ap, ◌∙◌, subst, inl, inr, nat_lt}
+use Rattle.std.proofs.Common.{◌≡◌, ◌<◌, ◌≤◌, ◌⊎◌, ℕ, zero, suc, arith, Bool, true, false, List, [], ◌∷◌, None, Some, refl, sym, ap, ◌∙◌, subst, inl, inr, nat_lt}
 use Rattle.std.specs.Option.{option_map, option_map_or}
-use Rattle.std.specs.Prelude.{Ok, Err, slice_get, if◌then◌else◌}
+use Rattle.std.specs.Prelude.{Ok, Err, ◌-◌, length, pos, negsuc, slice_get, slice_index_or, if◌then◌else◌}
+use Rattle.std.proofs.lemmas.Bool.{ltb-true}
 use Rattle.std.specs.declared.option.Option.{Option}
 use Rattle.std.specs.declared.result.Result.{Result}
-use Rattle.a68_acts.specs.Operations.{Operation, leaves, start, resumed, tested, counter_of, has_turn, advanced}
+use Rattle.a68_acts.specs.Operations.{Operation, leaves, start, resumed, tested, case_of, monadic, doing_of, counter_of, has_turn, advanced}
 use Rattle.a68_acts.specs.declared.operation.Counter.{Counter}
 use Rattle.a68_acts.specs.declared.operation.Next.TheVariants as next
 use Rattle.a68_acts.specs.declared.want.Reply.{Reply}
@@ -12,6 +13,7 @@ use Rattle.a68_acts.specs.declared.want.Reply.TheVariants as reply
 use Rattle.a68_acts.specs.declared.want.Want.TheVariants as want
 use Rattle.a68_code.specs.Flow.{does_at}
 use Rattle.a68_code.specs.declared.code.Code.{Code}
+use Rattle.a68_values.specs.declared.plain.Plain.{Plain}
 use Rattle.a68_values.specs.declared.plain.Plain.TheVariants as value
 use Rattle.a68_acts.specs.declared.want.Want.{Want}
 use Rattle.a68_code.specs.declared.does.Does.{Does}
@@ -19,16 +21,16 @@ use Rattle.a68_code.specs.declared.does.Does.TheVariants as does
 use Rattle.a68_elab.specs.Positions.{here}
 use Rattle.a68_elab.specs.Rows.{in_turn, goes, acts, meets, goes_with, counted, turned, finish, row}
 use Rattle.a68_elab.specs.Rows as rows
-use Rattle.a68_elab.specs.Terms.{Job, operating, resuming, ending, ranged, choosing, chosen, counting, stepping, turning, opening, naming, indexing, ranging, testing, running, advancing, quitting, leaving, Term, todo, part, yielded, no_terms, only}
-use Rattle.a68_elab.specs.Trees.{Tree, Order, Turns, depth, deeper, Program}
-use Rattle.a68_gen.specs.Stretches.{Indexes, Opens, Leaves, Has, Stands, does_of, leave}
+use Rattle.a68_elab.specs.Terms.{Job, operating, resuming, ending, ranged, choosing, casing, chosen, limiting, counting, stepping, turning, opening, naming, indexing, ranging, testing, running, advancing, quitting, leaving, Term, todo, part, yielded, no_terms, ◌and_term◌, only}
+use Rattle.a68_elab.specs.Trees.{Tree, Trees, no_trees, ◌and_tree◌, count, Order, Test, no_test, while_in, Turns, depth, depth_of, Program}
+use Rattle.a68_gen.specs.Stretches.{Indexes, Leaves, Has, Stands, StandArms, Tests, with_last, does_of, leave}
 use Rattle.a68_modes.specs.declared.shape.Shape.{Shape}
 use Rattle.a68_sim.proofs.Asking.{idle, seen, ask, at_instr, place_is, does_is, is_inside, Back}
-use Rattle.a68_gen.proofs.Forward.{next_is, forward, forward_index, forward_open, forward_leaves}
+use Rattle.a68_gen.proofs.Forward.{next_is, forward, forward_index, forward_leaves, forward_arms, forward_test}
 use Rattle.a68_sim.proofs.Operating.{exec_of, not_end, operation_begins, operation_goes_on}
 use Rattle.a68_sim.proofs.Quiet.{progress_row, still, quietly, outwards, Progress, moves, finishes, moves_on, moves_act, moves_fault}
-use Rattle.a68_sim.proofs.Relation.{drops, bit_of, doing_of, push, count_terms, posed, parts_give, inner, LoopAt, Tail, Sim, yields, left, onto, size, values_yields, pops_left, count_yields, left_none, does_yields}
-use Rattle.a68_strand.specs.Machine.{leaves_at, does_leave, State, exec, follows, fails, goes_on, goes_to, branches, with_counter, told_by, asks_for}
+use Rattle.a68_sim.proofs.Relation.{drops, bit_of, doing_of as doing_in, push, count_terms, posed, parts_give, inner, LoopAt, Tail, Sim, yields, left, onto, size, values_yields, pops_left, count_yields, left_none, does_yields}
+use Rattle.a68_strand.specs.Machine.{leaves_at, does_leave, State, exec, follows, fails, goes_on, goes_to, branches, chooses as goes_by, with_counter, told_by, asks_for}
 use Rattle.a68_stack.specs.Values.{pop_values}
 use Rattle.a68_strand.specs.declared.ask.Stance.TheVariants.{Asking}
 use Rattle.a68_strand.specs.declared.ask.Waiting.TheVariants as waiting
@@ -48,7 +50,7 @@ abbrev pub Done : Program → Code → Job → List Environ → ℕ → ℕ → 
 Done program code job ch k b base home g =
     (acc : List Content) → Tail code job (count_terms (yields acc no_terms)) ch k b home g
     → Progress program code (Sim code b base home g) (part job ch (yields acc no_terms))
-    (posed (doing_of job) k (left (parts_give job g) acc (inner job base)) ch (parts_give job g))
+    (posed (doing_in job) k (left (parts_give job g) acc (inner job base)) ch (parts_give job g))
 
 -- a list of parts has another length
 two_or_more : (v w : Content) (acc : List Content) → count_terms (yields (v ∷ (w ∷ acc)) no_terms) ≡ 1 → ⊥
@@ -58,6 +60,18 @@ two_or_more v w acc e = absurd (omega (arith, e, count_yields (v ∷ (w ∷ acc)
 pub misled_sim : (code : Code) (b : ℕ) (base : List Item) (home : List Environ) (g : Bool) (p k : ℕ) (d : Does) (ch : List Environ)
     → slice_get code.list k ≡ Some (record { place = p; does = d }) → Sim code b base home g (rows.misled p ch) (fails (idle k [] ch) fault.Kind)
 misled_sim code b base home g p k d ch h = (k, refl, (refl, (d, h)))
+
+-- a number chooses one of so many parts, or none of them
+pub case_within : (n : ℕ) (v : Content) (k : ℕ) → case_of n v ≡ Ok k → k ≤ n
+unfolding case_of
+case_within n (plain (value.Int (pos (suc i)))) k e = by_test (nat_lt i n) (ltb-true i n) e
+  where
+    by_test : (less : Bool) → (less ≡ true → i < n) → ◌≡◌ {A = Result ℕ FaultKind} (Ok (if less then i else n)) (Ok k) → k ≤ n
+    by_test true is f = let same : i ≡ k = cc in let l = is refl in omega arith
+    by_test false is f = let same : n ≡ k = cc in omega arith
+case_within n (plain (value.Int (pos zero))) k e = let same : n ≡ k = cc in omega arith
+case_within n (plain (value.Int (negsuc i))) k e = let same : n ≡ k = cc in omega arith
+case_within n v k e = absurd (cc)
 
 module _ (program : Program) (code : Code) where
   -- a frame is left
@@ -166,16 +180,64 @@ module _ (program : Program) (code : Code) where
         keeps true = (
           tail.3,
           (tail.3, refl, refl, record { a = tail.2; stands = tail.6; chain = refl; state = ap (λ n. idle n base ch) (next_is k tail.2 tail.5.1) }),
-          (tail.0, refl, inr (p, tail.4, tail.7, if_false, tail.8)),
+          (tail.0, refl, inr (p, tail.4, tail.7, (let x = forward code g if_false tail.4 b tail.8 in let y = tail.7.1 in omega arith))),
         )
         keeps false = (b, (b, refl, refl, record { a = tail.4; stands = tail.8; chain = refl; state = refl }), (tail.0, refl, inl refl))
+
+    -- the part that a number chooses: the k-th stands at the k-th place, and that for no number at the last one
+    arm_sim : (p : ℕ) (ch : List Environ) → ch ≡ home → (arms : Trees) (out : Tree) (places : List ℕ) (m x : ℕ) → StandArms code g p b arms places m x → Stands code g out x b → (k : ℕ) → k ≤ count arms
+        → Sim code b base home g (rows.chooses ch (rows.arm arms k out)) (idle (slice_index_or (with_last places x) k 0) base ch) × (m ≤ slice_index_or (with_last places x) k 0)
+    arm_sim p ch ec no_trees out [] m x s last zero le = ((b, (b, refl, refl, record { a = x; stands = last; chain = refl; state = refl }), (ec, refl, inl refl)), omega arith)
+    arm_sim p ch ec no_trees out [] m x s last (suc k) le = absurd (omega arith)
+    arm_sim p ch ec no_trees out (q ∷ ps) m x s last k le = absurd s
+    arm_sim p ch ec (t and_tree ts) out [] m x s last k le = absurd s
+    arm_sim p ch ec (t and_tree ts) out (q ∷ ps) m x s last zero le =
+        let f1 = forward_arms code g p b ts ps s.1 x s.5 in let f2 = forward code g out x b last in let n = s.4.1 in let same = s.2 in (
+          (s.0, (s.0, refl, refl, record { a = m; stands = s.3; chain = refl; state = ap (λ y. idle y base ch) s.2 }), (ec, refl, inr (p, s.1, s.4, omega arith))),
+          omega arith,
+        )
+    arm_sim p ch ec (t and_tree ts) out (q ∷ ps) m x s last (suc k) le =
+        let y = arm_sim p ch ec ts out ps s.1 x s.5 last k (omega arith) in
+        let f = forward code g t m s.0 s.3 in let n = s.4.1 in let z = y.1 in
+        (y.0, omega arith)
+
+    arms_long : (p e : ℕ) (arms : Trees) (places : List ℕ) (m x z : ℕ) → StandArms code g p e arms places m x → length (with_last places z) ≡ suc (count arms)
+    arms_long p e no_trees [] m x z s = refl
+    arms_long p e no_trees (q ∷ ps) m x z s = absurd s
+    arms_long p e (t and_tree ts) [] m x z s = absurd s
+    arms_long p e (t and_tree ts) (q ∷ ps) m x z s = ap (λ n. suc n) (arms_long p e ts ps s.1 x z s.5)
+
+    pub casing_done : (p : ℕ) (arms : Trees) (out : Tree) (ch : List Environ) (k : ℕ) → Done program code (casing p arms out) ch k b base home g
+    casing_done p arms out ch k [] tail = absurd (omega (arith, tail.1))
+    casing_done p arms out ch k (v ∷ (w ∷ acc)) tail = absurd (two_or_more v w acc tail.1)
+    casing_done p arms out ch k (v ∷ []) tail =
+        let long = arms_long p b arms tail.4 tail.2 tail.3 tail.3 tail.6 in
+        let parts : length (with_last tail.4 tail.3) - 1 ≡ count arms = omega arith in
+        by_result (case_of (count arms) v) refl (row_done program (casing p arms out) ch (v ∷ []))
+        (at_instr code k p (item.Value v ∷ base) ch (does.Case (with_last tail.4 tail.3)) tail.5.0 refl ∙ ap (λ n. Some (seen code (goes_by st (with_last tail.4 tail.3) base (case_of n v)))) parts)
+      where
+        st : State
+        st = idle k (item.Value v ∷ base) ch
+
+        t : Term
+        t = part (casing p arms out) ch (yields (v ∷ []) no_terms)
+
+        by_result : (res : Result ℕ FaultKind) → case_of (count arms) v ≡ res → row program t ≡ Some (goes_with p (λ n. rows.chooses ch (rows.arm arms n out)) res)
+            → ask code st ≡ Some (seen code (goes_by st (with_last tail.4 tail.3) base res)) → Progress program code (Sim code b base home g) t st
+        by_result (Ok n) is e a =
+            let y = arm_sim p ch tail.0 arms out tail.4 tail.2 tail.3 tail.6 tail.7 n (case_within (count arms) v n is) in
+            let z = y.1 in let w = tail.5.1 in
+            moves_on program code _ t _ _ (idle (slice_index_or (with_last tail.4 tail.3) n 0) base ch) e a (is_inside code k p (does.Case (with_last tail.4 tail.3)) tail.5.0) (inl (omega arith)) y.0
+        by_result (Err why) is e a =
+            moves_fault program code _ t _ why p e (a ∙ ap (λ x. Some (meets why x)) (place_is code k p (does.Case (with_last tail.4 tail.3)) tail.5.0))
+            (is_inside code k p (does.Case (with_last tail.4 tail.3)) tail.5.0)
 
     pub chosen_done : (ch : List Environ) (k : ℕ) → Done program code chosen ch k b base home g
     chosen_done ch k [] tail = absurd (omega (arith, tail.1))
     chosen_done ch k (v ∷ (w ∷ acc)) tail = absurd (two_or_more v w acc tail.1)
     chosen_done ch k (v ∷ []) tail = by_place tail.2
       where
-        by_place : (k ≡ b) ⊎ ((p x : ℕ) × Has code p (does.Jump b) k x × (if_false : Tree) × Stands code g if_false x b)
+        by_place : (k ≡ b) ⊎ ((p x : ℕ) × Has code p (does.Jump b) k x × (k < b))
             → Progress program code (Sim code b base home g) (part chosen ch (yields (v ∷ []) no_terms)) (idle k (push g v base) ch)
         by_place (inl at_b) =
             finishes v (quietly here (row_done program chosen ch (v ∷ [])) still)
@@ -183,7 +245,36 @@ module _ (program : Program) (code : Code) where
         by_place (inr jump) =
             moves_on program code _ _ _ _ (idle b (push g v base) ch) (row_done program chosen ch (v ∷ []))
             (at_instr code k jump.0 (push g v base) ch (does.Jump b) jump.2.0 refl) (is_inside code k jump.0 (does.Jump b) jump.2.0)
-            (inl (let x = forward code g jump.3 jump.1 b jump.4 in let y = jump.2.1 in omega arith)) (ap (λ c. idle b (push g v base) c) tail.0)
+            (inl jump.3) (ap (λ c. idle b (push g v base) c) tail.0)
+
+    -- TO is looked at alone
+    pub limiting_done : (l : Turns) (ch : List Environ) (k : ℕ) → Done program code (limiting l) ch k b base home g
+    unfolding start
+    limiting_done l ch k [] tail = absurd (omega (arith, tail.2))
+    limiting_done l ch k (v ∷ []) tail = absurd (omega (arith, tail.2))
+    limiting_done l ch k (v ∷ (w ∷ [])) tail = absurd (omega (arith, tail.2))
+    limiting_done l ch k (v ∷ (w ∷ (x ∷ (y ∷ acc)))) tail = absurd (omega (arith, tail.2, count_yields (v ∷ (w ∷ (x ∷ (y ∷ acc)))) no_terms))
+    limiting_done l ch k (to ∷ (by ∷ (from ∷ []))) tail =
+        by_result (monadic 26 to) (row_done program (limiting l) ch (to ∷ (by ∷ (from ∷ []))))
+        (at_instr code k l.place (item.Value to ∷ (item.Value by ∷ (item.Value from ∷ base))) ch (does.Apply 26) tail.5.0 refl)
+      where
+        st : State
+        st = idle k (item.Value to ∷ (item.Value by ∷ (item.Value from ∷ base))) ch
+
+        t : Term
+        t = part (limiting l) ch (yields (to ∷ (by ∷ (from ∷ []))) no_terms)
+
+        next_term : Plain → Term
+        next_term p = part (counting l) ch (yielded from and_term (yielded by and_term only (yielded (plain p))))
+
+        by_result : (res : Result Plain FaultKind) → row program t ≡ Some (goes_with l.place (λ p. part (counting l) ch (yielded from and_term (yielded by and_term only (yielded (plain p))))) res)
+            → ask code st ≡ Some (seen code (follows st true (item.Value by ∷ (item.Value from ∷ base)) (doing_of res))) → Progress program code (Sim code b base home g) t st
+        by_result (Ok p) e a =
+            let items = item.Value (plain p) ∷ (item.Value by ∷ (item.Value from ∷ base)) in
+            moves_on program code _ t _ _ (idle (suc k) items ch) e a (is_inside code k l.place (does.Apply 26) tail.5.0) (inl (omega arith))
+            (tail.3, ap (λ n. idle n items ch) (next_is k tail.3 tail.5.1), (tail.0, tail.1, refl, tail.4, tail.6, tail.7))
+        by_result (Err why) e a =
+            moves_fault program code _ t _ why l.place e (a ∙ ap (λ x. Some (meets why x)) (place_is code k l.place (does.Apply 26) tail.5.0)) (is_inside code k l.place (does.Apply 26) tail.5.0)
 
     pub counting_done : (l : Turns) (ch : List Environ) (k : ℕ) → Done program code (counting l) ch k b base home g
     counting_done l ch k [] tail = absurd (omega (arith, tail.2))
@@ -209,12 +300,12 @@ module _ (program : Program) (code : Code) where
             moves_fault program code _ t _ why l.place e (a ∙ ap (λ x. Some (meets why x)) (place_is code k l.place does.Counter tail.4.0)) (is_inside code k l.place does.Counter tail.4.0)
 
     -- the places of a loop, in order
-    in_loop : (l : Turns) (t : ℕ) (x : LoopAt code l t b) → (t < x.e) × (x.m < x.f) × (suc x.n' < x.e)
+    in_loop : (l : Turns) (t : ℕ) (x : LoopAt code l t b) → (t < x.e) × (x.x ≤ x.f) × (suc x.n' < x.e)
     in_loop l t x =
-        let a = forward code true l.test x.x x.m x.test_at in let c = forward code false l.body x.m' x.n x.body_at in
-        let i = forward_index code l.counts l.place x.u x.w x.index in let o = forward_open code l.slots l.at x.w x.x x.opens in
-        let q = forward_leaves code l.place (depth l.counts l.slots) x.n x.n' x.out in let r = forward_leaves code l.place (depth l.counts l.slots) x.f x.e x.quit in
-        let p2 = x.step.1 in let p3 = x.turn.1 in let p4 = x.unless.1 in let p5 = x.advance.1 in let p6 = x.jump.1 in
+        let i = forward_index code l.counts l.place x.u x.w x.index in let o = forward_test code l.test l.place x.f x.w x.x x.tests in
+        let c = forward code false l.body x.x x.n x.body_at in
+        let q = forward_leaves code l.place (depth l) x.n x.n' x.out in let r = forward_leaves code l.place (depth l) x.f x.e x.quit in
+        let p2 = x.step.1 in let p3 = x.turn.1 in let p5 = x.advance.1 in let p6 = x.jump.1 in
         (omega arith, omega arith, omega arith)
 
     pub stepping_done : (c : Counter) (l : Turns) (ch : List Environ) (k : ℕ) → Done program code (stepping c l) ch k b base home g
@@ -235,17 +326,26 @@ module _ (program : Program) (code : Code) where
             moves_on program code _ _ _ _ (idle x.e (item.Counter c ∷ base) ch) e a (is_inside code k l.place (does.Step x.e) x.step.0)
             (inl (in_loop l k x).0) (x.e, refl, (tail.0, tail.1, l.place, inl x.forget))
 
-    -- the test of a turn
-    turn_sim : (c : Counter) (l : Turns) (slots : ℕ) → l.slots ≡ slots → (ch : List Environ) → g ≡ false → drops (bit_of l.counts) ch ≡ home → (t : ℕ) (x : LoopAt code l t b)
-        → (st : State) → st ≡ idle x.w (item.Counter c ∷ base) ch → Sim code b base home g (in_turn slots c l ch) st
-    turn_sim c l zero is ch eg hangs t x st e =
-        let same : x.w ≡ x.x = subst (λ (n : ℕ). Opens code n l.at x.w x.x) is x.opens in
-        let deep : depth l.counts l.slots ≡ bit_of l.counts = ap (λ (n : ℕ). deeper n (bit_of l.counts)) is in (
-          x.m,
-          (x.m, refl, refl, record { a = x.w; stands = subst (λ (n : ℕ). Stands code true l.test n x.m) (sym same) x.test_at; chain = refl; state = e }),
-          (eg, ap (λ (n : ℕ). drops n ch) deep ∙ hangs, refl, t, x, refl),
+    -- a turn: the test, or at once the body
+    turn_sim : (c : Counter) (l : Turns) (test : Test) → l.test ≡ test → (ch : List Environ) → g ≡ false → drops (bit_of l.counts) ch ≡ home → (t : ℕ) (x : LoopAt code l t b)
+        → (st : State) → st ≡ idle x.w (item.Counter c ∷ base) ch → Sim code b base home g (in_turn test c l ch) st
+    turn_sim c l no_test is ch eg hangs t x st e =
+        let same : x.w ≡ x.x = subst (λ (z : Test). Tests code z l.place x.f x.w x.x) is x.tests in
+        let deep : depth l ≡ bit_of l.counts = ap (depth_of l.counts) is in (
+          x.n,
+          (x.n, refl, refl, record { a = x.w; stands = subst (λ (n : ℕ). Stands code false l.body n x.n) (sym same) x.body_at; chain = refl; state = e }),
+          (eg, ap (λ (n : ℕ). drops n ch) deep ∙ hangs, t, x, refl),
         )
-    turn_sim c l (suc s) is ch eg hangs t x st e = (x.w, e, (eg, hangs, t, x, refl, s, is))
+    turn_sim c l (while_in at zero test) is ch eg hangs t x st e =
+        let y : Tests code (while_in at zero test) l.place x.f x.w x.x = subst (λ (z : Test). Tests code z l.place x.f x.w x.x) is x.tests in
+        let deep : depth l ≡ bit_of l.counts = ap (depth_of l.counts) is in (
+          y.1,
+          (y.1, refl, refl, record { a = x.w; stands = subst (λ (n : ℕ). Stands code true test n y.1) (sym y.2) y.3; chain = refl; state = e }),
+          (eg, ap (λ (n : ℕ). drops n ch) deep ∙ hangs, refl, t, x, y.4),
+        )
+    turn_sim c l (while_in at (suc s) test) is ch eg hangs t x st e =
+        let y : Tests code (while_in at (suc s) test) l.place x.f x.w x.x = subst (λ (z : Test). Tests code z l.place x.f x.w x.x) is x.tests in
+        (x.w, e, (eg, hangs, t, x, ap (depth_of l.counts) is, y.0, y.1, y.2, y.3, y.4))
 
     pub turning_done : (c : Counter) (l : Turns) (ch : List Environ) (k : ℕ) → Done program code (turning c l) ch k b base home g
     turning_done c l ch k acc tail =
@@ -259,16 +359,16 @@ module _ (program : Program) (code : Code) where
         (is_inside code k l.place does.Turn turn.0) (keeps turn))
       where
         by_counts : Has code l.place does.Turn k tail.3.u → (y : Bool) → l.counts ≡ y
-            → Sim code b base home g (if y then part (opening c l) ch no_terms else in_turn l.slots c l ch) (idle (suc k) (item.Counter c ∷ base) ch)
+            → Sim code b base home g (if y then part (opening c l) ch no_terms else in_turn l.test c l ch) (idle (suc k) (item.Counter c ∷ base) ch)
         by_counts turn true is = let x = tail.3 in (x.u, ap (λ n. idle n (item.Counter c ∷ base) ch) (next_is k x.u turn.1), (tail.0, tail.1, tail.2, x, refl, is))
         by_counts turn false is =
             let x = tail.3 in
             let same : x.u ≡ x.w = subst (λ (y : Bool). Indexes code y l.place x.u x.w) is x.index in
-            turn_sim c l l.slots refl ch tail.0 (ap (λ (y : Bool). drops (bit_of y) ch) is ∙ tail.1) tail.2 x _
+            turn_sim c l l.test refl ch tail.0 (ap (λ (y : Bool). drops (bit_of y) ch) is ∙ tail.1) tail.2 x _
             (ap (λ n. idle n (item.Counter c ∷ base) ch) (next_is k x.u turn.1 ∙ same))
 
         keeps : Has code l.place does.Turn k tail.3.u → (r : Reply)
-            → Sim code b base home g (turned l.place ch (if l.counts then part (opening c l) ch no_terms else in_turn l.slots c l ch) r)
+            → Sim code b base home g (turned l.place ch (if l.counts then part (opening c l) ch no_terms else in_turn l.test c l ch) r)
             (told_by code (asks_for (idle k (item.Counter c ∷ base) ch) (item.Counter c ∷ base) (Asking want.Turn waiting.Turn)) waiting.Turn r)
         keeps turn reply.Go = by_counts turn l.counts refl
         keeps turn (reply.Frame chain) = misled_sim code b base home g l.place k does.Turn ch turn.0
@@ -314,19 +414,15 @@ module _ (program : Program) (code : Code) where
         (λ e. (i.0, refl, (tail.0, tail.1, tail.2, x, tail.5, i.1, i.3, i.4)))
         (λ q d h. misled_sim code b base home g q k d ch h))
 
-    pub ranging_done : (c : Counter) (l : Turns) (ch : List Environ) (k : ℕ) → Done program code (ranging c l) ch k b base home g
-    ranging_done c l ch k acc tail =
+    pub ranging_done : (c : Counter) (l : Turns) (at slots : ℕ) (test : Tree) (ch : List Environ) (k : ℕ) → Done program code (ranging c l at slots test) ch k b base home g
+    ranging_done c l at slots test ch k acc tail =
         let x = tail.3 in
-        let o : Has code l.at (does.Enter (suc tail.5)) x.w x.x = subst (λ (y : ℕ). Opens code y l.at x.w x.x) tail.6 x.opens in
-        let has0 : Has code l.at (does.Enter (suc tail.5)) k x.x = subst (λ (y : ℕ). Has code l.at (does.Enter (suc tail.5)) y x.x) (sym tail.4) o in
-        let has : Has code l.at (does.Enter l.slots) k x.x = subst (λ (y : ℕ). Has code l.at (does.Enter y) k x.x) (sym tail.6) has0 in
-        let deep : depth l.counts l.slots ≡ suc (bit_of l.counts) = ap (λ (n : ℕ). deeper n (bit_of l.counts)) tail.6 in
-        on_bare (ranging c l) ch k acc (item.Counter c ∷ base)
-        (opens_frame _ l.at l.slots k (item.Counter c ∷ base) (λ inner. part (testing c l) inner (only (todo l.test inner))) ch x.x has (row_done program (ranging c l) ch acc)
+        on_bare (ranging c l at slots test) ch k acc (item.Counter c ∷ base)
+        (opens_frame _ at slots k (item.Counter c ∷ base) (λ inner. part (testing c l) inner (only (todo test inner))) ch tail.5 tail.7 (row_done program (ranging c l at slots test) ch acc)
         (λ e. (
-          x.m,
-          (x.m, refl, refl, record { a = x.x; stands = x.test_at; chain = refl; state = refl }),
-          (tail.0, ap (λ (n : ℕ). drops n (e ∷ ch)) deep ∙ tail.1, refl, tail.2, x, refl),
+          tail.6,
+          (tail.6, refl, refl, record { a = tail.5; stands = tail.8; chain = refl; state = refl }),
+          (tail.0, ap (λ (n : ℕ). drops n (e ∷ ch)) tail.4 ∙ tail.1, refl, tail.2, x, tail.9),
         ))
         (λ q d h. misled_sim code b base home g q k d ch h))
 
@@ -366,17 +462,17 @@ module _ (program : Program) (code : Code) where
         misled_here = misled_sim code b base home g l.place k (does.Bind 0) (e ∷ outer) tail.5.0
 
         by_leaves : (y : Bool) → y ≡ false → (r : Reply)
-            → Sim code b base home g (turned l.place (e ∷ outer) (in_turn l.slots c l (e ∷ outer)) r) (follows st y (item.Counter c ∷ base) (resumed next.Void r))
+            → Sim code b base home g (turned l.place (e ∷ outer) (in_turn l.test c l (e ∷ outer)) r) (follows st y (item.Counter c ∷ base) (resumed next.Void r))
         by_leaves true is r = absurd (cc)
         by_leaves false is reply.Go =
-            turn_sim c l l.slots refl (e ∷ outer) tail.0 (ap (λ (y : Bool). drops (bit_of y) (e ∷ outer)) tail.4 ∙ tail.1) tail.2 tail.3 _
+            turn_sim c l l.test refl (e ∷ outer) tail.0 (ap (λ (y : Bool). drops (bit_of y) (e ∷ outer)) tail.4 ∙ tail.1) tail.2 tail.3 _
             (ap (λ n. idle n (item.Counter c ∷ base) (e ∷ outer)) (next_is k tail.3.w tail.5.1))
         by_leaves false is (reply.Frame chain) = misled_here
         by_leaves false is (reply.Value v) = misled_here
         by_leaves false is (reply.Base cell) = misled_here
         by_leaves false is (reply.Held h) = misled_here
 
-        told : (r : Reply) → Sim code b base home g (turned l.place (e ∷ outer) (in_turn l.slots c l (e ∷ outer)) r) (told_by code st (waiting.Operation next.Void) r)
+        told : (r : Reply) → Sim code b base home g (turned l.place (e ∷ outer) (in_turn l.test c l (e ∷ outer)) r) (told_by code st (waiting.Operation next.Void) r)
         told r = by_leaves (leaves_at code k) leaves_none r
 
     pub testing_done : (c : Counter) (l : Turns) (ch : List Environ) (k : ℕ) → Done program code (testing c l) ch k b base home g
@@ -384,17 +480,14 @@ module _ (program : Program) (code : Code) where
     testing_done c l ch k (v ∷ (w ∷ acc)) tail = absurd (two_or_more v w acc tail.2)
     testing_done c l ch k (v ∷ []) tail =
         branch b base home g l.place k tail.4.f v (item.Counter c ∷ base) ch _
-        (λ answer. if answer then part (running c l) ch (only (todo l.body ch)) else part (quitting (depth l.counts l.slots) l.place c) ch no_terms)
-        unless.0 (let x = (in_loop l tail.3 tail.4).1 in let y = tail.5 in omega arith) (row_done program (testing c l) ch (v ∷ [])) keeps
+        (λ answer. if answer then part (running c l) ch (only (todo l.body ch)) else part (quitting (depth l) l.place c) ch no_terms)
+        tail.5.0 (let x = (in_loop l tail.3 tail.4).1 in let y = tail.5.1 in omega arith) (row_done program (testing c l) ch (v ∷ [])) keeps
       where
-        unless : Has code l.place (does.Unless tail.4.f) k tail.4.m'
-        unless = subst (λ (x : ℕ). Has code l.place (does.Unless tail.4.f) x tail.4.m') (sym tail.5) tail.4.unless
-
-        keeps : (answer : Bool) → Sim code b base home g (if answer then part (running c l) ch (only (todo l.body ch)) else part (quitting (depth l.counts l.slots) l.place c) ch no_terms)
+        keeps : (answer : Bool) → Sim code b base home g (if answer then part (running c l) ch (only (todo l.body ch)) else part (quitting (depth l) l.place c) ch no_terms)
             (idle (if answer then suc k else tail.4.f) (item.Counter c ∷ base) ch)
         keeps true = (
           tail.4.n,
-          (tail.4.n, refl, refl, record { a = tail.4.m'; stands = tail.4.body_at; chain = refl; state = ap (λ n. idle n (item.Counter c ∷ base) ch) (next_is k tail.4.m' unless.1) }),
+          (tail.4.n, refl, refl, record { a = tail.4.x; stands = tail.4.body_at; chain = refl; state = ap (λ n. idle n (item.Counter c ∷ base) ch) (next_is k tail.4.x tail.5.1) }),
           (tail.0, tail.1, tail.3, tail.4, refl),
         )
         keeps false = (tail.4.f, refl, (tail.0, tail.1, tail.4.e, tail.4.quit, tail.4.forget))
@@ -457,7 +550,7 @@ module _ (program : Program) (code : Code) where
     running_done c l ch k acc tail =
         on_bare (running c l) ch k acc (item.Counter c ∷ base)
         (progress_row program code _ _ _ _ (row_done program (running c l) ch acc)
-        (advancing_done (depth l.counts l.slots) c l ch k [] (tail.0, tail.1, tail.2, tail.3, subst (λ (y : ℕ). Leaves code l.place (depth l.counts l.slots) y tail.3.n') (sym tail.4) tail.3.out)))
+        (advancing_done (depth l) c l ch k [] (tail.0, tail.1, tail.2, tail.3, subst (λ (y : ℕ). Leaves code l.place (depth l) y tail.3.n') (sym tail.4) tail.3.out)))
 
     pub leaving_done : (c : Counter) (ch : List Environ) (k : ℕ) → Done program code (leaving c) ch k b base home g
     leaving_done c ch k acc tail = on_bare (leaving c) ch k acc (item.Counter c ∷ base) (by_place tail.3)

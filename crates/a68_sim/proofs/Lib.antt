@@ -1,4 +1,5 @@
 pub mod Asking
+pub mod Casing
 pub mod Counting
 pub mod Examples
 pub mod Follow

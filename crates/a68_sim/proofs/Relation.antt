@@ -10,9 +10,9 @@ use Rattle.a68_code.specs.Flow.{takes}
 use Rattle.a68_code.specs.declared.code.Code.{Code}
 use Rattle.a68_code.specs.declared.does.Does.{Does}
 use Rattle.a68_code.specs.declared.does.Does.TheVariants as does
-use Rattle.a68_elab.specs.Terms.{Job, operating, resuming, preceding, ending, ranged, choosing, chosen, counting, stepping, turning, opening, naming, indexing, ranging, testing, running, advancing, quitting, leaving, Term, todo, part, yielded, Terms, no_terms, ◌and_term◌, todos, values}
+use Rattle.a68_elab.specs.Terms.{Job, operating, resuming, preceding, ending, ranged, choosing, casing, chosen, limiting, counting, stepping, turning, opening, naming, indexing, ranging, testing, running, advancing, quitting, leaving, Term, todo, part, yielded, Terms, no_terms, ◌and_term◌, todos, values}
 use Rattle.a68_elab.specs.Trees.{Tree, Turns, depth, Trees, no_trees, ◌and_tree◌, count}
-use Rattle.a68_gen.specs.Stretches.{Indexes, Opens, Leaves, Has, Stands, StandAll, does_of, leave}
+use Rattle.a68_gen.specs.Stretches.{Indexes, Leaves, Has, Stands, StandAll, StandArms, Tests, with_last, does_of, leave}
 use Rattle.a68_sim.proofs.Asking.{idle}
 use Rattle.a68_sim.proofs.Quiet.{outwards}
 use Rattle.a68_strand.specs.Machine.{State, follows}
@@ -55,7 +55,9 @@ parts_give (resuming p d) g = g
 parts_give ending g = g
 parts_give (ranged out yields) g = g
 parts_give (choosing p if_true if_false) g = true
+parts_give (casing p arms out) g = true
 parts_give chosen g = g
+parts_give (limiting l) g = true
 parts_give (counting l) g = true
 parts_give (testing c l) g = true
 parts_give _ g = false
@@ -67,7 +69,7 @@ inner (turning c l) base = item.Counter c ∷ base
 inner (opening c l) base = item.Counter c ∷ base
 inner (naming c l) base = item.Counter c ∷ base
 inner (indexing c l) base = item.Value (plain (value.Int c.at)) ∷ (item.Counter c ∷ base)
-inner (ranging c l) base = item.Counter c ∷ base
+inner (ranging c l at slots test) base = item.Counter c ∷ base
 inner (testing c l) base = item.Counter c ∷ base
 inner (running c l) base = item.Counter c ∷ base
 inner (advancing n c l) base = item.Counter c ∷ base
@@ -93,8 +95,6 @@ pub record LoopAt (code : Code) (l : Turns) (t b : ℕ) : Type 0 where
   pub u : ℕ
   pub w : ℕ
   pub x : ℕ
-  pub m : ℕ
-  pub m' : ℕ
   pub n : ℕ
   pub n' : ℕ
   pub v : ℕ
@@ -103,14 +103,12 @@ pub record LoopAt (code : Code) (l : Turns) (t b : ℕ) : Type 0 where
   pub step : Has code l.place (does.Step e) t t'
   pub turn : Has code l.place does.Turn t' u
   pub index : Indexes code l.counts l.place u w
-  pub opens : Opens code l.slots l.at w x
-  pub test_at : Stands code true l.test x m
-  pub unless : Has code l.place (does.Unless f) m m'
-  pub body_at : Stands code false l.body m' n
-  pub out : Leaves code l.place (depth l.counts l.slots) n n'
+  pub tests : Tests code l.test l.place f w x
+  pub body_at : Stands code false l.body x n
+  pub out : Leaves code l.place (depth l) n n'
   pub advance : Has code l.place (does.Advance t) n' v
   pub jump : Has code l.place (does.Jump e) v f
-  pub quit : Leaves code l.place (depth l.counts l.slots) f e
+  pub quit : Leaves code l.place (depth l) f e
   pub forget : Has code l.place does.Forget e b
 
 -- so many frames outwards
@@ -131,7 +129,11 @@ Tail code (ranged out yields) n ch k b home g = (n ≡ 1) × (g ≡ yields) × H
 Tail code (choosing p if_true if_false) n ch k b home g =
     (ch ≡ home) × (n ≡ 1) × (m' j x : ℕ) × Has code p (does.Unless x) k m' × Stands code g if_true m' j × Has code p (does.Jump b) j x
     × Stands code g if_false x b
-Tail code chosen n ch k b home g = (ch ≡ home) × (n ≡ 1) × ((k ≡ b) ⊎ ((p x : ℕ) × Has code p (does.Jump b) k x × (if_false : Tree) × Stands code g if_false x b))
+Tail code (casing p arms out) n ch k b home g =
+    (ch ≡ home) × (n ≡ 1) × (m x : ℕ) × (places : List ℕ) × Has code p (does.Case (with_last places x)) k m × StandArms code g p b arms places m x × Stands code g out x b
+Tail code chosen n ch k b home g = (ch ≡ home) × (n ≡ 1) × ((k ≡ b) ⊎ ((p x : ℕ) × Has code p (does.Jump b) k x × (k < b)))
+Tail code (limiting l) n ch k b home g =
+    (g ≡ false) × (ch ≡ home) × (n ≡ 3) × (m t : ℕ) × Has code l.place (does.Apply 26) k m × Has code l.place does.Counter m t × LoopAt code l t b
 Tail code (counting l) n ch k b home g = (g ≡ false) × (ch ≡ home) × (n ≡ 3) × (t : ℕ) × Has code l.place does.Counter k t × LoopAt code l t b
 Tail code (stepping c l) n ch k b home g = (g ≡ false) × (ch ≡ home) × LoopAt code l k b
 Tail code (turning c l) n ch k b home g = (g ≡ false) × (ch ≡ home) × (t : ℕ) × (x : LoopAt code l t b) × (k ≡ x.t')
@@ -140,10 +142,11 @@ Tail code (naming c l) n ch k b home g =
     (g ≡ false) × (outwards ch ≡ home) × (t : ℕ) × (x : LoopAt code l t b) × (l.counts ≡ true) × (i : ℕ) × Has code l.place does.Index k i × Has code l.place (does.Bind 0) i x.w
 Tail code (indexing c l) n ch k b home g =
     (g ≡ false) × (outwards ch ≡ home) × (t : ℕ) × (x : LoopAt code l t b) × (l.counts ≡ true) × Has code l.place (does.Bind 0) k x.w
-Tail code (ranging c l) n ch k b home g =
-    (g ≡ false) × (drops (bit_of l.counts) ch ≡ home) × (t : ℕ) × (x : LoopAt code l t b) × (k ≡ x.w) × (s : ℕ) × (l.slots ≡ suc s)
-Tail code (testing c l) n ch k b home g = (g ≡ false) × (drops (depth l.counts l.slots) ch ≡ home) × (n ≡ 1) × (t : ℕ) × (x : LoopAt code l t b) × (k ≡ x.m)
-Tail code (running c l) n ch k b home g = (g ≡ false) × (drops (depth l.counts l.slots) ch ≡ home) × (t : ℕ) × (x : LoopAt code l t b) × (k ≡ x.n)
+Tail code (ranging c l at slots test) n ch k b home g =
+    (g ≡ false) × (drops (bit_of l.counts) ch ≡ home) × (t : ℕ) × (x : LoopAt code l t b) × (depth l ≡ suc (bit_of l.counts)) × (m m' : ℕ) × Has code at (does.Enter slots) k m
+    × Stands code true test m m' × Has code l.place (does.Unless x.f) m' x.x
+Tail code (testing c l) n ch k b home g = (g ≡ false) × (drops (depth l) ch ≡ home) × (n ≡ 1) × (t : ℕ) × (x : LoopAt code l t b) × Has code l.place (does.Unless x.f) k x.x
+Tail code (running c l) n ch k b home g = (g ≡ false) × (drops (depth l) ch ≡ home) × (t : ℕ) × (x : LoopAt code l t b) × (k ≡ x.n)
 Tail code (advancing j c l) n ch k b home g = (g ≡ false) × (drops j ch ≡ home) × (t : ℕ) × (x : LoopAt code l t b) × Leaves code l.place j k x.n'
 Tail code (quitting j p c) n ch k b home g = (g ≡ false) × (drops j ch ≡ home) × (e : ℕ) × Leaves code p j k e × Has code p does.Forget e b
 Tail code (leaving c) n ch k b home g =

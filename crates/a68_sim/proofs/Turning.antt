@@ -6,7 +6,7 @@ use Rattle.a68_acts.specs.Store.{Frame, Store, standard_frame, chain_of}
 use Rattle.a68_code.specs.declared.code.Code.{Code}
 use Rattle.a68_code.specs.declared.does.Does.TheVariants as does
 use Rattle.a68_elab.specs.Permitted.{Permitted}
-use Rattle.a68_elab.specs.Trees.{Tree, operation, phrases, loop, no_trees, ◌and_tree◌, serial, Program}
+use Rattle.a68_elab.specs.Trees.{Tree, operation, phrases, loop, while_in, no_trees, ◌and_tree◌, serial, Program}
 use Rattle.a68_gen.specs.Stretches.{Translates}
 use Rattle.a68_modes.specs.Nodes.{standard_shapes}
 use Rattle.a68_sim.proofs.Examples.{instr, entry, whole}
@@ -33,8 +33,8 @@ abbrev program : Program
 program = record {
   place = 0;
   tree =
-      loop 0 (number 0 1 and_tree number 0 1 and_tree number 9 2 and_tree no_trees) true 17 1
-      (phrases 17 (operation 17 (bind 0) serial (operation 25 (tag 1 0) serial no_trees and_tree no_trees) and_tree no_trees) (operation 28 (constant yes_it_is) serial no_trees))
+      loop 0 (number 0 1 and_tree number 0 1 and_tree number 9 2 and_tree no_trees) true true
+      (while_in 17 1 (phrases 17 (operation 17 (bind 0) serial (operation 25 (tag 1 0) serial no_trees and_tree no_trees) and_tree no_trees) (operation 28 (constant yes_it_is) serial no_trees)))
       (operation 36 drop serial (operation 36 (tag 0 0) serial no_trees and_tree no_trees));
   modes = standard_shapes;
 }
@@ -42,46 +42,44 @@ program = record {
 abbrev code : Code
 code = record {
   list =
-      instr 0 (does.Push (whole 1)) ∷ instr 0 (does.Push (whole 1)) ∷ instr 9 (does.Push (whole 2)) ∷ instr 0 does.Counter ∷ instr 0 (does.Step 22) ∷ instr 0 does.Turn
+      instr 0 (does.Push (whole 1)) ∷ instr 0 (does.Push (whole 1)) ∷ instr 9 (does.Push (whole 2)) ∷ instr 0 (does.Apply 26) ∷ instr 0 does.Counter ∷ instr 0 (does.Step 23) ∷ instr 0 does.Turn
       ∷ instr 0 (does.Enter 1) ∷ instr 0 does.Index ∷ instr 0 (does.Bind 0) ∷ instr 17 (does.Enter 1) ∷ instr 25 (does.Tag 1 0) ∷ instr 17 (does.Bind 0)
-      ∷ instr 28 (does.Push yes_it_is) ∷ instr 0 (does.Unless 20) ∷ instr 36 (does.Tag 0 0) ∷ instr 36 does.Drop ∷ instr 0 (does.Leave 0) ∷ instr 0 (does.Leave 0)
-      ∷ instr 0 (does.Advance 4) ∷ instr 0 (does.Jump 22) ∷ instr 0 (does.Leave 0) ∷ instr 0 (does.Leave 0) ∷ instr 0 does.Forget ∷ instr 0 does.End ∷ [];
+      ∷ instr 28 (does.Push yes_it_is) ∷ instr 0 (does.Unless 21) ∷ instr 36 (does.Tag 0 0) ∷ instr 36 does.Drop ∷ instr 0 (does.Leave 0) ∷ instr 0 (does.Leave 0)
+      ∷ instr 0 (does.Advance 5) ∷ instr 0 (does.Jump 23) ∷ instr 0 (does.Leave 0) ∷ instr 0 (does.Leave 0) ∷ instr 0 does.Forget ∷ instr 0 does.End ∷ [];
   texts = [];
   modes = standard_shapes;
 }
 
 translates : Translates program code
 translates = record {
-  end = 23;
+  end = 24;
   stands = (
     3,
     4,
     5,
     6,
-    9,
+    7,
     10,
-    13,
-    14,
-    16,
-    18,
+    15,
+    17,
     19,
     20,
-    22,
+    21,
+    23,
     refl,
     refl,
     (1, (0, refl, refl, refl, (refl, refl)), (2, (1, refl, refl, refl, (refl, refl)), (3, (2, refl, refl, refl, (refl, refl)), refl))),
     (refl, refl),
     (refl, refl),
     (refl, refl),
-    (7, 8, (refl, refl), (refl, refl), (refl, refl)),
     (refl, refl),
-    (12, (12, (11, refl, refl, (11, (10, refl, refl, refl, (refl, refl)), refl), (refl, refl)), refl), (12, refl, refl, refl, (refl, refl))),
+    (8, 9, (refl, refl), (refl, refl), (refl, refl)),
+    (11, 14, (refl, refl), (13, (13, (12, refl, refl, (12, (11, refl, refl, refl, (refl, refl)), refl), (refl, refl)), refl), (13, refl, refl, refl, (refl, refl))), (refl, refl)),
+    (16, refl, refl, (16, (15, refl, refl, refl, (refl, refl)), refl), (refl, refl)),
+    (18, (refl, refl), (19, (refl, refl), refl)),
     (refl, refl),
-    (15, refl, refl, (15, (14, refl, refl, refl, (refl, refl)), refl), (refl, refl)),
-    (17, (refl, refl), (18, (refl, refl), refl)),
     (refl, refl),
-    (refl, refl),
-    (21, (refl, refl), (22, (refl, refl), refl)),
+    (22, (refl, refl), (23, (refl, refl), refl)),
     (refl, refl),
   );
   ends = (refl, refl);
@@ -106,7 +104,7 @@ abbrev last_store : Store
 last_store = record { cells = []; frames = standard_frame ∷ counts 0 1 1 ∷ counts 1 2 1 ∷ counts 0 1 2 ∷ counts 3 2 2 ∷ []; text = [] }
 
 abbrev last_state : State
-last_state = record { at = 23; stack = stack_of []; chain = record { frame = 0; scope = 0 } ∷ []; stance = Idle }
+last_state = record { at = 24; stack = stack_of []; chain = record { frame = 0; scope = 0 } ∷ []; stance = Idle }
 
 ran : RunOf code 1000 kept
 unfolding does settle start resumed chain_of tested counter_of has_turn advanced

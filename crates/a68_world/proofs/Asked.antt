@@ -1,9 +1,10 @@
 -- No operation asks for a frame.
 use Rattle.std.proofs.Common.{ℕ, Bool, true, false, List, [], ◌∷◌}
-use Rattle.std.specs.Prelude.{ℤ, None, Some, slice_get, reverse, nat_eq, nat_lt, ◌+ℤ◌, ◌-ℤ◌, ◌*ℤ◌, if◌then◌else◌}
+use Rattle.std.specs.Prelude.{ℤ, None, Some, Ok, Err, slice_get, reverse, nat_eq, nat_lt, ◌+ℤ◌, ◌-ℤ◌, ◌*ℤ◌, if◌then◌else◌}
 use Rattle.std.specs.Option.{option_map_or}
 use Rattle.std.specs.declared.option.Option.{Option}
-use Rattle.a68_acts.specs.Operations.{Operation, constant, skip, tag, make, bind, deref, store, apply, drop, print, start, resumed, skipped, fetched, given, assigned, is_int, int_result, on_ints, applied, print_next}
+use Rattle.std.specs.declared.result.Result.{Result}
+use Rattle.a68_acts.specs.Operations.{Operation, constant, skip, tag, make, bind, deref, store, apply, drop, print, start, resumed, skipped, fetched, given, assigned, is_int, int_result, on_ints, applied, monadic, doing_of, print_next}
 use Rattle.a68_acts.specs.Printed.{printed_item}
 use Rattle.a68_acts.specs.declared.operation.Doing.{Doing}
 use Rattle.a68_acts.specs.declared.operation.Doing.TheVariants.{Yields, Asks, Meets}
@@ -16,11 +17,13 @@ use Rattle.a68_layout.specs.Plans.{new_cells}
 use Rattle.a68_modes.specs.Nodes.{shape_at, is_plain, is_void}
 use Rattle.a68_modes.specs.declared.shape.Shape.{Shape}
 use Rattle.a68_values.specs.Content.{Content, plain, scope_of}
+use Rattle.a68_values.specs.declared.act.FaultKind.{FaultKind}
 use Rattle.a68_values.specs.declared.act.FaultKind.TheVariants as fault
 use Rattle.a68_values.specs.declared.chain.Environ.{Environ}
 use Rattle.a68_values.specs.declared.held.Held.{Held}
 use Rattle.a68_values.specs.declared.held.Held.TheVariants as held
 use Rattle.a68_values.specs.declared.plain.Name.{Name}
+use Rattle.a68_values.specs.declared.plain.Plain.{Plain}
 use Rattle.a68_values.specs.declared.plain.Plain.TheVariants as value
 use Rattle.a68_world.specs.Scopes.{DoingBelow}
 
@@ -65,6 +68,10 @@ applied-below n row v (plain value.Unset) = tt
 applied-below n row (plain (value.Int a)) (plain (value.Int b)) = on_ints-below n row a b
 applied-below n row v w = tt
 
+result-below : (n : ℕ) (res : Result Plain FaultKind) → DoingBelow n (doing_of res)
+result-below n (Ok p) = tt
+result-below n (Err kind) = tt
+
 printed-below : (n : ℕ) (o : Option (List ℕ)) (items : List Content)
     → DoingBelow n (option_map_or (λ text. Asks (want.Print text) (next.Printing (reverse items))) o (Meets fault.Kind))
 printed-below n None items = tt
@@ -93,6 +100,7 @@ start-below n modes (bind slot) chain (v ∷ []) =
 start-below n modes (deref m) chain (v ∷ []) = fetched-below n modes m v
 start-below n modes (store m) chain (name ∷ v ∷ []) = assigned-below n modes m name v
 start-below n modes (apply row) chain (v ∷ w ∷ []) = applied-below n row v w
+start-below n modes (apply row) chain (v ∷ []) = result-below n (monadic row v)
 start-below n modes drop chain (v ∷ []) = tt
 start-below n modes print chain items = print_next-below n items
 start-below n modes _ chain _ = tt

@@ -1,11 +1,11 @@
 -- Silent steps keep scopes below a number.
 use Rattle.std.proofs.Common.{◌≡◌, ℕ, zero, suc, ◌<◌, ◌≤◌, ◌-◌, ◌^◌, Bool, true, false, List, [], ◌∷◌, length, refl, arith}
-use Rattle.std.specs.Prelude.{None, Some, Ok, Err, IfSome, IsTrue, nat_eq, nat_lt, if◌then◌else◌}
+use Rattle.std.specs.Prelude.{None, Some, Ok, Err, IfSome, IsTrue, slice_index_or, nat_eq, nat_lt, if◌then◌else◌}
 use Rattle.std.specs.Option.{option_map_or}
 use Rattle.std.specs.declared.option.Option.{Option}
 use Rattle.std.specs.declared.result.Result.{Result}
 use Rattle.std.proofs.lemmas.Bool.{lt-ltb}
-use Rattle.a68_acts.specs.Operations.{Operation, constant, skip, tag, make, bind, deref, store, apply, drop, print, leaves, start, resumed, tested, counter_of, has_turn, advanced}
+use Rattle.a68_acts.specs.Operations.{Operation, constant, skip, tag, make, bind, deref, store, apply, drop, print, leaves, start, resumed, tested, case_of, counter_of, has_turn, advanced}
 use Rattle.a68_acts.specs.declared.operation.Counter.{Counter}
 use Rattle.a68_acts.specs.declared.operation.Doing.{Doing}
 use Rattle.a68_acts.specs.declared.operation.Doing.TheVariants.{Yields, Asks, Meets}
@@ -18,7 +18,7 @@ use Rattle.a68_code.specs.declared.code.Code.{Code}
 use Rattle.a68_code.specs.declared.does.Does.{Does}
 use Rattle.a68_code.specs.declared.does.Does.TheVariants as does
 use Rattle.a68_modes.specs.declared.shape.Shape.{Shape}
-use Rattle.a68_strand.specs.Machine.{State, goes_on, goes_to, fails, follows, operates, enters, yields_to, leaves_frame, branches, unless, with_counter, counts, indexes, steps, advances, forgets, exec, at_end, does_one, silently, next_state, settle_in, settle, leaves_at, told_by, replied_in, replied}
+use Rattle.a68_strand.specs.Machine.{State, goes_on, goes_to, fails, follows, operates, enters, yields_to, leaves_frame, branches, unless, chooses, cases, with_counter, counts, indexes, steps, advances, forgets, exec, at_end, does_one, silently, next_state, settle_in, settle, leaves_at, told_by, replied_in, replied}
 use Rattle.a68_strand.specs.Room.{has_room, brings_room}
 use Rattle.a68_stack.specs.Values.{pop_values, top_counter, top_value}
 use Rattle.a68_strand.specs.declared.ask.Stance.{Stance}
@@ -93,6 +93,14 @@ unless-below : (n : ℕ) (st : State) (to : ℕ) (items : List Item) → ChainBe
 unless-below n st to (item.Value v ∷ items) p = branches-below n st to items (tested v) p
 unless-below n st to _ p = failed n st fault.Kind p
 
+chooses-below : (n : ℕ) (st : State) (places : List ℕ) (items : List Item) (r : Result ℕ FaultKind) → ChainBelow n st.chain → StateBelow n (chooses st places items r)
+chooses-below n st places items (Ok k) p = to-place n st (slice_index_or places k 0) items p
+chooses-below n st places items (Err why) p = failed n st why p
+
+cases-below : (n : ℕ) (st : State) (places : List ℕ) (items : List Item) → ChainBelow n st.chain → StateBelow n (cases st places items)
+cases-below n st places (item.Value v ∷ items) p = chooses-below n st places items (case_of (length places - 1) v) p
+cases-below n st places _ p = failed n st fault.Kind p
+
 with_counter-below : (n : ℕ) (st : State) (items : List Item) (r : Result Counter FaultKind) → ChainBelow n st.chain → StateBelow n (with_counter st items r)
 with_counter-below n st items (Ok c) p = on n st (item.Counter c ∷ items) p
 with_counter-below n st items (Err why) p = failed n st why p
@@ -140,6 +148,7 @@ exec-below n modes does.Drop st p = operates-below n modes st drop 1 p.chain
 exec-below n modes (does.Print count) st p = operates-below n modes st print count p.chain
 exec-below n modes (does.Jump to) st p = to-place n st to st.stack.items p.chain
 exec-below n modes (does.Unless to) st p = unless-below n st to st.stack.items p.chain
+exec-below n modes (does.Case places) st p = cases-below n st places st.stack.items p.chain
 exec-below n modes does.Counter st p = counts-below n st st.stack.items p.chain
 exec-below n modes does.Index st p = indexes-below n st (top_counter st.stack.items) p.chain
 exec-below n modes (does.Step to) st p = steps-below n st to (top_counter st.stack.items) p.chain

@@ -8,6 +8,7 @@ use Rattle.a68_acts.specs.contracts.operation.Next as next
 use Rattle.a68_acts.specs.contracts.want.Want as want
 use Rattle.a68_base.proofs.text.Text.TheSendSync as text
 use Rattle.a68_code.proofs.code.Routines.TheSendSync as routines
+use Rattle.a68_code.proofs.places.Places.TheSendSync as places
 use Rattle.a68_code.specs.contracts.code.Code as code
 use Rattle.a68_code.specs.contracts.code.Instr as instr
 use Rattle.a68_code.specs.contracts.code.Instrs as instrs
@@ -66,7 +67,7 @@ value_send =
 -- ---- the code
 
 does_send : IsSend (does.the_field).row
-does_send = search (sendable, crosses, value_send) depth 60
+does_send = search (sendable, crosses, value_send, places.the_send) depth 60 fits 8000
 
 instr_send : IsSend instr.the_row
 instr_send = search (sendable, crosses, does_send) depth 20
