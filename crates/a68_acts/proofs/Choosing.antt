@@ -1,10 +1,10 @@
 -- Which part a number chooses.
-use Rattle.std.proofs.Common.{◌≡◌, ◌<◌, ◌≤◌, ◌-◌, ◌^◌, ℕ, zero, suc, ℤ, pos, true, false, refl, ap, arith}
+use Rattle.std.proofs.Common.{◌≡◌, ◌<◌, ◌≤◌, ◌-◌, ℕ, zero, suc, ℤ, pos, true, false, refl, arith}
 use Rattle.std.proofs.Math.IntN.{nat_abs}
 use Rattle.std.proofs.lemmas.Bool.{lt-ltb, le-ltb}
 use Rattle.std.proofs.lemmas.Int.{to_z-of_z, ints}
 use Rattle.std.specs.Int.{FitsUnsignedBits}
-use Rattle.std.specs.Prelude.{Ok, negsuc, nat_lt, if◌then◌else◌}
+use Rattle.std.specs.Prelude.{Ok, negsuc, nat_lt}
 use Rattle.std.specs.declared.result.Result.{Result}
 use Rattle.a68_acts.specs.Operations.{case_of}
 use Rattle.a68_values.specs.Content.{plain}

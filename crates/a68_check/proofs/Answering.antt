@@ -23,7 +23,7 @@ pub when-err : {A B : Type 0} (P : A → Type 0) (Q : B → Type 0) (r : Result 
 when-err P Q r b e m = subst (λ s. MatchResult s P Q) e m
 
 -- a stop that says more
-stops : (P Q : Refusal → Type 0) (s : Stop) → ((r : Refusal) → P r → Q r) → StopsBy P s → StopsBy Q s
+pub stops : (P Q : Refusal → Type 0) (s : Stop) → ((r : Refusal) → P r → Q r) → StopsBy P s → StopsBy Q s
 stops P Q NoMemory f p = tt
 stops P Q (Refused r) f p = f r p
 

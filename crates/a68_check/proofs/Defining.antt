@@ -8,7 +8,7 @@ use Rattle.std.proofs.lemmas.Bool.Decides.{eqb_tells}
 use Rattle.a68_check.specs.Definitions.{defines, in_text, name_at, defined_before, one_more, find, Repeats, Tells}
 use Rattle.a68_check.specs.Constructs.{construct_of}
 use Rattle.a68_check.specs.declared.definitions.Definition.{Definition}
-use Rattle.a68_op_ident.proofs.Placing.{get-set_here, get-set_there}
+use Rattle.a68_op_ident.proofs.Lists.{get-set_here, get-set_there}
 use Rattle.a68_tree.specs.Trees.{Built}
 use Rattle.a68_tree.specs.declared.node.Node.{Node}
 

@@ -5,16 +5,18 @@ use Rattle.a68_annot.specs.declared.note.Note.{Note}
 use Rattle.a68_modes.specs.declared.shape.Shape.{Shape}
 use Rattle.a68_annot.specs.declared.annotated.Annotated.{Annotated}
 use Rattle.a68_base.specs.declared.refusal.Refusal.{Refusal}
-use Rattle.a68_check.specs.Annotates.{IsAnnotated, Annotates, Breaks, Refuses, broken, declared_twice, other, repeats, undefined, place_at}
+use Rattle.a68_check.specs.Annotates.{IsAnnotated, Annotates, Breaks, Refuses, DeclaresOnce, IsWellDeclared, broken, declared_twice, misdeclared, unshaped, other, repeats, undefined, place_at}
 use Rattle.a68_check.specs.Goals.{goals_of}
 use Rattle.a68_check.specs.Misfits.{FirstOther}
 use Rattle.a68_check.specs.Notes.{notes_of}
 use Rattle.a68_check.specs.Small.{Runs}
 use Rattle.a68_check.proofs.Missing.{one_other, other_runs_not}
 use Rattle.a68_check.specs.Definitions.{in_text, FirstRepeat, FirstUndefined}
+use Rattle.a68_declare.specs.Outcome.{AreModesOf, ByNode, IsFirstBroken}
+use Rattle.a68_op_ident.specs.Lacking.{IsUnshaped, LacksPriority}
 use Rattle.a68_op_ident.specs.Shapes.{Shaped}
 use Rattle.a68_ranges.specs.Nodes as nodes
-use Rattle.a68_ranges.specs.Twice.{IsFirstInText, IsTwice}
+use Rattle.a68_ranges.specs.Twice.{IsFirstInText, IsRefused, IsTwice}
 use Rattle.a68_tree.specs.Trees.{Built}
 
 three : (a b : ℕ) → (a ≡ b) ⊎ ((a < b) ⊎ (b < a))
@@ -85,17 +87,44 @@ one_annotation a b e p q = same_annotated a b e (p.modes ∙ sym q.modes) (p.not
 one_first : (tree : Built) (P : ℕ → Type 0) (i j : ℕ) → IsFirstInText tree P i → IsFirstInText tree P j → nodes.place_at tree i ≡ nodes.place_at tree j
 one_first tree P i j p q = let a = p.first j q.there q.broken in let b = q.first i p.there p.broken in omega arith
 
-module _ (shapes : (flat shaped another : Built) → Shaped flat shaped → Shaped flat another → another ≡ shaped) where
+-- what the laws of shapes and of declarers say, as these give it
+pub record Laws : Type 0 where
+  pub shapes : (flat shaped another : Built) → DeclaresOnce flat → Shaped flat shaped → Shaped flat another → another ≡ shaped
+  pub never : (flat shaped : Built) (why : Refusal) → DeclaresOnce flat → IsUnshaped flat why → Shaped flat shaped → ⊥
+  pub declared : (flat : Built) → DeclaresOnce flat → (r s : Refusal) → IsFirstBroken flat r → IsFirstBroken flat s → AreOne r s
+  pub unbroken : (flat : Built) → DeclaresOnce flat → (modes : List Shape) (of : ByNode) (r : Refusal) → AreModesOf flat modes of → IsFirstBroken flat r → ⊥
+
+module _ (laws : Laws) where
+  fine : (flat : Built) (r : Refusal) → DeclaresOnce flat → IsWellDeclared flat → IsFirstBroken flat r → ⊥
+  fine flat r once well b = laws.unbroken flat once well.0 well.1 r well.2 b
+
+  twice_alone : (flat : Built) (r s : Refusal) → IsRefused flat r → Refuses flat s → AreOne r s
+  twice_alone flat r s t (declared_twice u) = (t.rule_is ∙ sym u.rule_is, t.place_is ∙ one_first flat (IsTwice flat) t.id u.id t.first u.first ∙ sym u.place_is)
+  twice_alone flat r s t (unshaped once u) = absurd (once t.id t.first.broken)
+  twice_alone flat r s t (misdeclared shaped once is b) = absurd (once t.id t.first.broken)
+  twice_alone flat r s t (broken shaped once well is b) = absurd (once t.id t.first.broken)
+
   pub one_refusal : (flat : Built) (r s : Refusal) → Refuses flat r → Refuses flat s → AreOne r s
-  one_refusal flat r s (declared_twice t) (declared_twice u) = (t.rule_is ∙ sym u.rule_is, t.place_is ∙ one_first flat (IsTwice flat) t.id u.id t.first u.first ∙ sym u.place_is)
-  one_refusal flat r s (declared_twice t) (broken shaped once is b) = absurd (once t.id t.first.broken)
-  one_refusal flat r s (broken shaped once is b) (declared_twice t) = absurd (once t.id t.first.broken)
-  one_refusal flat r s (broken shaped once is b) (broken another also so c) =
-      one_break shaped r s b (subst (λ x. Breaks x s) (shapes flat shaped another is so) c)
+  one_refusal flat r s (declared_twice t) q = twice_alone flat r s t q
+  one_refusal flat r s (unshaped once u) (declared_twice t) = absurd (once t.id t.first.broken)
+  one_refusal flat r s (unshaped once t) (unshaped so u) = (t.rule_is ∙ sym u.rule_is, t.place_is ∙ one_first flat (LacksPriority flat) t.id u.id t.first u.first ∙ sym u.place_is)
+  one_refusal flat r s (unshaped once u) (misdeclared shaped so is b) = absurd (laws.never flat shaped r once u is)
+  one_refusal flat r s (unshaped once u) (broken shaped so well is b) = absurd (laws.never flat shaped r once u is)
+  one_refusal flat r s (misdeclared shaped once is b) (declared_twice t) = absurd (once t.id t.first.broken)
+  one_refusal flat r s (misdeclared shaped once is b) (unshaped so u) = absurd (laws.never flat shaped s once u is)
+  one_refusal flat r s (misdeclared shaped once is b) (misdeclared another so also c) = laws.declared flat once r s b c
+  one_refusal flat r s (misdeclared shaped once is b) (broken another so well also c) = absurd (fine flat r once well b)
+  one_refusal flat r s (broken shaped once well is b) (declared_twice t) = absurd (once t.id t.first.broken)
+  one_refusal flat r s (broken shaped once well is b) (unshaped so u) = absurd (laws.never flat shaped s once u is)
+  one_refusal flat r s (broken shaped once well is b) (misdeclared another so also c) = absurd (fine flat s once well c)
+  one_refusal flat r s (broken shaped once well is b) (broken another so good also c) =
+      one_break shaped r s b (subst (λ x. Breaks x s) (laws.shapes flat shaped another once is also) c)
 
   pub not_refused : (flat : Built) (program : Annotated) (r : Refusal) → Annotates flat program → Refuses flat r → ⊥
   not_refused flat program r a (declared_twice t) = a.once t.id t.first.broken
-  not_refused flat program r a (broken shaped once is b) = no_break program r a.annotated (subst (λ x. Breaks x r) (shapes flat program.tree shaped a.shaped is) b)
+  not_refused flat program r a (unshaped once u) = laws.never flat program.tree r once u a.shaped
+  not_refused flat program r a (misdeclared shaped once is b) = fine flat r once a.declared b
+  not_refused flat program r a (broken shaped once well is b) = no_break program r a.annotated (subst (λ x. Breaks x r) (laws.shapes flat program.tree shaped once a.shaped is) b)
 
   pub one_program : (flat : Built) (a b : Annotated) → Annotates flat a → Annotates flat b → a ≡ b
-  one_program flat a b p q = one_annotation a b (sym (shapes flat a.tree b.tree p.shaped q.shaped)) p.annotated q.annotated
+  one_program flat a b p q = one_annotation a b (sym (laws.shapes flat a.tree b.tree p.once p.shaped q.shaped)) p.annotated q.annotated

@@ -1,5 +1,5 @@
 -- The annotated tree of a program that runs, and why another one is refused.
-use Rattle.std.specs.Prelude.{◌≡◌, ℕ, ◌<◌, length, slice_get}
+use Rattle.std.specs.Prelude.{◌≡◌, ℕ, ◌<◌, List, length, slice_get}
 use Rattle.std.specs.Option.{option_map_or}
 use Rattle.a68_annot.specs.declared.annotated.Annotated.{Annotated}
 use Rattle.a68_base.specs.declared.refusal.Refusal.{Refusal}
@@ -9,7 +9,10 @@ use Rattle.a68_check.specs.Goals.{goals_of}
 use Rattle.a68_check.specs.Misfits.{FirstOther}
 use Rattle.a68_check.specs.Notes.{notes_of}
 use Rattle.a68_check.specs.Small.{Runs}
+use Rattle.a68_declare.specs.Outcome.{AreModesOf, ByNode, IsFirstBroken}
 use Rattle.a68_modes.specs.Nodes.{standard_shapes}
+use Rattle.a68_modes.specs.declared.shape.Shape.{Shape}
+use Rattle.a68_op_ident.specs.Lacking.{IsUnshaped}
 use Rattle.a68_op_ident.specs.Shapes.{Shaped}
 use Rattle.a68_ranges.specs.Twice.{IsTwice, IsRefused}
 use Rattle.a68_tree.specs.Trees.{Built}
@@ -44,13 +47,21 @@ pub data Breaks (tree : Built) (refusal : Refusal) : Type 0 where
 abbrev pub DeclaresOnce : Built → Type 0
 DeclaresOnce flat = (id : ℕ) → IsTwice flat id → ⊥
 
+-- its declarers have modes, and break no rule
+abbrev pub IsWellDeclared : Built → Type 0
+IsWellDeclared flat = (modes : List Shape) × (of : ByNode) × AreModesOf flat modes of
+
 -- The annotated tree of a flat one: its formulas are shaped where they can be read.
 pub record Annotates (flat : Built) (program : Annotated) : Type 0 where
   pub once : DeclaresOnce flat
+  pub declared : IsWellDeclared flat
   pub shaped : Shaped flat program.tree
   pub annotated : IsAnnotated program
 
--- The rule that a flat tree breaks: a word is declared twice; else what it breaks once its formulas are shaped.
+-- The rule that a flat tree breaks: a word is declared twice; else a sign between two operands has no priority; else what
+-- its declarers break; else what it breaks once its formulas are shaped.
 pub data Refuses (flat : Built) (refusal : Refusal) : Type 0 where
   declared_twice : IsRefused flat refusal → Refuses flat refusal
-  broken : (shaped : Built) → DeclaresOnce flat → Shaped flat shaped → Breaks shaped refusal → Refuses flat refusal
+  unshaped : DeclaresOnce flat → IsUnshaped flat refusal → Refuses flat refusal
+  misdeclared : (shaped : Built) → DeclaresOnce flat → Shaped flat shaped → IsFirstBroken flat refusal → Refuses flat refusal
+  broken : (shaped : Built) → DeclaresOnce flat → IsWellDeclared flat → Shaped flat shaped → Breaks shaped refusal → Refuses flat refusal

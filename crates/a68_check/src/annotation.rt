@@ -1,11 +1,13 @@
 //! Trees that run, with what is known of each node.
 ghost use Rattle.std.specs.Prelude.{◌≡◌, ◌<◌, IfOk, IfErr, length};
 ghost use Rattle.a68_base.specs.declared.refusal.Stop.TheVariants as stop;
-ghost use Rattle.a68_check.specs.Annotates.{IsAnnotated, IsNamed, Annotates, Breaks, Refuses, DeclaresOnce, place_at};
+ghost use Rattle.a68_check.specs.Annotates.{IsAnnotated, IsNamed, Annotates, Breaks, Refuses, DeclaresOnce, IsWellDeclared, place_at};
+ghost use Rattle.a68_declare.specs.Outcome.{IsFirstBroken};
 ghost use Rattle.a68_check.specs.Notes.{notes_of};
 ghost use Rattle.a68_check.specs.Small.{Runs};
 ghost use Rattle.a68_modes.specs.Nodes.{standard_shapes};
-ghost use Rattle.a68_ranges.specs.Twice.{IsRefused, StopsBy};
+ghost use Rattle.a68_ranges.specs.Tables.{AreRanges};
+ghost use Rattle.a68_ranges.specs.Twice.{StopsBy};
 
 use crate::definitions::{definitions, first_undefined, in_text};
 use crate::goals::goals;
@@ -13,9 +15,10 @@ use crate::notes::notes;
 use crate::small::program;
 use a68_annot::{Annotated, Notes};
 use a68_base::{Refusal, Rule, Stop};
+use a68_declare::declare;
 use a68_modes::Modes;
 use a68_op_ident::shape;
-use a68_ranges::ranges;
+use a68_ranges::{Ranges, ranges};
 use a68_tree::{NodeId, Tree};
 use std::alloc::Global;
 
@@ -71,26 +74,52 @@ fn annotate_shaped(alloc: Global, tree: Tree) -> Result<Annotated, Stop>
     }
 }
 
-// Tests that no range declares a word twice.
-fn declares_once(alloc: Global, tree: &Tree) -> Result<(), Stop>
-    ensures once { IfOk result (λ x. DeclaresOnce tree.now) }
-    ensures refused { IfErr result (λ why. StopsBy (IsRefused tree.now) why) }
+// Tests the declarers of a tree.
+fn declarations(alloc: Global, tree: &Tree, ranges: &Ranges) -> Result<(), Stop>
+    requires { AreRanges tree.now ranges.now }
+    ensures well { IfOk result (λ x. IsWellDeclared tree.now) }
+    ensures broken { IfErr result (StopsBy (IsFirstBroken tree.now)) }
 {
-    let _ranges = ranges(alloc, tree)?;
+    let declared = declare(alloc, tree, ranges)?;
+    drop(declared);
     Ok(())
 }
 
+// Annotates a tree whose formulas are flat and whose ranges declare no word twice. A sign without a priority is told of
+// before what the declarers break.
+fn annotate_flat(alloc: Global, tree: Tree, ranges: &Ranges) -> Result<Annotated, Stop>
+    requires ranges { AreRanges tree ranges.now }
+    requires once { DeclaresOnce tree }
+    ensures ok { IfOk result (λ program. Annotates tree program) }
+    ensures refused { IfErr result (λ why. StopsBy (Refuses tree) why) }
+{
+    let declared = declarations(alloc, &tree, ranges);
+    match shape(alloc, tree, ranges) {
+        Err(stop) => Err(stop),
+        Ok(shaped) => match declared {
+            Ok(()) => annotate_shaped(alloc, shaped),
+            Err(stop) => {
+                drop(shaped);
+                Err(stop)
+            }
+        },
+    }
+}
+
 /// What each node of a tree means, whose formulas are flat. The tree is refused by N3 where a range declares a word of one
-/// sort twice, or a structure has two fields of one tag (Report, 7.1.1 and 7.2.1); by X0 where it has a form that does not
-/// run yet; and by N1 where it uses a tag that it does not define (7.2); each time at the first place in the text that
-/// breaks the rule.
+/// sort twice, or a structure has two fields of one tag (Report, 7.1.1 and 7.2.1); by O3 where a sign between two operands
+/// has no priority (4.3); by N2, L4, M1, M2 or C4, the first of these that its declarers break (4.6 to 4.8 and 7.4); by X0
+/// where it has a form that does not run yet; and by N1 where it uses a tag that it does not define (7.2); each time at the
+/// first place in the text that breaks the rule.
 pub fn annotate(alloc: Global, tree: Tree) -> Result<Annotated, Stop>
     ensures ok { IfOk result (λ program. Annotates tree program) }
     ensures refused { IfErr result (λ why. StopsBy (Refuses tree) why) }
 {
-    if let Err(stop) = declares_once(alloc, &tree) {
-        drop(tree);
-        return Err(stop);
+    match ranges(alloc, &tree) {
+        Ok(ranges) => annotate_flat(alloc, tree, &ranges),
+        Err(stop) => {
+            drop(tree);
+            Err(stop)
+        }
     }
-    annotate_shaped(alloc, shape(alloc, tree)?)
 }

@@ -9,7 +9,8 @@ ghost use Rattle.a68_gen.specs.Operands.{FitsModes};
 ghost use Rattle.a68_tree.specs.Trees.{Built, IsSound};
 ghost use Rattle.a68_tree.specs.declared.node.Node.{Node};
 
-use a68_op_ident::shapes_are_one;
+use a68_declare::{declarations_are_one, declarations_begin_by};
+use a68_op_ident::{shaped_trees_begin_alike, shapes_are_one};
 
 /// A law: the tree of an annotated program yields nothing, each operation in it has as many parts as it takes values,
 /// the instruction of each is well made, and every construct in it is built.
@@ -27,13 +28,17 @@ pub fn annotations_are_one()
     ensures programs { (flat : Built) (a b : Annotated) → Annotates flat a → Annotates flat b → a ≡ b }
 {
     shapes_are_one();
+    declarations_are_one();
 }
 
-/// A law: where the nodes of a tree begin by a byte, it is refused by that byte, and the nodes of its annotated tree begin
-/// by it.
+/// A law: where the nodes and the symbols of a tree begin by a byte, it is refused by that byte, and the nodes of its
+/// annotated tree begin by it.
 pub fn annotations_begin_by()
     ensures refused { (flat : Built) (end : ℕ) (r : Refusal) → ((id : ℕ) (n : Node) → slice_get flat.nodes id ≡ Some n → n.span.from ≤ end)
-        → Refuses flat r → r.place ≤ end }
+        → ((i s : ℕ) → slice_get flat.starts i ≡ Some s → s ≤ end) → Refuses flat r → r.place ≤ end }
     ensures nodes { (flat : Built) (end : ℕ) (program : Annotated) → ((id : ℕ) (n : Node) → slice_get flat.nodes id ≡ Some n → n.span.from ≤ end)
         → Annotates flat program → (id : ℕ) (n : Node) → slice_get program.tree.nodes id ≡ Some n → n.span.from ≤ end }
-{}
+{
+    shaped_trees_begin_alike();
+    declarations_begin_by();
+}

@@ -1,4 +1,3 @@
--- Inner: the headline does not rest on this file.
 -- Firmly related modes (Report, 7.1.1).
 use Rattle.std.specs.Prelude.{◌≡◌, ◌⊎◌, ℕ, List, [], ◌∷◌, Option, Some, None, true, false}
 use Rattle.a68_modes.specs.declared.shape.Shape.{Shape}

@@ -1,4 +1,3 @@
--- Inner: the headline does not rest on this file.
 -- Equivalent modes (Report, 7.3).
 use Rattle.std.specs.Prelude.{◌≡◌, ◌<◌, ℕ, zero, suc, List, [], length, map, slice_index_or, Bool, true, false}
 use Rattle.a68_modes.specs.declared.shape.Shape.{Shape}

@@ -1,4 +1,3 @@
--- Inner: the headline does not rest on this file.
 -- Well-formed modes (Report, 7.4).
 use Rattle.std.specs.Prelude.{◌<◌, ℕ, List, [], ◌∷◌, length, map, slice_index_or, Option, Some, None}
 use Rattle.std.specs.List.{All, Contains}

@@ -79,8 +79,8 @@ impl Classes {
         self.class(a) == self.class(b)
     }
 
-    /// The class of a mode.
-    fn class(&self, mode: Mode) -> u32
+    /// The class of a mode: the same number for equivalent ones.
+    pub fn class(&self, mode: Mode) -> u32
         requires { 2 * mode.id + 1 < length self.now.of }
         ensures { result ≡ class_of self.now.of mode }
     {

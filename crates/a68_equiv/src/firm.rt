@@ -88,7 +88,7 @@ fn one_linked(modes: &Modes, classes: &Classes, one: ModeId, others: &[ModeId]) 
 }
 
 /// Does the one mode lead meekly to the other?
-fn leads(modes: &Modes, classes: &Classes, from: ModeId, to: ModeId) -> bool
+pub fn leads(modes: &Modes, classes: &Classes, from: ModeId, to: ModeId) -> bool
     requires formed { AreWellFormed modes.now }
     requires exact { AreExact modes.now classes.now.of }
     requires from { from < length modes.now }

@@ -29,7 +29,7 @@ pub fn ill_formed(alloc: Global, modes: &Modes, roots: &[ModeId]) -> Result<Opti
 }
 
 /// Does a way of one or more steps lead from the node back to itself?
-fn comes_back(alloc: Global, graph: &[Members], node: u32) -> Result<bool, NoMemory>
+pub fn comes_back(alloc: Global, graph: &[Members], node: u32) -> Result<bool, NoMemory>
     requires there { node < length graph.now }
     requires closed { IsClosed graph.now }
     ensures { IfOk result (λ back. IsTrue back ↔ Way graph.now node node) }

@@ -15,8 +15,9 @@ mod steps;
 mod walk;
 
 pub use classes::{Classes, settle};
-pub use firm::{among, meek, related};
-pub use formed::{all_have_dimensions, all_well_formed, ill_formed};
+pub use firm::{among, leads, meek, related};
+pub use formed::{all_have_dimensions, all_well_formed, comes_back, ill_formed};
 pub use graph::behind;
 pub use interning::intern;
 pub use mode::Mode;
+pub use steps::{Steps, graph as graph_of};

@@ -6,7 +6,7 @@ use Rattle.a68_code.specs.declared.code.Instr.{Instr}
 use Rattle.a68_code.specs.declared.does.Does.TheVariants as does
 use Rattle.a68_elab.specs.Made as made
 use Rattle.a68_elab.specs.Made.{coerced, behind_ref, only, trees_at, all_but_last, last_tree}
-use Rattle.a68_elab.specs.Trees.{Tree, Trees, unbuilt, no_trees, ◌and_tree◌}
+use Rattle.a68_elab.specs.Trees.{Tree, Trees, choice, unbuilt, no_trees, ◌and_tree◌}
 use Rattle.a68_gen.specs.Coercing.{coercions, are_built}
 use Rattle.a68_gen.specs.Listing.{instr, size, sizes, stretch, stretches}
 use Rattle.a68_gen.proofs.Sizes.{size_stretch}
@@ -157,3 +157,18 @@ three_parts (a ∷ b ∷ c ∷ d ∷ ids) e = absurd (omega arith)
 pub some_parts : (ids : List ℕ) → 0 < length ids → ids ≡ get_or ids 0 0 ∷ drop 1 ids
 some_parts [] e = absurd (omega arith)
 some_parts (a ∷ ids) e = refl
+
+-- ---- links of chains
+
+pub choice_two : (f : ℕ → Tree) (place : ℕ) (ids : List ℕ) → length ids ≡ 2 → made.choice_of place (trees_at f ids) ≡ choice place (f (get_or ids 0 0)) (f (get_or ids 1 0)) (made.nothing place)
+choice_two f place [] e = absurd (omega arith)
+choice_two f place (a ∷ []) e = absurd (omega arith)
+choice_two f place (a ∷ b ∷ []) e = refl
+choice_two f place (a ∷ b ∷ c ∷ ids) e = absurd (omega arith)
+
+pub choice_three : (f : ℕ → Tree) (place : ℕ) (ids : List ℕ) → length ids ≡ 3 → made.choice_of place (trees_at f ids) ≡ choice place (f (get_or ids 0 0)) (f (get_or ids 1 0)) (f (get_or ids 2 0))
+choice_three f place [] e = absurd (omega arith)
+choice_three f place (a ∷ []) e = absurd (omega arith)
+choice_three f place (a ∷ b ∷ []) e = absurd (omega arith)
+choice_three f place (a ∷ b ∷ c ∷ []) e = refl
+choice_three f place (a ∷ b ∷ c ∷ d ∷ ids) e = absurd (omega arith)

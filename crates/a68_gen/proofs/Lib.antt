@@ -1,9 +1,11 @@
+pub mod Chaining
 pub mod Constructs
 pub mod Flowing
 pub mod Forward
 pub mod Generating
 pub mod Heights
 pub mod Jumping
+pub mod Linking
 pub mod Listed
 pub mod Patching
 pub mod Places

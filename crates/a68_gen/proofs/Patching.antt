@@ -1,7 +1,8 @@
 -- Choices and loops: the instructions that are patched.
-use Rattle.std.proofs.Common.{◌≡◌, false, ℕ, ◌+◌, List, [], ◌∷◌, ◌++◌, length, refl, sym, ◌∙◌, ap, arith, append_assoc, append-nil, length-append, None, Some, slice_set}
+use Rattle.std.proofs.Common.{◌≡◌, false, ℕ, ◌+◌, List, [], ◌∷◌, ◌++◌, length, refl, sym, ◌∙◌, ap, arith, append_assoc, append-nil, length-append, None, Some}
 use Rattle.std.specs.declared.option.Option.{Option}
 use Rattle.a68_base.specs.declared.refusal.Stop.{Stop}
+use Rattle.a68_builder.specs.Aiming.{aimed_at}
 use Rattle.a68_code.specs.declared.code.Instr.{Instr}
 use Rattle.a68_code.specs.declared.does.Does.TheVariants as does
 use Rattle.a68_elab.specs.Made as made
@@ -14,78 +15,33 @@ use Rattle.a68_gen.specs.Writing.{places, Stops, Writes}
 use Rattle.a68_values.specs.Content.{plain}
 use Rattle.a68_values.specs.declared.plain.Plain.TheVariants as value
 use Rattle.std.specs.Prelude.{pos}
-use Rattle.a68_gen.proofs.Writing.{places-append, stops-places, set-middle}
+use Rattle.a68_gen.proofs.Writing.{aim-middle, places-append, stops-places}
 
--- ---- choices
+-- ---- links of chains
 
--- the Jump patched
-jump_patched : (old q t z l5 l6 l7 : List Instr) (place j x end : ℕ) → l5 ≡ (old ++ q) ++ instr place (does.Unless x) ∷ (t ++ instr place (does.Jump 0) ∷ [])
-    → l6 ≡ l5 ++ z → j ≡ length ((old ++ q) ++ instr place (does.Unless x) ∷ t) → l7 ≡ slice_set l6 j (instr place (does.Jump end))
-    → l7 ≡ old ++ (q ++ instr place (does.Unless x) ∷ (t ++ instr place (does.Jump end) ∷ z))
-jump_patched old q t z l5 l6 l7 place j x end e5 e6 ej e7 =
-    let ux = instr place (does.Unless x) in
-    let j0 = instr place (does.Jump 0) in
-    let je = instr place (does.Jump end) in
-    let front = (old ++ q) ++ ux ∷ t in
-    let all : l6 ≡ front ++ j0 ∷ z =
-    rw (e6, e5) (append_assoc (old ++ q) (ux ∷ (t ++ j0 ∷ [])) z
-    ∙ ap (λ l. (old ++ q) ++ (ux ∷ l)) (append_assoc t (j0 ∷ []) z) ∙ sym (append_assoc (old ++ q) (ux ∷ t) (j0 ∷ z))) in
-    e7 ∙ ap (λ l. slice_set l j je) all ∙ set-middle front z j0 je j ej ∙ append_assoc (old ++ q) (ux ∷ t) (je ∷ z) ∙ append_assoc old q (ux ∷ (t ++ je ∷ z))
-
--- the places of a choice
-choice_places : (l q t z : List Instr) (place x end : ℕ)
-    → places (l ++ (q ++ instr place (does.Unless x) ∷ (t ++ instr place (does.Jump end) ∷ z))) ≡ places l ++ (places q ++ place ∷ (places t ++ place ∷ places z))
-choice_places l q t z place x end =
+-- the places of a link
+link_places : (l q t : List Instr) (place x : ℕ)
+    → places (l ++ (q ++ instr place (does.Unless x) ∷ (t ++ instr place (does.Jump 0) ∷ []))) ≡ places l ++ (places q ++ place ∷ (places t ++ place ∷ []))
+link_places l q t place x =
     let u = instr place (does.Unless x) in
-    let j = instr place (does.Jump end) in
-    places-append l (q ++ u ∷ (t ++ j ∷ z)) ∙ ap (λ k. places l ++ k) (places-append q (u ∷ (t ++ j ∷ z)) ∙ ap (λ k. places q ++ place ∷ k) (places-append t (j ∷ z)))
+    let j = instr place (does.Jump 0) in
+    places-append l (q ++ u ∷ (t ++ j ∷ [])) ∙ ap (λ k. places l ++ k) (places-append q (u ∷ (t ++ j ∷ [])) ∙ ap (λ k. places q ++ place ∷ k) (places-append t (j ∷ [])))
 
 still : (s : Stop) (s4 s6 : Option Stop) (l5 l6 z : List Instr) → s4 ≡ Some s → Writes s4 s6 l5 l6 z → s6 ≡ Some s
 still s None s6 l5 l6 z w v = absurd (cc)
 still s (Some r) s6 l5 l6 z w v = v ∙ w
 
-set_unless : (l0 q t l4 l5 : List Instr) (place u x : ℕ) → l4 ≡ l0 ++ (q ++ instr place (does.Unless 0) ∷ (t ++ instr place (does.Jump 0) ∷ [])) → u ≡ length l0 + length q
-    → l5 ≡ slice_set l4 u (instr place (does.Unless x)) → l5 ≡ (l0 ++ q) ++ instr place (does.Unless x) ∷ (t ++ instr place (does.Jump 0) ∷ [])
-set_unless l0 q t l4 l5 place u x w eu e5 =
+-- a link is written, once its jump to the other part is patched
+pub link_writes : (s0 s4 : Option Stop) (l0 l4 l5 q t : List Instr) (place u x xs : ℕ) → Writes s0 s4 l0 l4 (q ++ instr place (does.Unless 0) ∷ (t ++ instr place (does.Jump 0) ∷ []))
+    → (s4 ≡ None → u ≡ length l0 + length q) → (s4 ≡ None → x ≡ xs) → l5 ≡ aimed_at l4 u 0 x
+    → Writes s0 s4 l0 l5 (q ++ instr place (does.Unless xs) ∷ (t ++ instr place (does.Jump 0) ∷ []))
+link_writes (Some s) s4 l0 l4 l5 q t place u x xs w eu ex e5 = w
+link_writes None (Some s) l0 l4 l5 q t place u x xs w eu ex e5 = stops-places s _ _ [] w (append-nil _ ∙ link_places l0 q t place 0 ∙ sym (link_places l0 q t place xs))
+link_writes None None l0 l4 l5 q t place u x xs w eu ex e5 =
     let rest = t ++ instr place (does.Jump 0) ∷ [] in
-    e5 ∙ ap (λ l. slice_set l u (instr place (does.Unless x))) (w ∙ sym (append_assoc l0 q (instr place (does.Unless 0) ∷ rest)))
-    ∙ set-middle (l0 ++ q) rest (instr place (does.Unless 0)) (instr place (does.Unless x)) u (omega (arith, length-append l0 q))
-
-jump_at : (l0 q t : List Instr) (place j x : ℕ) → j ≡ length l0 + length q + 1 + length t → j ≡ length ((l0 ++ q) ++ instr place (does.Unless x) ∷ t)
-jump_at l0 q t place j x e = omega (arith, length-append (l0 ++ q) (instr place (does.Unless x) ∷ t), length-append l0 q)
-
-places_on : (l0 q t z : List Instr) (place x end : ℕ)
-    → places (l0 ++ (q ++ instr place (does.Unless x) ∷ (t ++ instr place (does.Jump end) ∷ []))) ++ places z ≡ places l0 ++ (places q ++ place ∷ (places t ++ place ∷ places z))
-places_on l0 q t z place x end =
-    ap (λ k. k ++ places z) (choice_places l0 q t [] place x end)
-    ∙ append_assoc (places l0) (places q ++ place ∷ (places t ++ place ∷ [])) (places z)
-    ∙ ap (λ k. places l0 ++ k) (append_assoc (places q) (place ∷ (places t ++ place ∷ [])) (places z) ∙ ap (λ k. places q ++ place ∷ k) (append_assoc (places t) (place ∷ []) (places z)))
-
--- a choice is written, once its two jumps are patched
-pub choice_writes : (s0 s4 s6 : Option Stop) (l0 l4 l5 l6 l7 q t z : List Instr) (place u j x xs end ends : ℕ)
-    → Writes s0 s4 l0 l4 (q ++ instr place (does.Unless 0) ∷ (t ++ instr place (does.Jump 0) ∷ []))
-    → (s4 ≡ None → u ≡ length l0 + length q) → (s4 ≡ None → j ≡ length l0 + length q + 1 + length t) → (s4 ≡ None → x ≡ xs) → (s6 ≡ None → end ≡ ends)
-    → l5 ≡ slice_set l4 u (instr place (does.Unless x)) → Writes s4 s6 l5 l6 z → l7 ≡ slice_set l6 j (instr place (does.Jump end))
-    → Writes s0 s6 l0 l7 (q ++ instr place (does.Unless xs) ∷ (t ++ instr place (does.Jump ends) ∷ z))
-choice_writes (Some s) s4 s6 l0 l4 l5 l6 l7 q t z place u j x xs end ends w eu ej ex ee e5 v e7 = still s s4 s6 l5 l6 z w v
-choice_writes None (Some s) None l0 l4 l5 l6 l7 q t z place u j x xs end ends w eu ej ex ee e5 v e7 = absurd (cc)
-choice_writes None (Some s) (Some r) l0 l4 l5 l6 l7 q t z place u j x xs end ends w eu ej ex ee e5 v e7 =
-    let same : r ≡ s = cc in
-    rw same (stops-places s _ _ (places z) w (places_on l0 q t z place 0 0 ∙ sym (choice_places l0 q t z place xs ends)))
-choice_writes None None None l0 l4 l5 l6 l7 q t z place u j x xs end ends w eu ej ex ee e5 v e7 =
-    let five = set_unless l0 q t l4 l5 place u x w (eu refl) e5 in
-    let seven = jump_patched l0 q t z l5 l6 l7 place j x end five v (jump_at l0 q t place j x (ej refl)) e7 in
-    rw (← ex refl, ← ee refl) seven
-choice_writes None None (Some s) l0 l4 l5 l6 l7 q t z place u j x xs end ends w eu ej ex ee e5 v e7 =
-    let five = set_unless l0 q t l4 l5 place u x w (eu refl) e5 in
-    let v' : Stops s ((l0 ++ (q ++ instr place (does.Unless x) ∷ (t ++ instr place (does.Jump 0) ∷ []))) ++ z) = rw (five, append_assoc l0 q (instr place (does.Unless x) ∷ (t ++ instr place (does.Jump 0) ∷ []))) at v in
-    stops-places s _ _ [] v' (append-nil _ ∙ places-append _ z ∙ places_on l0 q t z place x 0 ∙ sym (choice_places l0 q t z place xs ends))
-
--- the instructions of a choice, by how many there are of each part
-pub choice_list : (place at : ℕ) (e a b : Tree)
-    → let q = stretch e at in let m = at + length q + 1 in let t = stretch a m in let x = m + length t + 1 in let z = stretch b x in
-    q ++ (instr place (does.Unless x) ∷ (t ++ (instr place (does.Jump (x + length z)) ∷ z))) ≡ stretch (trees.choice place e a b) at
-choice_list place at e a b = rw (size_stretch e at, size_stretch a (at + size e + 1), size_stretch b (at + size e + 1 + size a + 1)) refl
+    e5 ∙ ap (λ l. aimed_at l u 0 x) (w ∙ sym (append_assoc l0 q (instr place (does.Unless 0) ∷ rest)))
+    ∙ aim-middle (l0 ++ q) rest (instr place (does.Unless 0)) u 0 x (omega (arith, eu refl, length-append l0 q))
+    ∙ ap (λ (k : ℕ). (l0 ++ q) ++ (instr place (does.Unless k) ∷ rest)) (ex refl) ∙ append_assoc l0 q (instr place (does.Unless xs) ∷ rest)
 
 -- ---- loops
 
@@ -103,7 +59,7 @@ loop_places l ts bs zs place e u =
 -- the loop once its Step and its Unless are patched
 loop_patched : (l0 l4 l5 l6 ts bs : List Instr) (place step unless end : ℕ)
     → l4 ≡ l0 ++ (head_of place 0 ++ (ts ++ instr place (does.Unless 0) ∷ bs)) → step ≡ length l0 + 4 → unless ≡ length l0 + 6 + length ts
-    → l5 ≡ slice_set l4 step (instr place (does.Step end)) → l6 ≡ slice_set l5 unless (instr place (does.Unless end))
+    → l5 ≡ aimed_at l4 step 0 end → l6 ≡ aimed_at l5 unless 0 end
     → l6 ≡ l0 ++ (head_of place end ++ (ts ++ instr place (does.Unless end) ∷ bs))
 loop_patched l0 l4 l5 l6 ts bs place step unless end w es eu e5 e6 =
     let one = instr place (does.Push (plain (value.Int (pos 1)))) in
@@ -117,11 +73,11 @@ loop_patched l0 l4 l5 l6 ts bs place step unless end w es eu e5 e6 =
     let front = l0 ++ four in
     let long : step ≡ length front = omega (arith, length-append l0 four) in
     let five : l5 ≡ front ++ se ∷ rest =
-    e5 ∙ ap (λ l. slice_set l step se) (w ∙ sym (append_assoc l0 four (s0 ∷ rest))) ∙ set-middle front rest s0 se step long in
+    e5 ∙ ap (λ l. aimed_at l step 0 end) (w ∙ sym (append_assoc l0 four (s0 ∷ rest))) ∙ aim-middle front rest s0 step 0 end long in
     let front2 = (front ++ se ∷ turn ∷ []) ++ ts in
     let as_front2 : front ++ se ∷ rest ≡ front2 ++ u0 ∷ bs = sym (append_assoc (front ++ se ∷ turn ∷ []) ts (u0 ∷ bs) ∙ append_assoc front (se ∷ turn ∷ []) (ts ++ u0 ∷ bs)) in
     let long2 : unless ≡ length front2 = omega (arith, length-append (front ++ se ∷ turn ∷ []) ts, length-append front (se ∷ turn ∷ []), length-append l0 four) in
-    e6 ∙ ap (λ l. slice_set l unless ue) (five ∙ as_front2) ∙ set-middle front2 bs u0 ue unless long2
+    e6 ∙ ap (λ l. aimed_at l unless 0 end) (five ∙ as_front2) ∙ aim-middle front2 bs u0 unless 0 end long2
     ∙ append_assoc (front ++ se ∷ turn ∷ []) ts (ue ∷ bs) ∙ append_assoc front (se ∷ turn ∷ []) (ts ++ ue ∷ bs) ∙ append_assoc l0 four (se ∷ turn ∷ (ts ++ ue ∷ bs))
 
 -- the tail joins the list
@@ -142,7 +98,7 @@ move a h b c p z =
 pub loop_writes : (s0 s4 s9 : Option Stop) (l0 l4 l5 l6 l9 ts bs : List Instr) (place step unless end ends t : ℕ)
     → Writes s0 s4 l0 l4 (head_of place 0 ++ (ts ++ instr place (does.Unless 0) ∷ bs))
     → (s4 ≡ None → step ≡ length l0 + 4) → (s4 ≡ None → unless ≡ length l0 + 6 + length ts) → (s4 ≡ None → end ≡ ends) → (s4 ≡ None → step ≡ t)
-    → l5 ≡ slice_set l4 step (instr place (does.Step end)) → l6 ≡ slice_set l5 unless (instr place (does.Unless end))
+    → l5 ≡ aimed_at l4 step 0 end → l6 ≡ aimed_at l5 unless 0 end
     → Writes s4 s9 l6 l9 (instr place (does.Advance step) ∷ instr place (does.Jump end) ∷ instr place does.Forget ∷ [])
     → Writes s0 s9 l0 l9 (head_of place ends ++ (ts ++ instr place (does.Unless ends) ∷ (bs ++ instr place (does.Advance t) ∷ instr place (does.Jump ends) ∷ instr place does.Forget ∷ [])))
 loop_writes (Some s) s4 s9 l0 l4 l5 l6 l9 ts bs place step unless end ends t w es eu ee et e5 e6 v = still s s4 s9 l6 l9 (tail_of place step end) w v

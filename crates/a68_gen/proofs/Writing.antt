@@ -1,11 +1,16 @@
 -- Instructions that are written one behind the other.
 use Rattle.std.proofs.Common.{◌≡◌, ℕ, zero, suc, ◌+◌, ◌<◌, List, [], ◌∷◌, ◌++◌, length, drop, get_or, refl, sym, ◌∙◌, ap, arith, append_assoc, append-nil, drop-cons, add-one, length-append, Some, None, slice_set}
+use Rattle.std.specs.Option.{option_map_or}
+use Rattle.std.specs.Prelude.{slice_get}
 use Rattle.std.specs.declared.option.Option.{Option}
 use Rattle.a68_base.specs.declared.refusal.Stop.{Stop}
 use Rattle.a68_base.specs.declared.refusal.Stop.TheVariants.{Refused, NoMemory}
+use Rattle.a68_builder.specs.Aiming.{aimed, aimed_at, names, names_at}
 use Rattle.a68_code.specs.declared.code.Instr.{Instr}
+use Rattle.a68_code.specs.declared.does.Does.{Does}
+use Rattle.a68_code.specs.declared.does.Does.TheVariants as does
 use Rattle.a68_gen.specs.Coercing.{behind, coercion_of, coercions}
-use Rattle.a68_gen.specs.Writing.{most, places, Stops, Writes}
+use Rattle.a68_gen.specs.Writing.{aim_all, most, places, Stops, Writes}
 use Rattle.a68_gen.proofs.Standing.{get-front}
 use Rattle.a68_modes.specs.declared.coercion.Coercion.{Coercion}
 use Rattle.a68_modes.specs.declared.shape.Shape.{Shape}
@@ -68,3 +73,39 @@ set-middle [] ys y z zero e = refl
 set-middle [] ys y z (suc i) e = absurd (omega arith)
 set-middle (x ∷ xs) ys y z zero e = absurd (omega arith)
 set-middle (x ∷ xs) ys y z (suc i) e = ap (λ l. x ∷ l) (set-middle xs ys y z i (omega arith))
+
+get-middle : (xs ys : List Instr) (y : Instr) (i : ℕ) → i ≡ length xs → slice_get (xs ++ y ∷ ys) i ≡ Some y
+get-middle [] ys y zero e = refl
+get-middle [] ys y (suc i) e = absurd (omega arith)
+get-middle (x ∷ xs) ys y zero e = absurd (omega arith)
+get-middle (x ∷ xs) ys y (suc i) e = get-middle xs ys y i (omega arith)
+
+-- an instruction within a list is given a place
+pub aim-middle : (xs ys : List Instr) (y : Instr) (i which to : ℕ) → i ≡ length xs → aimed_at (xs ++ y ∷ ys) i which to ≡ xs ++ (record { place = y.place; does = aimed y.does which to }) ∷ ys
+aim-middle xs ys y i which to e =
+    ap (λ (o : Option Instr). option_map_or (λ (z : Instr). slice_set (xs ++ y ∷ ys) i (record { place = z.place; does = aimed z.does which to })) o (xs ++ y ∷ ys)) (get-middle xs ys y i e)
+    ∙ set-middle xs ys y (record { place = y.place; does = aimed y.does which to }) i e
+
+names_none : (d : Does) (which to : ℕ) → names d ≡ 0 → aimed d which to ≡ d
+names_none (does.Jump x) which to e = absurd (omega arith)
+names_none (does.Unless x) which to e = absurd (omega arith)
+names_none (does.Step x) which to e = absurd (omega arith)
+names_none (does.Advance x) which to e = absurd (omega arith)
+names_none (does.Case []) which to e = refl
+names_none (does.Case (p ∷ ps)) which to e = absurd (omega arith)
+names_none _ which to e = refl
+
+-- an instruction that names no place stays as it is
+pub aimed_none : (list : List Instr) (at which to : ℕ) → names_at list at ≡ 0 → aimed_at list at which to ≡ list
+aimed_none [] at which to e = refl
+aimed_none (x ∷ xs) zero which to e = ap (λ (d : Does). record { place = x.place; does = d } ∷ xs) (names_none x.does which to e)
+aimed_none (x ∷ xs) (suc at) which to e = on_tail (slice_get xs at) ∙ ap (λ (l : List Instr). x ∷ l) (aimed_none xs at which to e)
+  where
+    on_tail : (o : Option Instr) → option_map_or (λ (i : Instr). slice_set (x ∷ xs) (suc at) (record { place = i.place; does = aimed i.does which to })) o (x ∷ xs)
+        ≡ x ∷ option_map_or (λ (i : Instr). slice_set xs at (record { place = i.place; does = aimed i.does which to })) o xs
+    on_tail None = refl
+    on_tail (Some i) = refl
+
+-- one place more of those that are patched
+pub aim_more : (list : List Instr) (places : List ℕ) (i to : ℕ) → i < length places → aim_all list (drop i places) to ≡ aim_all (aimed_at list (get_or places i 0) 0 to) (drop (i + 1) places) to
+aim_more list places i to p = rw (add-one, drop-cons places i 0) refl

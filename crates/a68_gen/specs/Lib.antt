@@ -1,3 +1,4 @@
+pub mod Chains
 pub mod Coercing
 pub mod Fits
 pub mod Generated

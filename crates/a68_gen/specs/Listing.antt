@@ -74,7 +74,7 @@ abbrev mutual
       let m = at + size enquiry + 1 in
       let x = m + sizes arms + count arms in
       stretch enquiry at ++ (instr place (does.Case (with_last (arm_places arms m) x)) ∷ (arm_stretches place (x + size out) arms m ++ stretch out x))
-  -- FROM, BY and TO, what TO's own step is, Counter, t: Step e, Turn, the frame of FOR, WHILE, the body, a Leave for each
+  -- FROM, BY and TO, TO's own step, Counter, t: Step e, Turn, the frame of FOR, WHILE, the body, a Leave for each
   -- frame, Advance t, Jump e, f: a Leave for each frame, e: Forget
   stretch (loop place controls limited counts test body) at =
       let out = leaves place (depth_of counts test) in

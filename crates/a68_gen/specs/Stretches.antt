@@ -73,7 +73,7 @@ abbrev mutual
   Stands code gives (cases place enquiry arms out) a b =
       (m m' x : ℕ) × (places : List ℕ) × Stands code true enquiry a m × Has code place (does.Case (with_last places x)) m m'
       × StandArms code gives place b arms places m' x × Stands code gives out x b
-  -- FROM, BY and TO, what TO's own step is, Counter, t: Step e, Turn, the frame of FOR, WHILE, the body, a Leave for each
+  -- FROM, BY and TO, TO's own step, Counter, t: Step e, Turn, the frame of FOR, WHILE, the body, a Leave for each
   -- frame, Advance t, Jump e, f: a Leave for each frame, e: Forget
   Stands code gives (loop place controls limited counts test body) a b =
       (c c' t t' u w x n n' v f e : ℕ) × (gives ≡ false) × (count controls ≡ 3) × StandAll code true controls a c × Limits code limited place c c'

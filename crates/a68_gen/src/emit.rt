@@ -1,35 +1,35 @@
 //! Writing instructions.
-ghost use Rattle.std.specs.Prelude.{◌≡◌, ◌≤◌, ◌∷◌, [], length, slice_set};
+ghost use Rattle.std.specs.Prelude.{◌≡◌, ◌≤◌, ◌∷◌, [], length, IfOk};
+ghost use Rattle.a68_builder.specs.Aiming.{aimed_at};
 ghost use Rattle.a68_gen.specs.Listing.{instr};
 ghost use Rattle.a68_gen.specs.Writers.{Wrote};
-ghost use Rattle.a68_gen.specs.Writing.{most};
+ghost use Rattle.a68_gen.specs.Writing.{aim_all, most, ran_out};
 ghost use Rattle.a68_values.specs.Content.{plain};
 ghost use Rattle.a68_values.specs.declared.plain.Plain.TheVariants as value_of;
 
 use crate::writer::Writer;
-use a68_base::{MOST_INSTRUCTIONS, Refusal, Rule, Stop};
+use a68_base::{NoMemory, Refusal, Rule, Stop};
+use a68_builder::{BuildStop, Builder};
 use a68_code::{Does, Instr};
 use a68_values::{Plain, Value};
 use std::alloc::Global;
-use std::mem;
 
 impl Writer {
     /// No instructions.
-    pub fn new(alloc: Global) -> Writer
-        ensures list { result.list.items ≡ [] }
-        ensures stop { result.stop ≡ None }
+    pub fn new(alloc: Global) -> Result<Writer, NoMemory>
+        ensures list { IfOk result (λ writer. writer.list ≡ []) }
+        ensures stop { IfOk result (λ writer. writer.stop ≡ None) }
     {
-        Writer {
-            list: Vec::new(alloc),
-            stop: None,
-        }
+        let list = Builder::new(alloc)?;
+        Ok(Writer { list, stop: None })
     }
 
     /// How many instructions there are, at most 1,048,576.
     pub fn len(&self) -> u32
-        ensures { result ≡ length self.now.list.items }
+        ensures long { result ≡ length self.now.list }
+        ensures few { result ≤ most }
     {
-        self.list.len() as u32
+        self.list.len()
     }
 
     /// Writes an instruction behind all others.
@@ -38,27 +38,48 @@ impl Writer {
     {
         if self.stop.is_some() {
             drop(does);
-        } else if self.list.len() == MOST_INSTRUCTIONS {
-            drop(does);
-            self.stop = Some(Stop::Refused(Refusal {
-                rule: Rule::L7,
-                place,
-            }));
-        } else if self.list.push(Instr { place, does }).is_err() {
-            self.stop = Some(Stop::NoMemory);
+            return;
+        }
+        match self.list.emit(Instr { place, does }) {
+            Ok(_) => {}
+            Err(BuildStop::Full) => {
+                self.stop = Some(Stop::Refused(Refusal {
+                    rule: Rule::L7,
+                    place,
+                }));
+            }
+            Err(BuildStop::NoMemory) => self.stop = Some(Stop::NoMemory),
         }
     }
 
-    /// Writes an instruction in the place of another one, where that was written.
-    pub fn patch(&mut self, at: u32, place: u32, does: Does)
-        ensures list { self.new.list.items ≡ slice_set self.old.list.items at (instr place does) }
+    /// Puts a place into the instruction of this number, where it names one.
+    #[tactic(auto, using(crate::proofs::Writing::aimed_none))]
+    pub fn patch(&mut self, at: u32, to: u32)
+        ensures list { self.new.list ≡ aimed_at self.old.list at 0 to }
         ensures stop { self.new.stop ≡ self.old.stop }
     {
-        if (at as usize) < self.list.len() {
-            let old = mem::replace(&mut self.list[at as usize], Instr { place, does });
-            drop(old);
-        } else {
-            drop(does);
+        if 0 < self.list.names(at) {
+            self.list.patch(at, 0, to);
+        }
+    }
+
+    /// Puts a place into each of these instructions.
+    pub fn patch_all(&mut self, places: &[u32], to: u32)
+        ensures list { self.new.list ≡ aim_all self.old.list places.now to }
+        ensures stop { self.new.stop ≡ self.old.stop }
+    {
+        for at in places {
+            self.patch(*at, to);
+        }
+    }
+
+    /// Stops for want of memory, where it has not stopped before.
+    pub fn run_out(&mut self)
+        ensures list { self.new.list ≡ self.old.list }
+        ensures stop { self.new.stop ≡ ran_out self.old.stop }
+    {
+        if self.stop.is_none() {
+            self.stop = Some(Stop::NoMemory);
         }
     }
 }

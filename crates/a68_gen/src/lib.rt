@@ -1,6 +1,7 @@
 //! Translation to code: the instructions of a program, in order.
 #![tactic(auto)]
 
+mod chains;
 mod coerce;
 mod emit;
 mod rows;

@@ -18,7 +18,7 @@ use crate::rows::unit;
 use crate::writer::Writer;
 use a68_annot::Annotated;
 use a68_base::Stop;
-use a68_code::{Code, Does, Instrs, Routines};
+use a68_code::{Code, Does, Routines};
 use std::alloc::Global;
 
 /// The code of a program: that of each construct, in order, and End behind it. It is refused where it has more than
@@ -34,21 +34,20 @@ pub fn generate(alloc: Global, program: &Annotated) -> Result<Code, Stop>
     ensures short { IfOk result (λ code. length code.list ≤ most) }
     ensures too_long { OnTooLong result (listing (program_of program.now)) }
 {
-    let mut out = Writer::new(alloc);
+    let mut out = Writer::new(alloc)?;
     let root = program.tree.root();
-    unit(program, root, &mut out);
+    unit(alloc, program, root, &mut out);
     out.emit(program.tree.node(root).span.from, Does::End);
     let Writer { list, stop } = out;
     if let Some(stop) = stop {
         return Err(stop);
     }
-    Ok(Code {
-        list: Instrs { items: list },
-        texts: Routines {
-            items: Vec::new(alloc),
-        },
-        modes: program.modes.copy(alloc)?,
-    })
+    let texts = Routines {
+        items: Vec::new(alloc),
+    };
+    let modes = program.modes.copy(alloc)?;
+    let code = list.finish(texts, modes)?;
+    Ok(code)
 }
 
 /// A law: the instructions of a program are those that are listed, and a program has one code; what is refused for its

@@ -4,6 +4,8 @@
 #[cfg(test)]
 mod acts;
 #[cfg(test)]
+mod builder;
+#[cfg(test)]
 mod code;
 #[cfg(test)]
 mod codes;

@@ -1,6 +1,10 @@
+pub mod Lists
+pub mod Least
+pub mod Roots
+pub mod Placing
+pub mod Parts
+pub mod Shaping
+pub mod Late
 pub mod Going
 pub mod One
-pub mod Placing
-pub mod Shaping
-pub mod Signs
-pub mod Unread
+pub mod Beginning

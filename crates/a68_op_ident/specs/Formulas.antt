@@ -1,82 +1,130 @@
--- A formula as it is read: operands with signs between them; and how its signs stand over one another (Report, 5.4.2).
-use Rattle.std.specs.Prelude.{◌≡◌, ◌≤◌, ◌<◌, ◌+◌, ◌*◌, ◌⊎◌, ℕ, Bool, true, false, nat_lt, List, [], ◌∷◌, length, None, Some, slice_get, if◌then◌else◌}
-use Rattle.std.specs.Option.{option_map, option_and_then}
+-- A formula as it is read: its operands and signs in order of text; and how its signs stand over one another (Report, 5.4.2).
+use Rattle.std.specs.Prelude.{◌≡◌, ◌≤◌, ◌<◌, ◌+◌, ℕ, Bool, true, false, nat_eq, List, [], ◌∷◌, ◌++◌, None, Some, slice_get, if◌then◌else◌}
+use Rattle.std.specs.Option.{option_and_then}
 use Rattle.std.specs.declared.option.Option.{Option}
-use Rattle.a68_op_ident.specs.Priorities.{priority_of}
 use Rattle.a68_op_ident.specs.declared.formula.Operand.{Operand}
-use Rattle.a68_op_ident.specs.declared.formula.Operator.{Operator}
+use Rattle.a68_op_ident.specs.declared.formula.Sign.{Sign}
+use Rattle.a68_op_ident.specs.declared.formula.Token.{Token}
+use Rattle.a68_op_ident.specs.declared.formula.Token.TheVariants as token
+use Rattle.a68_ranges.specs.Standard.{IsPriorityOf}
 use Rattle.a68_tree.specs.Trees.{Built}
 use Rattle.a68_tree.specs.declared.kind.NodeKind.{NodeKind}
-use Rattle.a68_tree.specs.declared.kind.NodeKind.TheVariants.{Sign, Formula, Dyadic}
+use Rattle.a68_tree.specs.declared.kind.NodeKind.TheVariants as kind
 use Rattle.a68_tree.specs.declared.node.Node.{Node}
 
+-- that holds of each of them
+abbrev pub Each : {X : Type 0} → (X → Type 0) → List X → Type 0
+Each P [] = Unit {0}
+Each P (x ∷ xs) = P x × Each P xs
+
 abbrev pub is_formula : NodeKind → Bool
-is_formula Formula = true
+is_formula kind.Formula = true
 is_formula _ = false
 
 abbrev pub is_sign : NodeKind → Bool
-is_sign Sign = true
+is_sign kind.Sign = true
 is_sign _ = false
 
--- an operand: a node that stands behind all signs of the formula
-abbrev pub operand_at : List Node → (behind id : ℕ) → Option Operand
-operand_at nodes behind id = if nat_lt behind id then option_map (λ (n : Node). record { id = id; span = n.span }) (slice_get nodes id) else None
+abbrev pub sign_of : (id : ℕ) → Node → Option Sign
+sign_of id n = if is_sign n.kind then Some (record { id = id; name = n.name; from = n.span.from }) else None
 
-abbrev pub with_priority : (name : ℕ) → Option ℕ → Option Operator
-with_priority name priority = option_map (λ p. record { name = name; priority = p }) priority
+-- the sign that stands at a node
+abbrev pub sign_at : List Node → (id : ℕ) → Option Sign
+sign_at nodes id = option_and_then (sign_of id) (slice_get nodes id)
 
--- a sign that has a priority
-abbrev pub sign_of : List (List ℕ) → Node → Option Operator
-sign_of spellings n = if is_sign n.kind then with_priority n.name (option_and_then priority_of (slice_get spellings n.name)) else None
+abbrev pub operand_of : (id : ℕ) → Node → Option Operand
+operand_of id n = if is_sign n.kind then None else Some (record { id = id; span = n.span })
 
-abbrev pub sign_at : Built → (id : ℕ) → Option Operator
-sign_at tree id = option_and_then (sign_of tree.spellings) (slice_get tree.nodes id)
+-- the operand that stands at a node
+abbrev pub operand_at : List Node → (id : ℕ) → Option Operand
+operand_at nodes id = option_and_then (operand_of id) (slice_get nodes id)
 
--- every second part is an operand, from the first one on
-pub record AreOperands (nodes : List Node) (parts : List ℕ) (behind : ℕ) (operands : List Operand) : Type 0 where
-  pub each : (i : ℕ) → i < length operands → slice_get operands i ≡ option_and_then (operand_at nodes behind) (slice_get parts (2 * i))
+-- the sign of a part, where that is the next one to come
+abbrev pub next_sign : List Node → (from part : ℕ) → Option Sign
+next_sign nodes from part = if nat_eq part from then sign_at nodes part else None
 
--- every second part is a sign, from the second one on; the signs stand one behind the other from a node on
-pub record AreSigns (tree : Built) (parts : List ℕ) (from : ℕ) (signs : List Operator) : Type 0 where
-  pub parts_are : (i : ℕ) → i < length signs → slice_get parts (2 * i + 1) ≡ Some (from + i)
-  pub each : (i : ℕ) → i < length signs → slice_get signs i ≡ sign_at tree (from + i)
+abbrev pub is_operand : Token → Bool
+is_operand (token.Operand o) = true
+is_operand _ = false
 
--- the parts of the formula are these operands, with these signs between them
-pub record Reads (tree : Built) (formula : ℕ) (parts : List ℕ) (operands : List Operand) (signs : List Operator) : Type 0 where
-  pub count : length parts ≡ 2 * length signs + 1
-  pub more : length operands ≡ length signs + 1
-  pub some : 0 < length signs
-  pub operands_are : AreOperands tree.nodes parts (formula + length signs) operands
-  pub signs_are : AreSigns tree parts (formula + 1) signs
+abbrev pub signs_of : Token → ℕ
+signs_of (token.Operand o) = 0
+signs_of _ = 1
 
--- one of the first so many places of operands has none
-pub record LacksOperand (nodes : List Node) (parts : List ℕ) (behind count : ℕ) : Type 0 where
-  pub place : ℕ
-  pub within : place < count
-  pub none : option_and_then (operand_at nodes behind) (slice_get parts (2 * place)) ≡ None
+-- how many signs there are
+abbrev pub signs : List Token → ℕ
+signs [] = 0
+signs (t ∷ ts) = signs_of t + signs ts
 
--- one of the first so many places of signs has none, or one that does not stand there
-pub record LacksSign (tree : Built) (parts : List ℕ) (from count : ℕ) : Type 0 where
-  pub place : ℕ
-  pub within : place < count
-  pub none : (slice_get parts (2 * place + 1) ≡ Some (from + place) → ⊥) ⊎ (sign_at tree (from + place) ≡ None)
+-- What a part is: a sign behind an operand is dyadic, every other one monadic; two operands do not meet. The signs of a
+-- formula stand one behind the other in the list of nodes, and `from` is the next one.
+abbrev pub IsToken : List Node → (from : ℕ) → (after_operand : Bool) → (part : ℕ) → Token → Type 0
+IsToken nodes from false part (token.Operand o) = operand_at nodes part ≡ Some o
+IsToken nodes from false part (token.Monad s) = next_sign nodes from part ≡ Some s
+IsToken nodes from true part (token.Dyad s priority) = next_sign nodes from part ≡ Some s
+IsToken nodes from _ part _ = ⊥
 
--- a sign over two operands: from the first byte of the first operand below it to behind the last one
-abbrev pub dyadic_node : (first last : Operand) → Operator → (left right : ℕ) → Node
-dyadic_node first last s left right =
-    record { kind = Dyadic; span = record { from = first.span.from; to = last.span.to }; name = s.name; parts = left ∷ right ∷ [] }
+-- the parts of a formula, one by one; the last one is an operand
+abbrev pub Reads : List Node → (from : ℕ) → (after_operand : Bool) → (parts : List ℕ) → List Token → Type 0
+Reads nodes from after [] [] = after ≡ true
+Reads nodes from after (p ∷ ps) (t ∷ ts) = IsToken nodes from after p t × Reads nodes (from + signs_of t) (is_operand t) ps ts
+Reads nodes from after _ _ = ⊥
 
--- The operands from lo to hi with the signs between them stand in the list of nodes: nodes of formulas from `id` up to
--- `next`, each before those below it, and `top` over all of them. A node stands over no lower priority on its left and
--- over higher ones alone on its right.
-pub data Placed (operands : List Operand) (signs : List Operator) (nodes : List Node) : (lo hi id next top : ℕ) → Type 0 where
-  alone : {lo id : ℕ} (o : Operand) → slice_get operands lo ≡ Some o → Placed operands signs nodes lo lo id id o.id
-  over : {lo hi id next : ℕ} (root middle left right : ℕ) (first last : Operand) (s : Operator)
-      → lo ≤ root → root < hi
-      → slice_get operands lo ≡ Some first → slice_get operands hi ≡ Some last → slice_get signs root ≡ Some s
-      → ((k : ℕ) (t : Operator) → lo ≤ k → k < root → slice_get signs k ≡ Some t → s.priority ≤ t.priority)
-      → ((k : ℕ) (t : Operator) → root < k → k < hi → slice_get signs k ≡ Some t → s.priority < t.priority)
-      → slice_get nodes id ≡ Some (dyadic_node first last s left right)
-      → Placed operands signs nodes lo root (id + 1) middle left
-      → Placed operands signs nodes (root + 1) hi middle next right
-      → Placed operands signs nodes lo hi id next id
+-- a dyadic sign has the priority that is declared for it about its node, or none where none is
+abbrev pub HasItsPriority : Built → Token → Type 0
+HasItsPriority tree (token.Dyad s priority) = IsPriorityOf tree s.id s.name priority
+HasItsPriority tree _ = Unit {0}
+
+-- a dyadic sign has a priority
+abbrev pub IsRanked : Token → Type 0
+IsRanked (token.Dyad s None) = ⊥
+IsRanked _ = Unit {0}
+
+abbrev pub priority_of : Token → Option ℕ
+priority_of (token.Dyad s priority) = priority
+priority_of _ = None
+
+abbrev pub FromPriority : (lowest : ℕ) → Option ℕ → Type 0
+FromPriority lowest None = Unit {0}
+FromPriority lowest (Some p) = lowest ≤ p
+
+-- no dyadic sign of a lower priority
+abbrev pub BindsFrom : (lowest : ℕ) → Token → Type 0
+BindsFrom lowest t = FromPriority lowest (priority_of t)
+
+abbrev pub AbovePriority : (bound : ℕ) → Option ℕ → Type 0
+AbovePriority bound None = Unit {0}
+AbovePriority bound (Some p) = bound < p
+
+-- a dyadic sign has a higher priority
+abbrev pub BindsAbove : (bound : ℕ) → Token → Type 0
+BindsAbove bound t = AbovePriority bound (priority_of t)
+
+-- no dyadic sign with a priority
+abbrev pub BindsClosest : Token → Type 0
+BindsClosest t = priority_of t ≡ None
+
+-- a sign over one operand: from its own first byte to behind its operand
+abbrev pub monadic_node : Sign → (under : Operand) → Node
+monadic_node s under = record { kind = kind.Monadic; span = record { from = s.from; to = under.span.to }; name = s.name; parts = under.id ∷ [] }
+
+-- a sign over two operands: from the first byte of the left one to behind the right one
+abbrev pub dyadic_node : Sign → (left right : Operand) → Node
+dyadic_node s left right = record { kind = kind.Dyadic; span = record { from = left.span.from; to = right.span.to }; name = s.name; parts = left.id ∷ right.id ∷ [] }
+
+-- a node as an operand
+abbrev pub standing : (id : ℕ) → Node → Operand
+standing id n = record { id = id; span = n.span }
+
+-- These operands and signs stand in the list of nodes: the nodes of the signs from `id` up to `next`, each before those
+-- below it, and `top` over all. A monadic sign stands over what is behind it up to the end of that operand, and binds
+-- closer than any dyadic sign. A dyadic sign stands over no lower priority on its left, and over higher ones alone on its
+-- right.
+pub data Placed (nodes : List Node) : List Token → (id next : ℕ) → (top : Operand) → Type 0 where
+  alone : {id : ℕ} (o : Operand) → Placed nodes (token.Operand o ∷ []) id id o
+  under : {ts : List Token} {id next : ℕ} (s : Sign) (o : Operand) → Each BindsClosest ts → slice_get nodes id ≡ Some (monadic_node s o)
+      → Placed nodes ts (id + 1) next o → Placed nodes (token.Monad s ∷ ts) id next (standing id (monadic_node s o))
+  over : {ts : List Token} {id next : ℕ} (left right : List Token) (s : Sign) (priority middle : ℕ) (a b : Operand)
+      → ts ≡ left ++ token.Dyad s (Some priority) ∷ right → Each (BindsFrom priority) left → Each (BindsAbove priority) right
+      → slice_get nodes id ≡ Some (dyadic_node s a b)
+      → Placed nodes left (id + 1) middle a → Placed nodes right middle next b → Placed nodes ts id next (standing id (dyadic_node s a b))

@@ -1,5 +1,4 @@
 pub mod Formulas
-pub mod Priorities
-pub mod Readings
-pub mod Roots
+pub mod Inner
+pub mod Lacking
 pub mod Shapes

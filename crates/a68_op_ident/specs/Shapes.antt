@@ -1,24 +1,29 @@
--- A tree whose formulas are shaped by the priorities of their signs.
-use Rattle.std.specs.Prelude.{◌≡◌, ◌<◌, ◌≤◌, ◌+◌, ◌⊎◌, ℕ, true, List, length, Some, slice_get}
-use Rattle.a68_op_ident.specs.Formulas.{is_formula, Reads, Placed}
-use Rattle.a68_op_ident.specs.Readings.{IsUnread}
+-- A tree whose formulas are shaped by the priorities of their signs (Report, 5.4.2).
+use Rattle.std.specs.Prelude.{◌≡◌, ◌<◌, ◌≤◌, ◌+◌, ◌⊎◌, ℕ, true, false, List, length, Some, slice_get}
+use Rattle.a68_op_ident.specs.Formulas.{Each, is_formula, signs, Reads, HasItsPriority, IsRanked, Placed}
 use Rattle.a68_op_ident.specs.declared.formula.Operand.{Operand}
-use Rattle.a68_op_ident.specs.declared.formula.Operator.{Operator}
+use Rattle.a68_op_ident.specs.declared.formula.Token.{Token}
 use Rattle.a68_tree.specs.Trees.{Built, IsSound}
 use Rattle.a68_tree.specs.declared.node.Node.{Node}
 
 -- The nodes of a formula's signs stand from its own number on: each sign one number before its own, so that the number
--- of the last sign stays as it was.
+-- of the last sign stays as it was. Every dyadic sign has a priority.
 pub record IsShaped (flat : Built) (shaped : List Node) (bound formula : ℕ) (parts : List ℕ) : Type 0 where
-  pub operands : List Operand
-  pub signs : List Operator
-  pub reads : Reads flat formula parts operands signs
-  pub within : formula + length signs < bound
-  pub placed : Placed operands signs shaped 0 (length signs) formula (formula + length signs) formula
+  pub tokens : List Token
+  pub reads : Reads flat.nodes (formula + 1) false parts tokens
+  pub priorities : Each (HasItsPriority flat) tokens
+  pub ranked : Each IsRanked tokens
+  pub within : formula + signs tokens < bound
+  pub top : Operand
+  pub placed : Placed shaped tokens formula (formula + signs tokens) top
 
--- A formula that stays as it was, since its parts are no operands with signs of the standard environ between them.
+-- the parts of the node are no operands and signs of a formula
+abbrev pub IsUnread : List Node → (formula : ℕ) → Type 0
+IsUnread nodes formula = (n : Node) (tokens : List Token) → slice_get nodes formula ≡ Some n → Reads nodes (formula + 1) false n.parts tokens → ⊥
+
+-- a formula that stays as it was, since its parts do not read so
 pub record IsLeft (flat : Built) (shaped : List Node) (formula : ℕ) (node : Node) : Type 0 where
-  pub unread : IsUnread flat formula
+  pub unread : IsUnread flat.nodes formula
   pub same : slice_get shaped formula ≡ Some node
 
 -- One of the places where the nodes of a formula's signs stand: of a formula that can be read, as many places as it has
@@ -28,11 +33,10 @@ pub record IsOperatorNode (flat : Built) (id : ℕ) : Type 0 where
   pub node : Node
   pub there : slice_get flat.nodes formula ≡ Some node
   pub formed : is_formula node.kind ≡ true
-  pub operands : List Operand
-  pub signs : List Operator
-  pub reads : Reads flat formula node.parts operands signs
+  pub tokens : List Token
+  pub reads : Reads flat.nodes (formula + 1) false node.parts tokens
   pub from : formula ≤ id
-  pub below : id < formula + length signs
+  pub below : id < formula + signs tokens
 
 -- As the flat tree, but that the formulas among its first nodes are shaped where they can be read: each of these nodes
 -- is one of such a formula, or it is as it was.
@@ -41,15 +45,16 @@ pub record ShapedTo (flat : Built) (shaped : List Node) (bound : ℕ) : Type 0 w
   pub kept : (id : ℕ) (n : Node) → id < bound → slice_get flat.nodes id ≡ Some n → IsOperatorNode flat id ⊎ (slice_get shaped id ≡ Some n)
   pub formulas : (id : ℕ) (n : Node) → id < bound → slice_get flat.nodes id ≡ Some n → is_formula n.kind ≡ true → IsShaped flat shaped bound id n.parts ⊎ IsLeft flat shaped id n
 
--- a tree whose first nodes are shaped, and whose others are as they were
-pub record Going (flat : Built) (nodes : List Node) (id : ℕ) : Type 0 where
-  pub shaped : ShapedTo flat nodes id
-  pub rest : (k : ℕ) → id ≤ k → slice_get nodes k ≡ slice_get flat.nodes k
-  pub sound : IsSound nodes (length flat.spellings)
-
 -- As the flat tree, but that its formulas are shaped where they can be read.
 pub record Shaped (flat shaped : Built) : Type 0 where
   pub nodes : ShapedTo flat shaped.nodes (length flat.nodes)
   pub spellings : shaped.spellings ≡ flat.spellings
   pub starts : shaped.starts ≡ flat.starts
   pub sound : IsSound shaped.nodes (length shaped.spellings)
+
+-- a node of the list begins at this byte
+pub record IsBegun (nodes : List Node) (place : ℕ) : Type 0 where
+  pub id : ℕ
+  pub node : Node
+  pub there : slice_get nodes id ≡ Some node
+  pub here : place ≡ node.span.from

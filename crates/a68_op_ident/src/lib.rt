@@ -2,9 +2,10 @@
 #![tactic(auto)]
 
 mod formula;
+mod lacking;
 mod place;
 mod reading;
 mod trees;
 
-pub use formula::{Operand, Operator};
-pub use trees::{shape, shapes_are_one};
+pub use formula::{Operand, Sign, Token};
+pub use trees::{shape, shaped_trees_begin_alike, shapes_are_one};

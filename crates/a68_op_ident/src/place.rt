@@ -1,67 +1,181 @@
 //! The nodes of a formula.
-ghost use Rattle.std.specs.Prelude.{◌≡◌, ◌≤◌, ◌<◌, ◌+◌, ◌-◌, ◌^◌, ℕ, length, vec_len, Some, slice_get, IfOk};
-ghost use Rattle.a68_op_ident.specs.Formulas.{Placed};
-ghost use Rattle.a68_op_ident.specs.Roots.{IsRoot, IsFitting, Same};
+ghost use Rattle.std.specs.Prelude.{◌≡◌, ◌≤◌, ◌<◌, ◌+◌, ◌^◌, false, length, take, drop, vec_len, slice_set, IfOk, OnOk};
+ghost use Rattle.a68_op_ident.specs.Formulas as formulas;
+ghost use Rattle.a68_op_ident.specs.Formulas.{Each, IsRanked, Placed, signs, monadic_node, dyadic_node, standing};
+ghost use Rattle.a68_op_ident.specs.Inner as inner;
+ghost use Rattle.a68_op_ident.specs.Inner.{Alternates, IsRoot, Same, StandsBetween};
 
-use crate::{Operand, Operator};
+use crate::{Operand, Sign, Token};
 use a68_base::{NoMemory, Span};
 use a68_tree::{Node, NodeId, NodeKind, Parts};
 use std::alloc::Global;
 
-// Which of these signs stands over all others: the last one of the lowest priority.
-fn root(signs: &[Operator], lo: usize, hi: usize) -> usize
-    requires some { lo < hi }
-    requires within { hi ≤ length signs.now }
-    ensures { IsRoot signs.now lo hi result }
+/// What stands over a formula whose nodes are placed, and the number behind these nodes.
+#[derive(Clone, Copy)]
+pub struct Placement {
+    pub top: Operand,
+    pub next: NodeId,
+}
+
+// The priority of a dyadic sign.
+fn priority_of(token: Token) -> Option<u32>
+    ensures { result ≡ formulas.priority_of token }
 {
-    let mut root = lo;
-    for k in lo + 1..hi {
-        if signs[k].priority <= signs[root].priority {
-            root = k;
-        }
+    match token {
+        Token::Operand(_) => None,
+        Token::Monad(_) => None,
+        Token::Dyad(_, priority) => priority,
+    }
+}
+
+// Does a sign of that priority stand over one before it? Of equal priorities the later one does.
+fn stands_over(priority: Option<u32>, earlier: Option<u32>) -> bool
+    ensures { result ≡ inner.stands_over priority earlier }
+{
+    match priority {
+        None => false,
+        Some(p) => match earlier {
+            None => true,
+            Some(q) => p <= q,
+        },
+    }
+}
+
+// Which token stands over all others up to one, where that is known of those before it.
+fn root_to(tokens: &[Token], root: usize, k: usize) -> usize
+    requires order { root < k }
+    requires there { k < length tokens.now }
+    ensures { IsRoot tokens.now k root → IsRoot tokens.now (k + 1) result }
+{
+    if stands_over(priority_of(tokens[k]), priority_of(tokens[root])) {
+        return k;
     }
     root
 }
 
-/// Puts the nodes of the operands from `lo` to `hi`, with the signs between them, from `id` on, and gives the one over
-/// all of them.
-pub fn place(
+// Which token stands over all others: the last dyadic sign of the lowest priority; where there is none, the first token.
+fn root(tokens: &[Token]) -> usize
+    requires { 0 < length tokens.now }
+    ensures { IsRoot tokens.now (length tokens.now) result }
+{
+    let mut root = 0;
+    for k in 1..tokens.len() {
+        root = root_to(tokens, root, k);
+    }
+    root
+}
+
+// The tokens before a place.
+fn before(tokens: &[Token], place: usize) -> &[Token]
+    requires { place < length tokens.now }
+    ensures are { result.now ≡ take place tokens.now }
+    ensures fewer { length result.now < length tokens.now }
+{
+    &tokens[..place]
+}
+
+// The tokens behind a place.
+fn behind(tokens: &[Token], place: usize) -> &[Token]
+    requires { place < length tokens.now }
+    ensures are { result.now ≡ drop (place + 1) tokens.now }
+    ensures fewer { length result.now < length tokens.now }
+{
+    &tokens[place + 1..]
+}
+
+// Puts the node of a monadic sign.
+fn put_monadic(
     alloc: Global,
     nodes: &mut Vec<Node>,
-    operands: &[Operand],
-    signs: &[Operator],
-    lo: usize,
-    hi: usize,
+    sign: Sign,
+    under: Operand,
     id: NodeId,
-) -> Result<NodeId, NoMemory>
-    requires order { lo ≤ hi }
-    requires operands { hi < length operands.now }
-    requires signs { hi ≤ length signs.now }
-    requires room { id + (hi - lo) ≤ vec_len nodes.old }
-    requires few { vec_len nodes.old < 2 ^ 32 }
-    requires later { IsFitting operands.now (id + (hi - lo)) (vec_len nodes.old) }
-    ensures placed { IfOk result (λ top. Placed operands.now signs.now nodes.new.items lo hi id (id + (hi - lo)) top) }
-    ensures later { IfOk result (λ top. (id ≤ top) × (top < vec_len nodes.new)) }
-    ensures same { IfOk result (λ top. Same nodes.old.items nodes.new.items id (id + (hi - lo))) }
+) -> Result<Operand, NoMemory>
+    requires { id < vec_len nodes.old }
+    ensures nodes { OnOk result (nodes.new.items ≡ slice_set nodes.old.items id (monadic_node sign under)) }
+    ensures top { IfOk result (λ top. top ≡ standing id (monadic_node sign under)) }
 {
-    if lo == hi {
-        return Ok(operands[lo].id);
-    }
-    let root = root(signs, lo, hi);
-    let middle = id + 1 + (root - lo) as u32;
-    let left = place(alloc, nodes, operands, signs, lo, root, id + 1)?;
-    let right = place(alloc, nodes, operands, signs, root + 1, hi, middle)?;
     let span = Span {
-        from: operands[lo].span.from,
-        to: operands[hi].span.to,
+        from: sign.from,
+        to: under.span.to,
+    };
+    nodes[id as usize] = Node {
+        kind: NodeKind::Monadic,
+        span,
+        name: sign.name,
+        parts: Parts {
+            items: vec![in alloc; under.id]?,
+        },
+    };
+    Ok(Operand { id, span })
+}
+
+// Puts the node of a dyadic sign.
+fn put_dyadic(
+    alloc: Global,
+    nodes: &mut Vec<Node>,
+    sign: Sign,
+    left: Operand,
+    right: Operand,
+    id: NodeId,
+) -> Result<Operand, NoMemory>
+    requires { id < vec_len nodes.old }
+    ensures nodes { OnOk result (nodes.new.items ≡ slice_set nodes.old.items id (dyadic_node sign left right)) }
+    ensures top { IfOk result (λ top. top ≡ standing id (dyadic_node sign left right)) }
+{
+    let span = Span {
+        from: left.span.from,
+        to: right.span.to,
     };
     nodes[id as usize] = Node {
         kind: NodeKind::Dyadic,
         span,
-        name: signs[root].name,
+        name: sign.name,
         parts: Parts {
-            items: vec![in alloc; left, right]?,
+            items: vec![in alloc; left.id, right.id]?,
         },
     };
-    Ok(id)
+    Ok(Operand { id, span })
+}
+
+/// Puts the nodes of these operands and signs from `id` on. It recurs on what stands below the outermost sign, and seeks
+/// that sign each time: the limit of nesting bounds a formula to about a thousand symbols.
+pub fn place(
+    alloc: Global,
+    nodes: &mut Vec<Node>,
+    tokens: &[Token],
+    id: NodeId,
+) -> Result<Placement, NoMemory>
+    requires order { Alternates false tokens.now }
+    requires ranked { Each IsRanked tokens.now }
+    requires room { id + signs tokens.now < vec_len nodes.old }
+    requires few { vec_len nodes.old < 2 ^ 32 }
+    ensures placed { IfOk result (λ done. Placed nodes.new.items tokens.now id done.next done.top) }
+    ensures next { IfOk result (λ done. done.next ≡ id + signs tokens.now) }
+    ensures same { IfOk result (λ done. Same nodes.old.items nodes.new.items id (id + signs tokens.now)) }
+{
+    let root = root(tokens);
+    match tokens[root] {
+        Token::Operand(operand) => Ok(Placement {
+            top: operand,
+            next: id,
+        }),
+        Token::Monad(sign) => {
+            let under = place(alloc, nodes, behind(tokens, root), id + 1)?;
+            let top = put_monadic(alloc, nodes, sign, under.top, id)?;
+            Ok(Placement {
+                top,
+                next: under.next,
+            })
+        }
+        Token::Dyad(sign, _) => {
+            let left = place(alloc, nodes, before(tokens, root), id + 1)?;
+            let right = place(alloc, nodes, behind(tokens, root), left.next)?;
+            let top = put_dyadic(alloc, nodes, sign, left.top, right.top, id)?;
+            Ok(Placement {
+                top,
+                next: right.next,
+            })
+        }
+    }
 }

@@ -1,118 +1,165 @@
 //! The operands and the signs of a formula.
-ghost use Rattle.std.specs.Prelude.{◌≡◌, ◌+◌, ◌*◌, ◌<◌, ◌^◌, length, map, IfOk, IfSome, IfNone, []};
+ghost use Rattle.std.specs.Prelude.{◌≡◌, ◌≤◌, ◌+◌, ◌<◌, ◌^◌, List, false, true, length, IfOk, IfSome, IfNone};
 ghost use Rattle.a68_op_ident.specs.Formulas as formulas;
-ghost use Rattle.a68_op_ident.specs.Formulas.{AreOperands, AreSigns, LacksOperand, LacksSign};
-ghost use Rattle.a68_op_ident.specs.Priorities as standard;
+ghost use Rattle.a68_op_ident.specs.Formulas.{Each, IsToken, Reads, HasItsPriority};
+ghost use Rattle.a68_op_ident.specs.declared.formula.Token.{Token as Part};
+ghost use Rattle.a68_ranges.specs.Tables.{AreRanges};
+ghost use Rattle.a68_tree.specs.Trees.{Built};
 
-use crate::{Operand, Operator};
-use a68_base::{NoMemory, Text, find};
+use crate::{Operand, Sign, Token};
+use a68_base::NoMemory;
+use a68_ranges::Ranges;
 use a68_tree::{Node, NodeId, NodeKind};
 use std::alloc::Global;
 
-// The signs that run, with their priorities between two operands.
-fn priorities() -> &'static [(&'static str, u8)]
-    ensures { map (λ row. (row.0.now, row.1)) result.now ≡ standard.priorities }
+fn is_sign(kind: NodeKind) -> bool
+    ensures { result ≡ formulas.is_sign kind }
 {
-    &[
-        ("=", 4),
-        ("/=", 4),
-        ("<", 5),
-        ("<=", 5),
-        (">", 5),
-        (">=", 5),
-        ("+", 6),
-        ("-", 6),
-        ("*", 7),
-    ]
+    matches!(kind, NodeKind::Sign)
 }
 
-// The priority of a sign between two operands.
-fn priority(sign: &[u8]) -> Option<u8>
-    ensures { result ≡ standard.priority_of sign.now }
+// The operand that stands at a node.
+fn operand_at(nodes: &[Node], id: NodeId) -> Option<Operand>
+    ensures { result ≡ formulas.operand_at nodes.now id }
 {
-    find(priorities(), sign)
-}
-
-// An operand, where it stands behind a node.
-fn operand_at(nodes: &[Node], behind: NodeId, id: NodeId) -> Option<Operand>
-    ensures { result ≡ formulas.operand_at nodes.now behind id }
-{
-    if id <= behind {
+    let Some(node) = nodes.get(id as usize) else {
         return None;
+    };
+    if is_sign(node.kind) {
+        None
+    } else {
+        Some(Operand {
+            id,
+            span: node.span,
+        })
     }
-    let node = nodes.get(id as usize)?;
-    Some(Operand {
-        id,
-        span: node.span,
-    })
 }
 
-/// The operands among these parts: every second one from the first on, `count` of them. None where one of them is not
-/// there or does not stand behind the node `behind`.
-pub fn operands(
-    alloc: Global,
-    nodes: &[Node],
-    parts: &[NodeId],
-    behind: NodeId,
-    count: usize,
-) -> Result<Option<Vec<Operand>>, NoMemory>
-    requires { length parts.now + 1 ≡ 2 * count }
-    ensures none { IfOk result (λ found. IfNone found (LacksOperand nodes.now parts.now behind count)) }
-    ensures long { IfOk result (λ found. IfSome found (λ os. length os.items ≡ count)) }
-    ensures each { IfOk result (λ found. IfSome found (λ os. AreOperands nodes.now parts.now behind os.items)) }
+// The sign that stands at a node.
+fn sign_at(nodes: &[Node], id: NodeId) -> Option<Sign>
+    ensures { result ≡ formulas.sign_at nodes.now id }
 {
-    let mut operands = Vec::new(alloc);
-    for i in 0..count {
-        let Some(operand) = operand_at(nodes, behind, parts[2 * i]) else {
-            return Ok(None);
-        };
-        operands.push(operand)?;
-    }
-    Ok(Some(operands))
-}
-
-// The sign that stands at a node, if one does that has a priority.
-fn sign_at(nodes: &[Node], spellings: &[Text], id: NodeId) -> Option<Operator>
-    ensures { result ≡ formulas.sign_at (record { nodes = nodes.now; spellings = spellings.now; starts = [] }) id }
-{
-    let node = nodes.get(id as usize)?;
-    if node.kind != NodeKind::Sign {
+    let Some(node) = nodes.get(id as usize) else {
         return None;
+    };
+    if is_sign(node.kind) {
+        Some(Sign {
+            id,
+            name: node.name,
+            from: node.span.from,
+        })
+    } else {
+        None
     }
-    let spelling = spellings.get(node.name as usize)?;
-    let priority = priority(spelling.as_slice())?;
-    Some(Operator {
-        name: node.name,
-        priority,
-    })
 }
 
-/// The signs among these parts: every second one from the second on, `count` of them, which are the nodes from `from`
-/// on. None where one of them is another node, is no sign, or has no priority.
-pub fn signs(
-    alloc: Global,
-    nodes: &[Node],
-    spellings: &[Text],
-    parts: &[NodeId],
-    from: NodeId,
-    count: usize,
-) -> Result<Option<Vec<Operator>>, NoMemory>
-    requires long { length parts.now ≡ 2 * count + 1 }
-    requires few { from + count < 2 ^ 32 }
-    ensures none { IfOk result (λ found. IfNone found (LacksSign (record { nodes = nodes.now; spellings = spellings.now; starts = [] }) parts.now from count)) }
-    ensures long { IfOk result (λ found. IfSome found (λ signs. length signs.items ≡ count)) }
-    ensures each { IfOk result (λ found. IfSome found (λ signs. AreSigns (record { nodes = nodes.now; spellings = spellings.now; starts = [] }) parts.now from signs.items)) }
+// The sign of a part, where that is the next one to come.
+fn next_sign(nodes: &[Node], from: NodeId, part: NodeId) -> Option<Sign>
+    ensures { result ≡ formulas.next_sign nodes.now from part }
 {
-    let mut signs = Vec::new(alloc);
-    for i in 0..count {
-        let id = from + i as u32;
-        if parts[2 * i + 1] != id {
-            return Ok(None);
+    if part == from {
+        sign_at(nodes, part)
+    } else {
+        None
+    }
+}
+
+// The part of a formula that begins an operand.
+fn first_token(nodes: &[Node], from: NodeId, part: NodeId) -> Option<Token>
+    ensures is { IfSome result (λ t. IsToken nodes.now from false part t) }
+    ensures none { IfNone result ((t : Part) → IsToken nodes.now from false part t → ⊥) }
+    ensures free { (tree : Built) → IfSome result (λ t. HasItsPriority tree t) }
+{
+    match operand_at(nodes, part) {
+        Some(operand) => Some(Token::Operand(operand)),
+        None => match next_sign(nodes, from, part) {
+            Some(sign) => Some(Token::Monad(sign)),
+            None => None,
+        },
+    }
+}
+
+// The part of a formula that stands behind an operand.
+fn next_token(nodes: &[Node], ranges: &Ranges, from: NodeId, part: NodeId) -> Option<Token>
+    requires { length nodes.now ≤ length ranges.now.nests.about }
+    ensures is { IfSome result (λ t. IsToken nodes.now from true part t) }
+    ensures none { IfNone result ((t : Part) → IsToken nodes.now from true part t → ⊥) }
+    ensures ranked { (tree : Built) → AreRanges tree ranges.now → IfSome result (λ t. HasItsPriority tree t) }
+{
+    match next_sign(nodes, from, part) {
+        Some(sign) => {
+            let priority = ranges.priority(sign.id, sign.name);
+            Some(Token::Dyad(sign, priority))
         }
-        let Some(sign) = sign_at(nodes, spellings, id) else {
+        None => None,
+    }
+}
+
+// The part of a formula that stands behind an operand, or begins one.
+fn token_at(
+    nodes: &[Node],
+    ranges: &Ranges,
+    from: NodeId,
+    after_operand: bool,
+    part: NodeId,
+) -> Option<Token>
+    requires { length nodes.now ≤ length ranges.now.nests.about }
+    ensures is { IfSome result (λ t. IsToken nodes.now from after_operand part t) }
+    ensures none { IfNone result ((t : Part) → IsToken nodes.now from after_operand part t → ⊥) }
+    ensures ranked { (tree : Built) → AreRanges tree ranges.now → IfSome result (λ t. HasItsPriority tree t) }
+{
+    if after_operand {
+        next_token(nodes, ranges, from, part)
+    } else {
+        first_token(nodes, from, part)
+    }
+}
+
+fn is_operand(token: Token) -> bool
+    ensures { result ≡ formulas.is_operand token }
+{
+    matches!(token, Token::Operand(_))
+}
+
+fn signs_of(token: Token) -> u32
+    ensures { result ≡ formulas.signs_of token }
+{
+    match token {
+        Token::Operand(_) => 0,
+        Token::Monad(_) => 1,
+        Token::Dyad(_, _) => 1,
+    }
+}
+
+/// The operands and signs of a formula of these parts. None where its parts are not such.
+pub fn tokens(
+    alloc: Global,
+    nodes: &[Node],
+    ranges: &Ranges,
+    parts: &[NodeId],
+    formula: NodeId,
+) -> Result<Option<Vec<Token>>, NoMemory>
+    requires there { formula < length nodes.now }
+    requires few { length nodes.now < 2 ^ 32 }
+    requires ranges { length nodes.now ≤ length ranges.now.nests.about }
+    ensures none { IfOk result (λ found. IfNone found ((ts : List Part) → Reads nodes.now (formula + 1) false parts.now ts → ⊥)) }
+    ensures reads { IfOk result (λ found. IfSome found (λ ts. Reads nodes.now (formula + 1) false parts.now ts.items)) }
+    ensures ranked { IfOk result (λ found. IfSome found (λ ts. (tree : Built) → AreRanges tree ranges.now → Each (HasItsPriority tree) ts.items)) }
+{
+    let mut tokens = Vec::new(alloc);
+    let mut from = formula + 1;
+    let mut after_operand = false;
+    for i in 0..parts.len() {
+        let Some(token) = token_at(nodes, ranges, from, after_operand, parts[i]) else {
             return Ok(None);
         };
-        signs.push(sign)?;
+        from += signs_of(token);
+        after_operand = is_operand(token);
+        tokens.push(token)?;
     }
-    Ok(Some(signs))
+    if after_operand {
+        Ok(Some(tokens))
+    } else {
+        Ok(None)
+    }
 }

@@ -1,51 +1,28 @@
 //! Trees whose formulas are shaped.
-ghost use Rattle.std.specs.Prelude.{◌≡◌, ◌≤◌, ◌<◌, ◌+◌, ◌-◌, ◌*◌, ◌^◌, length, vec_len, IfOk, IfSome, IfNone, []};
+ghost use Rattle.std.specs.Prelude.{◌≡◌, ◌≤◌, ◌<◌, ℕ, length, vec_len, slice_get, Some, IfOk, IfErr};
+ghost use Rattle.a68_base.specs.declared.refusal.Refusal.{Refusal as Why};
 ghost use Rattle.a68_op_ident.specs.Formulas as formulas;
-ghost use Rattle.a68_op_ident.specs.Readings.{IsReading, IsUnread, IsPlaced};
-ghost use Rattle.a68_op_ident.specs.Shapes.{Shaped, Going};
-ghost use Rattle.a68_tree.specs.Trees.{Built, IsSound};
-ghost use Rattle.a68_op_ident.specs.Roots.{IsFitting, Same};
+ghost use Rattle.a68_op_ident.specs.Inner.{Going, IsLatePlace, IsLeast, IsOrdered};
+ghost use Rattle.a68_op_ident.specs.Lacking.{IsUnshaped};
+ghost use Rattle.a68_op_ident.specs.Shapes.{Shaped, IsBegun};
+ghost use Rattle.a68_ranges.specs.Tables.{AreRanges};
+ghost use Rattle.a68_ranges.specs.Twice.{IsTwice, StopsBy};
+ghost use Rattle.a68_tree.specs.Trees.{Built};
+ghost use Rattle.a68_tree.specs.declared.node.Node.{Node as NodeValue};
 
+use crate::lacking::{first_late, lesser};
 use crate::place::place;
-use crate::reading::{operands, signs};
-use crate::{Operand, Operator};
-use a68_base::{NoMemory, Text};
+use crate::reading::tokens;
+use a68_base::{NoMemory, Refusal, Rule, Stop};
+use a68_ranges::{Ranges, priorities_are_one};
 use a68_tree::{Node, NodeId, NodeKind, Tree};
 use std::alloc::Global;
 
-/// What a formula is made of.
-#[derive(Drop)]
-pub struct FormulaParts {
-    pub operands: Vec<Operand>,
-    pub signs: Vec<Operator>,
-}
-
-// The operands and signs of a formula. None where its parts are not such.
-fn read(
-    alloc: Global,
-    nodes: &[Node],
-    spellings: &[Text],
-    formula: NodeId,
-) -> Result<Option<FormulaParts>, NoMemory>
-    requires there { formula < length nodes.now }
-    requires few { length nodes.now < 2 ^ 32 }
-    ensures { IfOk result (λ found. IsReading (record { nodes = nodes.now; spellings = spellings.now; starts = [] }) formula found) }
-{
-    let node = &nodes[formula as usize];
-    let parts = &node.parts.items;
-    let count = parts.len() / 2;
-    if parts.len() % 2 == 0 || count == 0 || count >= nodes.len() - formula as usize {
-        return Ok(None);
-    }
-    let from = formula + 1;
-    let Some(signs) = signs(alloc, nodes, spellings, parts, from, count)? else {
-        return Ok(None);
-    };
-    let last = formula + count as u32;
-    let Some(operands) = operands(alloc, nodes, parts, last, count + 1)? else {
-        return Ok(None);
-    };
-    Ok(Some(FormulaParts { operands, signs }))
+/// The node with which shaping goes on, and the first place of a sign without a priority that was met.
+#[derive(Clone, Copy)]
+pub struct Step {
+    pub next: NodeId,
+    pub late: Option<u32>,
 }
 
 fn is_formula(kind: NodeKind) -> bool
@@ -54,71 +31,82 @@ fn is_formula(kind: NodeKind) -> bool
     matches!(kind, NodeKind::Formula)
 }
 
-// Shapes a formula where it can be read, and gives the number of its signs.
-fn shape_formula(
-    alloc: Global,
-    nodes: &mut Vec<Node>,
-    spellings: &[Text],
-    formula: NodeId,
-) -> Result<Option<u32>, NoMemory>
-    requires there { formula < vec_len nodes.old }
-    requires sound { IsSound nodes.old.items (length spellings.now) }
-    ensures none { IfOk result (λ count. IfNone count (IsUnread (record { nodes = nodes.old.items; spellings = spellings.now; starts = [] }) formula × (nodes.new.items ≡ nodes.old.items))) }
-    ensures some { IfOk result (λ count. IfSome count (λ signs. IsPlaced (record { nodes = nodes.old.items; spellings = spellings.now; starts = [] }) nodes.new.items formula signs)) }
-    ensures within { IfOk result (λ count. IfSome count (λ signs. formula + signs < vec_len nodes.new)) }
-    ensures long { IfOk result (λ count. vec_len nodes.new ≡ vec_len nodes.old) }
-{
-    let Some(parts) = read(alloc, nodes, spellings, formula)? else {
-        return Ok(None);
-    };
-    let count = parts.signs.len();
-    place(
-        alloc,
-        nodes,
-        &parts.operands,
-        &parts.signs,
-        0,
-        count,
-        formula,
-    )?;
-    Ok(Some(count as u32))
-}
-
-// Shapes the formula at a node, if one stands there that can be read, and gives the node with which to go on.
+// Shapes the formula at a node, if one stands there that can be read and whose signs have priorities.
 fn shape_at(
     alloc: Global,
     nodes: &mut Vec<Node>,
-    spellings: &[Text],
+    ranges: &Ranges,
     id: NodeId,
-) -> Result<NodeId, NoMemory>
+) -> Result<Step, NoMemory>
     requires there { id < vec_len nodes.old }
-    requires sound { IsSound nodes.old.items (length spellings.now) }
-    ensures ok { IfOk result (λ next. (flat : Built) → flat.spellings ≡ spellings.now → Going flat nodes.old.items id → Going flat nodes.new.items next) }
-    ensures onward { IfOk result (λ next. (id < next) × (next ≤ vec_len nodes.new) × (vec_len nodes.new ≡ vec_len nodes.old)) }
+    requires ordered { IsOrdered nodes.old.items }
+    requires ranges { vec_len nodes.old ≤ length ranges.now.nests.about }
+    ensures going { IfOk result (λ step. (flat : Built) → AreRanges flat ranges.now → Going flat nodes.old.items id → Going flat nodes.new.items step.next) }
+    ensures late { IfOk result (λ step. (flat : Built) → AreRanges flat ranges.now → Going flat nodes.old.items id → IsLeast (IsLatePlace flat id step.next) step.late) }
+    ensures onward { IfOk result (λ step. (id < step.next) × (step.next ≤ vec_len nodes.new) × (vec_len nodes.new ≡ vec_len nodes.old)) }
 {
-    if !is_formula(nodes[id as usize].kind) {
-        return Ok(id + 1);
+    let on = Step {
+        next: id + 1,
+        late: None,
+    };
+    let node = &nodes[id as usize];
+    if !is_formula(node.kind) {
+        return Ok(on);
     }
-    match shape_formula(alloc, nodes, spellings, id)? {
-        None => Ok(id + 1),
-        Some(signs) => Ok(id + signs + 1),
+    let Some(tokens) = tokens(alloc, nodes, ranges, &node.parts.items, id)? else {
+        return Ok(on);
+    };
+    match first_late(&tokens) {
+        Some(place) => Ok(Step {
+            next: id + 1,
+            late: Some(place),
+        }),
+        None => {
+            let placed = place(alloc, nodes, &tokens, id)?;
+            Ok(Step {
+                next: placed.next + 1,
+                late: None,
+            })
+        }
     }
 }
 
-/// The tree with its formulas shaped. A formula whose parts are no operands with signs of the standard environ between
-/// them stays as it is.
-pub fn shape(alloc: Global, tree: Tree) -> Result<Tree, NoMemory>
-    ensures { IfOk result (λ shaped. Shaped tree shaped) }
+/// The tree with its formulas shaped: operator nodes in place of each formula and of all its signs but the last. A formula
+/// whose parts do not read as operands and signs stays as it is; no tree of the grammar has one.
+///
+/// A text is refused by O3 at the first sign between two operands whose priority is declared in no surrounding range and
+/// is not standard.
+pub fn shape(alloc: Global, tree: Tree, ranges: &Ranges) -> Result<Tree, Stop>
+    requires { AreRanges tree ranges.now }
+    ensures ok { IfOk result (λ shaped. Shaped tree shaped) }
+    ensures refused { IfErr result (λ why. StopsBy (IsUnshaped tree) why) }
 {
     let (mut nodes, spellings, starts) = tree.apart();
     let mut id: u32 = 0;
+    let mut late = None;
     while (id as usize) < nodes.len() {
-        id = shape_at(alloc, &mut nodes, &spellings, id)?;
+        let step = shape_at(alloc, &mut nodes, ranges, id)?;
+        id = step.next;
+        late = lesser(late, step.late);
     }
-    Ok(Tree::new(nodes, spellings, starts))
+    match late {
+        None => Ok(Tree::new(nodes, spellings, starts)),
+        Some(place) => Err(Stop::Refused(Refusal {
+            rule: Rule::O3,
+            place,
+        })),
+    }
 }
 
-/// A law: a flat tree has one shaped tree at most.
+/// A law: where no range declares a word twice, a flat tree has one shaped tree at most; and none where it is refused.
 pub fn shapes_are_one()
-    ensures { (flat one other : Built) → Shaped flat one → Shaped flat other → other ≡ one }
+    ensures one { (flat one other : Built) → ((id : ℕ) → IsTwice flat id → ⊥) → Shaped flat one → Shaped flat other → other ≡ one }
+    ensures apart { (flat shaped : Built) (why : Why) → ((id : ℕ) → IsTwice flat id → ⊥) → IsUnshaped flat why → Shaped flat shaped → ⊥ }
+{
+    priorities_are_one();
+}
+
+/// A law: each node of a shaped tree begins where a node of the flat one does.
+pub fn shaped_trees_begin_alike()
+    ensures { (flat shaped : Built) → Shaped flat shaped → (id : ℕ) (n : NodeValue) → slice_get shaped.nodes id ≡ Some n → IsBegun flat.nodes n.span.from }
 {}

@@ -6,3 +6,4 @@ pub mod Declaring
 pub mod Indexing
 pub mod Looking
 pub mod Repeating
+pub mod Single

@@ -1,4 +1,3 @@
--- Inner: the headline does not rest on this file.
 -- The definitions of one sort by range and name, and which of them come too late (own).
 use Rattle.std.specs.Prelude.{◌≡◌, ◌<◌, ◌≤◌, ℕ, Bool, true, false, nat_le, List, length, slice_get, take, Option, Some, None, if◌then◌else◌}
 use Rattle.a68_ranges.specs.Nodes.{name_at, place_at}

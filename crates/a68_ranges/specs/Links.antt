@@ -1,4 +1,3 @@
--- Inner: the headline does not rest on this file.
 -- Layers, each of which leads to earlier ones (own).
 use Rattle.std.specs.Prelude.{◌≡◌, ◌<◌, ℕ, List, [], ◌∷◌, ◌++◌, length, slice_get, Option, Some, None}
 use Rattle.a68_ranges.specs.declared.nests.Layer.{Layer}

@@ -1,4 +1,3 @@
--- Inner: the headline does not rest on this file.
 -- The definition of an applied tag, mode word or priority: in the innermost surrounding range, else in the standard environ (Report, 10.2).
 use Rattle.std.specs.Prelude.{◌≡◌, ◌<◌, ◌+◌, ◌-◌, ◌⊎◌, ℕ, List, [], ◌∷◌, length, slice_get, Option, Some, None, codes}
 use Rattle.std.specs.Option.{option_and_then, option_map_or}

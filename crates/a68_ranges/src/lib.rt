@@ -4,6 +4,7 @@
 mod build;
 mod declared;
 mod index;
+mod laws;
 mod layers;
 mod nests;
 mod reading;
@@ -13,6 +14,7 @@ mod tables;
 mod written;
 
 pub use build::ranges;
+pub use laws::priorities_are_one;
 pub use nests::Layer;
 pub use sort::{Sort, defines};
 pub use tables::Ranges;

@@ -1,9 +1,17 @@
-use Rattle.a68_check.proofs.One.{one_refusal, not_refused, one_program}
+use Rattle.a68_check.proofs.One.{Laws, one_refusal, not_refused, one_program}
 use Rattle.a68_check.proofs.laws.annotations_are_one.Goals as goal
+
+laws : goal.After-declarations_are_one → Laws
+laws c = record {
+  shapes = c.shapes_are_one.ensures.one;
+  never = c.shapes_are_one.ensures.apart;
+  declared = c.declarations_are_one.ensures.refusal;
+  unbroken = c.declarations_are_one.ensures.apart;
+}
 
 pub returns : goal.returns
 returns c = record {
-  refusal = one_refusal c.shapes_are_one.ensures;
-  apart = not_refused c.shapes_are_one.ensures;
-  programs = one_program c.shapes_are_one.ensures;
+  refusal = one_refusal (laws c);
+  apart = not_refused (laws c);
+  programs = one_program (laws c);
 }

@@ -13,5 +13,5 @@ loop-coercion-preserved c =
     let mode = c.loop-coercion.mode in
     let step = one_coercion modes c.args.place mode i path Deproc c.loop-coercion-test.true in
     λ s end w. c.loop-coercion.invariant s end (rw step
-    (and_behind c.loop-coercion.out.stop c.coerce_once-mode.new.out.stop s c.loop-coercion.out.list.items c.coerce_once-mode.new.out.list.items end
+    (and_behind c.loop-coercion.out.stop c.coerce_once-mode.new.out.stop s c.loop-coercion.out.list c.coerce_once-mode.new.out.list end
     (coercion_of modes c.args.place mode one) (λ n. coercions modes c.args.place (behind modes mode one) (drop (i + 1) path)) c.coerce_once-mode.ensures.writes (rw c.coerce_once-mode.ensures.behind at w)))

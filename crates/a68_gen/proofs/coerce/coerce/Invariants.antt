@@ -8,5 +8,5 @@ use Rattle.a68_gen.proofs.coerce.coerce.Given as goal
 
 -- with the rest of the path, the whole of it is written
 abbrev pub invariant-loop-coercion : goal.invariant-loop-coercion
-invariant-loop-coercion l = (s : Option Stop) (end : List Instr) → Writes l.out.stop s l.out.list.items end (coercions l.modes l.place l.mode (drop l.coercion-index l.coercion-items))
-    → Writes l.initial.out.stop s l.initial.out.list.items end (coercions l.modes l.place l.note.mode l.note.path)
+invariant-loop-coercion l = (s : Option Stop) (end : List Instr) → Writes l.out.stop s l.out.list end (coercions l.modes l.place l.mode (drop l.coercion-index l.coercion-items))
+    → Writes l.initial.out.stop s l.initial.out.list end (coercions l.modes l.place l.note.mode l.note.path)

@@ -1,10 +1,12 @@
-use Rattle.std.proofs.Common.{List, ◌-◌, ◌+◌, ◌*◌, drop, length}
+use Rattle.std.proofs.Common.{List, ◌≤◌, ◌-◌, ◌+◌, ◌*◌, drop, length}
 use Rattle.std.specs.declared.option.Option.{Option}
 use Rattle.a68_base.specs.declared.refusal.Stop.{Stop}
 use Rattle.a68_code.specs.declared.code.Instr.{Instr}
 use Rattle.a68_elab.specs.Made.{tree_at, trees_at}
+use Rattle.a68_gen.specs.Chains.{IsWithin, link_tree}
 use Rattle.a68_gen.specs.Listing.{stretches}
 use Rattle.a68_gen.specs.Writing.{Writes}
+use Rattle.a68_gen.proofs.Chaining.{Ahead}
 use Rattle.a68_gen.proofs.rows.+units.Given as goal
 
 abbrev pub decreases-unit : goal.decreases-unit
@@ -31,8 +33,14 @@ decreases-conditional l = 8 * (length l.program.now.tree.nodes - l.id) + 5
 abbrev pub decreases-repeat : goal.decreases-repeat
 decreases-repeat l = 8 * (length l.program.now.tree.nodes - l.id) + 5
 
-abbrev pub decreases-choice : goal.decreases-choice
-decreases-choice l = 8 * (length l.program.now.tree.nodes - l.id) + 4
+abbrev pub decreases-chain : goal.decreases-chain
+decreases-chain l = 8 * (length l.program.now.tree.nodes - l.first.id) + 4
+
+abbrev pub decreases-write_links : goal.decreases-write_links
+decreases-write_links l = 8 * (length l.program.now.tree.nodes - l.first.id) + 3
+
+abbrev pub decreases-write_link : goal.decreases-write_link
+decreases-write_link l = 8 * (length l.program.now.tree.nodes - l.link.now.id) + 2
 
 abbrev pub decreases-formula : goal.decreases-formula
 decreases-formula l = 8 * (length l.program.now.tree.nodes - l.id) + 3
@@ -48,5 +56,14 @@ decreases-otherwise l = 8 * (length l.program.now.tree.nodes - l.id) + 1
 
 -- with the rest of the parts, all of them are written
 abbrev pub invariant-all-loop-part : goal.invariant-all-loop-part
-invariant-all-loop-part l = (s : Option Stop) (end : List Instr) → Writes l.out.stop s l.out.list.items end (stretches (trees_at (tree_at l.program) (drop l.part-index l.parts)) (length l.out.list.items))
-    → Writes l.initial.out.stop s l.initial.out.list.items end (stretches (trees_at (tree_at l.program) l.parts) (length l.initial.out.list.items))
+invariant-all-loop-part l = (s : Option Stop) (end : List Instr) → Writes l.out.stop s l.out.list end (stretches (trees_at (tree_at l.program) (drop l.part-index l.parts)) (length l.out.list))
+    → Writes l.initial.out.stop s l.initial.out.list end (stretches (trees_at (tree_at l.program) l.parts) (length l.initial.out.list))
+
+-- the links before this one are written
+abbrev pub invariant-write_links-links : goal.invariant-write_links-links
+invariant-write_links-links l =
+    IsWithin (length l.program.tree.nodes) l.link × (l.fn.first.id ≤ l.link.id)
+    × Ahead (link_tree (tree_at l.program) l.fn.first) (link_tree (tree_at l.program) l.link) l.jumps.items l.initial.out.stop l.out.stop l.initial.out.list l.out.list
+
+abbrev pub decreases-write_links-links : goal.decreases-write_links-links
+decreases-write_links-links l = length l.program.tree.nodes - l.link.id

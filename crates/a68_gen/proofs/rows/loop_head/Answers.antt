@@ -19,9 +19,9 @@ returns c =
     let counter = instr place does.Counter in
     let skip = instr place (does.Skip 1) in
     let one = instr place c.push_int.result in
-    let w46 = and_behind w4.stop w5.stop w6.stop w4.list.items w5.list.items w6.list.items (step ∷ []) (λ n. turn ∷ []) c.emit-5.ensures c.emit-6.ensures in
-    let w36 = and_behind w3.stop w4.stop w6.stop w3.list.items w4.list.items w6.list.items (counter ∷ []) (λ n. step ∷ turn ∷ []) c.emit-4.ensures w46 in
-    let w26 = and_behind w2.stop w3.stop w6.stop w2.list.items w3.list.items w6.list.items (skip ∷ []) (λ n. counter ∷ step ∷ turn ∷ []) c.emit-3.ensures w36 in
-    let w16 = and_behind w1.stop w2.stop w6.stop w1.list.items w2.list.items w6.list.items (instr place c.push_int-2.result ∷ []) (λ n. skip ∷ counter ∷ step ∷ turn ∷ []) c.emit-2.ensures w26 in
-    let w06 = and_behind w0.stop w1.stop w6.stop w0.list.items w1.list.items w6.list.items (one ∷ []) (λ n. instr place c.push_int-2.result ∷ skip ∷ counter ∷ step ∷ turn ∷ []) c.emit.ensures w16 in
+    let w46 = and_behind w4.stop w5.stop w6.stop w4.list w5.list w6.list (step ∷ []) (λ n. turn ∷ []) c.emit-5.ensures c.emit-6.ensures in
+    let w36 = and_behind w3.stop w4.stop w6.stop w3.list w4.list w6.list (counter ∷ []) (λ n. step ∷ turn ∷ []) c.emit-4.ensures w46 in
+    let w26 = and_behind w2.stop w3.stop w6.stop w2.list w3.list w6.list (skip ∷ []) (λ n. counter ∷ step ∷ turn ∷ []) c.emit-3.ensures w36 in
+    let w16 = and_behind w1.stop w2.stop w6.stop w1.list w2.list w6.list (instr place c.push_int-2.result ∷ []) (λ n. skip ∷ counter ∷ step ∷ turn ∷ []) c.emit-2.ensures w26 in
+    let w06 = and_behind w0.stop w1.stop w6.stop w0.list w1.list w6.list (one ∷ []) (λ n. instr place c.push_int-2.result ∷ skip ∷ counter ∷ step ∷ turn ∷ []) c.emit.ensures w16 in
     rw (c.push_int.ensures, c.push_int-2.ensures) at w06

@@ -1,5 +1,5 @@
-use Rattle.std.proofs.Common.{◌-◌}
+use Rattle.std.proofs.Common.{length}
 use Rattle.a68_op_ident.proofs.place.+place.Given as goal
 
 abbrev pub decreases-place : goal.decreases-place
-decreases-place l = l.hi - l.lo
+decreases-place l = length l.tokens.now

@@ -1,6 +1,5 @@
-use Rattle.std.proofs.Common.{arith}
-use Rattle.std.proofs.lemmas.Grind.{elements}
+use Rattle.a68_op_ident.proofs.Roots.{first_root}
 use Rattle.a68_op_ident.proofs.place.root.Goals as goal
 
-pub loop-k-preserved : goal.loop-k-preserved
-loop-k-preserved c = grind (arith, elements) steps 2000000
+pub loop-k-init : goal.loop-k-init
+loop-k-init c = first_root c.args.tokens.now

@@ -1,0 +1,13 @@
+pub mod Standing
+pub mod Words
+pub mod Rising
+pub mod Classing
+pub mod Looping
+pub mod Judging
+pub mod Imaging
+pub mod Serving
+pub mod Cleaning
+pub mod Filling
+pub mod Rawing
+pub mod Fixing
+pub mod One

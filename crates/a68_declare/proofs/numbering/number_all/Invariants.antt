@@ -1,0 +1,5 @@
+use Rattle.a68_declare.specs.Numbering.{AreNumbered}
+use Rattle.a68_declare.proofs.numbering.number_all.Given as goal
+
+abbrev pub invariant-loop-id : goal.invariant-loop-id
+invariant-loop-id l = AreNumbered l.modes l.classes.of l.id l.table.entries l.to.items l.firsts.items

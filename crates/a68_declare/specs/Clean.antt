@@ -1,0 +1,56 @@
+-- Modes of which no two are equivalent (own): then equal modes have equal numbers, and shapes can be read as they stand.
+use Rattle.std.specs.Prelude.{◌≡◌, ◌<◌, ◌↔◌, ℕ, List, length, map, true, false, nat_eq}
+use Rattle.std.specs.List.{Contains, IsDistinct}
+use Rattle.a68_equiv.specs.Related.{as_it_stands, without_flex}
+use Rattle.a68_equiv.specs.Unfolding.{unfolded, leads_within, is_union, Equivalent, IsMember}
+use Rattle.a68_modes.specs.Nodes.{shape_at, HoldsNodes}
+use Rattle.a68_modes.specs.declared.shape.Shape.{Shape}
+use Rattle.a68_modes.specs.declared.shape.Shape.TheVariants.{Ref, Rows, Struct, Union, Proc, Same, Blank}
+
+-- a shape that is no mode word and not blank; the members of a union are neither unions nor mode words, and each stands once
+abbrev pub IsBare : List Shape → Shape → Type 0
+IsBare nodes (Union members) = IsDistinct nat_eq members × ((x : ℕ) → Contains members x → leads_within (shape_at nodes x) ≡ false)
+IsBare nodes (Same m) = ⊥
+IsBare nodes Blank = ⊥
+IsBare nodes shape = Unit {0}
+
+pub record AreClean (nodes : List Shape) : Type 0 where
+  pub holds : HoldsNodes nodes
+  pub bare : (m : ℕ) → m < length nodes → IsBare nodes (shape_at nodes m)
+  pub apart : (a b : ℕ) → a < length nodes → b < length nodes → Equivalent nodes (as_it_stands a) (as_it_stands b) → a ≡ b
+
+-- a shape with other numbers for the modes within it
+abbrev pub renumbered : (ℕ → ℕ) → Shape → Shape
+renumbered to (Ref m) = Ref (to m)
+renumbered to (Rows dims flex m) = Rows dims flex (to m)
+renumbered to (Struct fields) = Struct (map (λ field. (field.0, to field.1)) fields)
+renumbered to (Union members) = Union (map to members)
+renumbered to (Proc params m) = Proc (map to params) (to m)
+renumbered to (Same m) = Same (to m)
+renumbered to shape = shape
+
+-- a union of what the members of a union have for numbers
+abbrev pub IsUnionImage : List Shape → (ℕ → ℕ) → (m : ℕ) → Shape → Type 0
+IsUnionImage nodes to m (Union images) = (y : ℕ) → Contains images y ↔ ((x : ℕ) × IsMember nodes m x × (to x ≡ y))
+IsUnionImage nodes to m shape = ⊥
+
+-- the image of a mode's shape: its parts go by the numbers; the members of a union are those that are spread out
+abbrev pub IsImage : List Shape → (ℕ → ℕ) → (m : ℕ) → Shape → Shape → Type 0
+IsImage nodes to m (Union members) image = IsUnionImage nodes to m image
+IsImage nodes to m shape image = image ≡ renumbered to shape
+
+-- the members of unions have no FLEX down to the next REF or PROC
+abbrev pub UnionsHaveNoFlex : List Shape → Type 0
+UnionsHaveNoFlex nodes = (m x : ℕ) → m < length nodes → is_union (unfolded nodes m) ≡ true → IsMember nodes m x → Equivalent nodes (without_flex x) (as_it_stands x)
+
+-- the same of modes none of which is a mode word, so that only unions have members
+abbrev pub MembersHaveNoFlex : List Shape → Type 0
+MembersHaveNoFlex nodes = (m x : ℕ) → m < length nodes → IsMember nodes m x → Equivalent nodes (without_flex x) (as_it_stands x)
+
+-- clean modes that mean the same as others, by the number of each
+pub record CleansTo (old : List Shape) (to : ℕ → ℕ) (new : List Shape) : Type 0 where
+  pub clean : AreClean new
+  pub there : (m : ℕ) → m < length old → to m < length new
+  pub onto : (j : ℕ) → j < length new → (m : ℕ) × (m < length old) × (to m ≡ j)
+  pub same : (a b : ℕ) → a < length old → b < length old → (to a ≡ to b) ↔ Equivalent old (as_it_stands a) (as_it_stands b)
+  pub images : (m : ℕ) → m < length old → IsImage old to m (unfolded old m) (shape_at new (to m))

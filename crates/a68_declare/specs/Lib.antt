@@ -1,0 +1,4 @@
+pub mod Clean
+pub mod Broken
+pub mod Numbering
+pub mod Outcome

@@ -1,0 +1,78 @@
+//! Clean modes.
+ghost use Rattle.std.specs.Prelude.{◌≡◌, ◌≤◌, ◌+◌, ◌^◌, ℕ, IfOk, OnOk, length};
+ghost use Rattle.a68_declare.specs.Clean.{CleansTo, UnionsHaveNoFlex, MembersHaveNoFlex};
+ghost use Rattle.a68_declare.specs.Numbering.{number_in, AreShapesFrom, IsNumbering, AreFull};
+ghost use Rattle.a68_equiv.specs.Classes.{AreExact};
+ghost use Rattle.a68_equiv.specs.Dimensions.{HaveDimensions};
+ghost use Rattle.a68_equiv.specs.Ways.{AreWellFormed};
+ghost use Rattle.a68_modes.specs.Nodes.{shape_at};
+ghost use Rattle.a68_modes.specs.declared.shape.Shape.TheVariants.{Blank};
+
+use crate::image::shape_from;
+use crate::numbering::{Numbering, numbering_of};
+use a68_base::NoMemory;
+use a68_declarers::add_blank;
+use a68_equiv::Classes;
+use a68_modes::{ModeId, Modes};
+use std::alloc::Global;
+
+/// Clean modes, and the number of each old node.
+#[derive(Drop)]
+pub struct Cleaned {
+    pub modes: Modes,
+    pub to: Vec<ModeId>,
+}
+
+// Gives all nodes behind the standard ones their shapes.
+fn set_all(
+    alloc: Global,
+    new: &mut Modes,
+    modes: &Modes,
+    numbering: &Numbering,
+) -> Result<(), NoMemory>
+    requires numbering { IsNumbering modes.now numbering.now.to.items numbering.now.firsts.items }
+    requires long { length new.old ≡ length numbering.now.firsts.items }
+    requires blank { (j : ℕ) → 13 ≤ j → shape_at new.old j ≡ Blank }
+    ensures long { OnOk result (length new.new ≡ length numbering.now.firsts.items) }
+    ensures shapes { OnOk result (AreShapesFrom modes.now numbering.now.to.items numbering.now.firsts.items (length numbering.now.firsts.items) new.new) }
+{
+    let _there = modes.len();
+    for number in 13..new.len() {
+        let first = numbering.firsts[number as usize];
+        let shape = shape_from(alloc, modes, &numbering.to, first)?;
+        new.set(number, shape);
+    }
+    Ok(())
+}
+
+// How many nodes there are behind the standard ones.
+fn blanks(numbering: &Numbering, count: u32) -> u32
+    requires enough { 13 ≤ length numbering.now.firsts.items }
+    requires few { length numbering.now.firsts.items ≤ count }
+    ensures { result + 13 ≡ length numbering.now.firsts.items }
+{
+    let _count = count;
+    (numbering.firsts.len() - 13) as u32
+}
+
+/// Clean modes that mean the same as these: no two of them are equivalent, none is a mode word, and the members of inner unions
+/// stand in the place of these.
+pub fn clean_modes(alloc: Global, modes: &Modes, classes: &Classes) -> Result<Cleaned, NoMemory>
+    requires exact { AreExact modes.now classes.now.of }
+    requires formed { AreWellFormed modes.now }
+    requires full { AreFull modes.now }
+    requires few { length modes.now ≤ 2 ^ 20 }
+    ensures cleans { IfOk result (λ cleaned. CleansTo modes.now (number_in cleaned.to.items) cleaned.modes) }
+    ensures formed { IfOk result (λ cleaned. AreWellFormed cleaned.modes) }
+    ensures rows { IfOk result (λ cleaned. HaveDimensions modes.now → HaveDimensions cleaned.modes) }
+    ensures fixed { IfOk result (λ cleaned. UnionsHaveNoFlex modes.now → MembersHaveNoFlex cleaned.modes) }
+{
+    let count = modes.len();
+    let numbering = numbering_of(alloc, modes, classes)?;
+    let mut new = Modes::new(alloc)?;
+    add_blank(&mut new, blanks(&numbering, count))?;
+    set_all(alloc, &mut new, modes, &numbering)?;
+    let _new = new.len();
+    let Numbering { to, firsts: _ } = numbering;
+    Ok(Cleaned { modes: new, to })
+}
