@@ -1,6 +1,5 @@
 -- The classes of modes, as they are numbered.
-use Rattle.std.proofs.Common.{◌≡◌, ◌<◌, ◌≤◌, ◌+◌, ◌⊎◌, ℕ, List, [], ◌∷◌, ◌++◌, Option, Some, None, length, get_or, refl, sym, ap, ◌∙◌, arith, subst, ⊎_elim}
-use Rattle.std.specs.Prelude.{◌↔◌}
+use Rattle.std.proofs.Common.{◌≡◌, ◌<◌, ◌≤◌, ◌+◌, ℕ, List, [], ◌∷◌, ◌++◌, Option, Some, None, length, get_or, refl, sym, ap, ◌∙◌, arith, subst, ⊎_elim}
 use Rattle.std.proofs.lemmas.List.{length-append}
 use Rattle.std.proofs.lemmas.Bool.Decides.{eqb_tells}
 use Rattle.std.proofs.Math.ListN.{get_or-append}
@@ -30,6 +29,23 @@ module _ (nodes : List Shape) (classes : List ℕ) (holds : HoldsNodes nodes) (e
     longer : (number : ℕ) → length (to ++ number ∷ []) ≡ count + 1
     longer number = let l = so.long in omega (arith, length-append to (number ∷ []))
 
+    -- the numbers before that of one more node are those of nodes before it
+    in_order_on : (number : ℕ) → number ≤ length firsts → (m i : ℕ) → m < count + 1 → i < get_or (to ++ number ∷ []) m 0 → (a : ℕ) × (a < m) × (get_or (to ++ number ∷ []) a 0 ≡ i)
+    in_order_on number most m i h l = ⊎_elim
+        (λ s.
+        let n = s.1 in
+        let e : get_or (to ++ number ∷ []) m 0 ≡ number = ap (λ k. get_or (to ++ number ∷ []) k 0) s.1 ∙ last number in
+        let f = so.first i (omega arith) in
+        let below = f.0 in
+        (get_or firsts i 0, omega arith, before number (get_or firsts i 0) f.0 ∙ f.1))
+        (λ s.
+        let n = s.1 in
+        let e = before number m (omega arith) in
+        let r = so.in_order m i (omega arith) (omega arith) in
+        let below = r.1 in
+        (r.0, r.1, before number r.0 (omega arith) ∙ r.2))
+        (eqb_tells m count)
+
     pub again : (j : ℕ) → at_class table (class_at classes count) ≡ Some j → AreNumbered nodes classes (count + 1) table (to ++ j ∷ []) firsts
     again j e = record {
       long = longer j;
@@ -42,6 +58,7 @@ module _ (nodes : List Shape) (classes : List ℕ) (holds : HoldsNodes nodes) (e
       standard = λ m h l. ⊎_elim (λ s. absurd (old (let n = s.1 in omega arith))) (λ s. let n = s.1 in before j m (omega arith) ∙ so.standard m (omega arith) l) (eqb_tells m count);
       begun = λ h. absurd (old (omega arith));
       enough = λ h. ⊎_elim (λ l. absurd (old l)) (λ g. so.enough g) (below_or count 13);
+      in_order = in_order_on j (let o = so.only (class_at classes count) j e in let l = o.0 in omega arith);
     }
       where
         old : count < 13 → ⊥
@@ -107,6 +124,7 @@ module _ (nodes : List Shape) (classes : List ℕ) (holds : HoldsNodes nodes) (e
             (λ s. let n = s.1 in before (length firsts) m (omega arith) ∙ so.standard m (omega arith) l) (eqb_tells m count);
         begun = λ h. let b = so.begun (omega arith) in let m = more in omega arith;
         enough = λ h. let m = more in ⊎_elim (λ l. let b = so.begun (omega arith) in omega arith) (λ g. let e = so.enough g in omega arith) (below_or count 13);
+        in_order = in_order_on (length firsts) (omega arith);
       }
 
     -- one node more
@@ -137,4 +155,5 @@ module _ (nodes : List Shape) (classes : List ℕ) (holds : HoldsNodes nodes) (e
     standard = λ m h. let t = thirteen nodes holds in so.standard m (omega arith) h;
     enough = so.enough (thirteen nodes holds);
     few = so.few;
+    in_order = so.in_order;
   }

@@ -1,26 +1,25 @@
 -- Clean modes mean the same as those that they come from.
-use Rattle.std.proofs.Common.{◌≡◌, ◌<◌, ◌≤◌, ◌⊎◌, ◌+◌, ℕ, zero, suc, List, [], ◌∷◌, Bool as Truth, true, false, length, get_or, refl, sym, ap, ◌∙◌, arith, subst, inl, inr, ⊎_elim}
-use Rattle.std.specs.Prelude.{◌↔◌, map, slice_index_or}
-use Rattle.std.specs.List.{All, Contains}
+use Rattle.std.proofs.Common.{◌≡◌, ◌<◌, ◌≤◌, ◌⊎◌, ℕ, zero, suc, List, [], ◌∷◌, Bool as Truth, true, false, length, get_or, refl, sym, ap, ◌∙◌, arith, subst, inl, inr, ⊎_elim}
+use Rattle.std.specs.Prelude.{◌↔◌, map}
+use Rattle.std.specs.List.{Contains}
 use Rattle.std.proofs.lemmas.Bool.{false≢true}
 use Rattle.std.proofs.lemmas.List.{length-map}
-use Rattle.std.proofs.lemmas.List.Elements.{All-contains, All-from_get_or, Contains-get_or}
-use Rattle.a68_declare.proofs.Imaging.{map_has, get_map, map_same, same_count, same_shape, parts_renumbered, constructor_renumbered, constructor_kept, constructor_union, passes_union, passes_renumbered, union_renumbered, leads_renumbered, image_other, other_image, image_union, union_image, images_of, at_other, other_at, at_union, union_at, passes_none, leads_by, union_leads, no_same, bare_other, steps_renumbered, wider, steps_union, dims_renumbered}
+use Rattle.a68_declare.proofs.Imaging.{map_has, get_map, map_same, same_count, same_shape, parts_renumbered, constructor_kept, constructor_union, passes_union, passes_renumbered, union_renumbered, leads_renumbered, image_other, other_image, image_union, union_image, images_of, at_other, other_at, at_union, union_at, passes_none, leads_by, union_leads, no_same, bare_other, steps_renumbered, wider, steps_union, dims_renumbered}
 use Rattle.a68_declare.proofs.Looping.{no_sequence}
 use Rattle.a68_declare.proofs.Standing.{standard_at, thirteen}
 use Rattle.a68_declare.proofs.Serving.{bare_members, standard_image}
 use Rattle.a68_declare.proofs.Words.{no_loops, way_behind}
-use Rattle.a68_declare.specs.Clean.{AreClean, CleansTo, IsBare, IsUnionImage, IsImage, UnionsHaveNoFlex, MembersHaveNoFlex, renumbered}
-use Rattle.a68_declare.specs.Numbering.{number_in, AreOnce, IsNumbering, IsShapeFrom, AreFull}
+use Rattle.a68_declare.specs.Clean.{AreFixed, CleansTo, IsBare, IsNode, IsRising, IsUnionImage, IsImage, UnionsHaveNoFlex, MembersHaveNoFlex, renumbered}
+use Rattle.a68_declare.specs.Numbering.{number_in, AreOnce, IsNumbering, IsShapeFrom, AreFull, AreTwins, HaveTwins}
+use Rattle.a68_declarers.specs.Numbers.{twin_of}
 use Rattle.a68_equiv.proofs.Grasp.{stays, behind_below}
 use Rattle.a68_equiv.proofs.Growing.{way_below, part_below}
 use Rattle.a68_equiv.proofs.Coding.{union_made}
 use Rattle.a68_equiv.proofs.Meekly.{way_join}
 use Rattle.a68_equiv.proofs.Numbers.{same_mode}
 use Rattle.a68_equiv.proofs.Rowing.{no_steps, none_from}
-use Rattle.a68_equiv.proofs.Spreading.{members_spread, plain_spread}
 use Rattle.a68_equiv.proofs.Stepping.{row_of_map}
-use Rattle.a68_equiv.specs.Classes.{class_of, AreExact}
+use Rattle.a68_equiv.specs.Classes.{AreExact}
 use Rattle.a68_equiv.specs.declared.mode.Mode.{Mode}
 use Rattle.a68_equiv.specs.declared.steps.Steps.{Steps}
 use Rattle.a68_equiv.specs.declared.steps.Steps.TheVariants.{BesidesNames, BesidesStructures, WithinUnions}
@@ -222,18 +221,22 @@ module _ (old new : List Shape) (classes to firsts : List ℕ) (holds : HoldsNod
           other_at new (get_or to m 0) (unfolded new (get_or to m 0)) place (get_or to x 0) (union_same m h ∙ u)
           (omega arith, ap (λ (xs : List ℕ). get_or xs place 0) e ∙ get_map (number_in to) (parts_of (unfolded old m)) place a.0 ∙ ap (number_in to) a.1)
 
-  one_constructor : (m : ℕ) → m < length old → constructor false (unfolded new (get_or to m 0)) ≡ constructor false (unfolded old m)
-  one_constructor m h = ap (constructor false) (new_unfolded m h) ∙ go (is_union (unfolded old m)) refl
+  -- what a node's shape says is what the mode's says
+  image_same : (x : ℕ) → x < length old → {A : Type 0} (g : Shape → A) → ((images : List ℕ) (s : Shape) → is_union s ≡ true → g (Union images) ≡ g s) → ((s : Shape) → g (renumbered (number_in to) s) ≡ g s)
+      → g (unfolded new (get_or to x 0)) ≡ g (unfolded old x)
+  image_same x h g on_union on_other = ap g (new_unfolded x h) ∙ go (is_union (unfolded old x)) refl
     where
-      both_unions : (s : Shape) → is_union s ≡ true → constructor false s ≡ Union []
-      both_unions (Union ms) u = refl
-      both_unions _ u = absurd (false≢true u)
-
-      go : (t : Truth) → is_union (unfolded old m) ≡ t → constructor false (shape_at new (get_or to m 0)) ≡ constructor false (unfolded old m)
+      go : (t : Truth) → is_union (unfolded old x) ≡ t → g (shape_at new (get_or to x 0)) ≡ g (unfolded old x)
       go true u =
-          let is = images_of old (number_in to) m (shape_at new (get_or to m 0)) (union_image old (number_in to) m (unfolded old m) (shape_at new (get_or to m 0)) u (image_at m h).image) in
-          ap (constructor false) is.1 ∙ sym (both_unions (unfolded old m) u)
-      go false u = ap (constructor false) (other_image old (number_in to) m (unfolded old m) (shape_at new (get_or to m 0)) u (image_at m h).image) ∙ constructor_renumbered (number_in to) (unfolded old m)
+          let is = images_of old (number_in to) x (shape_at new (get_or to x 0)) (union_image old (number_in to) x (unfolded old x) (shape_at new (get_or to x 0)) u (image_at x h).image) in
+          ap g is.1 ∙ on_union is.0 (unfolded old x) u
+      go false u = ap g (other_image old (number_in to) x (unfolded old x) (shape_at new (get_or to x 0)) u (image_at x h).image) ∙ on_other (unfolded old x)
+
+  one_constructor : (fixed : Truth) (m : ℕ) → m < length old → constructor fixed (unfolded new (get_or to m 0)) ≡ constructor fixed (unfolded old m)
+  one_constructor fixed m h = image_same m h (constructor fixed) (constructor_union fixed) (constructor_kept fixed (number_in to))
+
+  passes_on_kept : (fixed : Truth) (m : ℕ) → m < length old → passes_on fixed (unfolded new (get_or to m 0)) ≡ passes_on fixed (unfolded old m)
+  passes_on_kept fixed m h = image_same m h (passes_on fixed) (passes_union fixed) (passes_renumbered fixed (number_in to))
 
   at_below : (m : ℕ) → m < length old → (place x : ℕ) → IsAt old m (unfolded old m) place x → x < length old
   at_below m h place x at = part_below old holds (as_it_stands m) (as_it_stands x) place h (record { at = at; flex = sym (passes_none (unfolded old m)) })
@@ -242,7 +245,7 @@ module _ (old new : List Shape) (classes to firsts : List ℕ) (holds : HoldsNod
   alike_back : (depth a b : ℕ) → a < length old → b < length old → Alike new depth (as_it_stands (get_or to a 0)) (as_it_stands (get_or to b 0)) → Alike old depth (as_it_stands a) (as_it_stands b)
   alike_back zero a b ha hb al = tt
   alike_back (suc depth) a b ha hb al = (
-    sym (one_constructor a ha) ∙ al.0 ∙ one_constructor b hb,
+    sym (one_constructor false a ha) ∙ al.0 ∙ one_constructor false b hb,
     (
       λ place p part.
           let pp : p ≡ as_it_stands p.id = same_mode p (as_it_stands p.id) refl (part.flex ∙ passes_none (unfolded old a)) in
@@ -281,14 +284,63 @@ module _ (old new : List Shape) (classes to firsts : List ℕ) (holds : HoldsNod
       subst (λ x. Equivalent new (as_it_stands x) (as_it_stands (get_or to b 0))) (sym (num.back i li)) (subst (λ x. Equivalent new (as_it_stands i) (as_it_stands x)) (sym (num.back j lj)) eq) in
       sym (num.back i li) ∙ (num.same a b ha hb).1 (λ depth. alike_back depth a b ha hb (same depth)) ∙ num.back j lj
 
-  pub cleans : CleansTo old (number_in to) new
-  cleans = record {
+  pub cleans : ((j : ℕ) → 13 ≤ j → j < length firsts → IsRising (shape_at new j)) → CleansTo old (number_in to) new
+  cleans rising = record {
     clean = record { holds = new_holds; bare = bare_new; apart = apart_new };
     there = there_new;
     onto = λ j h. let lt : j < length firsts = omega arith in (get_or firsts j 0, num.firsts_there j lt, num.back j lt);
     same = num.same;
     images = λ m h. (image_at m h).image;
+    in_order = num.in_order;
+    rising = λ j high h. rising j high (omega arith);
   }
+
+  -- modes that are alike, with or without their FLEX, have nodes that are
+  abbrev image_of : Mode → Mode
+  image_of m = record { id = get_or to m.id 0; fixed = m.fixed }
+
+  -- what stands in a node, and in a mode that it is for
+  part_down : (a p : Mode) (place : ℕ) → a.id < length old → IsPart new (image_of a) place p → (m : Mode) × IsPart old a place m × (m.id < length old) × (image_of m ≡ p)
+  part_down a p place h part =
+      let d = at_down a.id h place p.id part.at in
+      let m : Mode = record { id = d.0; fixed = passes_on a.fixed (unfolded old a.id) } in
+      let here : IsPart old a place m = record { at = d.1; flex = refl } in
+      (m, here, part_below old holds a m place h here, same_mode (image_of m) p d.2 (sym (passes_on_kept a.fixed a.id h) ∙ sym part.flex))
+
+  part_up : (a m : Mode) (place : ℕ) → a.id < length old → IsPart old a place m → IsPart new (image_of a) place (image_of m)
+  part_up a m place h part = record { at = at_up a.id h place m.id part.at; flex = part.flex ∙ sym (passes_on_kept a.fixed a.id h) }
+
+  alike_on : (depth : ℕ) (a b : Mode) → a.id < length old → b.id < length old → Alike old depth a b → Alike new depth (image_of a) (image_of b)
+  alike_on zero a b ha hb al = tt
+  alike_on (suc depth) a b ha hb al = (
+    one_constructor a.fixed a.id ha ∙ al.0 ∙ sym (one_constructor b.fixed b.id hb),
+    (
+      λ place p part.
+          let m = part_down a p place ha part in
+          let n = al.1.0 place m.0 m.1 in
+          let hn = part_below old holds b n.0 place hb n.1 in
+          (image_of n.0, part_up b n.0 place hb n.1, subst (λ x. Alike new depth x (image_of n.0)) m.3 (alike_on depth m.0 n.0 m.2 hn n.2)),
+      λ place q part.
+          let n = part_down b q place hb part in
+          let m = al.1.1 place n.0 n.1 in
+          let hm = part_below old holds a m.0 place ha m.1 in
+          (image_of m.0, part_up a m.0 place ha m.1, subst (λ x. Alike new depth (image_of m.0) x) n.3 (alike_on depth m.0 n.0 hm n.2 m.2)),
+    ),
+  )
+
+  -- the nodes of modes without their FLEX
+  pub new_twins : (fixed : List ℕ) → AreTwins to firsts fixed → HaveTwins old → AreFixed new fixed
+  new_twins fixed are twins = record { long = ap length are ∙ length-map firsts (λ first. number_in to (twin_of first)) ∙ sym long; each = each }
+    where
+      each : (j : ℕ) → j < length new → IsNode new (without_flex j) (get_or fixed j 0)
+      each j h =
+          let lt : j < length firsts = omega arith in
+          let m = get_or firsts j 0 in
+          let hm = num.firsts_there j lt in
+          let t = twins m hm in
+          let e : get_or fixed j 0 ≡ get_or to (twin_of m) 0 = ap (λ (xs : List ℕ). get_or xs j 0) are ∙ get_map (λ first. number_in to (twin_of first)) firsts j lt in
+          let node : IsNode new (without_flex (get_or to m 0)) (get_or to (twin_of m) 0) = record { there = there_new (twin_of m) t.there; equivalent = λ depth. alike_on depth (as_it_stands (twin_of m)) (without_flex m) t.there hm (t.equivalent depth) } in
+          subst (λ k. IsNode new (without_flex j) k) (sym e) (subst (λ k. IsNode new (without_flex k) (get_or to (twin_of m) 0)) (num.back j lt) node)
 
   -- ---- well formed
 
@@ -374,21 +426,11 @@ module _ (old new : List Shape) (classes to firsts : List ℕ) (holds : HoldsNod
   module _ (Free : ℕ → Type 0) (still : (x : ℕ) → x < length old → Free x → constructor true (unfolded old x) ≡ constructor false (unfolded old x))
       (parts : (x : ℕ) → x < length old → Free x → (place y : ℕ) → IsAt old x (unfolded old x) place y → (passes_on true (unfolded old x) ≡ false) ⊎ Free y)
       (members : (m x : ℕ) → m < length old → is_union (unfolded old m) ≡ true → IsMember old m x → Free x) where
-    image_same : (x : ℕ) → x < length old → {A : Type 0} (g : Shape → A) → ((images : List ℕ) (s : Shape) → is_union s ≡ true → g (Union images) ≡ g s) → ((s : Shape) → g (renumbered (number_in to) s) ≡ g s)
-        → g (unfolded new (get_or to x 0)) ≡ g (unfolded old x)
-    image_same x h g on_union on_other = ap g (new_unfolded x h) ∙ go (is_union (unfolded old x)) refl
-      where
-        go : (t : Truth) → is_union (unfolded old x) ≡ t → g (shape_at new (get_or to x 0)) ≡ g (unfolded old x)
-        go true u =
-            let is = images_of old (number_in to) x (shape_at new (get_or to x 0)) (union_image old (number_in to) x (unfolded old x) (shape_at new (get_or to x 0)) u (image_at x h).image) in
-            ap g is.1 ∙ on_union is.0 (unfolded old x) u
-        go false u = ap g (other_image old (number_in to) x (unfolded old x) (shape_at new (get_or to x 0)) u (image_at x h).image) ∙ on_other (unfolded old x)
-
     passes_same : (x : ℕ) → x < length old → passes_on true (unfolded new (get_or to x 0)) ≡ passes_on true (unfolded old x)
-    passes_same x h = image_same x h (passes_on true) passes_union (passes_renumbered (number_in to))
+    passes_same = passes_on_kept true
 
     still_new : (x : ℕ) → x < length old → Free x → constructor true (unfolded new (get_or to x 0)) ≡ constructor false (unfolded new (get_or to x 0))
-    still_new x h free = image_same x h (constructor true) constructor_union (constructor_kept true (number_in to)) ∙ still x h free ∙ sym (one_constructor x h)
+    still_new x h free = one_constructor true x h ∙ still x h free ∙ sym (one_constructor false x h)
 
     like : (depth x : ℕ) → x < length old → Free x → ((y : ℕ) → y < length old → Free y → Alike new depth (without_flex (get_or to y 0)) (as_it_stands (get_or to y 0)))
         → (place : ℕ) (p : Mode) → IsPart new (without_flex (get_or to x 0)) place p → Alike new depth p (as_it_stands p.id)

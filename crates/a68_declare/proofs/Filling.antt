@@ -1,20 +1,23 @@
 -- Nodes that get the shapes of their classes.
-use Rattle.std.proofs.Common.{◌≡◌, ◌<◌, ◌≤◌, ◌+◌, ◌⊎◌, ℕ, List, [], ◌∷◌, ◌++◌, Bool as Truth, true, false, length, get_or, set, refl, sym, ap, ◌∙◌, arith, subst, inl, inr, ⊎_elim, get_or-set_same, get_or-set_other, nat_eq}
+use Rattle.std.proofs.Common.{◌≡◌, ◌<◌, ◌≤◌, ◌+◌, ◌⊎◌, ℕ, List, [], Bool as Truth, true, false, length, get_or, set, refl, sym, ap, ◌∙◌, arith, subst, inl, inr, ⊎_elim, get_or-set_same, get_or-set_other, nat_eq}
 use Rattle.std.specs.Prelude.{◌↔◌, map}
 use Rattle.std.specs.List.{All, Contains, IsDistinct}
-use Rattle.std.proofs.lemmas.Bool.{cases_eq, false≢true}
-use Rattle.std.proofs.lemmas.Bool.Decides.{eqb_tells}
+use Rattle.std.proofs.lemmas.Bool.{cases_eq}
+use Rattle.std.proofs.lemmas.Bool.Decides.{eqb_tells, nat_tests}
+use Rattle.std.proofs.lemmas.List.Sorted.{Contains-permutation, IsNonDecreasingBy-from_sort, IsPermutation-sym}
+use Rattle.std.proofs.lemmas.Map.Keys.{IsDistinct-IsPermutation, IsStrictlyIncreasing-from_distinct}
+use Rattle.std.specs.List.Sorted.{IsPermutation, IsSorted, IsStrictlyIncreasing}
+use Rattle.std.specs.Ordering.{nat_cmp}
 use Rattle.std.proofs.lemmas.List.Elements.{All-contains, All-from_get_or, Contains-get_or}
-use Rattle.std.proofs.lemmas.List.{length-map}
 use Rattle.a68_declare.proofs.Imaging.{map_has, has_map, other_image, union_image, images_of, parts_renumbered}
-use Rattle.a68_declare.specs.Clean.{IsUnionImage, IsImage}
+use Rattle.a68_declare.specs.Clean.{IsUnionImage, IsImage, IsRising}
 use Rattle.a68_declare.specs.Numbering.{number_in, AreImagesOf, IsNumbering, IsShapeFrom, AreShapesFrom}
 use Rattle.a68_equiv.proofs.Grasp.{behind_below}
 use Rattle.a68_equiv.proofs.Growing.{way_below}
 use Rattle.a68_equiv.specs.declared.steps.Steps.TheVariants.{WithinUnions}
 use Rattle.a68_equiv.specs.Related.{IsAmong}
 use Rattle.a68_equiv.specs.Spread.{Notes}
-use Rattle.a68_equiv.specs.Unfolding.{behind, unfolded, is_union, IsMember, IsAt}
+use Rattle.a68_equiv.specs.Unfolding.{behind, unfolded, is_union, IsMember}
 use Rattle.a68_modes.specs.declared.shape.Shape.{Shape}
 use Rattle.a68_modes.specs.declared.shape.Shape.TheVariants.{Struct, Union, Blank}
 use Rattle.a68_modes.specs.Nodes.{shape_at, parts_of, IsWithin, HoldsNodes}
@@ -31,6 +34,19 @@ noted_images to modes found notes y = (
   λ c. ⊎_elim (λ n. absurd (none_in y n)) (λ m. map_has (number_in to) modes y m) (notes.only y c),
   λ x. notes.all y (subst (Contains (map (number_in to) modes)) x.2 (has_map (number_in to) modes x.0 x.1)),
 )
+
+-- in another order they are the same numbers; where they are sorted, and each stands once, they rise
+pub sorted_images : (to modes found sorted : List ℕ) → AreImagesOf to modes found → IsPermutation found sorted → AreImagesOf to modes sorted
+sorted_images to modes found sorted are moved y = (
+  λ c. (are y).0 (Contains-permutation sorted found y (IsPermutation-sym found sorted moved) c),
+  λ x. Contains-permutation found sorted y moved ((are y).1 x),
+)
+
+pub sorted_once : (found sorted : List ℕ) → IsDistinct nat_eq found → IsPermutation found sorted → IsDistinct nat_eq sorted
+sorted_once found sorted once moved = IsDistinct-IsPermutation nat_eq (λ x y. grind (arith, nat_tests)) found sorted moved once
+
+pub sorted_rise : (found sorted : List ℕ) → IsDistinct nat_eq found → IsPermutation found sorted → IsSorted nat_cmp sorted → IsStrictlyIncreasing sorted
+sorted_rise found sorted once moved up = IsStrictlyIncreasing-from_distinct sorted (IsNonDecreasingBy-from_sort (λ x. x) sorted up) (sorted_once found sorted once moved)
 
 -- each mode within such a shape is there
 pub shape_there : (nodes : List Shape) (to firsts : List ℕ) (m : ℕ) (shape : Shape) → HoldsNodes nodes → IsNumbering nodes to firsts → m < length nodes → IsShapeFrom nodes to m shape → IsWithin (length firsts) shape
@@ -52,13 +68,20 @@ shape_there nodes to firsts m shape holds num h from = go (is_union (unfolded no
         subst (λ y. y < length firsts) x.2 (num.there x.0 (All-contains (λ y. y < length nodes) (parts_of (unfolded nodes m)) x.0 within x.1))))
 
 pub filled_none : (nodes : List Shape) (to firsts : List ℕ) (new : List Shape) → ((j : ℕ) → 13 ≤ j → shape_at new j ≡ Blank) → AreShapesFrom nodes to firsts 13 new
-filled_none nodes to firsts new blank = record { done = λ j h l. absurd (omega arith); blank = λ j h l. blank j l }
+filled_none nodes to firsts new blank = record { done = λ j h l. absurd (omega arith); rising = λ j h l. absurd (omega arith); blank = λ j h l. blank j l }
 
 -- one node more
-pub filled : (nodes : List Shape) (to firsts : List ℕ) (count : ℕ) (new : List Shape) (shape : Shape) → count < length new → IsShapeFrom nodes to (get_or firsts count 0) shape → AreShapesFrom nodes to firsts count new
+pub filled : (nodes : List Shape) (to firsts : List ℕ) (count : ℕ) (new : List Shape) (shape : Shape) → count < length new → IsShapeFrom nodes to (get_or firsts count 0) shape → IsRising shape → AreShapesFrom nodes to firsts count new
     → AreShapesFrom nodes to firsts (count + 1) (set new count shape)
-filled nodes to firsts count new shape lt from so = record { done = done; blank = blank }
+filled nodes to firsts count new shape lt from up so = record { done = done; rising = rising; blank = blank }
   where
+    rising : (j : ℕ) → 13 ≤ j → j < count + 1 → IsRising (shape_at (set new count shape) j)
+    rising j h l = go (cases_eq j count)
+      where
+        go : (j ≡ count) ⊎ (j ≡ count → ⊥) → IsRising (shape_at (set new count shape) j)
+        go (inl e) = subst (λ k. IsRising (shape_at (set new count shape) k)) (sym e) (subst IsRising (sym (get_or-set_same new count shape Blank lt)) up)
+        go (inr ne) = subst IsRising (sym (get_or-set_other new count j shape Blank ne)) (so.rising j h (omega arith))
+
     done : (j : ℕ) → 13 ≤ j → j < count + 1 → IsShapeFrom nodes to (get_or firsts j 0) (shape_at (set new count shape) j)
     done j h l = go (cases_eq j count)
       where

@@ -1,17 +1,17 @@
 -- Shapes with other numbers for the modes within them.
-use Rattle.std.proofs.Common.{◌≡◌, ◌<◌, ◌≤◌, ◌+◌, ℕ, zero, suc, List, [], ◌∷◌, ◌++◌, Bool as Truth, true, false, length, get_or, refl, sym, ap, ◌∙◌, arith, subst, length-append}
-use Rattle.std.specs.Prelude.{◌↔◌, map, slice_index_or}
-use Rattle.std.specs.List.{All, Contains}
+use Rattle.std.proofs.Common.{◌≡◌, ◌<◌, ℕ, zero, suc, List, [], ◌∷◌, ◌++◌, Bool as Truth, true, false, length, get_or, refl, sym, ap, ◌∙◌, arith, length-append}
+use Rattle.std.specs.Prelude.{map, slice_index_or}
+use Rattle.std.specs.List.{Contains}
 use Rattle.std.proofs.lemmas.Bool.{false≢true}
 use Rattle.std.proofs.lemmas.List.{map-append, length-map}
 use Rattle.a68_declare.specs.Clean.{IsBare, renumbered, IsUnionImage, IsImage}
 use Rattle.a68_equiv.specs.declared.steps.Steps.{Steps}
 use Rattle.a68_equiv.specs.declared.steps.Steps.TheVariants.{BesidesNames, BesidesStructures, WithinUnions}
 use Rattle.a68_equiv.specs.Dimensions.{HasDimensions}
-use Rattle.a68_equiv.specs.Unfolding.{constructor, flex_left, leads_within, is_union, passes_on, IsMember, IsAt}
+use Rattle.a68_equiv.specs.Unfolding.{constructor, leads_within, is_union, passes_on, IsMember, IsAt}
 use Rattle.a68_equiv.specs.Ways.{steps_of}
 use Rattle.a68_modes.specs.declared.shape.Shape.{Shape}
-use Rattle.a68_modes.specs.declared.shape.Shape.TheVariants.{Void, Int, Bool, Char, Bits, Sema, Layout, Ref, Rows, Struct, Union, Proc, Same, Blank}
+use Rattle.a68_modes.specs.declared.shape.Shape.TheVariants.{Ref, Rows, Struct, Union, Proc, Same, Blank}
 use Rattle.a68_modes.specs.Nodes.{parts_of}
 
 -- ---- lists
@@ -103,6 +103,10 @@ same_count s t u v e = count_again s u ∙ ap (λ x. length (parts_of x)) e ∙ 
 pub same_shape : (f : ℕ → ℕ) (s t : Shape) → is_union s ≡ false → is_union t ≡ false → constructor false s ≡ constructor false t → map f (parts_of s) ≡ map f (parts_of t) → renumbered f s ≡ renumbered f t
 same_shape f s t u v e p = rebuild f s u ∙ ap (λ x. rebuilt x (map f (parts_of s))) e ∙ ap (rebuilt (constructor false t)) p ∙ sym (rebuild f t v)
 
+-- numbers that are the same on the modes within a shape
+pub renumbered_same : (f g : ℕ → ℕ) (s : Shape) → is_union s ≡ false → map f (parts_of s) ≡ map g (parts_of s) → renumbered f s ≡ renumbered g s
+renumbered_same f g s u e = rebuild f s u ∙ ap (rebuilt (constructor false s)) e ∙ sym (rebuild g s u)
+
 -- ---- images
 
 pub parts_renumbered : (f : ℕ → ℕ) (s : Shape) → parts_of (renumbered f s) ≡ map f (parts_of s)
@@ -130,18 +134,18 @@ constructor_kept fixed f _ = refl
 pub constructor_renumbered : (f : ℕ → ℕ) (s : Shape) → constructor false (renumbered f s) ≡ constructor false s
 constructor_renumbered f s = constructor_kept false f s
 
-pub constructor_union : (images : List ℕ) (s : Shape) → is_union s ≡ true → constructor true (Union images) ≡ constructor true s
-constructor_union images (Union ms) u = refl
-constructor_union images _ u = absurd (false≢true u)
+pub constructor_union : (fixed : Truth) (images : List ℕ) (s : Shape) → is_union s ≡ true → constructor fixed (Union images) ≡ constructor fixed s
+constructor_union fixed images (Union ms) u = refl
+constructor_union fixed images _ u = absurd (false≢true u)
 
-pub passes_union : (images : List ℕ) (s : Shape) → is_union s ≡ true → passes_on true (Union images) ≡ passes_on true s
-passes_union images (Union ms) u = refl
-passes_union images _ u = absurd (false≢true u)
+pub passes_union : (fixed : Truth) (images : List ℕ) (s : Shape) → is_union s ≡ true → passes_on fixed (Union images) ≡ passes_on fixed s
+passes_union fixed images (Union ms) u = refl
+passes_union fixed images _ u = absurd (false≢true u)
 
-pub passes_renumbered : (f : ℕ → ℕ) (s : Shape) → passes_on true (renumbered f s) ≡ passes_on true s
-passes_renumbered f (Ref m) = refl
-passes_renumbered f (Proc ps m) = refl
-passes_renumbered f _ = refl
+pub passes_renumbered : (fixed : Truth) (f : ℕ → ℕ) (s : Shape) → passes_on fixed (renumbered f s) ≡ passes_on fixed s
+passes_renumbered fixed f (Ref m) = refl
+passes_renumbered fixed f (Proc ps m) = refl
+passes_renumbered fixed f _ = refl
 
 pub union_renumbered : (f : ℕ → ℕ) (s : Shape) → is_union (renumbered f s) ≡ is_union s
 union_renumbered f (Union ms) = refl

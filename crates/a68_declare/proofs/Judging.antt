@@ -1,16 +1,16 @@
 -- What the judgements on modes rest on.
-use Rattle.std.proofs.Common.{◌≡◌, ◌<◌, ◌≤◌, ◌⊎◌, ◌+◌, ℕ, zero, suc, List, [], ◌∷◌, Bool, true, false, length, get_or, refl, sym, ap, ◌∙◌, arith, subst, inl, inr, ⊎_elim}
+use Rattle.std.proofs.Common.{◌≡◌, ◌<◌, ◌⊎◌, ◌+◌, ℕ, List, Bool, true, length, get_or, refl, sym, ap, ◌∙◌, arith, subst, inl, inr, ⊎_elim}
 use Rattle.std.specs.Prelude.{◌↔◌, IsTrue}
 use Rattle.std.specs.List.{All, Contains}
 use Rattle.std.proofs.lemmas.Bool.{false≢true}
 use Rattle.std.proofs.lemmas.Bool.Decides.{eqb_tells}
 use Rattle.std.proofs.lemmas.List.{get_or_default}
 use Rattle.std.proofs.lemmas.List.Elements.{All-contains}
-use Rattle.a68_declare.specs.Broken.{IsClash, AreClashing, AreDifferent, HasRelated, HasNoTwo, IsIllFormed}
+use Rattle.a68_declare.specs.Broken.{IsClash, AreClashing, AreDifferent, HasRelated, HasNoTwo}
 use Rattle.a68_declarers.proofs.There.{kind_past}
 use Rattle.a68_declarers.specs.Declarers.{is_mode_definition}
 use Rattle.a68_equiv.specs.Classes.{class_of, AreExact}
-use Rattle.a68_equiv.specs.Related.{as_it_stands, AreLinked, IsAmong, LeadsMeekly}
+use Rattle.a68_equiv.specs.Related.{as_it_stands, IsAmong}
 use Rattle.a68_equiv.specs.Unfolding.{unfolded, is_union, Equivalent, IsMember}
 use Rattle.a68_modes.specs.declared.shape.Shape.{Shape}
 use Rattle.a68_modes.specs.declared.shape.Shape.TheVariants.{Union}

@@ -11,3 +11,4 @@ pub mod Filling
 pub mod Rawing
 pub mod Fixing
 pub mod One
+pub mod Single

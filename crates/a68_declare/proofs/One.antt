@@ -1,23 +1,24 @@
 -- The declarers of a tree break one rule first, at one place.
 use Rattle.std.proofs.Common.{◌≡◌, ◌<◌, ◌≤◌, ◌⊎◌, ◌+◌, ◌-◌, inl, inr, ⊎_elim, ℕ, zero, suc, Bool, true, false, List, [], ◌∷◌, length, refl, sym, ap, ◌∙◌, arith, subst, Some, None, Option, get_or, slice_get}
-use Rattle.std.specs.Prelude.{map, take, if◌then◌else◌, nat_lt, ◌&&◌}
+use Rattle.std.specs.Prelude.{map, if◌then◌else◌, nat_lt, ◌&&◌}
 use Rattle.std.specs.Option.{option_map_or}
-use Rattle.std.proofs.lemmas.Bool.{cases_lt, false≢true}
+use Rattle.std.proofs.lemmas.Bool.{cases_lt}
 use Rattle.std.proofs.lemmas.Bool.Decides.{nat_tests}
-use Rattle.std.proofs.lemmas.List.{get_or-take, ext_get_or}
+use Rattle.std.proofs.lemmas.List.{ext_get_or}
 use Rattle.a68_base.specs.declared.refusal.Refusal.{Refusal}
+use Rattle.a68_declare.proofs.Standing.{standard_at, thirteen}
 use Rattle.a68_declare.specs.Broken.{root_of, IsIllFormed, IsWrongUnion, HasRelated, HasNoTwo}
 use Rattle.a68_declare.specs.Outcome.{AreRaw, AreModesOf, ByNode, IsFirstBroken, undefined, too_many, ill_formed, wrong_union, wrong_bounds}
 use Rattle.a68_declarers.specs.Bounds.{bracket_at, bracket_of, next_start, HasWrongBounds}
-use Rattle.a68_declarers.specs.Declarers.{form_at, is_declarer, is_field, IsDeclarer}
-use Rattle.a68_declarers.specs.Numbers.{one_if, mode_number}
+use Rattle.a68_declarers.specs.Declarers.{form_at, is_declarer, is_field}
+use Rattle.a68_declarers.specs.Numbers.{one_if}
 use Rattle.a68_declarers.specs.Shapes.{dims_of, last_mode, front, fields, defined_mode, IsShapeOf}
 use Rattle.a68_declarers.specs.Words.{declarers_before, IsTooMany}
 use Rattle.a68_declarers.specs.declared.form.Form.{Form}
 use Rattle.a68_declarers.specs.declared.form.Form.TheVariants as forms
 use Rattle.a68_equiv.specs.Unfolding.{flex_left}
 use Rattle.a68_equiv.specs.Ways.{IsWellFormed}
-use Rattle.a68_modes.specs.Nodes.{shape_at, standard_shapes}
+use Rattle.a68_modes.specs.Nodes.{shape_at}
 use Rattle.a68_modes.specs.declared.shape.Shape.{Shape}
 use Rattle.a68_modes.specs.declared.shape.Shape.TheVariants.{Ref, Rows, Struct, Union, Proc, Same, Blank}
 use Rattle.a68_ranges.proofs.Single.{definition_one}
@@ -57,7 +58,7 @@ module _ (tree : Built) (f g : ℕ → ℕ) (same : (e : ℕ) → f e ≡ g e) w
   defined_same (Some d) = last_same (parts_at tree d)
 
 module _ (tree : Built) (once : (id : ℕ) → IsTwice tree id → ⊥) where
-  word_one : (at name : ℕ) (one other : Option ℕ) → IsModeWordOf tree at name one → IsModeWordOf tree at name other → one ≡ other
+  pub word_one : (at name : ℕ) (one other : Option ℕ) → IsModeWordOf tree at name one → IsModeWordOf tree at name other → one ≡ other
   word_one at name None None p q = refl
   word_one at name None (Some b) p q = absurd (p b q)
   word_one at name (Some a) None p q = absurd (q a p)
@@ -86,7 +87,7 @@ module _ (tree : Built) (once : (id : ℕ) → IsTwice tree id → ⊥) where
     same_number d fixed = a.numbered d fixed ∙ sym (b.numbered d fixed)
 
     low_same : (m : ℕ) → m < 13 → shape_at raw m ≡ shape_at another m
-    low_same m h = sym (get_or-take 13 raw m Blank h) ∙ ap (λ (l : List Shape). get_or l m Blank) (a.standard ∙ sym b.standard) ∙ get_or-take 13 another m Blank h
+    low_same m h = standard_at raw a.holds m h ∙ sym (standard_at another b.holds m h)
 
     high_same : (m : ℕ) → 13 ≤ m → m < length raw → shape_at raw m ≡ shape_at another m
     high_same m h lt =
@@ -102,25 +103,11 @@ module _ (tree : Built) (once : (id : ℕ) → IsTwice tree id → ⊥) where
     shapes_same : (m : ℕ) → m < length raw → get_or raw m Blank ≡ get_or another m Blank
     shapes_same m lt = ⊎_elim (λ h. low_same m h) (λ h. high_same m h lt) (cases_lt m 13)
 
-  thirteen : (raw : List Shape) → take 13 raw ≡ standard_shapes → 13 ≤ length raw
-  thirteen raw e = ⊎_elim (λ (short : length raw < 13). absurd (too_short raw short e)) (λ h. h) (cases_lt (length raw) 13)
-    where
-      too_short : (raw : List Shape) → length raw < 13 → take 13 raw ≡ standard_shapes → ⊥
-      too_short raw short e =
-          let long : length (take 13 raw) ≡ 13 = ap length e in
-          let few : length (take 13 raw) ≤ length raw = shorter 13 raw in
-          absurd (omega arith)
-        where
-          shorter : (n : ℕ) (xs : List Shape) → length (take n xs) ≤ length xs
-          shorter zero xs = omega arith
-          shorter (suc n) [] = omega arith
-          shorter (suc n) (x ∷ xs) = let h = shorter n xs in omega arith
-
   no_longer : (raw another : List Shape) (number others : ℕ → Bool → ℕ) → AreRaw tree raw number → AreRaw tree another others → length another ≤ length raw
   no_longer raw another number others a b =
       ⊎_elim
       (λ (more : length raw < length another).
-      let from = b.onto (length raw) (thirteen raw a.standard) more in
+      let from = b.onto (length raw) (thirteen raw a.holds) more in
       let there = a.declared.there from.0 from.1 in
       let same : number from.0 from.1 ≡ length raw = same_number raw another number others a b from.0 from.1 ∙ from.3 in
       absurd (omega arith))

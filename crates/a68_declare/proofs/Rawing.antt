@@ -1,6 +1,6 @@
 -- What holds of the modes of declarers as they are declared.
 use Rattle.std.proofs.Common.{◌≡◌, ◌<◌, ◌≤◌, ◌^◌, ◌-◌, ℕ, zero, suc, List, Bool, true, false, length, refl, sym, ap, ◌∙◌, arith, subst, ⊎_elim}
-use Rattle.std.specs.Prelude.{nat_le, nat_lt, if◌then◌else◌, map}
+use Rattle.std.specs.Prelude.{nat_le, nat_lt, if◌then◌else◌}
 use Rattle.std.proofs.lemmas.Bool.Decides.{nat_tests}
 use Rattle.a68_declare.proofs.Cleaning.{blank_past}
 use Rattle.a68_declare.proofs.Standing.{standard_at}
@@ -14,7 +14,7 @@ use Rattle.a68_equiv.proofs.Grasp.{stays}
 use Rattle.a68_equiv.specs.Dimensions.{HasDimensions, HaveDimensions}
 use Rattle.a68_equiv.specs.Unfolding.{unfolded, is_union}
 use Rattle.a68_modes.specs.declared.shape.Shape.{Shape}
-use Rattle.a68_modes.specs.declared.shape.Shape.TheVariants.{Union, Same, Blank}
+use Rattle.a68_modes.specs.declared.shape.Shape.TheVariants.{Blank}
 use Rattle.a68_modes.specs.Nodes.{shape_at, standard_shapes, HoldsNodes}
 use Rattle.a68_ranges.proofs.Taking.{below_or}
 use Rattle.a68_ranges.specs.Nodes.{parts_at}

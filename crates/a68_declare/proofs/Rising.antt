@@ -1,5 +1,5 @@
 -- All modes are well formed, where those of mode definitions are: each ring of modes passes the mode of a definition.
-use Rattle.std.proofs.Common.{◌≡◌, ◌<◌, ◌≤◌, ◌+◌, ◌-◌, ◌⊎◌, ℕ, zero, suc, List, [], ◌∷◌, Bool, true, false, length, refl, sym, ap, ◌∙◌, arith, subst, inl, inr, ⊎_elim, Some}
+use Rattle.std.proofs.Common.{◌≡◌, ◌<◌, ◌≤◌, ◌+◌, ◌-◌, ◌⊎◌, ℕ, zero, suc, List, [], ◌∷◌, Bool, true, false, length, refl, sym, ◌∙◌, arith, subst, inl, inr, ⊎_elim, Some}
 use Rattle.std.specs.Prelude.{map, slice_index_or, nat_lt, if◌then◌else◌}
 use Rattle.std.specs.List.{All, Contains}
 use Rattle.std.proofs.lemmas.List.Elements.{All-contains, All-from_recursion, All-weaker}
@@ -18,12 +18,11 @@ use Rattle.a68_equiv.specs.declared.steps.Steps.TheVariants.{BesidesNames, Besid
 use Rattle.a68_equiv.specs.Ways.{steps_of, row, Way, IsWellFormed, AreWellFormed}
 use Rattle.a68_equiv.specs.Ways.Way.{last_step, more_steps}
 use Rattle.a68_modes.specs.declared.shape.Shape.{Shape}
-use Rattle.a68_modes.specs.declared.shape.Shape.TheVariants.{Void, Int, Bool as bool_shape, Char, Bits, Sema, Layout, Ref, Rows, Struct, Union, Proc, Same, Blank}
+use Rattle.a68_modes.specs.declared.shape.Shape.TheVariants.{Ref, Struct, Union, Proc, Same}
 use Rattle.a68_modes.specs.Nodes.{shape_at, standard_shapes, parts_of, HoldsNodes}
 use Rattle.a68_ranges.proofs.Taking.{below_or}
 use Rattle.a68_ranges.specs.Definitions.{defines, FirstDefinition, here, further}
-use Rattle.a68_ranges.specs.Nodes.{kind_at, parts_at, name_at}
-use Rattle.a68_ranges.specs.Standard.{IsModeWordOf}
+use Rattle.a68_ranges.specs.Nodes.{kind_at, parts_at}
 use Rattle.a68_ranges.specs.declared.sort.Sort.TheVariants as sorts
 use Rattle.a68_tree.specs.Trees.{Built}
 use Rattle.a68_tree.specs.declared.kind.NodeKind.{NodeKind}

@@ -1,6 +1,6 @@
 -- The standard modes are clean.
-use Rattle.std.proofs.Common.{◌≡◌, ◌<◌, ◌≤◌, ℕ, zero, suc, List, [], ◌∷◌, true, false, length, get_or, refl, sym, ap, ◌∙◌, arith, subst}
-use Rattle.std.specs.Prelude.{◌↔◌, nat_eq}
+use Rattle.std.proofs.Common.{◌≡◌, ◌<◌, ℕ, zero, suc, List, [], ◌∷◌, true, false, length, get_or, refl, sym, ap, ◌∙◌, arith, subst}
+use Rattle.std.specs.Prelude.{◌↔◌}
 use Rattle.std.specs.List.{All, Contains, IsDistinct}
 use Rattle.std.proofs.lemmas.List.Elements.{All-contains, All-from_recursion, Contains-get_or}
 use Rattle.a68_declare.proofs.Standing.{standard_at, standard_unfolded, thirteen}
@@ -8,7 +8,7 @@ use Rattle.a68_declare.specs.Clean.{IsImage}
 use Rattle.a68_declare.specs.Numbering.{number_in, AreOnce, IsShapeFrom}
 use Rattle.a68_equiv.proofs.Spreading.{members_spread, plain_spread}
 use Rattle.a68_equiv.specs.declared.steps.Steps.TheVariants.{WithinUnions}
-use Rattle.a68_equiv.specs.Unfolding.{unfolded, leads_within, IsMember}
+use Rattle.a68_equiv.specs.Unfolding.{leads_within, IsMember}
 use Rattle.a68_equiv.specs.Ways.{steps_of}
 use Rattle.a68_modes.specs.declared.shape.Shape.{Shape}
 use Rattle.a68_modes.specs.declared.shape.Shape.TheVariants.{Ref, Rows, Union}

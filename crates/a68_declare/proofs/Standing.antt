@@ -1,14 +1,12 @@
 -- The standard modes.
-use Rattle.std.proofs.Common.{◌≡◌, ◌<◌, ◌≤◌, ◌⊎◌, ℕ, zero, suc, List, [], ◌∷◌, Bool as Truth, true, false, length, take, refl, sym, ap, ◌∙◌, arith, subst, inl, inr, ⊎_elim}
-use Rattle.std.specs.Prelude.{slice_index_or}
+use Rattle.std.proofs.Common.{◌≡◌, ◌<◌, ◌≤◌, ◌⊎◌, ℕ, zero, suc, List, Bool as Truth, true, false, length, refl, sym, ap, ◌∙◌, arith, subst, inl, inr}
 use Rattle.std.proofs.lemmas.List.{get_or-take, length-take}
 use Rattle.a68_equiv.proofs.Grasp.{stays}
-use Rattle.a68_equiv.specs.declared.mode.Mode.{Mode}
 use Rattle.a68_equiv.specs.Related.{as_it_stands}
-use Rattle.a68_equiv.specs.Unfolding.{behind, unfolded, constructor, passes_on, IsPart, IsAt, Equivalent}
+use Rattle.a68_equiv.specs.Unfolding.{behind, unfolded, constructor, passes_on, IsAt, Equivalent}
 use Rattle.a68_modes.specs.declared.shape.Shape.{Shape}
-use Rattle.a68_modes.specs.declared.shape.Shape.TheVariants.{Void, Int, Bool, Char, Bits, Sema, Layout, Ref, Rows, Struct, Union, Proc, Same, Blank}
-use Rattle.a68_modes.specs.Nodes.{shape_at, standard_shapes, parts_of, HoldsNodes}
+use Rattle.a68_modes.specs.declared.shape.Shape.TheVariants.{Void, Int, Bool, Char, Bits, Sema, Layout, Ref, Rows, Union, Proc, Same, Blank}
+use Rattle.a68_modes.specs.Nodes.{shape_at, standard_shapes, HoldsNodes}
 
 module _ (nodes : List Shape) (holds : HoldsNodes nodes) where
   pub standard_at : (m : ℕ) → m < 13 → shape_at nodes m ≡ shape_at standard_shapes m

@@ -1,5 +1,5 @@
 -- Behind mode words, where all modes are well formed.
-use Rattle.std.proofs.Common.{◌≡◌, ◌<◌, ◌⊎◌, ℕ, zero, suc, List, [], ◌∷◌, Bool, true, false, Option, Some, None, length, refl, sym, ap, ◌∙◌, arith, subst, inl, inr, ⊎_elim}
+use Rattle.std.proofs.Common.{◌≡◌, ◌<◌, ◌⊎◌, ℕ, zero, suc, List, Option, Some, None, length, refl, sym, arith, subst, inl, inr, ⊎_elim}
 use Rattle.std.specs.Prelude.{map}
 use Rattle.std.specs.List.{Contains}
 use Rattle.a68_equiv.proofs.Chains.{steps, counted, ends}
@@ -38,6 +38,11 @@ word_step : (which : Steps) (t : ℕ) → Contains (steps_of which (Same t)) t
 word_step BesidesNames t = (0, omega arith, refl)
 word_step BesidesStructures t = (0, omega arith, refl)
 word_step WithinUnions t = (0, omega arith, refl)
+
+-- where the same steps lead from two nodes, the same ways do
+pub way_moved : (graph : List (List ℕ)) (a b z : ℕ) → row graph a ≡ row graph b → Way graph a z → Way graph b z
+way_moved graph a b z e (last_step c) = last_step (subst (λ (xs : List ℕ). Contains xs z) e c)
+way_moved graph a b z e (more_steps {b = k} c w) = more_steps (subst (λ (xs : List ℕ). Contains xs k) e c) w
 
 module _ (nodes : List Shape) (holds : HoldsNodes nodes) where
   word_on : (which : Steps) (m t : ℕ) → m < length nodes → shape_at nodes m ≡ Same t → Contains (row (map (steps_of which) nodes) m) t

@@ -1,6 +1,8 @@
 -- Modes of which no two are equivalent (own): then equal modes have equal numbers, and shapes can be read as they stand.
-use Rattle.std.specs.Prelude.{◌≡◌, ◌<◌, ◌↔◌, ℕ, List, length, map, true, false, nat_eq}
+use Rattle.std.specs.Prelude.{◌≡◌, ◌<◌, ◌≤◌, ◌↔◌, ℕ, List, length, map, true, false, nat_eq, slice_index_or}
 use Rattle.std.specs.List.{Contains, IsDistinct}
+use Rattle.std.specs.List.Sorted.{IsStrictlyIncreasing}
+use Rattle.a68_equiv.specs.declared.mode.Mode.{Mode}
 use Rattle.a68_equiv.specs.Related.{as_it_stands, without_flex}
 use Rattle.a68_equiv.specs.Unfolding.{unfolded, leads_within, is_union, Equivalent, IsMember}
 use Rattle.a68_modes.specs.Nodes.{shape_at, HoldsNodes}
@@ -47,10 +49,30 @@ UnionsHaveNoFlex nodes = (m x : ℕ) → m < length nodes → is_union (unfolded
 abbrev pub MembersHaveNoFlex : List Shape → Type 0
 MembersHaveNoFlex nodes = (m x : ℕ) → m < length nodes → IsMember nodes m x → Equivalent nodes (without_flex x) (as_it_stands x)
 
--- clean modes that mean the same as others, by the number of each
+-- the members of a union stand in the order of their numbers
+abbrev pub IsRising : Shape → Type 0
+IsRising (Union members) = IsStrictlyIncreasing members
+IsRising shape = Unit {0}
+
+-- Clean modes that mean the same as others, by the number of each. They are one: the numbers go by the first old node of each, and
+-- the members of unions by their numbers.
 pub record CleansTo (old : List Shape) (to : ℕ → ℕ) (new : List Shape) : Type 0 where
   pub clean : AreClean new
   pub there : (m : ℕ) → m < length old → to m < length new
   pub onto : (j : ℕ) → j < length new → (m : ℕ) × (m < length old) × (to m ≡ j)
   pub same : (a b : ℕ) → a < length old → b < length old → (to a ≡ to b) ↔ Equivalent old (as_it_stands a) (as_it_stands b)
   pub images : (m : ℕ) → m < length old → IsImage old to m (unfolded old m) (shape_at new (to m))
+  -- each number that is less than a node's is that of an earlier node
+  pub in_order : (m j : ℕ) → m < length old → j < to m → (a : ℕ) × (a < m) × (to a ≡ j)
+  -- the union among the standard modes has an order of its own
+  pub rising : (j : ℕ) → 13 ≤ j → j < length new → IsRising (shape_at new j)
+
+-- a node of a mode: the mode as it stands there is equivalent
+pub record IsNode (nodes : List Shape) (mode : Mode) (id : ℕ) : Type 0 where
+  pub there : id < length nodes
+  pub equivalent : Equivalent nodes (as_it_stands id) mode
+
+-- for each mode a node of it without its FLEX down to the next REF or PROC
+pub record AreFixed (nodes : List Shape) (fixed : List ℕ) : Type 0 where
+  pub long : length fixed ≡ length nodes
+  pub each : (m : ℕ) → m < length nodes → IsNode nodes (without_flex m) (slice_index_or fixed m 0)

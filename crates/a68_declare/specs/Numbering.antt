@@ -1,11 +1,12 @@
 -- Inner: the headline does not rest on this file.
 -- The classes of modes, numbered in the order of their first modes (own).
-use Rattle.std.specs.Prelude.{◌≡◌, ◌<◌, ◌≤◌, ◌++◌, ◌∷◌, [], ◌↔◌, nat_eq, ℕ, List, Option, Some, None, length, slice_index_or}
+use Rattle.std.specs.Prelude.{◌≡◌, ◌<◌, ◌≤◌, ◌++◌, ◌∷◌, [], ◌↔◌, nat_eq, ℕ, List, Option, Some, None, length, map, slice_index_or}
 use Rattle.std.specs.List.{IsDistinct, Contains}
 use Rattle.std.specs.Map.{lookup}
-use Rattle.a68_declare.specs.Clean.{IsImage, IsBare}
+use Rattle.a68_declare.specs.Clean.{IsImage, IsNode, IsRising}
+use Rattle.a68_declarers.specs.Numbers.{twin_of}
 use Rattle.a68_equiv.specs.Classes.{class_of}
-use Rattle.a68_equiv.specs.Related.{as_it_stands}
+use Rattle.a68_equiv.specs.Related.{as_it_stands, without_flex}
 use Rattle.a68_equiv.specs.Unfolding.{unfolded, Equivalent}
 use Rattle.a68_modes.specs.Nodes.{shape_at}
 use Rattle.a68_modes.specs.declared.shape.Shape.{Shape}
@@ -36,6 +37,7 @@ pub record IsNumbering (nodes : List Shape) (to firsts : List ℕ) : Type 0 wher
   pub standard : (m : ℕ) → m < 13 → slice_index_or to m 0 ≡ m
   pub enough : 13 ≤ length firsts
   pub few : length firsts ≤ length nodes
+  pub in_order : (m j : ℕ) → m < length nodes → j < slice_index_or to m 0 → (a : ℕ) × (a < m) × (slice_index_or to a 0 ≡ j)
 
 -- the number of a node, by the numbers of all
 abbrev pub number_in : List ℕ → ℕ → ℕ
@@ -68,11 +70,21 @@ pub record AreNumbered (nodes : List Shape) (classes : List ℕ) (count : ℕ) (
   pub standard : (m : ℕ) → m < count → m < 13 → slice_index_or to m 0 ≡ m
   pub begun : count ≤ 13 → length firsts ≡ count
   pub enough : 13 ≤ count → 13 ≤ length firsts
+  pub in_order : (m j : ℕ) → m < count → j < slice_index_or to m 0 → (a : ℕ) × (a < m) × (slice_index_or to a 0 ≡ j)
 
 -- the nodes behind the standard ones and before one have the shapes of their classes
 pub record AreShapesFrom (nodes : List Shape) (to firsts : List ℕ) (count : ℕ) (new : List Shape) : Type 0 where
   pub done : (j : ℕ) → 13 ≤ j → j < count → IsShapeFrom nodes to (slice_index_or firsts j 0) (shape_at new j)
+  pub rising : (j : ℕ) → 13 ≤ j → j < count → IsRising (shape_at new j)
   pub blank : (j : ℕ) → count ≤ j → 13 ≤ j → shape_at new j ≡ Blank
+
+-- the nodes of modes without FLEX, by the first old nodes of their numbers
+abbrev pub AreTwins : (to firsts fixed : List ℕ) → Type 0
+AreTwins to firsts fixed = fixed ≡ map (λ first. number_in to (twin_of first)) firsts
+
+-- the other node of a declarer has its mode without FLEX
+abbrev pub HaveTwins : List Shape → Type 0
+HaveTwins nodes = (m : ℕ) → m < length nodes → IsNode nodes (without_flex m) (twin_of m)
 
 -- each node has a shape
 abbrev pub AreFull : List Shape → Type 0

@@ -1,18 +1,16 @@
 -- What is found of the declarers of a tree: their modes, or the rule that they break first (Report, 4.6 to 4.8 and 7.4; the order
 -- of the rules is own).
-use Rattle.std.specs.Prelude.{◌≡◌, ◌<◌, ◌≤◌, ℕ, List, Bool, true, false, None, Some, length, slice_index_or, take}
+use Rattle.std.specs.Prelude.{◌≡◌, ◌<◌, ◌≤◌, ℕ, List, Bool, true, false, None, Some, length, slice_index_or}
 use Rattle.a68_base.specs.declared.refusal.Refusal.{Refusal}
 use Rattle.a68_base.specs.declared.refusal.Rule.TheVariants as rules
 use Rattle.a68_declare.specs.Broken.{IsIllFormed, IsWrongUnion}
 use Rattle.a68_declare.specs.Clean.{CleansTo}
 use Rattle.a68_declarers.specs.Bounds.{bracket_at, HasWrongBounds, IsFirstOfPlace}
-use Rattle.a68_declarers.specs.Declarers.{IsDeclarer, IsVoidWord}
+use Rattle.a68_declarers.specs.Declarers.{IsDeclarer}
 use Rattle.a68_declarers.specs.Modes.{AreDeclared}
 use Rattle.a68_declarers.specs.Numbers.{declarers, mode_number}
 use Rattle.a68_declarers.specs.Words.{IsUndefinedWord, IsTooMany}
-use Rattle.a68_equiv.specs.Dimensions.{HaveDimensions}
-use Rattle.a68_equiv.specs.Ways.{AreWellFormed}
-use Rattle.a68_modes.specs.Nodes.{standard_shapes}
+use Rattle.a68_modes.specs.Nodes.{HoldsNodes}
 use Rattle.a68_modes.specs.declared.shape.Shape.{Shape}
 use Rattle.a68_ranges.specs.Indexed.{IsLeast}
 use Rattle.a68_ranges.specs.Nodes.{place_at}
@@ -25,7 +23,7 @@ pub record AreRaw (tree : Built) (raw : List Shape) (number : ℕ → Bool → �
   pub few : declarers tree (length tree.nodes) ≤ 4096
   pub declared : AreDeclared tree raw number
   pub numbered : (d : ℕ) (fixed : Bool) → number d fixed ≡ mode_number tree d fixed
-  pub standard : take 13 raw ≡ standard_shapes
+  pub holds : HoldsNodes raw
   pub onto : (m : ℕ) → 13 ≤ m → m < length raw → (d : ℕ) × (fixed : Bool) × IsDeclarer tree d × (number d fixed ≡ m)
 
 -- the rule that is broken first, in the order N2, L4, M1, M2, C4, at the first such place in the text

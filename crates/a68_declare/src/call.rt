@@ -2,7 +2,7 @@
 ghost use Rattle.std.specs.Prelude.{◌≡◌, ◌<◌, ◌≤◌, ◌^◌, ℕ, IfOk, IfErr, OnOk, length};
 ghost use Rattle.a68_base.specs.declared.refusal.Stop.TheVariants as stops;
 ghost use Rattle.a68_declare.specs.Broken.{IsIllFormed, IsWrongUnion};
-ghost use Rattle.a68_declare.specs.Clean.{CleansTo, MembersHaveNoFlex};
+ghost use Rattle.a68_declare.specs.Clean.{AreFixed, CleansTo, MembersHaveNoFlex};
 ghost use Rattle.a68_declare.specs.Numbering.{number_in};
 ghost use Rattle.a68_declare.specs.Outcome.{AreModesOf, AreRaw, IsFirstBroken, IsNotBroken};
 ghost use Rattle.a68_declarers.specs.Bounds.{HasWrongBounds};
@@ -13,7 +13,7 @@ ghost use Rattle.a68_equiv.specs.Classes.{AreExact, AreKept};
 ghost use Rattle.a68_equiv.specs.Dimensions.{HaveDimensions};
 ghost use Rattle.a68_equiv.specs.Ways.{AreWellFormed};
 ghost use Rattle.a68_ranges.specs.Tables.{AreRanges};
-ghost use Rattle.a68_ranges.specs.Twice.{StopsBy};
+ghost use Rattle.a68_ranges.specs.Twice.{IsTwice, StopsBy};
 
 use crate::clean::{Cleaned, clean_modes};
 use crate::formed::ill_definition;
@@ -118,7 +118,8 @@ fn judged(alloc: Global, tree: &Tree, numbers: &Numbers, raw: &Modes) -> Result<
     ensures cleans { IfOk result (λ cleaned. CleansTo raw.now (number_in cleaned.to.items) cleaned.modes) }
     ensures formed { IfOk result (λ cleaned. AreWellFormed cleaned.modes) }
     ensures rows { IfOk result (λ cleaned. HaveDimensions cleaned.modes) }
-    ensures fixed { IfOk result (λ cleaned. MembersHaveNoFlex cleaned.modes) }
+    ensures members { IfOk result (λ cleaned. MembersHaveNoFlex cleaned.modes) }
+    ensures fixed { ((id : ℕ) → IsTwice tree.now id → ⊥) → IfOk result (λ cleaned. AreFixed cleaned.modes cleaned.fixed.items) }
     ensures broken { IfErr result (StopsBy (IsFirstBroken tree.now)) }
 {
     let _there = raw.len();
@@ -142,12 +143,14 @@ pub fn declare(alloc: Global, tree: &Tree, ranges: &Ranges) -> Result<Declared, 
     ensures formed { IfOk result (λ declared. AreWellFormed declared.modes) }
     ensures rows { IfOk result (λ declared. HaveDimensions declared.modes) }
     ensures members { IfOk result (λ declared. MembersHaveNoFlex declared.modes) }
+    ensures fixed { ((id : ℕ) → IsTwice tree.now id → ⊥) → IfOk result (λ declared. AreFixed declared.modes declared.fixed.items) }
     ensures classes { IfOk result (λ declared. AreKept declared.modes declared.classes) }
     ensures refused { IfErr result (StopsBy (IsFirstBroken tree.now)) }
 {
     check_words(tree, ranges)?;
     let numbers = numbers_of(alloc, tree)?;
     let raw = raw_modes(alloc, tree, ranges, &numbers)?;
+    let _there = raw.len();
     let cleaned = judged(alloc, tree, &numbers, &raw)?;
     let of = of_nodes(alloc, tree, &numbers, &cleaned.to)?;
     let classes = settle(alloc, &cleaned.modes)?;
@@ -155,5 +158,6 @@ pub fn declare(alloc: Global, tree: &Tree, ranges: &Ranges) -> Result<Declared, 
         modes: cleaned.modes,
         classes,
         of,
+        fixed: cleaned.fixed,
     })
 }

@@ -1,6 +1,9 @@
 //! The shapes of classes.
 ghost use Rattle.std.specs.Prelude.{◌≡◌, ◌<◌, IfOk, OnOk, length, map, nat_eq};
 ghost use Rattle.std.specs.List.{IsDistinct};
+ghost use Rattle.std.specs.List.Sorted.{IsPermutation, IsSorted, IsStrictlyIncreasing};
+ghost use Rattle.std.specs.Ordering.{nat_cmp};
+ghost use Rattle.a68_declare.specs.Clean.{IsRising};
 ghost use Rattle.a68_declare.specs.Numbering.{number_in, AreImagesOf, IsShapeFrom};
 ghost use Rattle.a68_equiv.specs.Spread.{AreKnown, Notes};
 ghost use Rattle.a68_equiv.specs.Unfolding.{unfolded};
@@ -63,19 +66,29 @@ fn note(
     Ok(())
 }
 
-// The numbers of these modes, each once.
+// Puts numbers in order, from the least to the greatest.
+fn put_in_order(numbers: &mut Vec<ModeId>)
+    ensures moved { IsPermutation numbers.old.items numbers.new.items }
+    ensures sorted { IsSorted nat_cmp numbers.new.items }
+{
+    numbers.sort_unstable();
+}
+
+// The numbers of these modes, each once, from the least to the greatest.
 fn distinct(alloc: Global, to: &[ModeId], modes: &[ModeId]) -> Result<Members, NoMemory>
     ensures same { IfOk result (λ found. AreImagesOf to.now modes.now found) }
     ensures once { IfOk result (λ found. IsDistinct nat_eq found) }
+    ensures rising { IfOk result (λ found. IsStrictlyIncreasing found) }
 {
     let mut items = Vec::new(alloc);
     let mut known = HashSet::new(alloc);
     note(to, modes, &mut items, &mut known)?;
+    put_in_order(&mut items);
     Ok(Members { items })
 }
 
-/// The shape of a mode, with the numbers of the modes within it: of a union of its members, each once, where those of inner
-/// unions stand in their place.
+/// The shape of a mode, with the numbers of the modes within it: of a union of its members, each once, from the least to the
+/// greatest, where those of inner unions stand in their place.
 pub fn shape_from(
     alloc: Global,
     modes: &Modes,
@@ -83,7 +96,8 @@ pub fn shape_from(
     mode: ModeId,
 ) -> Result<Shape, NoMemory>
     requires { mode < length modes.now }
-    ensures { IfOk result (λ shape. IsShapeFrom modes.now to.now mode shape) }
+    ensures from { IfOk result (λ shape. IsShapeFrom modes.now to.now mode shape) }
+    ensures rising { IfOk result IsRising }
 {
     let shape = modes.shape(behind(modes, mode));
     match shape {

@@ -7,13 +7,15 @@ ghost use Rattle.a68_ranges.specs.Twice.{IsTwice};
 ghost use Rattle.a68_tree.specs.Trees.{Built};
 ghost use Rattle.a68_tree.specs.declared.node.Node.{Node};
 
-/// A law: where no word is declared twice, the declarers of a tree break one rule first, at one place; and what breaks one has no
-/// modes.
+/// A law: where no word is declared twice, the declarers of a tree break one rule first, at one place; what breaks one has no
+/// modes; and the modes of the others are one list, in which each declarer has one number.
 pub fn declarations_are_one()
     ensures refusal { (tree : Built) → ((id : ℕ) → IsTwice tree id → ⊥) → (r s : Refusal) → IsFirstBroken tree r → IsFirstBroken tree s
         → (r.rule ≡ s.rule) × (r.place ≡ s.place) }
     ensures apart { (tree : Built) → ((id : ℕ) → IsTwice tree id → ⊥) → (modes : List Shape) (of : ByNode) (r : Refusal) → AreModesOf tree modes of
         → IsFirstBroken tree r → ⊥ }
+    ensures modes { (tree : Built) → ((id : ℕ) → IsTwice tree id → ⊥) → (one other : List Shape) (of of_other : ByNode)
+        → AreModesOf tree one of → AreModesOf tree other of_other → (one ≡ other) × (of ≡ of_other) }
 {}
 
 /// A law: where the nodes and the symbols of a tree begin by a byte, its declarers are refused by that byte.

@@ -39,29 +39,29 @@ impl NodeModes {
             && (declarer as usize) < self.without_flex.len()
     }
 
-    /// The mode of a declarer as it stands; VOID for VOID in the place of one.
+    /// The mode of a declarer as it stands; VOID for VOID in the place of one, and where the tree has no such node.
     pub fn at(&self, declarer: NodeId) -> ModeId
-        requires { declarer < length self.now.as_they_stand }
         ensures { result ≡ slice_index_or self.now.as_they_stand declarer 0 }
     {
-        self.as_they_stand[declarer as usize]
+        number(&self.as_they_stand, declarer)
     }
 
     /// The mode of a declarer without its FLEX down to the next REF or PROC.
     pub fn without_flex(&self, declarer: NodeId) -> ModeId
-        requires { declarer < length self.now.without_flex }
         ensures { result ≡ slice_index_or self.now.without_flex declarer 0 }
     {
-        self.without_flex[declarer as usize]
+        number(&self.without_flex, declarer)
     }
 }
 
-/// The clean modes of a tree, their classes, and which are those of its declarers.
+/// The clean modes of a tree, their classes, and which are those of its declarers; and of each mode the node of the same mode
+/// without its FLEX down to the next REF or PROC.
 #[derive(Drop)]
 pub struct Declared {
     pub modes: Modes,
     pub classes: Classes,
     pub of: NodeModes,
+    pub fixed: Vec<ModeId>,
 }
 
 // The numbers of the modes of all nodes, as they stand or without FLEX.

@@ -1,15 +1,15 @@
 -- What may not stand within the bounds of a mode definition, from the last node to the first.
-use Rattle.std.proofs.Common.{◌≡◌, ◌<◌, ◌≤◌, ◌+◌, ◌⊎◌, ℕ, zero, suc, List, [], ◌∷◌, Bool, true, false, length, get_or, set, refl, sym, ap, ◌∙◌, arith, subst, inl, inr, ⊎_elim, Some, slice_get, get_or-set_same, get_or-set_other, length-set}
-use Rattle.std.specs.Prelude.{◌↔◌, ◌&&◌, IsTrue}
+use Rattle.std.proofs.Common.{◌≡◌, ◌<◌, ◌≤◌, ◌+◌, ◌⊎◌, ℕ, List, [], ◌∷◌, Bool, true, false, length, get_or, set, refl, sym, ap, ◌∙◌, arith, subst, inl, inr, ⊎_elim, Some, slice_get, get_or-set_same, get_or-set_other, length-set}
+use Rattle.std.specs.Prelude.{◌↔◌, ◌&&◌}
 use Rattle.std.specs.List.{Contains}
 use Rattle.std.proofs.lemmas.Bool.{cases_eq, false≢true}
 use Rattle.a68_declarers.specs.declared.actual.Holders.TheVariants as holders
-use Rattle.a68_declarers.specs.Actual.{IsActual, AreActual}
-use Rattle.a68_declarers.specs.Bounds.{IsBarred, HoldsBarred, HasWrongBound, HasWrongBounds, lacks, has, barred, IsBoundOf, AreBarred, AreMarks, is_bound, is_wrong, barred_by, a_routine, a_parallel, an_actual_word}
+use Rattle.a68_declarers.specs.Actual.{IsActual}
+use Rattle.a68_declarers.specs.Bounds.{IsBarred, HoldsBarred, HasWrongBound, HasWrongBounds, lacks, has, barred, AreBarred, is_bound, is_wrong, barred_by, a_routine, a_parallel, an_actual_word}
 use Rattle.a68_declarers.specs.Declarers.{form_at, is_declarer, is_word, IsDeclarer, PartsFollow}
-use Rattle.a68_declarers.proofs.There.{at_place, placed, kind_past, declarer_there}
+use Rattle.a68_declarers.proofs.There.{at_place, placed, kind_past}
 use Rattle.a68_ranges.proofs.Taking.{below_or}
-use Rattle.a68_ranges.specs.Nodes.{kind_at, parts_at, IsPart, IsPartAt, IsWithin, itself, part}
+use Rattle.a68_ranges.specs.Nodes.{kind_at, parts_at, IsPart, IsWithin, itself, part}
 use Rattle.a68_tree.specs.Trees.{Built}
 use Rattle.a68_tree.specs.declared.kind.NodeKind.{NodeKind}
 use Rattle.a68_tree.specs.declared.kind.NodeKind.TheVariants as kind

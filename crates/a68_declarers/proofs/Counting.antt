@@ -1,7 +1,6 @@
 -- The numbers of declarers.
-use Rattle.std.proofs.Common.{◌≡◌, ◌<◌, ◌≤◌, ◌+◌, ◌-◌, ◌*◌, ◌^◌, ◌⊎◌, ℕ, zero, suc, List, [], ◌∷◌, ◌++◌, Bool, true, false, nat_eq, length, refl, sym, ap, ◌∙◌, arith, subst, inl, inr, ⊎_elim, add-one, eqb-true}
+use Rattle.std.proofs.Common.{◌≡◌, ◌<◌, ◌≤◌, ◌+◌, ◌-◌, ◌*◌, ◌^◌, ℕ, zero, suc, List, [], ◌∷◌, ◌++◌, Bool, true, false, nat_eq, length, refl, sym, ap, ◌∙◌, arith, subst, ⊎_elim, add-one, eqb-true}
 use Rattle.std.specs.Prelude.{slice_index_or, if◌then◌else◌}
-use Rattle.std.proofs.lemmas.Bool.{false≢true}
 use Rattle.std.proofs.lemmas.Bool.Decides.{eqb_tells}
 use Rattle.std.specs.List.{All}
 use Rattle.std.proofs.lemmas.List.{length-append}
@@ -10,14 +9,12 @@ use Rattle.std.proofs.Math.ListN.{get_or-append}
 use Rattle.std.proofs.Math.Seq.{get_or-append_seam}
 use Rattle.a68_declarers.specs.Declarers.{is_declarer, IsDeclarer, IsVoidWord}
 use Rattle.a68_declarers.specs.Modes.{AreOrdered}
-use Rattle.a68_declarers.specs.Numbers.{one_if, declarers, first_number, next_number, of_two, number_at, AreNumbers}
+use Rattle.a68_declarers.specs.Numbers.{one_if, declarers, first_number, of_two, number_at, AreNumbers}
 use Rattle.a68_declarers.proofs.There.{declarer_there, kind_past}
 use Rattle.a68_modes.specs.declared.shape.Shape.{Shape}
 use Rattle.a68_ranges.proofs.Taking.{below_or}
 use Rattle.a68_ranges.specs.Nodes.{kind_at}
 use Rattle.a68_tree.specs.Trees.{Built}
-use Rattle.a68_tree.specs.declared.kind.NodeKind.{NodeKind}
-use Rattle.a68_tree.specs.declared.kind.NodeKind.TheVariants as kind
 
 module _ (tree : Built) where
   pub declarers_grow : (i j : ℕ) → i ≤ j → declarers tree i ≤ declarers tree j
@@ -50,7 +47,7 @@ module _ (tree : Built) where
   pub first_none : (d : ℕ) → is_declarer (kind_at tree d) ≡ false → first_number tree d ≡ 0
   first_none d is = ap (λ b. if b then 13 + 2 * declarers tree d else 0) is
 
-  two : (fixed : Bool) (n : ℕ) → of_two fixed (13 + n) ≡ 13 + n + one_if fixed
+  pub two : (fixed : Bool) (n : ℕ) → of_two fixed (13 + n) ≡ 13 + n + one_if fixed
   two false n = omega arith
   two true n = go (nat_eq (13 + n) 0) refl
     where

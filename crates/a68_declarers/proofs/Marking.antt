@@ -1,16 +1,15 @@
 -- Actual declarers, as they are marked.
-use Rattle.std.proofs.Common.{◌≡◌, ◌<◌, ◌≤◌, ◌+◌, ◌⊎◌, ℕ, zero, suc, List, [], ◌∷◌, ◌++◌, Bool, true, false, length, take, get_or, set, refl, sym, ap, ◌∙◌, arith, subst, inl, inr, ⊎_elim, Some, slice_get, get_or-set_same, get_or-set_other, length-set}
+use Rattle.std.proofs.Common.{◌≡◌, ◌<◌, ◌≤◌, ◌+◌, ◌⊎◌, ℕ, List, [], ◌∷◌, ◌++◌, Bool, true, false, length, get_or, set, refl, sym, ◌∙◌, arith, subst, inl, inr, ⊎_elim, Some, slice_get, get_or-set_same, get_or-set_other, length-set}
 use Rattle.std.specs.Prelude.{◌↔◌}
 use Rattle.std.specs.List.{Contains}
 use Rattle.std.proofs.lemmas.Bool.{cases_eq}
 use Rattle.std.proofs.lemmas.Bool.Decides.{eqb_tells}
 use Rattle.std.proofs.lemmas.List.Elements.{Contains-push_cases, Contains-push, Contains-append_left}
 use Rattle.a68_declarers.specs.declared.actual.Holders.{Holders}
-use Rattle.a68_declarers.specs.Actual.{is_holder, hands_on, IsActual, whole, inner, AreActual, IsSource, IsMarkedBefore, AreMarked}
-use Rattle.a68_declarers.specs.Declarers.{form_at, is_declarer, IsDeclarer, PartsFollow}
+use Rattle.a68_declarers.specs.Actual.{IsActual, whole, inner, AreActual, IsSource, IsMarkedBefore, AreMarked}
+use Rattle.a68_declarers.specs.Declarers.{IsDeclarer, PartsFollow}
 use Rattle.a68_declarers.proofs.There.{at_place, placed}
-use Rattle.a68_ranges.proofs.Taking.{take_next}
-use Rattle.a68_ranges.specs.Nodes.{kind_at, parts_at, IsPart}
+use Rattle.a68_ranges.specs.Nodes.{parts_at, IsPart}
 use Rattle.a68_tree.specs.Trees.{Built}
 
 none_in : (x : ℕ) → Contains [] x → ⊥

@@ -1,8 +1,8 @@
 -- The nodes of declarers, as they get their shapes.
-use Rattle.std.proofs.Common.{◌≡◌, ◌<◌, ◌≤◌, ◌+◌, ◌*◌, ◌⊎◌, ℕ, List, Bool, true, false, length, refl, sym, ap, ◌∙◌, arith, subst, inl, inr, ⊎_elim}
+use Rattle.std.proofs.Common.{◌≡◌, ◌<◌, ◌≤◌, ◌+◌, ◌*◌, ℕ, List, Bool, true, false, length, sym, ◌∙◌, arith, subst, ⊎_elim}
 use Rattle.std.proofs.lemmas.Bool.Decides.{eqb_tells}
 use Rattle.a68_declarers.specs.Modes.{AreDeclared}
-use Rattle.a68_declarers.specs.Declarers.{form_at, is_declarer, IsDeclarer}
+use Rattle.a68_declarers.specs.Declarers.{form_at, IsDeclarer}
 use Rattle.a68_declarers.specs.Numbers.{one_if, declarers, number_at, AreNumbers}
 use Rattle.a68_declarers.specs.Shapes.{IsShapeOf}
 use Rattle.a68_declarers.proofs.Counting.{number_is, number_below, number_void, declarers_pass}
@@ -10,7 +10,6 @@ use Rattle.a68_declarers.proofs.There.{declarer_there}
 use Rattle.a68_modes.specs.Nodes.{shape_at}
 use Rattle.a68_modes.specs.declared.shape.Shape.{Shape}
 use Rattle.a68_modes.specs.declared.shape.Shape.TheVariants.{Blank}
-use Rattle.a68_ranges.specs.Nodes.{kind_at}
 use Rattle.a68_tree.specs.Trees.{Built}
 
 -- the declarers before a node have their shapes, and those from there on none yet

@@ -1,5 +1,5 @@
 -- The shapes of declarers.
-use Rattle.std.proofs.Common.{◌≡◌, ◌<◌, ◌≤◌, ◌+◌, ◌-◌, ◌^◌, ℕ, zero, suc, List, [], ◌∷◌, ◌++◌, Bool, true, false, length, drop, take, refl, sym, ap, ◌∙◌, arith, subst, ⊎_elim, add-one, Some, None, slice_get, Option, append_assoc}
+use Rattle.std.proofs.Common.{◌≡◌, ◌<◌, ◌≤◌, ◌+◌, ◌-◌, ℕ, zero, suc, List, [], ◌∷◌, ◌++◌, Bool, true, false, length, drop, refl, sym, ap, ◌∙◌, arith, add-one, Some, None, slice_get, Option, append_assoc}
 use Rattle.std.specs.Prelude.{map, if◌then◌else◌, slice_index_or}
 use Rattle.std.specs.List.{All, Contains}
 use Rattle.std.specs.Option.{option_map_or, option_and_then}
@@ -10,9 +10,8 @@ use Rattle.a68_base.specs.Tables.{find}
 use Rattle.a68_declarers.specs.declared.form.Form.{Form}
 use Rattle.a68_declarers.specs.declared.form.Form.TheVariants as forms
 use Rattle.a68_declarers.specs.Declarers.{known_forms, or_word, form_at, is_field}
-use Rattle.a68_declarers.specs.Shapes.{standard_mode, last_mode, front, dims_of, fields, defined_mode, IsShapeOf}
+use Rattle.a68_declarers.specs.Shapes.{last_mode, front, fields, defined_mode, IsShapeOf}
 use Rattle.a68_modes.specs.declared.shape.Shape.{Shape}
-use Rattle.a68_modes.specs.declared.shape.Shape.TheVariants.{Ref, Rows, Struct, Union, Proc, Same}
 use Rattle.a68_modes.specs.Nodes.{parts_of, IsWithin}
 use Rattle.a68_ranges.specs.Nodes.{kind_at, name_at, parts_at, spelling_at}
 use Rattle.a68_ranges.specs.Standard.{IsModeWordOf}
@@ -66,25 +65,26 @@ abbrev pub IsLow : Form → Type 0
 IsLow (forms.Standard m n) = (m < 13) × (n < 12)
 IsLow _ = Unit {0}
 
-abbrev AllLow : List (List ℕ × Form) → Type 0
-AllLow [] = Unit {0}
-AllLow (row ∷ rows) = IsLow row.1 × AllLow rows
+-- what holds of all forms in a table and of mode words holds of the form that is found
+abbrev pub AllForms : (Form → Type 0) → List (List ℕ × Form) → Type 0
+AllForms Holds [] = Unit {0}
+AllForms Holds (row ∷ rows) = Holds row.1 × AllForms Holds rows
 
-found_low : (rows : List (List ℕ × Form)) (spelling : Option (List ℕ)) → AllLow rows → IsLow (or_word (option_and_then (find rows) spelling))
-found_low rows None low = tt
-found_low [] (Some s) low = tt
-found_low (row ∷ rows) (Some s) low = go (bytes_eq s row.0) (found_low rows (Some s) low.1)
+pub found_form : (Holds : Form → Type 0) (rows : List (List ℕ × Form)) (spelling : Option (List ℕ)) → Holds forms.Word → AllForms Holds rows → Holds (or_word (option_and_then (find rows) spelling))
+found_form Holds rows None word all = word
+found_form Holds [] (Some s) word all = word
+found_form Holds (row ∷ rows) (Some s) word all = go (bytes_eq s row.0) (found_form Holds rows (Some s) word all.1)
   where
-    go : (b : Bool) → IsLow (or_word (find rows s)) → IsLow (or_word (if b then Some row.1 else find rows s))
-    go true rest = low.0
+    go : (b : Bool) → Holds (or_word (find rows s)) → Holds (or_word (if b then Some row.1 else find rows s))
+    go true rest = all.0
     go false rest = rest
 
-known_low : AllLow known_forms
+known_low : AllForms IsLow known_forms
 unfolding known_forms
 known_low = ((omega arith, omega arith), ((omega arith, omega arith), ((omega arith, omega arith), ((omega arith, omega arith), ((omega arith, omega arith), ((omega arith, omega arith), (tt, (tt, (tt, (tt, (tt, (tt, tt))))))))))))
 
 pub form_low : (tree : Built) (d : ℕ) → IsLow (form_at tree d)
-form_low tree d = found_low known_forms (spelling_at tree d) known_low
+form_low tree d = found_form IsLow known_forms (spelling_at tree d) tt known_low
 
 module _ (P : ℕ → Type 0) (void : P 0) where
   pub last_holds : (mode : ℕ → ℕ) (parts : List ℕ) → ((e : ℕ) → Contains parts e → P (mode e)) → P (last_mode mode parts)

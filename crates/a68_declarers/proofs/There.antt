@@ -1,7 +1,7 @@
 -- Nodes that are there.
-use Rattle.std.proofs.Common.{◌≡◌, ◌<◌, ◌≤◌, ◌+◌, ℕ, zero, suc, List, [], ◌∷◌, Bool, true, false, length, refl, sym, ap, ◌∙◌, arith, subst, ⊎_elim, Some, None, slice_get, Option}
+use Rattle.std.proofs.Common.{◌≡◌, ◌<◌, ◌≤◌, ◌+◌, ℕ, zero, suc, List, [], ◌∷◌, Bool, false, length, refl, sym, ap, ◌∙◌, arith, ⊎_elim, Some, None, slice_get, Option}
 use Rattle.std.specs.Prelude.{slice_index_or, replicate}
-use Rattle.std.specs.List.{All, Contains}
+use Rattle.std.specs.List.{Contains}
 use Rattle.std.specs.Option.{option_map_or, option_map}
 use Rattle.std.proofs.lemmas.Bool.{false≢true}
 use Rattle.a68_declarers.specs.Declarers.{is_declarer, IsDeclarer}
@@ -10,7 +10,7 @@ use Rattle.std.proofs.lemmas.List.{length-replicate}
 use Rattle.std.proofs.lemmas.List.Elements.{All-contains}
 use Rattle.a68_ranges.proofs.Parenting.{all_below, all_behind}
 use Rattle.a68_ranges.proofs.Taking.{past, below_or, read}
-use Rattle.a68_ranges.specs.Definitions.{defines, Declares, FirstDefinition, here, further, IsDefinition}
+use Rattle.a68_ranges.specs.Definitions.{defines, FirstDefinition, here, further, IsDefinition}
 use Rattle.a68_ranges.specs.Nodes.{kind_at, parts_at, IsPart}
 use Rattle.a68_ranges.specs.declared.sort.Sort.{Sort}
 use Rattle.a68_tree.specs.Trees.{Built, AllBetween}

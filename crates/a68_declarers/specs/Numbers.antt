@@ -1,5 +1,5 @@
 -- The nodes of the modes of declarers (own): two for each declarer behind the standard ones, in the order of the tree.
-use Rattle.std.specs.Prelude.{◌≡◌, ◌+◌, ◌*◌, ℕ, zero, suc, List, length, slice_index_or, Bool, true, false, nat_eq, if◌then◌else◌}
+use Rattle.std.specs.Prelude.{◌≡◌, ◌+◌, ◌*◌, ◌%◌, ℕ, zero, suc, List, length, slice_index_or, Bool, true, false, nat_eq, nat_lt, if◌then◌else◌}
 use Rattle.a68_declarers.specs.Declarers.{is_declarer}
 use Rattle.a68_ranges.specs.Nodes.{kind_at}
 use Rattle.a68_tree.specs.Trees.{Built}
@@ -29,6 +29,11 @@ of_two true n = next_number n
 -- the node of a declarer's mode, as it stands or without its FLEX
 abbrev pub mode_number : Built → (d : ℕ) → (fixed : Bool) → ℕ
 mode_number tree d fixed = of_two fixed (first_number tree d)
+
+-- The node of the mode of a node without its FLEX: the second of the two of a declarer, which has an even number; [] CHAR for
+-- STRING; and every other standard mode itself.
+abbrev pub twin_of : ℕ → ℕ
+twin_of m = if nat_lt m 12 then m else if nat_eq m 12 then 7 else m + m % 2
 
 -- the same, by the first nodes of all
 abbrev pub number_at : List ℕ → (d : ℕ) → (fixed : Bool) → ℕ

@@ -1,6 +1,6 @@
 //! The nodes of the modes of declarers.
-ghost use Rattle.std.specs.Prelude.{◌≡◌, ◌<◌, ◌≤◌, ◌+◌, ◌*◌, IfOk, length};
-ghost use Rattle.a68_declarers.specs.Numbers.{declarers, number_at, AreNumbers};
+ghost use Rattle.std.specs.Prelude.{◌≡◌, ◌<◌, ◌≤◌, ◌+◌, ◌*◌, ◌^◌, IfOk, length};
+ghost use Rattle.a68_declarers.specs.Numbers.{declarers, number_at, twin_of, AreNumbers};
 
 use crate::reading::is_declarer;
 use a68_base::NoMemory;
@@ -43,6 +43,25 @@ impl Numbers {
         } else {
             first
         }
+    }
+}
+
+/// STRING, and `[] CHAR`, which it is without its FLEX.
+const STRING: ModeId = 12;
+
+const ROW_OF_CHAR: ModeId = 7;
+
+/// The node of the mode of a node without its FLEX down to the next REF or PROC: of the two nodes of a declarer the second.
+pub fn twin(node: ModeId) -> ModeId
+    requires { node < 2 ^ 24 }
+    ensures { result ≡ twin_of node }
+{
+    if node < STRING {
+        node
+    } else if node == STRING {
+        ROW_OF_CHAR
+    } else {
+        node + node % 2
     }
 }
 

@@ -4,6 +4,8 @@
 #[cfg(test)]
 mod declared;
 #[cfg(test)]
+mod growth;
+#[cfg(test)]
 mod many;
 #[cfg(test)]
 mod table;

@@ -1,4 +1,4 @@
-use Rattle.std.proofs.Common.{length, arith}
+use Rattle.std.proofs.Common.{arith}
 use Rattle.a68_declare.specs.Outcome.{undefined, too_many}
 use Rattle.a68_declare.proofs.call.check_words.Goals as goal
 

@@ -10,7 +10,7 @@ judged-requires-clause-raw c = record {
   few = c.in_ok-check_words.ensures.few;
   declared = c.in_ok-raw.ensures.declared;
   numbered = λ d fixed. ap (of_two fixed) (c.in_ok-numbers.ensures.each d);
-  standard = c.in_ok-raw.ensures.standard;
+  holds = c.len-there.ensures.nodes;
   onto = c.in_ok-raw.ensures.ordered.onto;
 }
 
@@ -24,7 +24,7 @@ returns-clause-modes c = record {
     few = c.in_ok-check_words.ensures.few;
     declared = c.in_ok-raw.ensures.declared;
     numbered = λ d fixed. ap (of_two fixed) (c.in_ok-numbers.ensures.each d);
-    standard = c.in_ok-raw.ensures.standard;
+    holds = c.len-there.ensures.nodes;
     onto = c.in_ok-raw.ensures.ordered.onto;
   };
   fine = c.in_ok-cleaned.ensures.judged;

@@ -1,4 +1,4 @@
-use Rattle.std.proofs.Common.{◌∙◌, sym, length, arith}
+use Rattle.std.proofs.Common.{◌∙◌, sym, arith}
 use Rattle.std.proofs.lemmas.Bool.{false≢true}
 use Rattle.a68_declare.proofs.Judging.{definition_there}
 use Rattle.a68_declare.specs.Broken.{IsIllFormed}

@@ -1,4 +1,4 @@
-use Rattle.std.proofs.Common.{◌≡◌, ◌∙◌, rules, None, ap}
+use Rattle.std.proofs.Common.{◌≡◌, rules, None}
 use Rattle.a68_declare.proofs.Filling.{other_key}
 use Rattle.a68_declare.specs.Numbering.{at_class}
 use Rattle.a68_declare.proofs.numbering.number_of.Goals as goal

@@ -1,4 +1,4 @@
-use Rattle.std.proofs.Common.{◌∙◌, ◌<◌, length, sym, arith, below_more, get_or, refl}
+use Rattle.std.proofs.Common.{◌∙◌, sym, arith, below_more, get_or, refl}
 use Rattle.std.proofs.lemmas.Bool.{false≢true}
 use Rattle.std.proofs.lemmas.List.Elements.{Contains-get_or}
 use Rattle.a68_declare.proofs.Judging.{none_differ}

@@ -1,5 +1,4 @@
-use Rattle.std.proofs.Common.{◌∙◌, sym, refl}
-use Rattle.std.proofs.lemmas.Bool.{false≢true}
+use Rattle.std.proofs.Common.{◌∙◌, sym}
 use Rattle.a68_declare.proofs.Rawing.{united_is}
 use Rattle.a68_declarers.specs.Numbers.{number_at}
 use Rattle.a68_declare.proofs.unions.is_wrong_union.Goals as goal

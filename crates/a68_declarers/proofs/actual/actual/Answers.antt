@@ -1,4 +1,4 @@
-use Rattle.std.proofs.Common.{◌≡◌, ◌∙◌, ◌<◌, List, Bool, ℕ, length, arith, subst, sym, ap, true, false}
+use Rattle.std.proofs.Common.{◌∙◌, ◌<◌, List, Bool, length, arith, subst, sym, ap, false}
 use Rattle.std.specs.Prelude.{IsTrue, ◌↔◌, slice_index_or}
 use Rattle.std.proofs.lemmas.Bool.{false≢true}
 use Rattle.a68_declarers.proofs.Marking.{begun, here_exact, source_more, no_source, all_marked}

@@ -1,4 +1,4 @@
-use Rattle.std.proofs.Common.{◌≡◌, ◌<◌, ◌∙◌, length, arith, subst, sym, true, false, slice_get, Some, take}
+use Rattle.std.proofs.Common.{◌<◌, ◌∙◌, length, arith, sym, take}
 use Rattle.std.proofs.lemmas.Bool.{false≢true}
 use Rattle.a68_declarers.proofs.Marking.{marked_more, marked_other}
 use Rattle.a68_ranges.proofs.Taking.{read, take_next}

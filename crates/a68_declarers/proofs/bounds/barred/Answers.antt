@@ -1,4 +1,4 @@
-use Rattle.std.proofs.Common.{◌≡◌, ◌∙◌, ◌-◌, ◌+◌, ◌<◌, ◌≤◌, ℕ, List, Bool, length, arith, subst, sym, ap, true, false, set}
+use Rattle.std.proofs.Common.{◌≡◌, ◌∙◌, ◌-◌, ◌+◌, ◌<◌, ℕ, length, arith, subst, sym, true, set}
 use Rattle.std.proofs.lemmas.Bool.{false≢true}
 use Rattle.a68_declarers.proofs.Barring.{begun, marked, unmarked, holds_there}
 use Rattle.a68_declarers.proofs.There.{all_false, all_long}

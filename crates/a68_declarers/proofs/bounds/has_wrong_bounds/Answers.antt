@@ -1,5 +1,5 @@
-use Rattle.std.proofs.Common.{◌≡◌, ◌<◌, ◌∙◌, ◌+◌, ℕ, List, Bool, length, arith, subst, sym, ap, true, false, refl, ⊎_elim, get_or, slice_get, Some}
-use Rattle.std.specs.Prelude.{slice_index_or, ◌↔◌}
+use Rattle.std.proofs.Common.{◌≡◌, ◌∙◌, ℕ, List, length, arith, subst, sym, ap, true, false, refl, ⊎_elim, get_or, slice_get, Some}
+use Rattle.std.specs.Prelude.{slice_index_or}
 use Rattle.std.proofs.lemmas.Bool.{false≢true}
 use Rattle.std.proofs.lemmas.Bool.Decides.{eqb_tells}
 use Rattle.a68_declarers.proofs.Barring.{wrong_part, right_part, held_is, read_tells}

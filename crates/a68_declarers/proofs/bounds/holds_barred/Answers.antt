@@ -1,10 +1,9 @@
-use Rattle.std.proofs.Common.{◌≡◌, ◌∙◌, ◌<◌, ℕ, List, length, arith, subst, sym, ap, true, false, refl}
-use Rattle.std.specs.Prelude.{◌↔◌, slice_index_or}
+use Rattle.std.proofs.Common.{◌≡◌, ◌∙◌, ℕ, List, subst, sym, true, false, refl}
+use Rattle.std.specs.Prelude.{slice_index_or}
 use Rattle.std.specs.List.{Contains}
 use Rattle.std.proofs.lemmas.Bool.{false≢true}
 use Rattle.a68_declarers.proofs.Barring.{barred_is, holds_own, holds_marked}
 use Rattle.a68_declarers.proofs.There.{parts_read}
-use Rattle.a68_declarers.specs.Bounds.{HoldsBarred}
 use Rattle.a68_declarers.specs.Declarers.{form_at, is_word}
 use Rattle.a68_declarers.proofs.bounds.holds_barred.Goals as goal
 

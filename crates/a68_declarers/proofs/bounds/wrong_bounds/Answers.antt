@@ -1,4 +1,4 @@
-use Rattle.std.proofs.Common.{◌∙◌, sym, length, arith}
+use Rattle.std.proofs.Common.{◌∙◌, sym, arith}
 use Rattle.std.proofs.lemmas.Bool.{false≢true}
 use Rattle.a68_declarers.proofs.Least.{least_found, least_passed, least_all, outer_found, outer_passed, outer_all}
 use Rattle.a68_declarers.proofs.There.{declarer_there}

@@ -1,4 +1,4 @@
-use Rattle.std.proofs.Common.{◌≡◌, ◌<◌, ◌≤◌, ◌-◌, ◌^◌, length}
+use Rattle.std.proofs.Common.{◌<◌, ◌≤◌, ◌-◌, ◌^◌, length}
 use Rattle.a68_declarers.specs.Words.{declarers_before}
 use Rattle.a68_declarers.proofs.crowd.crowded.Given as goal
 

@@ -1,4 +1,4 @@
-use Rattle.std.proofs.Common.{◌≡◌, ◌+◌, ◌*◌, ◌∙◌, ap, length, arith}
+use Rattle.std.proofs.Common.{◌≡◌, ◌+◌, ◌*◌, ap, length, arith}
 use Rattle.a68_declarers.proofs.Counting.{ordered}
 use Rattle.a68_declarers.specs.Numbers.{declarers}
 use Rattle.a68_declarers.proofs.raw.raw_modes.Goals as goal

@@ -1,4 +1,4 @@
-use Rattle.std.proofs.Common.{◌≡◌, ◌<◌, ◌∙◌, sym, length, arith, false, true}
+use Rattle.std.proofs.Common.{◌∙◌, sym, arith, true}
 use Rattle.std.proofs.lemmas.Bool.{false≢true}
 use Rattle.a68_declarers.proofs.Counting.{number_below}
 use Rattle.a68_declarers.proofs.Setting.{begun, passed, set_both, all_set, two_apart}

@@ -1,4 +1,4 @@
-use Rattle.std.proofs.Common.{◌≡◌, ◌<◌, ◌∙◌, sym, length, arith, true, false, ℕ}
+use Rattle.std.proofs.Common.{◌<◌, ◌∙◌, sym, length, arith, ℕ}
 use Rattle.a68_declarers.proofs.Shaping.{a_field, no_field, fields_all}
 use Rattle.a68_declarers.specs.Numbers.{number_at}
 use Rattle.a68_ranges.proofs.Taking.{read}
