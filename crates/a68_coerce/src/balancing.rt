@@ -150,7 +150,8 @@ pub fn balance_to_form(
     requires exact { AreExact modes.now classes.now.of }
     requires leaves { All (IsLeafBelow (length modes.now)) leaves.now }
     requires few { length leaves.now < 2 ^ 32 }
-    ensures { IfOk result (IsFormed modes.now sort form leaves.now) }
+    ensures formed { IfOk result (IsFormed modes.now sort form leaves.now) }
+    ensures there { IfOk result (λ found. IfSome found (λ b. b.mode.id < length modes.now)) }
 {
     for i in 0..leaves.len() {
         if let Some(mode) = formed_at(alloc, modes, classes, sort, form, leaves, i)? {
@@ -176,7 +177,8 @@ pub fn balance_sides(
     requires soft { All (IsLeafBelow (length modes.now)) soft.now }
     requires strong { All (IsLeafBelow (length modes.now)) strong.now }
     requires few { length soft.now < 2 ^ 32 }
-    ensures { IfOk result (IsSided modes.now soft.now strong.now) }
+    ensures sided { IfOk result (IsSided modes.now soft.now strong.now) }
+    ensures there { IfOk result (λ found. IfSome found (λ b. b.mode.id < length modes.now)) }
 {
     for i in 0..soft.len() {
         if let Some(mode) = sides_at(alloc, modes, classes, soft, strong, i)? {
@@ -203,7 +205,8 @@ fn sides_at(
     requires soft { All (IsLeafBelow (length modes.now)) soft.now }
     requires strong { All (IsLeafBelow (length modes.now)) strong.now }
     requires at { at < length soft.now }
-    ensures { IfOk result (λ found. MatchOption found ((to : Mode) → SidesAt modes.now to soft.now strong.now at → ⊥) (λ to. SidesAt modes.now to soft.now strong.now at)) }
+    ensures at { IfOk result (λ found. MatchOption found ((to : Mode) → SidesAt modes.now to soft.now strong.now at → ⊥) (λ to. SidesAt modes.now to soft.now strong.now at)) }
+    ensures there { IfOk result (λ found. IfSome found (λ to. to.id < length modes.now)) }
 {
     let Some(mode) = formed_at(alloc, modes, classes, Sort::Soft, Form::Name, soft, at)? else {
         return Ok(None);

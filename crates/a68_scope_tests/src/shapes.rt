@@ -109,8 +109,8 @@ fn tree_of(rt: &impl Abort, alloc: Global, text: &str) -> Tree {
     tree.expect(rt, text)
 }
 
-// The tree of a text with its formulas shaped.
-fn shaped(rt: &impl Abort, alloc: Global, text: &str) -> Result<Tree, Stop> {
+/// The tree of a text with its formulas shaped.
+pub fn shaped(rt: &impl Abort, alloc: Global, text: &str) -> Result<Tree, Stop> {
     let tree = tree_of(rt, alloc, text);
     let ranges = ranges(alloc, &tree).expect(rt, text);
     let shaped = shape(alloc, tree, &ranges);
@@ -118,8 +118,8 @@ fn shaped(rt: &impl Abort, alloc: Global, text: &str) -> Result<Tree, Stop> {
     shaped
 }
 
-// The node of an operator that begins at that byte, with the least number.
-fn operator_at(rt: &impl Abort, tree: &Tree, place: u32) -> NodeId
+/// The node of an operator that begins at that byte, with the least number.
+pub fn operator_at(rt: &impl Abort, tree: &Tree, place: u32) -> NodeId
     ensures { result < length tree.now.nodes }
 {
     for id in 0..tree.len() {

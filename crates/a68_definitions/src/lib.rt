@@ -1,0 +1,11 @@
+//! The definitions of applied tags, and the modes of definitions (Report, 4.4.1, 4.5.1, 4.8.1 and 5.4.1).
+#![tactic(auto)]
+
+mod applied;
+mod defined;
+mod reading;
+mod requests;
+
+pub use applied::{Tags, applied_tags, called_by, called_tag};
+pub use defined::defined_modes;
+pub use reading::{kind_of, part_from_end, part_number, parts_of};

@@ -1,0 +1,7 @@
+use Rattle.std.proofs.Common.{◌∙◌}
+use Rattle.a68_identify.proofs.Serving.{operands_there}
+use Rattle.a68_identify.proofs.identified.definition_fits.Goals as goal
+
+pub all_fit-requires-clause-parameters : goal.all_fit-requires-clause-parameters
+all_fit-requires-clause-parameters c =
+    operands_there c.args.tree.now c.args.modes.now c.args.of.now c.len-there.ensures.nodes c.requires.of c.args.definition c.deref.result.now (c.deref.ensures.value ∙ c.in_ok-parameters.ensures)

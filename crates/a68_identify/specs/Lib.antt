@@ -1,0 +1,4 @@
+pub mod Pairs
+pub mod Operators
+pub mod Identified
+pub mod Kept

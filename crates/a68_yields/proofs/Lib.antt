@@ -1,0 +1,5 @@
+pub mod Within
+pub mod Collecting
+pub mod Looking
+pub mod Telling
+pub mod Tabling

@@ -1,0 +1,6 @@
+pub mod Sought
+pub mod Leaves
+pub mod Found
+pub mod Parts
+pub mod Yields
+pub mod Below
