@@ -4,7 +4,7 @@ use Rattle.std.specs.Option.{option_map_or}
 use Rattle.std.specs.declared.option.Option.{Option}
 use Rattle.a68_annot.specs.declared.annotated.Annotated.{Annotated}
 use Rattle.a68_base.specs.declared.refusal.Refusal.{Refusal}
-use Rattle.a68_check.specs.Annotates.{Annotates, Breaks, Refuses, broken, declared_twice, misdeclared, unshaped, place_at, other, repeats, undefined}
+use Rattle.a68_check.specs.Annotates.{Annotates, Breaks, IsMisdeclared, Refuses, broken, declared_twice, declarer, misdeclared, related, unshaped, place_at, other, repeats, undefined}
 use Rattle.a68_check.specs.Definitions.{in_text}
 use Rattle.a68_declare.specs.Outcome.{IsFirstBroken}
 use Rattle.a68_op_ident.specs.Shapes.{Shaped, IsBegun}
@@ -39,10 +39,14 @@ module _ (declared : (flat : Built) (end : ℕ) (r : Refusal) → BeginBy flat.n
       let w = by b.id b.node b.there in
       omega arith
 
+  misdeclared_by : (flat : Built) (end : ℕ) (r : Refusal) → BeginBy flat.nodes end → StartBy flat.starts end → IsMisdeclared flat r → r.place ≤ end
+  misdeclared_by flat end r by starts (declarer b) = declared flat end r by starts b
+  misdeclared_by flat end r by starts (related m f later are first rule place) = let w = place_by flat end by later in omega arith
+
   pub refused_by : (flat : Built) (end : ℕ) (r : Refusal) → BeginBy flat.nodes end → StartBy flat.starts end → Refuses flat r → r.place ≤ end
   refused_by flat end r by starts (declared_twice t) = let e = t.place_is in let w = place_by flat end by t.id in omega arith
   refused_by flat end r by starts (unshaped once t) = let e = t.place_is in let w = place_by flat end by t.id in omega arith
-  refused_by flat end r by starts (misdeclared shaped once is b) = declared flat end r by starts b
+  refused_by flat end r by starts (misdeclared shaped once is b) = misdeclared_by flat end r by starts b
   refused_by flat end r by starts (broken shaped once well is b) = broken_by shaped end r (shaped_by flat shaped end by is) b
 
   pub annotated_by : (flat : Built) (end : ℕ) (program : Annotated) → BeginBy flat.nodes end → Annotates flat program → BeginBy program.tree.nodes end

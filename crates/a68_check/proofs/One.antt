@@ -5,14 +5,13 @@ use Rattle.a68_annot.specs.declared.note.Note.{Note}
 use Rattle.a68_modes.specs.declared.shape.Shape.{Shape}
 use Rattle.a68_annot.specs.declared.annotated.Annotated.{Annotated}
 use Rattle.a68_base.specs.declared.refusal.Refusal.{Refusal}
-use Rattle.a68_check.specs.Annotates.{IsAnnotated, Annotates, Breaks, Refuses, DeclaresOnce, IsWellDeclared, broken, declared_twice, misdeclared, unshaped, other, repeats, undefined, place_at}
+use Rattle.a68_check.specs.Annotates.{IsAnnotated, Annotates, Breaks, Refuses, DeclaresOnce, IsMisdeclared, IsWellDeclared, broken, declared_twice, misdeclared, unshaped, other, repeats, undefined, place_at}
 use Rattle.a68_check.specs.Goals.{goals_of}
 use Rattle.a68_check.specs.Misfits.{FirstOther}
 use Rattle.a68_check.specs.Notes.{notes_of}
 use Rattle.a68_check.specs.Small.{Runs}
 use Rattle.a68_check.proofs.Missing.{one_other, other_runs_not}
 use Rattle.a68_check.specs.Definitions.{in_text, FirstRepeat, FirstUndefined}
-use Rattle.a68_declare.specs.Outcome.{AreModesOf, ByNode, IsFirstBroken}
 use Rattle.a68_op_ident.specs.Lacking.{IsUnshaped, LacksPriority}
 use Rattle.a68_op_ident.specs.Shapes.{Shaped}
 use Rattle.a68_ranges.specs.Nodes as nodes
@@ -91,12 +90,12 @@ one_first tree P i j p q = let a = p.first j q.there q.broken in let b = q.first
 pub record Laws : Type 0 where
   pub shapes : (flat shaped another : Built) → DeclaresOnce flat → Shaped flat shaped → Shaped flat another → another ≡ shaped
   pub never : (flat shaped : Built) (why : Refusal) → DeclaresOnce flat → IsUnshaped flat why → Shaped flat shaped → ⊥
-  pub declared : (flat : Built) → DeclaresOnce flat → (r s : Refusal) → IsFirstBroken flat r → IsFirstBroken flat s → AreOne r s
-  pub unbroken : (flat : Built) → DeclaresOnce flat → (modes : List Shape) (of : ByNode) (r : Refusal) → AreModesOf flat modes of → IsFirstBroken flat r → ⊥
+  pub declared : (flat : Built) → DeclaresOnce flat → (r s : Refusal) → IsMisdeclared flat r → IsMisdeclared flat s → AreOne r s
+  pub unbroken : (flat : Built) → DeclaresOnce flat → (r : Refusal) → IsWellDeclared flat → IsMisdeclared flat r → ⊥
 
 module _ (laws : Laws) where
-  fine : (flat : Built) (r : Refusal) → DeclaresOnce flat → IsWellDeclared flat → IsFirstBroken flat r → ⊥
-  fine flat r once well b = laws.unbroken flat once well.0 well.1 r well.2 b
+  fine : (flat : Built) (r : Refusal) → DeclaresOnce flat → IsWellDeclared flat → IsMisdeclared flat r → ⊥
+  fine flat r once well b = laws.unbroken flat once r well b
 
   twice_alone : (flat : Built) (r s : Refusal) → IsRefused flat r → Refuses flat s → AreOne r s
   twice_alone flat r s t (declared_twice u) = (t.rule_is ∙ sym u.rule_is, t.place_is ∙ one_first flat (IsTwice flat) t.id u.id t.first u.first ∙ sym u.place_is)

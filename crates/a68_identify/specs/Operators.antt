@@ -1,4 +1,3 @@
--- Inner: the headline does not rest on this file.
 -- Operators that a text defines (Report, 4.5), and pairs of them that one range may not have (7.1.1; the form is own).
 use Rattle.std.specs.Prelude.{◌≡◌, ◌<◌, ◌&&◌, ℕ, List, [], ◌∷◌, map, nat_eq, slice_get, slice_index_or, take, length, Option, Some, None, Bool, true, false, if◌then◌else◌}
 use Rattle.std.specs.List.{All, Contains}

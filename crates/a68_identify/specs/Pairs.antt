@@ -1,4 +1,3 @@
--- Inner: the headline does not rest on this file.
 -- Lists of one length, each element of the one in a relation with that at its place in the other.
 use Rattle.std.specs.Prelude.{List, [], ◌∷◌}
 

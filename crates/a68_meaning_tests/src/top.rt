@@ -257,6 +257,46 @@ const REFUSED: &[(&str, u8, &str)] = &[
         1,
         "a68: refused O3 at byte 33\n",
     ),
+    (
+        "( OP Q = (INT a) INT: a; OP Q = (INT b) INT: b; SKIP )",
+        1,
+        "a68: refused O2 at byte 28\n",
+    ),
+    (
+        "( OP Q = (INT a) INT: a; OP Q = (REF INT b) INT: b; SKIP )",
+        1,
+        "a68: refused O2 at byte 28\n",
+    ),
+    (
+        "( OP (INT) INT Q = SKIP, R = SKIP, Q = SKIP; SKIP )",
+        1,
+        "a68: refused O2 at byte 35\n",
+    ),
+    (
+        "( OP Q = INT: 1; OP Q = INT: 2; SKIP )",
+        1,
+        "a68: refused O2 at byte 20\n",
+    ),
+    (
+        "( OP Q = (INT a) INT: a; OP Q = (INT a, b) INT: a; OP Q = (PROC INT a) INT: a; SKIP )",
+        1,
+        "a68: refused O2 at byte 54\n",
+    ),
+    (
+        "( ( OP P = (INT a) INT: a; OP P = (INT a) INT: a; SKIP ); OP Q = (INT a) INT: a; OP Q = (INT a) INT: a; SKIP )",
+        1,
+        "a68: refused O2 at byte 7\n",
+    ),
+    (
+        "( MODE A = STRUCT (INT v), B = STRUCT (INT v); OP Q = (A a) INT: 1; OP Q = (B b) INT: 2; SKIP )",
+        1,
+        "a68: refused O2 at byte 71\n",
+    ),
+    (
+        "( OP Q = ([] INT a) INT: 1; OP Q = (REF FLEX [] INT b) INT: 2; SKIP )",
+        1,
+        "a68: refused O2 at byte 31\n",
+    ),
     ("BEGIN print(1)", 1, "a68: refused S6 at byte 14\n"),
     ("BEGIN print(1) END END", 1, "a68: refused S6 at byte 19\n"),
     ("BEGIN1 print(1) END", 1, "a68: refused N2 at byte 0\n"),

@@ -1,6 +1,5 @@
-use Rattle.a68_check.specs.Annotates.{Breaks, Refuses, broken, misdeclared}
+use Rattle.a68_check.specs.Annotates.{Breaks, IsMisdeclared, Refuses, broken, misdeclared}
 use Rattle.a68_check.proofs.Answering.{stopped, stops}
-use Rattle.a68_declare.specs.Outcome.{IsFirstBroken}
 use Rattle.a68_check.proofs.annotation.annotate_flat.Goals as goal
 
 pub returns-in-Ok-declared-clause-refused : goal.returns-in-Ok-declared-clause-refused
@@ -10,4 +9,4 @@ returns-in-Ok-declared-clause-refused c =
 
 pub returns-in-Err-declared-clause-refused : goal.returns-in-Err-declared-clause-refused
 returns-in-Err-declared-clause-refused c =
-    stops (IsFirstBroken c.args.tree) (Refuses c.args.tree) c.in-Err-declared.stop (λ r b. misdeclared c.in-Ok.shaped c.requires.once c.in-Ok.ensures.ok b) c.in-Err-declared.ensures.broken
+    stops (IsMisdeclared c.args.tree) (Refuses c.args.tree) c.in-Err-declared.stop (λ r b. misdeclared c.in-Ok.shaped c.requires.once c.in-Ok.ensures.ok b) c.in-Err-declared.ensures.broken
