@@ -1,3 +1,4 @@
 pub mod Choosing
 pub mod Making
 pub mod Printing
+pub mod Waiting

@@ -4,13 +4,11 @@
 
 mod operation;
 mod operations;
-mod printed;
 mod want;
 
 pub use operation::{Counter, Doing, Next};
 pub use operations::{
-    advanced, applied, assigned, case_of, counter_of, has_turn, made, monadic, on_plain,
-    print_next, resumed, skipped,
+    advanced, applied, assigned, case_of, counter_of, has_turn, made, made_in_heap, print_next,
+    related, resumed, skipped, united, whole_of,
 };
-pub use printed::printed_int;
 pub use want::{Reply, Want};

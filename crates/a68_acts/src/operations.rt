@@ -1,15 +1,18 @@
 //! Operations on the values of their parts.
-ghost use Rattle.std.specs.Prelude.{◌≡◌, ◌<◌, [], ◌∷◌, length, reverse, List, IfOk, ◌+ℤ◌, ◌-ℤ◌, ◌*ℤ◌};
+ghost use Rattle.std.specs.Prelude.{◌≡◌, ◌<◌, [], ◌∷◌, length, reverse, IfOk};
 ghost use Rattle.a68_acts.specs.Operations as operations;
-ghost use Rattle.a68_acts.specs.Operations.{doing_of, make};
-ghost use Rattle.a68_acts.specs.Results.{printing};
-ghost use Rattle.a68_values.specs.Content.{Content, plain};
+ghost use Rattle.a68_acts.specs.Operations.{make, yielding};
+ghost use Rattle.a68_modes.specs.Nodes.{shape_at};
+ghost use Rattle.a68_ops.specs.Applied.{applied};
+ghost use Rattle.a68_ops.specs.Printed.{item_text, whole as whole_number};
+ghost use Rattle.a68_values.specs.Content.{plain};
 ghost use Rattle.a68_values.specs.declared.plain.Plain.TheVariants as value_of;
 
-use crate::{Counter, Doing, Next, Reply, Want, printed_int};
+use crate::{Counter, Doing, Next, Reply, Want};
 use a68_base::{NoMemory, Text};
 use a68_layout::{LayoutStop, plan};
-use a68_modes::{ModeId, Modes};
+use a68_modes::{ModeId, Modes, Shape};
+use a68_ops::{OpStop, apply, is_unset, item_text, text_value, whole};
 use a68_values::{Chain, FaultKind, Held, Name, Plain, Value, ValueNode, Values};
 use std::alloc::Global;
 
@@ -56,6 +59,20 @@ pub fn assigned(modes: &Modes, mode: ModeId, name: &Value, value: &Value) -> Doi
     }
 }
 
+// A new name for a value of the mode, of a scope.
+fn making(alloc: Global, modes: &Modes, mode: ModeId, scope: u32) -> Result<Doing, NoMemory>
+    ensures { IfOk result (λ doing. doing ≡ operations.making modes.now mode scope) }
+{
+    if mode >= modes.len() {
+        return Ok(Doing::Meets(FaultKind::Kind));
+    }
+    match plan(alloc, modes, mode, &[]) {
+        Ok(plan) => Ok(Doing::Asks(Want::Make(plan), Next::Made { scope })),
+        Err(LayoutStop::Fault(kind)) => Ok(Doing::Meets(kind)),
+        Err(LayoutStop::NoMemory) => Err(NoMemory),
+    }
+}
+
 /// A new name for a value of the mode, of the scope of the innermost frame.
 #[tactic(auto, unfolding(crate::specs::Operations::start))]
 pub fn made(alloc: Global, modes: &Modes, mode: ModeId, chain: &Chain) -> Result<Doing, NoMemory>
@@ -64,28 +81,72 @@ pub fn made(alloc: Global, modes: &Modes, mode: ModeId, chain: &Chain) -> Result
     let Some(environ) = chain.items.first() else {
         return Ok(Doing::Meets(FaultKind::Kind));
     };
-    if mode >= modes.len() {
-        return Ok(Doing::Meets(FaultKind::Kind));
+    making(alloc, modes, mode, environ.scope)
+}
+
+/// A new name for a value of the mode, of scope 0.
+pub fn made_in_heap(alloc: Global, modes: &Modes, mode: ModeId) -> Result<Doing, NoMemory>
+    ensures { IfOk result (λ doing. doing ≡ operations.making modes.now mode 0) }
+{
+    making(alloc, modes, mode, 0)
+}
+
+// Whether two names refer to the same.
+fn is_same(left: &Value, right: &Value) -> Result<bool, FaultKind>
+    ensures { result ≡ operations.is_same left.now right.now }
+{
+    match (&left.node, &right.node) {
+        (ValueNode::Plain(Plain::Unset), _) | (_, ValueNode::Plain(Plain::Unset)) => {
+            Err(FaultKind::Unset)
+        }
+        (ValueNode::Plain(Plain::Nil), ValueNode::Plain(Plain::Nil)) => Ok(true),
+        (ValueNode::Plain(Plain::Name(left)), ValueNode::Plain(Plain::Name(right))) => {
+            Ok(left.cell == right.cell)
+        }
+        (ValueNode::Plain(Plain::Nil), ValueNode::Plain(Plain::Name(_))) => Ok(false),
+        (ValueNode::Plain(Plain::Name(_)), ValueNode::Plain(Plain::Nil)) => Ok(false),
+        _ => Err(FaultKind::Kind),
     }
-    let scope = environ.scope;
-    match plan(alloc, modes, mode, &[]) {
-        Ok(plan) => Ok(Doing::Asks(Want::Make(plan), Next::Made { scope })),
-        Err(LayoutStop::Fault(kind)) => Ok(Doing::Meets(kind)),
-        Err(LayoutStop::NoMemory) => Err(NoMemory),
+}
+
+/// An identity relation between two names, which is negated where that is not 0.
+pub fn related(negated: u32, left: &Value, right: &Value) -> Doing
+    ensures { result ≡ operations.related negated (operations.is_same left.now right.now) }
+{
+    match is_same(left, right) {
+        Ok(same) => Doing::Yields(Value::of(Plain::Bool(same == (negated == 0)))),
+        Err(kind) => Doing::Meets(kind),
     }
+}
+
+// Is the mode a union?
+fn is_union(modes: &Modes, mode: ModeId) -> bool
+    ensures { result ≡ operations.is_union (shape_at modes.now mode) }
+{
+    mode < modes.len() && matches!(modes.shape(mode), Shape::Union(_))
+}
+
+/// A value of a mode united; one that is united already stays.
+pub fn united(alloc: Global, modes: &Modes, mode: ModeId, value: Value) -> Result<Doing, NoMemory>
+    ensures { IfOk result (λ doing. doing ≡ operations.united_as (shape_at modes.now mode) mode value) }
+{
+    if is_union(modes, mode) {
+        return Ok(Doing::Yields(value));
+    }
+    let value = Box::new(alloc, value)?;
+    Ok(Doing::Yields(Value {
+        node: ValueNode::United { mode, value },
+    }))
 }
 
 // What is printed of an item, or the fault that it meets.
 fn printed_item(alloc: Global, item: &Value) -> Result<Result<Text, FaultKind>, NoMemory>
-    ensures { IfOk result (λ printed. (items : List Content) → printing printed items ≡ operations.print_next (item.now ∷ items)) }
+    ensures { IfOk result (λ printed. printed ≡ item_text item.now) }
 {
-    match &item.node {
-        ValueNode::Plain(Plain::Unset) => Ok(Err(FaultKind::Unset)),
-        ValueNode::Plain(Plain::Int(value)) => {
-            let text = printed_int(alloc, *value)?;
-            Ok(Ok(text))
-        }
-        _ => Ok(Err(FaultKind::Kind)),
+    match item_text(alloc, item) {
+        Ok(text) => Ok(Ok(text)),
+        Err(OpStop::Fault(kind)) => Ok(Err(kind)),
+        Err(OpStop::NoMemory) => Err(NoMemory),
     }
 }
 
@@ -106,10 +167,34 @@ pub fn print_next(alloc: Global, mut left: Values) -> Result<Doing, NoMemory>
     }
 }
 
+// A number as a text of a width.
+fn worded(alloc: Global, value: i64, width: i64) -> Result<Doing, NoMemory>
+    ensures { IfOk result (λ doing. doing ≡ operations.worded (whole_number value width)) }
+{
+    match whole(alloc, value, width) {
+        Ok(text) => Ok(Doing::Yields(text_value(alloc, &text.items)?)),
+        Err(OpStop::Fault(kind)) => Ok(Doing::Meets(kind)),
+        Err(OpStop::NoMemory) => Err(NoMemory),
+    }
+}
+
+/// A number as a text of a width.
+pub fn whole_of(alloc: Global, value: &Value, width: &Value) -> Result<Doing, NoMemory>
+    ensures { IfOk result (λ doing. doing ≡ operations.whole_of value.now width.now) }
+{
+    match (&value.node, &width.node) {
+        (ValueNode::Plain(Plain::Int(value)), ValueNode::Plain(Plain::Int(width))) => {
+            worded(alloc, *value, *width)
+        }
+        _ if is_unset(value) || is_unset(width) => Ok(Doing::Meets(FaultKind::Unset)),
+        _ => Ok(Doing::Meets(FaultKind::Kind)),
+    }
+}
+
 /// How an operation goes on with the reply to its act.
 #[tactic(auto, unfolding(crate::specs::Operations::resumed))]
-pub fn resumed(alloc: Global, next: Next, reply: Reply) -> Result<Doing, NoMemory>
-    ensures { IfOk result (λ doing. doing ≡ operations.resumed next reply) }
+pub fn resumed(alloc: Global, modes: &Modes, next: Next, reply: Reply) -> Result<Doing, NoMemory>
+    ensures { IfOk result (λ doing. doing ≡ operations.resumed modes.now next reply) }
 {
     let doing = match (next, reply) {
         (Next::Value, Reply::Value(value)) => Doing::Yields(value),
@@ -131,109 +216,14 @@ pub fn resumed(alloc: Global, next: Next, reply: Reply) -> Result<Doing, NoMemor
     Ok(doing)
 }
 
-// INT leaves out the least of the machine's numbers.
-#[inline(always)]
-fn sum(left: i64, right: i64) -> Result<Plain, FaultKind>
-    ensures { doing_of result ≡ operations.int_result (left +ℤ right) }
+/// An operator on two values, by its row in the table of operators; before one value the left one is Void.
+pub fn applied(alloc: Global, row: u32, left: &Value, right: &Value) -> Result<Doing, NoMemory>
+    ensures { IfOk result (λ doing. doing ≡ yielding (applied row left.now right.now)) }
 {
-    match left.checked_add(right) {
-        Some(value) if value != i64::MIN => Ok(Plain::Int(value)),
-        _ => Err(FaultKind::Overflow),
-    }
-}
-
-#[inline(always)]
-fn difference(left: i64, right: i64) -> Result<Plain, FaultKind>
-    ensures { doing_of result ≡ operations.int_result (left -ℤ right) }
-{
-    match left.checked_sub(right) {
-        Some(value) if value != i64::MIN => Ok(Plain::Int(value)),
-        _ => Err(FaultKind::Overflow),
-    }
-}
-
-#[inline(always)]
-fn product(left: i64, right: i64) -> Result<Plain, FaultKind>
-    ensures { doing_of result ≡ operations.int_result (left *ℤ right) }
-{
-    match left.checked_mul(right) {
-        Some(value) if value != i64::MIN => Ok(Plain::Int(value)),
-        _ => Err(FaultKind::Overflow),
-    }
-}
-
-#[inline(always)]
-fn truth(holds: bool) -> Result<Plain, FaultKind>
-    ensures { doing_of result ≡ operations.truth holds }
-{
-    Ok(Plain::Bool(holds))
-}
-
-// An operator on two integers.
-#[inline(always)]
-fn on_ints(row: u32, left: i64, right: i64) -> Result<Plain, FaultKind>
-    ensures { doing_of result ≡ operations.on_ints row left right }
-{
-    match row {
-        9 => truth(left == right),
-        10 => truth(left != right),
-        11 => truth(left < right),
-        12 => truth(left <= right),
-        13 => truth(left >= right),
-        14 => truth(left > right),
-        15 => sum(left, right),
-        16 => difference(left, right),
-        17 => product(left, right),
-        _ => Err(FaultKind::Kind),
-    }
-}
-
-/// An operator on two values that fit one cell each.
-#[inline(always)]
-pub fn on_plain(row: u32, left: Plain, right: Plain) -> Result<Plain, FaultKind>
-    ensures { doing_of result ≡ operations.applied row (plain left) (plain right) }
-{
-    match (left, right) {
-        (Plain::Int(left), Plain::Int(right)) => on_ints(row, left, right),
-        (Plain::Unset, _) | (_, Plain::Unset) => Err(FaultKind::Unset),
-        _ => Err(FaultKind::Kind),
-    }
-}
-
-// What an operator on two integers does.
-fn done_on_ints(row: u32, left: i64, right: i64) -> Doing
-    ensures { result ≡ operations.on_ints row left right }
-{
-    match on_ints(row, left, right) {
-        Ok(held) => Doing::Yields(Value::of(held)),
-        Err(kind) => Doing::Meets(kind),
-    }
-}
-
-/// An operator on two values, by its row in the table of operators.
-pub fn applied(row: u32, left: &Value, right: &Value) -> Doing
-    ensures { result ≡ operations.applied row left.now right.now }
-{
-    match (&left.node, &right.node) {
-        (ValueNode::Plain(Plain::Unset), _) | (_, ValueNode::Plain(Plain::Unset)) => {
-            Doing::Meets(FaultKind::Unset)
-        }
-        (ValueNode::Plain(Plain::Int(left)), ValueNode::Plain(Plain::Int(right))) => {
-            done_on_ints(row, *left, *right)
-        }
-        _ => Doing::Meets(FaultKind::Kind),
-    }
-}
-
-/// A monadic operator on a value that fits one cell. Of them + alone runs yet.
-#[inline(always)]
-pub fn monadic(row: u32, operand: Plain) -> Result<Plain, FaultKind>
-    ensures { result ≡ operations.monadic row (plain operand) }
-{
-    match operand {
-        Plain::Int(value) if row == 26 => Ok(Plain::Int(value)),
-        Plain::Unset => Err(FaultKind::Unset),
-        _ => Err(FaultKind::Kind),
+    match apply(alloc, row, left, right) {
+        Ok(value) => Ok(Doing::Yields(value)),
+        Err(OpStop::Fault(kind)) => Ok(Doing::Meets(kind)),
+        Err(OpStop::NoMemory) => Err(NoMemory),
     }
 }
 

@@ -29,12 +29,12 @@ impl Model for Builder {
     ghost use Rattle.std.specs.Coded.{coded_list};
     ghost use Rattle.std.specs.Prelude.{List, ◌≤◌, length};
     ghost use Rattle.a68_base.specs.declared.limits.TheConstants.{MOST_INSTRUCTIONS};
-    ghost use Rattle.a68_code.specs.Codes.{instr_code};
+    ghost use Rattle.a68_code.specs.contracts.code.Instr as instr;
     ghost use Rattle.a68_code.specs.declared.code.Instr.{Instr};
 
     ghost Value = { List Instr };
 
-    ghost coded = { coded_list instr_code };
+    ghost coded = { coded_list instr.the_row.coded };
 
     ghost view = { λ builder. builder.list.items };
 

@@ -18,9 +18,9 @@ use Rattle.a68_check.proofs.Defining.{name_of_node}
 use Rattle.a68_check.proofs.Noting.{notes-long}
 use Rattle.a68_check.proofs.Spelling.{Spelt, spelt-as}
 use Rattle.a68_elab.proofs.Nodes.{tree_of_nodes}
-use Rattle.a68_elab.specs.Made.{coerced, made, unit, trees_at, tree_at}
+use Rattle.a68_elab.specs.Made.{behind, coerced, made, unit, tree_at}
 use Rattle.a68_modes.specs.Nodes.{standard_shapes}
-use Rattle.a68_tree.specs.Trees.{Built, IsSound}
+use Rattle.a68_tree.specs.Trees.{AllBetween, Built, IsSound}
 use Rattle.a68_tree.specs.declared.kind.NodeKind.{NodeKind}
 use Rattle.a68_tree.specs.declared.node.Node.{Node}
 
@@ -71,6 +71,10 @@ note_as f g spelling definition slot slots = record {
   need = None;
 }
 
+-- the same program with the standard modes alone
+abbrev pub with_standard : Annotated → Annotated
+with_standard program = record program { modes = standard_shapes }
+
 -- a node of a form, of which something is asked
 pub record Known (program : Annotated) (id : ℕ) (f : Construct) (g : Purpose) : Type 0 where
   pub node : Node
@@ -79,8 +83,12 @@ pub record Known (program : Annotated) (id : ℕ) (f : Construct) (g : Purpose) 
   pub slots : ℕ
   pub spelt : Spelt f node.kind (slice_get program.tree.spellings node.name) node.parts
   pub parts : parts_at program.tree id ≡ node.parts
+  pub between : AllBetween id (length program.tree.nodes) node.parts
+  pub there : slice_get program.tree.nodes id ≡ Some node
+  pub noted : slice_get program.notes id ≡ Some (note_as f g (slice_get program.tree.spellings node.name) definition slot slots)
+  pub undefined : f ≡ construct.Print → definition ≡ None
   pub tree : tree_at program id
-      ≡ unit standard_shapes program.tree.spellings node (note_as f g (slice_get program.tree.spellings node.name) definition slot slots) (trees_at (tree_at program) node.parts)
+      ≡ unit (with_standard program) (behind id (tree_at program)) node (note_as f g (slice_get program.tree.spellings node.name) definition slot slots)
 
 -- a program with the notes of its nodes, whose parts stand behind their nodes
 pub record IsGiven (program : Annotated) : Type 0 where
@@ -116,8 +124,12 @@ known program h id f g is e a =
       slots = slots;
       spelt = spelt-as f node.kind spelling node.parts found.2;
       parts = ap (λ (o : Option Node). option_map_or (λ (n : Node). n.parts) o []) there;
-      tree = tree_of_nodes program id (length tree.nodes) node note there noted (h.sound.behind id node there)
-          ∙ ap (λ m. unit m tree.spellings node note (trees_at (tree_at program) node.parts)) h.annotated.modes;
+      between = h.sound.behind id node there;
+      there = there;
+      noted = noted;
+      undefined = λ q. ap (λ x. applied x (found_at tree id)) (e ∙ q);
+      tree = tree_of_nodes program id node note there noted
+          ∙ ap (λ m. unit (record program { modes = m }) (behind id (tree_at program)) node note) h.annotated.modes;
     }
 
 abbrev pub note_in : (program : Annotated) (id : ℕ) (f : Construct) (g : Purpose) → Known program id f g → Note
@@ -127,8 +139,11 @@ note_in program id f g k = note_as f g (slice_get program.tree.spellings k.node.
 pub made-as : (program : Annotated) (id : ℕ) (f : Construct) (g : Purpose) (k : Known program id f g) (kind : NodeKind) (ids : List ℕ) → k.node.kind ≡ kind → k.node.parts ≡ ids
     → tree_at program id
     ≡ coerced standard_shapes k.node.span.from (mode_of f g) (path_of f g)
-    (made standard_shapes program.tree.spellings k.node (note_in program id f g k) kind (trees_at (tree_at program) ids))
+    (made (with_standard program) (behind id (tree_at program)) (record k.node { parts = ids }) (note_in program id f g k) kind)
 made-as program id f g k kind ids e p =
+    let put = coerced standard_shapes k.node.span.from (mode_of f g) (path_of f g) in
+    let a = with_standard program in
+    let above = behind id (tree_at program) in
     k.tree
-    ∙ ap (λ q. coerced standard_shapes k.node.span.from (mode_of f g) (path_of f g) (made standard_shapes program.tree.spellings k.node (note_in program id f g k) q (trees_at (tree_at program) k.node.parts))) e
-    ∙ ap (λ l. coerced standard_shapes k.node.span.from (mode_of f g) (path_of f g) (made standard_shapes program.tree.spellings k.node (note_in program id f g k) kind (trees_at (tree_at program) l))) p
+    ∙ ap (λ q. put (made a above k.node (note_in program id f g k) q)) e
+    ∙ ap (λ l. put (made a above (record k.node { parts = l }) (note_in program id f g k) kind)) p

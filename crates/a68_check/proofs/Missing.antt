@@ -7,7 +7,7 @@ use Rattle.a68_check.specs.Constructs.{construct_of, parts_at}
 use Rattle.a68_check.specs.Misfits.{Role, outermost, definition, declarer, statement, body, condition, enquiry, comparison, formula, destination, called, Asked, ◌is_to_be◌, all_to_be, formula_asks, enquiry_asks, destination_asks, body_asks, statement_asks, definition_asks, declarer_asks, condition_asks, comparison_asks, called_asks, outermost_asks, phrases_asked, leading, asks, Fitting, FirstMisfit, itself, below, FirstAmong, this, later, FirstOther, no_clause, in_clause}
 use Rattle.a68_check.proofs.Leading.{definitions-define, statements-define-nothing}
 use Rattle.a68_check.specs.Small as small
-use Rattle.a68_check.specs.Small.{goal_at, IsFormula, number, variable, sum, IsComparison, compares, IsEnquiry, IsWhile, while, IsStatement, assigns, prints, chooses, chooses_fully, repeats, IsBody, statements, IsDefinition, plain, set, IsOutermost, phrases, IsProgram, program, Leads, AllDefinitions, AllStatements}
+use Rattle.a68_check.specs.Small.{goal_at, IsFormula, number, variable, printed, sum, IsComparison, compares, IsEnquiry, IsWhile, while, IsStatement, assigns, prints, chooses, chooses_fully, repeats, IsBody, statements, IsDefinition, plain, set, IsOutermost, phrases, IsProgram, program, Leads, AllDefinitions, AllStatements}
 use Rattle.a68_check.specs.declared.construct.Construct.{Construct}
 use Rattle.a68_check.specs.declared.construct.Construct.TheVariants as construct
 use Rattle.a68_check.specs.declared.goals.Purpose.{Purpose}
@@ -59,6 +59,7 @@ module _ (tree : Built) (goals : List Purpose) where
   formula_fits : (id : ℕ) → IsFormula tree goals id → Asks (id is_to_be formula)
   formula_fits id (number e) = record { parts = []; are = ap (λ f. formula_asks f (goal_at goals id)) e; fit = tt }
   formula_fits id (variable e a) = record { parts = []; are = ap (λ f. formula_asks f (goal_at goals id)) e ∙ ap (formula_asks construct.Variable) a; fit = tt }
+  formula_fits id (printed e a) = record { parts = []; are = ap (λ f. formula_asks f (goal_at goals id)) e ∙ ap (formula_asks construct.Variable) a; fit = tt }
   formula_fits id (sum l r e x y) = record { parts = l is_to_be formula ∷ r is_to_be formula ∷ []; are = ap (λ f. formula_asks f (goal_at goals id)) e; fit = (x, (y, tt)) }
 
   comparison_fits : (id : ℕ) → IsComparison tree goals id → Asks (id is_to_be comparison)
@@ -212,12 +213,13 @@ module _ (tree : Built) (goals : List Purpose) where
   pub other_formula : (id : ℕ) (f : Construct) → f ≡ construct_of tree id → (f ≡ construct.Number → ⊥) → (f ≡ construct.Variable → ⊥) → ((l r : ℕ) → f ≡ construct.Sum l r → ⊥) → FirstMisfit tree goals (id is_to_be formula) id
   other_formula id f e a b c = itself (ap (λ x. formula_asks x (goal_at goals id)) (sym e) ∙ no_formula f (goal_at goals id) a b c)
 
-  no_value : (g : Purpose) → (g ≡ goal.Plain → ⊥) → formula_asks construct.Variable g ≡ None
-  no_value goal.Plain n = absurd (n refl)
-  no_value _ n = refl
+  no_value : (g : Purpose) → (g ≡ goal.Plain → ⊥) → (g ≡ goal.Item → ⊥) → formula_asks construct.Variable g ≡ None
+  no_value goal.Plain n m = absurd (n refl)
+  no_value goal.Item n m = absurd (m refl)
+  no_value _ n m = refl
 
-  pub other_variable : (id : ℕ) (g : Purpose) → construct.Variable ≡ construct_of tree id → g ≡ goal_at goals id → (g ≡ goal.Plain → ⊥) → FirstMisfit tree goals (id is_to_be formula) id
-  other_variable id g e a n = itself (ap (λ x. formula_asks x (goal_at goals id)) (sym e) ∙ ap (formula_asks construct.Variable) (sym a) ∙ no_value g n)
+  pub other_variable : (id : ℕ) (g : Purpose) → construct.Variable ≡ construct_of tree id → g ≡ goal_at goals id → (g ≡ goal.Plain → ⊥) → (g ≡ goal.Item → ⊥) → FirstMisfit tree goals (id is_to_be formula) id
+  other_variable id g e a n m = itself (ap (λ x. formula_asks x (goal_at goals id)) (sym e) ∙ ap (formula_asks construct.Variable) (sym a) ∙ no_value g n m)
 
   no_comparison : (f : Construct) → ((l r : ℕ) → f ≡ construct.Test l r → ⊥) → comparison_asks f ≡ None
   no_comparison (construct.Test l r) n = absurd (n l r refl)

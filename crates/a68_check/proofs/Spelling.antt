@@ -1,6 +1,6 @@
 -- What a form says of the kind and the parts of its node, and of the row of its operator.
-use Rattle.std.proofs.Common.{◌≡◌, ℕ, ℤ, Bool, true, false, List, [], ◌∷◌, refl, subst, Some, None}
-use Rattle.std.specs.Prelude.{IsTrue, codes, if◌then◌else◌, nat_le, ◌&&◌}
+use Rattle.std.proofs.Common.{◌≡◌, ℕ, ℤ, Bool, true, false, List, [], ◌∷◌, refl, ap, subst, Some, None}
+use Rattle.std.specs.Prelude.{IsTrue, codes, if◌then◌else◌, nat_le, ◌&&◌, ◌||◌}
 use Rattle.std.specs.Option.{option_map_or, option_and_then}
 use Rattle.std.specs.Str.{bytes_eq}
 use Rattle.std.specs.declared.option.Option.{Option}
@@ -9,6 +9,7 @@ use Rattle.a68_check.specs.Constructs.{leaf, single, pair, triple, many, by_part
 use Rattle.a68_check.specs.declared.construct.Construct.{Construct}
 use Rattle.a68_check.specs.declared.construct.Construct.TheVariants as construct
 use Rattle.a68_denote.specs.Numbers.{int_in}
+use Rattle.a68_elab.specs.Made.{is_one_of, printers}
 use Rattle.a68_tree.specs.declared.kind.NodeKind.{NodeKind}
 use Rattle.a68_tree.specs.declared.kind.NodeKind.TheVariants as kind
 
@@ -55,6 +56,8 @@ pub record IsNumber (k : NodeKind) (s : Option (List ℕ)) : Type 0 where
 abbrev pub Spelt : Construct → NodeKind → Option (List ℕ) → List ℕ → Type 0
 Spelt construct.Number k s ids = IsNumber k s
 Spelt construct.Variable k s ids = k ≡ kind.Tag
+Spelt construct.Print k s ids = (k ≡ kind.Tag) × (is_one_of printers s ≡ true)
+Spelt construct.Int k s ids = k ≡ kind.Declarer
 Spelt (construct.Sum l r) k s ids = IsDyadic l r k s ids
 Spelt (construct.Test l r) k s ids = IsDyadic l r k s ids
 Spelt (construct.Assignation d u) k s ids = (k ≡ kind.Assignation) × (ids ≡ d ∷ u ∷ [])
@@ -83,10 +86,16 @@ spelt-formula s (Some r) x y e p =
     let is : IsDyadic x y kind.Dyadic s (x ∷ y ∷ []) = record { row = r; kind = refl; parts = refl; is = e; fits = p } in
     spelt-if kind.Dyadic s (x ∷ y ∷ []) (nat_le 15 r) (construct.Sum x y) (construct.Test x y) is is
 
-spelt-tag : (s : Option (List ℕ)) (t : List ℕ) → Spelt (tag t) kind.Tag s []
-spelt-tag s t =
-    spelt-if kind.Tag s [] (is_print t) construct.Print (if is_standard t then construct.Other else construct.Variable) tt
-    (spelt-if kind.Tag s [] (is_standard t) construct.Other construct.Variable tt refl)
+-- the tag that prints
+is-printer : (t : List ℕ) → is_print t ≡ true → is_one_of printers (Some t) ≡ true
+is-printer t e = ap (λ (b : Bool). b || (bytes_eq t (codes "write") || false)) e
+
+spelt-tag : (t : List ℕ) → Spelt (tag t) kind.Tag (Some t) []
+spelt-tag t = by_print (is_print t) refl
+  where
+    by_print : (b : Bool) → is_print t ≡ b → Spelt (if b then construct.Print else (if is_standard t then construct.Other else construct.Variable)) kind.Tag (Some t) []
+    by_print true e = (refl, is-printer t e)
+    by_print false e = spelt-if kind.Tag (Some t) [] (is_standard t) construct.Other construct.Variable tt refl
 
 spelt-number : (s : Option (List ℕ)) (v : Option ℤ) → option_and_then int_in s ≡ v → Spelt (option_map_or (λ n. construct.Number) v construct.Other) kind.Denotation s []
 spelt-number s None e = tt
@@ -94,8 +103,8 @@ spelt-number s (Some v) e = record { kind = refl; value = v; is = e }
 
 spelt-leaf : (k : NodeKind) (s : Option (List ℕ)) → Spelt (leaf k s) k s []
 spelt-leaf kind.Denotation (Some t) = spelt-number (Some t) (int_in t) refl
-spelt-leaf kind.Tag (Some t) = spelt-tag (Some t) t
-spelt-leaf kind.Declarer (Some t) = spelt-if kind.Declarer (Some t) [] (is_int t) construct.Int construct.Other tt tt
+spelt-leaf kind.Tag (Some t) = spelt-tag t
+spelt-leaf kind.Declarer (Some t) = spelt-if kind.Declarer (Some t) [] (is_int t) construct.Int construct.Other refl tt
 spelt-leaf _ _ = tt
 
 spelt-single : (k : NodeKind) (s : Option (List ℕ)) (x : ℕ) → Spelt (single k s x) k s (x ∷ [])

@@ -17,6 +17,11 @@ asks (construct.FullChoice q a b) = Some (q, goal.Enquiry)
 asks (construct.While q) = Some (q, goal.Enquiry)
 asks _ = None
 
+-- another part of which something is asked: the item that is printed
+abbrev pub asks_too : Construct → Option (ℕ × Purpose)
+asks_too (construct.Call p u) = Some (u, goal.Item)
+asks_too _ = None
+
 abbrev pub asked : Option (ℕ × Purpose) → List Purpose → List Purpose
 asked None goals = goals
 asked (Some m) goals = slice_set goals m.0 m.1
@@ -24,7 +29,7 @@ asked (Some m) goals = slice_set goals m.0 m.1
 -- what the first nodes ask of all nodes
 abbrev pub goals_before : Built → (count : ℕ) → List Purpose
 goals_before tree zero = replicate (length tree.nodes) goal.Plain
-goals_before tree (suc n) = asked (asks (construct_of tree n)) (goals_before tree n)
+goals_before tree (suc n) = asked (asks_too (construct_of tree n)) (asked (asks (construct_of tree n)) (goals_before tree n))
 
 -- what all nodes ask of all nodes
 unfoldable pub goals_of : Built → List Purpose

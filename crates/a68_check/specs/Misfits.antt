@@ -34,6 +34,7 @@ infix 200 ◌is_to_be◌
 abbrev pub formula_asks : Construct → Purpose → Option (List Asked)
 formula_asks construct.Number g = Some []
 formula_asks construct.Variable goal.Plain = Some []
+formula_asks construct.Variable goal.Item = Some []
 formula_asks (construct.Sum l r) g = Some (l is_to_be formula ∷ r is_to_be formula ∷ [])
 formula_asks _ g = None
 

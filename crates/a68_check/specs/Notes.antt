@@ -37,26 +37,39 @@ mode_of (construct.Plain d) g = 9
 mode_of (construct.Set d s) g = 9
 mode_of _ g = 0
 
+-- an item is united to what can be printed (1 is INT, from which it starts)
+abbrev pub value_path : Purpose → List Coercion
+value_path goal.Item = coercion.Unite 1 ∷ []
+value_path _ = []
+
 -- a variable is dereferenced but where something is assigned to it
 abbrev pub variable_path : Purpose → List Coercion
 variable_path goal.Destination = []
+variable_path goal.Item = coercion.Deref ∷ coercion.Unite 1 ∷ []
 variable_path _ = coercion.Deref ∷ []
 
 abbrev pub path_of : Construct → Purpose → List Coercion
+path_of construct.Number g = value_path g
 path_of construct.Variable g = variable_path g
+path_of (construct.Sum l r) g = value_path g
 path_of (construct.Assignation d s) g = coercion.Drop ∷ []
 path_of _ g = []
 
--- the mode of a variable behind its coercions
+-- the mode of a value behind its coercions: 8 is what can be printed
+abbrev pub value_goal : Purpose → ℕ
+value_goal goal.Item = 8
+value_goal _ = 1
+
+-- that of a variable
 abbrev pub variable_goal : Purpose → ℕ
 variable_goal goal.Destination = 9
-variable_goal _ = 1
+variable_goal g = value_goal g
 
 -- the mode behind the coercions of a unit; VOID where nothing is asked
 abbrev pub goal_of : Construct → Purpose → ℕ
-goal_of construct.Number g = 1
+goal_of construct.Number g = value_goal g
 goal_of construct.Variable g = variable_goal g
-goal_of (construct.Sum l r) g = 1
+goal_of (construct.Sum l r) g = value_goal g
 goal_of (construct.Test l r) g = 2
 goal_of construct.Serial g = serial_mode g
 goal_of _ g = 0

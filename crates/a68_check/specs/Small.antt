@@ -16,6 +16,7 @@ goal_at goals id = slice_index_or goals id goal.Plain
 pub data IsFormula (tree : Built) (goals : List Purpose) : ℕ → Type 0 where
   number : {id : ℕ} → construct_of tree id ≡ construct.Number → IsFormula tree goals id
   variable : {id : ℕ} → construct_of tree id ≡ construct.Variable → goal_at goals id ≡ goal.Plain → IsFormula tree goals id
+  printed : {id : ℕ} → construct_of tree id ≡ construct.Variable → goal_at goals id ≡ goal.Item → IsFormula tree goals id
   sum : {id : ℕ} (l r : ℕ) → construct_of tree id ≡ construct.Sum l r → IsFormula tree goals l → IsFormula tree goals r → IsFormula tree goals id
 
 -- a comparison of two formulas

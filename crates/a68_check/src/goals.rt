@@ -18,6 +18,8 @@ pub enum Purpose {
     Enquiry,
     /// What is called.
     Called,
+    /// A value of mode INT, to be printed.
+    Item,
 }
 
 // The part of which something is asked, and what.
@@ -30,6 +32,16 @@ fn asks(form: Construct) -> Option<(NodeId, Purpose)>
         Construct::Choice(enquiry, _) => Some((enquiry, Purpose::Enquiry)),
         Construct::FullChoice(enquiry, _, _) => Some((enquiry, Purpose::Enquiry)),
         Construct::While(enquiry) => Some((enquiry, Purpose::Enquiry)),
+        _ => None,
+    }
+}
+
+// Another part of which something is asked: the item that is printed.
+fn asks_too(form: Construct) -> Option<(NodeId, Purpose)>
+    ensures { result ≡ goals_spec.asks_too form }
+{
+    match form {
+        Construct::Call(_, item) => Some((item, Purpose::Item)),
         _ => None,
     }
 }
@@ -52,7 +64,9 @@ pub fn goals(alloc: Global, tree: &Tree) -> Result<Vec<Purpose>, NoMemory>
 {
     let mut goals = vec![in alloc; Purpose::Plain; tree.len() as usize]?;
     for id in 0..tree.len() {
-        ask(&mut goals, asks(construct_of(tree, id)));
+        let form = construct_of(tree, id);
+        ask(&mut goals, asks(form));
+        ask(&mut goals, asks_too(form));
     }
     Ok(goals)
 }

@@ -17,7 +17,7 @@ use a68_modes::{Coercion, ModeId, Path};
 use a68_tree::{FrameStep, NodeId, Tree};
 use std::alloc::Global;
 
-/// INT, BOOL and REF INT among the standard modes, and VOID.
+/// INT, BOOL, REF INT and what can be printed among the standard modes, and VOID.
 const VOID: ModeId = 0;
 
 const INT: ModeId = 1;
@@ -25,6 +25,8 @@ const INT: ModeId = 1;
 const BOOL: ModeId = 2;
 
 const REF_INT: ModeId = 9;
+
+const PRINTABLE: ModeId = 8;
 
 fn serial_mode(goal: Purpose) -> ModeId
     ensures { result ≡ notes_spec.serial_mode goal }
@@ -50,18 +52,55 @@ fn mode_of(form: Construct, goal: Purpose) -> ModeId
     }
 }
 
+// An item is united to what can be printed.
+fn value_path(alloc: Global, goal: Purpose) -> Result<Vec<Coercion>, NoMemory>
+    ensures { IfOk result (λ path. path.items ≡ notes_spec.value_path goal) }
+{
+    match goal {
+        Purpose::Item => {
+            let path = vec![in alloc; Coercion::Unite(INT)]?;
+            Ok(path)
+        }
+        _ => Ok(Vec::new(alloc)),
+    }
+}
+
+// A variable is dereferenced but where something is assigned to it.
+fn variable_path(alloc: Global, goal: Purpose) -> Result<Vec<Coercion>, NoMemory>
+    ensures { IfOk result (λ path. path.items ≡ notes_spec.variable_path goal) }
+{
+    match goal {
+        Purpose::Destination => Ok(Vec::new(alloc)),
+        Purpose::Item => {
+            let path = vec![in alloc; Coercion::Deref, Coercion::Unite(INT)]?;
+            Ok(path)
+        }
+        _ => {
+            let path = vec![in alloc; Coercion::Deref]?;
+            Ok(path)
+        }
+    }
+}
+
 fn path_of(alloc: Global, form: Construct, goal: Purpose) -> Result<Path, NoMemory>
     ensures { IfOk result (λ path. path ≡ notes_spec.path_of form goal) }
 {
     let items = match form {
-        Construct::Variable => match goal {
-            Purpose::Destination => Vec::new(alloc),
-            _ => vec![in alloc; Coercion::Deref]?,
-        },
+        Construct::Number | Construct::Sum(_, _) => value_path(alloc, goal)?,
+        Construct::Variable => variable_path(alloc, goal)?,
         Construct::Assignation(_, _) => vec![in alloc; Coercion::Drop]?,
         _ => Vec::new(alloc),
     };
     Ok(Path { items })
+}
+
+fn value_goal(goal: Purpose) -> ModeId
+    ensures { result ≡ notes_spec.value_goal goal }
+{
+    match goal {
+        Purpose::Item => PRINTABLE,
+        _ => INT,
+    }
 }
 
 fn variable_goal(goal: Purpose) -> ModeId
@@ -69,7 +108,7 @@ fn variable_goal(goal: Purpose) -> ModeId
 {
     match goal {
         Purpose::Destination => REF_INT,
-        _ => INT,
+        _ => value_goal(goal),
     }
 }
 
@@ -77,7 +116,7 @@ fn goal_of(form: Construct, goal: Purpose) -> ModeId
     ensures { result ≡ notes_spec.goal_of form goal }
 {
     match form {
-        Construct::Number | Construct::Sum(_, _) => INT,
+        Construct::Number | Construct::Sum(_, _) => value_goal(goal),
         Construct::Variable => variable_goal(goal),
         Construct::Test(_, _) => BOOL,
         Construct::Serial => serial_mode(goal),

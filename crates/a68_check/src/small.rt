@@ -62,6 +62,7 @@ fn formula(tree: &Tree, goals: &[Purpose], id: NodeId) -> Result<(), NodeId>
         Construct::Number => Ok(()),
         Construct::Variable => match goal_at(goals, id) {
             Purpose::Plain => Ok(()),
+            Purpose::Item => Ok(()),
             _ => Err(id),
         },
         Construct::Sum(left, right) => {

@@ -1,4 +1,3 @@
-pub mod Codes
 pub mod Flow
 pub mod Operands
 pub mod Order

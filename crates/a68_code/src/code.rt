@@ -28,12 +28,12 @@ pub struct Instrs {
 impl Model for Instrs {
     ghost use Rattle.std.specs.Coded.{coded_list};
     ghost use Rattle.std.specs.Prelude.{List};
-    ghost use Rattle.a68_code.specs.Codes.{instr_code};
+    ghost use Rattle.a68_code.specs.contracts.code.Instr as instr;
     ghost use Rattle.a68_code.specs.declared.code.Instr.{Instr};
 
     ghost Value = { List Instr };
 
-    ghost coded = { coded_list instr_code };
+    ghost coded = { coded_list instr.the_row.coded };
 
     ghost view = { λ instrs. instrs.items.items };
 }

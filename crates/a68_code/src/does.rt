@@ -14,16 +14,21 @@ use std::alloc::Global;
 /// |---|---|---|---|---|---|
 /// | Push | a value | | value | | |
 /// | Skip | a mode | | value | | the value of SKIP; nothing for VOID |
+/// | Nil | | | name | | the name that refers to nothing |
 /// | Tag | hops, slot | | value | Look | the slot of the frame so many frames outwards |
 /// | Enter | slots | | | Enter | a frame within this one, of scope one more |
 /// | Leave | 0 or 1 | value, for 1 | value, for 1 | | back to the outer frame; for 1 the value may not be newer than it |
 /// | Bind | slot | value | | Bind | a slot of this frame |
 /// | Make | mode, bounds | the bounds | name | Make | new cells, of the scope of this frame |
+/// | Heap | mode, bounds | the bounds | name | Make | new cells, of scope 0 |
 /// | Deref | mode | name | value | Fetch | |
 /// | Store | mode | name, value | name | Assign | |
 /// | Apply | row | operands | value | | a row of the table of operators |
+/// | Same | 0 or 1 | name, name | truth value | | whether the names refer to the same; the other way round for 1 |
+/// | Unite | mode | value | value | | a value of the mode united; one that is united already stays |
 /// | Drop | | value | | | |
 /// | Print | count | the items | | Print | one for each item in order |
+/// | Whole | | number, width | text | | the number as a text |
 /// | Jump | place | | | | goes there |
 /// | Unless | place | truth value | | | goes there for false |
 /// | Case | places | number | | | goes to the place of that number, counted from 1; to the last one for any other number |
@@ -39,16 +44,21 @@ use std::alloc::Global;
 pub enum Does {
     Push(Value),
     Skip(u32),
+    Nil,
     Tag { hops: u32, slot: u32 },
     Enter(u32),
     Leave(u32),
     Bind(u32),
     Make { mode: u32, bounds: u32 },
+    Heap { mode: u32, bounds: u32 },
     Deref(u32),
     Store(u32),
     Apply(u32),
+    Same(u32),
+    Unite(u32),
     Drop,
     Print(u32),
+    Whole,
     Jump(u32),
     Unless(u32),
     Case(Places),
@@ -66,16 +76,21 @@ impl Drop for Does {
         match self {
             Does::Push(_)
             | Does::Skip(_)
+            | Does::Nil
             | Does::Tag { hops: _, slot: _ }
             | Does::Enter(_)
             | Does::Leave(_)
             | Does::Bind(_)
             | Does::Make { mode: _, bounds: _ }
+            | Does::Heap { mode: _, bounds: _ }
             | Does::Deref(_)
             | Does::Store(_)
             | Does::Apply(_)
+            | Does::Same(_)
+            | Does::Unite(_)
             | Does::Drop
             | Does::Print(_)
+            | Does::Whole
             | Does::Jump(_)
             | Does::Unless(_)
             | Does::Case(_)
@@ -98,6 +113,7 @@ impl Does {
         let does = match self {
             Does::Push(value) => Does::Push(value.copy(alloc)?),
             Does::Skip(mode) => Does::Skip(*mode),
+            Does::Nil => Does::Nil,
             Does::Tag { hops, slot } => Does::Tag {
                 hops: *hops,
                 slot: *slot,
@@ -109,11 +125,18 @@ impl Does {
                 mode: *mode,
                 bounds: *bounds,
             },
+            Does::Heap { mode, bounds } => Does::Heap {
+                mode: *mode,
+                bounds: *bounds,
+            },
             Does::Deref(mode) => Does::Deref(*mode),
             Does::Store(mode) => Does::Store(*mode),
             Does::Apply(row) => Does::Apply(*row),
+            Does::Same(negated) => Does::Same(*negated),
+            Does::Unite(mode) => Does::Unite(*mode),
             Does::Drop => Does::Drop,
             Does::Print(count) => Does::Print(*count),
+            Does::Whole => Does::Whole,
             Does::Jump(to) => Does::Jump(*to),
             Does::Unless(to) => Does::Unless(*to),
             Does::Case(places) => Does::Case(places.copy(alloc)?),

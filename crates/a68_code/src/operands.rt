@@ -21,10 +21,12 @@ impl Does {
     {
         match self {
             Does::Skip(mode) => modes.is_void(*mode) || modes.is_plain(*mode),
-            Does::Leave(kept) => *kept <= 1,
-            Does::Make { mode, bounds } => modes.is_plain(*mode) && *bounds == 0,
+            Does::Leave(one) | Does::Same(one) => *one <= 1,
+            Does::Make { mode, bounds } | Does::Heap { mode, bounds } => {
+                modes.is_plain(*mode) && *bounds == 0
+            }
             Does::Deref(mode) | Does::Store(mode) => modes.is_plain(*mode),
-            Does::Apply(row) => (9 <= *row && *row <= 17) || *row == 26,
+            Does::Apply(row) => (7 <= *row && *row <= 23) || (26 <= *row && *row <= 33),
             Does::Jump(to) | Does::Unless(to) | Does::Step(to) | Does::Advance(to) => (*to as usize)
                 < count,
             Does::Case(places) => places.are_inside(count),
@@ -38,12 +40,13 @@ impl Does {
     {
         match self {
             Does::Counter => 3,
-            Does::Store(_) => 2,
+            Does::Store(_) | Does::Same(_) | Does::Whole => 2,
             Does::Apply(row) => operands_of(*row),
-            Does::Bind(_) | Does::Deref(_) | Does::Drop => 1,
+            Does::Bind(_) | Does::Deref(_) | Does::Unite(_) | Does::Drop => 1,
             Does::Unless(_) | Does::Case(_) | Does::Index | Does::Step(_) => 1,
             Does::Advance(_) | Does::Forget => 1,
-            Does::Leave(count) | Does::Print(count) | Does::Make { bounds: count, .. } => *count,
+            Does::Leave(count) | Does::Print(count) => *count,
+            Does::Make { bounds, .. } | Does::Heap { bounds, .. } => *bounds,
             _ => 0,
         }
     }

@@ -1,10 +1,10 @@
 -- The modes of definitions are among the modes that are there.
-use Rattle.std.proofs.Common.{◌≡◌, ◌<◌, ◌≤◌, ◌∷◌, ◌⊎◌, inl, inr, [], ℕ, zero, suc, List, Bool, true, false, Option, None, Some, length, map, get_or, refl, arith, length-append, if◌then◌else◌}
+use Rattle.std.proofs.Common.{◌≡◌, ◌<◌, ◌≤◌, ◌∷◌, ◌⊎◌, inl, inr, ⊎_elim, [], ℕ, zero, suc, List, Bool, true, false, Option, None, Some, length, map, get_or, refl, arith, length-append, if◌then◌else◌}
 use Rattle.std.proofs.lemmas.List.Elements.{All-map}
 use Rattle.std.specs.List.{All}
 use Rattle.std.specs.Prelude.{slice_index_or, slice_set}
 use Rattle.a68_declare.proofs.Standing.{thirteen}
-use Rattle.a68_declare.specs.Outcome.{ByNode}
+use Rattle.a68_declare.specs.Outcome.{AreByNode, AreModesOf, ByNode}
 use Rattle.a68_declarers.specs.Shapes.{front}
 use Rattle.a68_definitions.specs.Defined.{AllBelow, AreBelow, IsGranted, IsRequestBelow, fixed_mode_at, first_declarer, identity, is_parameter, has_parameters, mode_at, parameters, part_from_end, part_number, requested, variable, with_mode, with_parameters}
 use Rattle.a68_definitions.specs.declared.requests.Request.{Request}
@@ -13,6 +13,7 @@ use Rattle.a68_mode_table.specs.Growing.{IsInterned, an_old_one, a_new_one}
 use Rattle.a68_modes.specs.declared.shape.Shape.{Shape}
 use Rattle.a68_modes.specs.declared.shape.Shape.TheVariants.{Proc, Ref}
 use Rattle.a68_modes.specs.Nodes.{HoldsNodes}
+use Rattle.a68_ranges.proofs.Taking.{below_or}
 use Rattle.a68_ranges.specs.Nodes.{kind_at, parts_at}
 use Rattle.a68_tree.specs.Trees.{Built}
 use Rattle.a68_tree.specs.declared.kind.NodeKind.{NodeKind}
@@ -109,3 +110,24 @@ all_longer n more table h all k = let x : part_number table k < n = all k in ome
 -- there is more than one mode
 pub some_modes : (nodes : List Shape) → HoldsNodes nodes → 1 < length nodes
 some_modes nodes holds = let all : 13 ≤ length nodes = thirteen nodes holds in omega arith
+
+-- ---- the modes that are found of declarers
+
+by_node_below : (tree : Built) (n : ℕ) (numbers : ℕ → ℕ) (list : List ℕ) → 0 < n → ((d : ℕ) → numbers d < n) → AreByNode tree numbers list → (d : ℕ) → part_number list d < n
+by_node_below tree n numbers list some below are d =
+    ⊎_elim (λ h. let e = are.each d (let l = are.long in omega arith) in rw e (below d)) (λ h. rw (default_past list d 0 h) some) (below_or d (length list))
+  where
+    default_past : (xs : List ℕ) (k d : ℕ) → length xs ≤ k → slice_index_or xs k d ≡ d
+    default_past [] k d h = refl
+    default_past (x ∷ xs) zero d h = absurd (omega arith)
+    default_past (x ∷ xs) (suc k) d h = default_past xs k d (omega arith)
+
+pub modes_below : (tree : Built) (nodes : List Shape) (of : ByNode) → AreModesOf tree nodes of → AreBelow (length nodes) of
+modes_below tree nodes of are =
+    let many = some_modes nodes are.cleans.clean.holds in
+    record {
+      as_they_stand = by_node_below tree (length nodes) (λ d. are.to (are.number d false)) of.as_they_stand (omega arith)
+          (λ d. are.cleans.there (are.number d false) (are.raw_are.declared.there d false)) are.at;
+      without_flex = by_node_below tree (length nodes) (λ d. are.to (are.number d true)) of.without_flex (omega arith)
+          (λ d. are.cleans.there (are.number d true) (are.raw_are.declared.there d true)) are.fixed;
+    }

@@ -1,2 +1,3 @@
 pub mod Tagging
 pub mod Defining
+pub mod Alone

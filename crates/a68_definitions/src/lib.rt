@@ -3,9 +3,15 @@
 
 mod applied;
 mod defined;
+mod laws;
 mod reading;
 mod requests;
 
 pub use applied::{Tags, applied_tags, called_by, called_tag};
 pub use defined::defined_modes;
+pub use laws::{
+    definitions_are_one, definitions_are_sound, definitions_keep_nodes, definitions_keep_shapes,
+    modes_of_declarers_are_below,
+};
 pub use reading::{kind_of, part_from_end, part_number, parts_of};
+pub use requests::first_declarer;

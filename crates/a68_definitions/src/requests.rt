@@ -53,8 +53,8 @@ fn modes_of(alloc: Global, of: &NodeModes, declarers: &[NodeId]) -> Result<Membe
     Ok(Members { items })
 }
 
-// Finds the first declarer among these parts.
-fn first_declarer(tree: &Tree, parts: &[NodeId]) -> Option<NodeId>
+/// Finds the first declarer among these parts.
+pub fn first_declarer(tree: &Tree, parts: &[NodeId]) -> Option<NodeId>
     ensures { result ≡ specs.first_declarer tree.now parts.now }
 {
     for part in parts {

@@ -1,14 +1,14 @@
 -- The constructs of a program begin where its nodes do.
-use Rattle.std.proofs.Common.{◌≡◌, ℕ, ℤ, zero, suc, ◌≤◌, Bool, true, false, List, [], ◌∷◌, Some, None, slice_get, refl, arith, nat_eq}
-use Rattle.std.specs.Option.{option_map_or, option_and_then}
+use Rattle.std.proofs.Common.{◌≡◌, ℕ, zero, suc, ◌≤◌, Bool, true, false, List, [], ◌∷◌, Some, None, slice_get, refl, arith, nat_eq}
+use Rattle.std.specs.Option.{is_some, option_map_or, option_and_then}
 use Rattle.std.specs.Prelude.{if◌then◌else◌, not}
 use Rattle.std.specs.declared.option.Option.{Option}
 use Rattle.a68_annot.specs.declared.annotated.Annotated.{Annotated}
 use Rattle.a68_annot.specs.declared.note.Note.{Note}
-use Rattle.a68_denote.specs.Numbers.{int_in}
+use Rattle.a68_elab.specs.Constants.{value_in}
 use Rattle.a68_elab.specs.Made as made
-use Rattle.a68_elab.specs.Made.{program_of, tree_at, tree_from, trees_at, unit, coerced, behind_ref, all_but_last, last_tree}
-use Rattle.a68_elab.specs.Places.{BeginsBy, AllBeginBy, ProgramBeginsBy}
+use Rattle.a68_elab.specs.Made.{program_of, tree_at, tree_from, trees_at, unit, coerced, behind_ref, all_but_last, last_tree, spelling_of, is_one_of, called, printers, wholes, items_at, begins_with, is_heap, is_declarer, behind_heap, new_name}
+use Rattle.a68_elab.specs.Places.{BeginsBy, AllBeginBy, TestBeginsBy, ProgramBeginsBy}
 use Rattle.a68_elab.specs.Trees.{Tree, Trees, no_trees, ◌and_tree◌}
 use Rattle.a68_modes.specs.Nodes.{shape_at, is_void}
 use Rattle.a68_modes.specs.declared.coercion.Coercion.{Coercion}
@@ -17,11 +17,13 @@ use Rattle.a68_modes.specs.declared.shape.Shape.{Shape}
 use Rattle.a68_tree.specs.declared.kind.NodeKind.{NodeKind}
 use Rattle.a68_tree.specs.declared.kind.NodeKind.TheVariants as kind
 use Rattle.a68_tree.specs.declared.node.Node.{Node}
+use Rattle.a68_values.specs.Content.{Content}
 
 module _ (end : ℕ) where
   coerced_begins : (modes : List Shape) (place mode : ℕ) (path : List Coercion) (t : Tree) → place ≤ end → BeginsBy end t → BeginsBy end (coerced modes place mode path t)
   coerced_begins modes place mode [] t p b = b
   coerced_begins modes place mode (coercion.Deref ∷ path) t p b = coerced_begins modes place (behind_ref (shape_at modes mode)) path _ p (p, (b, tt))
+  coerced_begins modes place mode (coercion.Unite m ∷ path) t p b = coerced_begins modes place m path _ p (p, (b, tt))
   coerced_begins modes place mode (coercion.Drop ∷ path) t p b = coerced_begins modes place 0 path _ p (p, (b, tt))
   coerced_begins modes place mode (_ ∷ path) t p b = tt
 
@@ -35,14 +37,34 @@ module _ (end : ℕ) where
   last_begins (t and_tree no_trees) b = b.0
   last_begins (t and_tree (u and_tree ts)) b = last_begins (u and_tree ts) b.1
 
-  variable_begins : (place mode slot : ℕ) (ts : Trees) → place ≤ end → AllBeginBy end ts → BeginsBy end (made.variable place mode slot ts)
-  variable_begins place mode slot (d and_tree (source and_tree no_trees)) p b = (p, ((p, ((p, tt), (b.1.0, tt))), tt))
-  variable_begins place mode slot (d and_tree no_trees) p b = (p, ((p, tt), tt))
-  variable_begins place mode slot _ p b = tt
+  new_begins : (in_heap : Bool) (place mode : ℕ) → place ≤ end → BeginsBy end (new_name in_heap place mode)
+  new_begins true place mode p = (p, tt)
+  new_begins false place mode p = (p, tt)
 
-  call_begins : (place : ℕ) (ts : Trees) → place ≤ end → AllBeginBy end ts → BeginsBy end (made.call_of place ts)
-  call_begins place (called and_tree (item and_tree no_trees)) p b = (p, (b.1.0, tt))
-  call_begins place _ p b = tt
+  variable_begins : (new : Tree) (begins : Bool) (place mode slot : ℕ) (ts : Trees) → place ≤ end → BeginsBy end new → AllBeginBy end ts → BeginsBy end (made.variable_of new begins place mode slot ts)
+  variable_begins new true place mode slot (d and_tree (source and_tree no_trees)) p n b = (p, ((p, (n, (b.1.0, tt))), tt))
+  variable_begins new true place mode slot (d and_tree no_trees) p n b = (p, (n, tt))
+  variable_begins new true place mode slot no_trees p n b = tt
+  variable_begins new true place mode slot (d and_tree (source and_tree (t and_tree ts))) p n b = tt
+  variable_begins new false place mode slot ts p n b = tt
+
+  trees_begin : (f : ℕ → Tree) (ids : List ℕ) → ((id : ℕ) → BeginsBy end (f id)) → AllBeginBy end (trees_at f ids)
+  trees_begin f [] h = tt
+  trees_begin f (id ∷ ids) h = (h id, trees_begin f ids h)
+
+  either_begins : (b : Bool) (t u : Tree) → BeginsBy end t → BeginsBy end u → BeginsBy end (if b then t else u)
+  either_begins true t u p q = p
+  either_begins false t u p q = q
+
+  call_begins : (a : Annotated) (f : ℕ → Tree) (place : ℕ) (ids : List ℕ) → place ≤ end → ((id : ℕ) → BeginsBy end (f id)) → BeginsBy end (made.call_of a f place ids)
+  call_begins a f place [] p h = tt
+  call_begins a f place (primary ∷ ids) p h =
+      either_begins (is_one_of printers (called a primary)) _ _ (p, trees_begin f (items_at a ids) h)
+      (either_begins (is_one_of wholes (called a primary)) _ _ (p, trees_begin f ids h) tt)
+
+  collateral_begins : (none : Bool) (ts : Trees) → AllBeginBy end ts → BeginsBy end (made.collateral_of none ts)
+  collateral_begins true ts b = b
+  collateral_begins false ts b = tt
 
   in_range_begins : (place slots : ℕ) (yields : Bool) (t : Tree) → place ≤ end → BeginsBy end t → BeginsBy end (made.in_range place slots yields t)
   in_range_begins place zero yields t p b = b
@@ -56,57 +78,94 @@ module _ (end : ℕ) where
   only_begins (t and_tree no_trees) b = b.0
   only_begins _ b = tt
 
-  choice_begins : (place : ℕ) (ts : Trees) → place ≤ end → AllBeginBy end ts → BeginsBy end (made.choice_of place ts)
-  choice_begins place (enquiry and_tree (t and_tree no_trees)) p b = (p, b.0, b.1.0, (p, tt))
-  choice_begins place (enquiry and_tree (t and_tree (e and_tree no_trees))) p b = (p, b.0, b.1.0, b.1.1.0)
-  choice_begins place _ p b = tt
+  choice_begins : (place goal : ℕ) (ts : Trees) → place ≤ end → AllBeginBy end ts → BeginsBy end (made.choice_of place goal ts)
+  choice_begins place goal (enquiry and_tree (t and_tree no_trees)) p b = (p, b.0, b.1.0, (p, tt))
+  choice_begins place goal (enquiry and_tree (t and_tree (e and_tree no_trees))) p b = (p, b.0, b.1.0, b.1.1.0)
+  choice_begins place goal _ p b = tt
 
-  loop_begins : (place : ℕ) (ts : Trees) → place ≤ end → AllBeginBy end ts → BeginsBy end (made.loop_of place ts)
-  loop_begins place (test and_tree (body and_tree no_trees)) p b = (p, ((p, tt), ((p, tt), ((p, tt), tt))), (p, b.0), b.1.0)
-  loop_begins place _ p b = tt
+  part_begins : (f : ℕ → Tree) (part : Option ℕ) (left_out : Tree) → BeginsBy end left_out → ((id : ℕ) → BeginsBy end (f id)) → BeginsBy end (option_map_or f part left_out)
+  part_begins f (Some id) left_out b h = h id
+  part_begins f None left_out b h = b
 
-  denoted_begins : (place : ℕ) (o : Option ℤ) → place ≤ end → BeginsBy end (made.denoted place o)
+  phrases_begin : (place : ℕ) (ts : Trees) → place ≤ end → AllBeginBy end ts → BeginsBy end (made.phrases_of place ts)
+  phrases_begin place no_trees p b = tt
+  phrases_begin place (t and_tree ts) p b = (p, all_but_last_begin (t and_tree ts) b, last_begins (t and_tree ts) b)
+
+  enquiry_begins : (f : ℕ → Tree) (node : Option Node) (noted : Option Note) → ((n : Node) → node ≡ Some n → n.span.from ≤ end) → ((id : ℕ) → BeginsBy end (f id))
+      → TestBeginsBy end (made.enquiry_of f node noted)
+  enquiry_begins f (Some node) (Some note) p h = (p node refl, phrases_begin node.span.from (trees_at f node.parts) (p node refl) (trees_begin f node.parts h))
+  enquiry_begins f (Some node) None p h = (omega arith, tt)
+  enquiry_begins f None noted p h = (omega arith, tt)
+
+  asked_begins : (a : Annotated) (f : ℕ → Tree) (clause : Option ℕ) → ((k : ℕ) (n : Node) → slice_get a.tree.nodes k ≡ Some n → n.span.from ≤ end) → ((id : ℕ) → BeginsBy end (f id))
+      → TestBeginsBy end (made.enquiry_at a f clause)
+  asked_begins a f (Some clause) all h = enquiry_begins f (slice_get a.tree.nodes clause) (slice_get a.notes clause) (λ n e. all clause n e) h
+  asked_begins a f None all h = (omega arith, tt)
+
+  test_begins : (a : Annotated) (f : ℕ → Tree) (test : Option ℕ) → ((k : ℕ) (n : Node) → slice_get a.tree.nodes k ≡ Some n → n.span.from ≤ end)
+      → ((id : ℕ) → BeginsBy end (f id)) → TestBeginsBy end (made.test_of a f test)
+  test_begins a f (Some id) all h = asked_begins a f (made.only_id (made.parts_at a id)) all h
+  test_begins a f None all h = tt
+
+  loop_begins : (a : Annotated) (f : ℕ → Tree) (place : ℕ) (counts : Bool) (from by to test body : Option ℕ) → place ≤ end
+      → ((k : ℕ) (n : Node) → slice_get a.tree.nodes k ≡ Some n → n.span.from ≤ end) → ((id : ℕ) → BeginsBy end (f id)) → BeginsBy end (made.loop_by a f place counts from by to test body)
+  loop_begins a f place counts from by to test body p all h =
+      (p, (part_begins f from _ (p, tt) h, (part_begins f by _ (p, tt) h, (part_begins f to _ (p, tt) h, tt))), test_begins a f test all h, part_begins f body _ tt h)
+
+  denoted_begins : (place : ℕ) (o : Option Content) → place ≤ end → BeginsBy end (made.denoted place o)
   denoted_begins place None p = tt
-  denoted_begins place (Some n) p = (p, tt)
+  denoted_begins place (Some v) p = (p, tt)
 
   formula_begins : (place : ℕ) (op : Option ℕ) (ts : Trees) → place ≤ end → AllBeginBy end ts → BeginsBy end (made.formula place op ts)
   formula_begins place None ts p b = tt
   formula_begins place (Some row) ts p b = (p, b)
 
-  construct_begins : (modes : List Shape) (spellings : List (List ℕ)) (node : Node) (note : Note) (k : NodeKind) (ts : Trees) → node.span.from ≤ end → AllBeginBy end ts
-      → BeginsBy end (made.made modes spellings node note k ts)
-  construct_begins modes spellings node note kind.Denotation ts p b = denoted_begins node.span.from (option_and_then int_in (slice_get spellings node.name)) p
-  construct_begins modes spellings node note kind.Tag ts p b = (p, tt)
-  construct_begins modes spellings node note kind.Dyadic ts p b = formula_begins node.span.from note.op ts p b
-  construct_begins modes spellings node note kind.Assignation ts p b = (p, b)
-  construct_begins modes spellings node note kind.Variable ts p b = variable_begins node.span.from (behind_ref (shape_at modes note.mode)) note.step.slot ts p b
-  construct_begins modes spellings node note kind.Call ts p b = call_begins node.span.from ts p b
-  construct_begins modes spellings node note kind.Serial ts p b = serial_begins node.span.from note.slots (not (is_void (shape_at modes note.mode))) ts p b
-  construct_begins modes spellings node note kind.Closed ts p b = only_begins ts b
-  construct_begins modes spellings node note kind.While ts p b = only_begins ts b
-  construct_begins modes spellings node note kind.Conditional ts p b = choice_begins node.span.from ts p b
-  construct_begins modes spellings node note kind.Loop ts p b = loop_begins node.span.from ts p b
-  construct_begins modes spellings node note _ ts p b = tt
+  construct_begins : (a : Annotated) (f : ℕ → Tree) (node : Node) (note : Note) (k : NodeKind) → node.span.from ≤ end → ((id : ℕ) → BeginsBy end (f id))
+      → ((k : ℕ) (n : Node) → slice_get a.tree.nodes k ≡ Some n → n.span.from ≤ end) → BeginsBy end (made.made a f node note k)
+  construct_begins a f node note kind.Denotation p h all = denoted_begins node.span.from (option_and_then value_in (spelling_of a node)) p
+  construct_begins a f node note kind.Skip p h all = (p, tt)
+  construct_begins a f node note kind.Nil p h all = (p, tt)
+  construct_begins a f node note kind.Tag p h all = (p, tt)
+  construct_begins a f node note kind.Monadic p h all = formula_begins node.span.from note.op (trees_at f node.parts) p (trees_begin f node.parts h)
+  construct_begins a f node note kind.Dyadic p h all = formula_begins node.span.from note.op (trees_at f node.parts) p (trees_begin f node.parts h)
+  construct_begins a f node note kind.Assignation p h all = (p, trees_begin f node.parts h)
+  construct_begins a f node note kind.Identity p h all = (p, trees_begin f node.parts h)
+  construct_begins a f node note kind.Generator p h all = new_begins (is_one_of made.heaps (spelling_of a node)) node.span.from (behind_ref (shape_at a.modes note.mode)) p
+  construct_begins a f node note kind.IdentityDefinition p h all = (p, (last_begins (trees_at f node.parts) (trees_begin f node.parts h), tt))
+  construct_begins a f node note kind.Variable p h all =
+      let in_heap = begins_with is_heap a node.parts in
+      let parts = behind_heap in_heap node.parts in
+      let mode = behind_ref (shape_at a.modes note.mode) in
+      variable_begins (new_name in_heap node.span.from mode) (begins_with is_declarer a parts) node.span.from mode note.step.slot (trees_at f parts) p
+      (new_begins in_heap node.span.from mode p) (trees_begin f parts h)
+  construct_begins a f node note kind.ModeDefinition p h all = tt
+  construct_begins a f node note kind.Priority p h all = tt
+  construct_begins a f node note kind.Joined p h all = trees_begin f node.parts h
+  construct_begins a f node note kind.Call p h all = call_begins a f node.span.from node.parts p h
+  construct_begins a f node note kind.Cast p h all = last_begins (trees_at f node.parts) (trees_begin f node.parts h)
+  construct_begins a f node note kind.Collateral p h all = collateral_begins (is_void (shape_at a.modes note.goal)) (trees_at f node.parts) (trees_begin f node.parts h)
+  construct_begins a f node note kind.Serial p h all =
+      serial_begins node.span.from note.slots (not (is_void (shape_at a.modes note.goal))) (trees_at f node.parts) p (trees_begin f node.parts h)
+  construct_begins a f node note kind.Closed p h all = only_begins (trees_at f node.parts) (trees_begin f node.parts h)
+  construct_begins a f node note kind.Out p h all = only_begins (trees_at f node.parts) (trees_begin f node.parts h)
+  construct_begins a f node note kind.From p h all = only_begins (trees_at f node.parts) (trees_begin f node.parts h)
+  construct_begins a f node note kind.By p h all = only_begins (trees_at f node.parts) (trees_begin f node.parts h)
+  construct_begins a f node note kind.To p h all = only_begins (trees_at f node.parts) (trees_begin f node.parts h)
+  construct_begins a f node note kind.While p h all = only_begins (trees_at f node.parts) (trees_begin f node.parts h)
+  construct_begins a f node note kind.Conditional p h all = choice_begins node.span.from note.goal (trees_at f node.parts) p (trees_begin f node.parts h)
+  construct_begins a f node note kind.Loop p h all = loop_begins a f node.span.from (is_some (made.if_first made.is_for a node.parts)) _ _ _ _ _ p all h
+  construct_begins a f node note _ p h all = tt
 
-  trees_begin : (f : ℕ → Tree) (ids : List ℕ) → ((id : ℕ) → BeginsBy end (f id)) → AllBeginBy end (trees_at f ids)
-  trees_begin f [] h = tt
-  trees_begin f (id ∷ ids) h = (h id, trees_begin f ids h)
-
-  either_begins : (b : Bool) (t u : Tree) → BeginsBy end t → BeginsBy end u → BeginsBy end (if b then t else u)
-  either_begins true t u p q = p
-  either_begins false t u p q = q
-
-  node_begins : (modes : List Shape) (spellings : List (List ℕ)) (base : ℕ) (nodes : List Node) (notes : List Note)
-      → ((k : ℕ) (n : Node) → slice_get nodes k ≡ Some n → n.span.from ≤ end) → (id : ℕ) → BeginsBy end (tree_from modes spellings base nodes notes id)
-  node_begins modes spellings base [] notes h id = tt
-  node_begins modes spellings base (node ∷ nodes) [] h id = tt
-  node_begins modes spellings base (node ∷ nodes) (note ∷ notes) h id =
-      let rest : (i : ℕ) → BeginsBy end (tree_from modes spellings (suc base) nodes notes i) = λ i. node_begins modes spellings (suc base) nodes notes (λ k n e. h (suc k) n e) i in
+  node_begins : (a : Annotated) (base : ℕ) (nodes : List Node) (notes : List Note) → ((k : ℕ) (n : Node) → slice_get a.tree.nodes k ≡ Some n → n.span.from ≤ end)
+      → ((k : ℕ) (n : Node) → slice_get nodes k ≡ Some n → n.span.from ≤ end) → (id : ℕ) → BeginsBy end (tree_from a base nodes notes id)
+  node_begins a base [] notes all h id = tt
+  node_begins a base (node ∷ nodes) [] all h id = tt
+  node_begins a base (node ∷ nodes) (note ∷ notes) all h id =
+      let f = tree_from a (suc base) nodes notes in
+      let rest : (i : ℕ) → BeginsBy end (f i) = λ i. node_begins a (suc base) nodes notes all (λ k n e. h (suc k) n e) i in
       let here : node.span.from ≤ end = h 0 node refl in
-      let parts = trees_at (tree_from modes spellings (suc base) nodes notes) node.parts in
-      let parts_begin : AllBeginBy end parts = trees_begin (tree_from modes spellings (suc base) nodes notes) node.parts rest in
-      either_begins (nat_eq id base) (unit modes spellings node note parts) (tree_from modes spellings (suc base) nodes notes id)
-      (coerced_begins modes node.span.from note.mode note.path (made.made modes spellings node note node.kind parts) here (construct_begins modes spellings node note node.kind parts here parts_begin))
+      either_begins (nat_eq id base) (unit a f node note) (f id)
+      (coerced_begins a.modes node.span.from note.mode note.path (made.made a f node note node.kind) here (construct_begins a f node note node.kind here rest all))
       (rest id)
 
   first_begins : (o : Option Node) → ((n : Node) → o ≡ Some n → n.span.from ≤ end) → option_map_or (λ (n : Node). n.span.from) o 0 ≤ end
@@ -115,7 +174,7 @@ module _ (end : ℕ) where
 
   tree_at_begins : (program : Annotated) → ((id : ℕ) (n : Node) → slice_get program.tree.nodes id ≡ Some n → n.span.from ≤ end) → (id : ℕ) → BeginsBy end (tree_at program id)
   unfolding tree_at
-  tree_at_begins program h id = node_begins program.modes program.tree.spellings 0 program.tree.nodes program.notes h id
+  tree_at_begins program h id = node_begins program 0 program.tree.nodes program.notes h h id
 
 -- where all nodes begin by a byte, the constructs do
 pub program_begins : (program : Annotated) (end : ℕ) → ((id : ℕ) (n : Node) → slice_get program.tree.nodes id ≡ Some n → n.span.from ≤ end) → ProgramBeginsBy end (program_of program)

@@ -1,62 +1,94 @@
--- The tree of a node is made of the trees of its parts.
-use Rattle.std.proofs.Common.{◌≡◌, ◌≢◌, ◌≤◌, ℕ, zero, suc, ◌+◌, List, [], ◌∷◌, refl, sym, ◌∙◌, ap, arith, Some, slice_get, ⊎_elim, eq-eqb}
-use Rattle.std.proofs.lemmas.Bool.Decides.{eqb_tells}
+-- The tree of a node is made of the trees of the nodes behind it.
+use Rattle.std.proofs.Common.{◌≡◌, ◌≢◌, ◌<◌, ◌≤◌, ◌⊎◌, ℕ, zero, suc, ◌+◌, Bool, List, [], ◌∷◌, refl, sym, ◌∙◌, ap, arith, Some, slice_get, ⊎_elim, eq-eqb, ne_eqb, le-ltb, lt-ltb}
+use Rattle.std.proofs.Math.Path.{fun_ext}
+use Rattle.std.proofs.lemmas.Bool.{cases_lt}
 use Rattle.std.specs.Prelude.{if◌then◌else◌}
 use Rattle.a68_annot.specs.declared.annotated.Annotated.{Annotated}
 use Rattle.a68_annot.specs.declared.note.Note.{Note}
-use Rattle.a68_elab.specs.Made.{tree_from, tree_at, unit, trees_at}
-use Rattle.a68_elab.specs.Trees.{◌and_tree◌}
-use Rattle.a68_modes.specs.declared.shape.Shape.{Shape}
+use Rattle.a68_elab.specs.Made.{behind, tree_from, tree_at, unit, trees_at}
+use Rattle.a68_elab.specs.Trees.{Tree, Trees, unbuilt, ◌and_tree◌}
 use Rattle.a68_tree.specs.Trees.{AllBetween}
 use Rattle.a68_tree.specs.declared.node.Node.{Node}
 
+-- ---- the trees behind a node
+
+pub behind_is : (id i : ℕ) (f : ℕ → Tree) → id < i → behind id f i ≡ f i
+behind_is id i f less = ap (λ (b : Bool). if b then f i else unbuilt) (lt-ltb id i less)
+
+behind_none : (id i : ℕ) (f : ℕ → Tree) → i ≤ id → behind id f i ≡ unbuilt
+behind_none id i f le = ap (λ (b : Bool). if b then f i else unbuilt) (le-ltb id i le)
+
+-- those of nodes that all stand behind it
+pub behind_all : (id end : ℕ) (f : ℕ → Tree) (ids : List ℕ) → AllBetween id end ids → trees_at (behind id f) ids ≡ trees_at f ids
+behind_all id end f [] all = refl
+behind_all id end f (i ∷ ids) all =
+    ap (λ (t : Tree). t and_tree trees_at (behind id f) ids) (behind_is id i f all.0) ∙ ap (λ (ts : Trees). f i and_tree ts) (behind_all id end f ids all.2)
+
+-- behind a later node nothing more is seen
+behind_twice : (base id : ℕ) (f : ℕ → Tree) → base ≤ id → behind id (behind base f) ≡ behind id f
+behind_twice base id f le = fun_ext (λ i. same i (cases_lt id i))
+  where
+    same : (i : ℕ) → (id < i) ⊎ (i ≤ id) → behind id (behind base f) i ≡ behind id f i
+    same i c =
+        ⊎_elim (λ h. behind_is id i (behind base f) h ∙ behind_is base i f (omega arith) ∙ sym (behind_is id i f h))
+        (λ h. behind_none id i (behind base f) h ∙ sym (behind_none id i f h)) c
+
+-- ---- the trees of a list of nodes
+
 -- a node other than the first
-skips : (modes : List Shape) (spellings : List (List ℕ)) (base : ℕ) (node : Node) (nodes : List Node) (note : Note) (notes : List Note) (id : ℕ) → id ≢ base
-    → tree_from modes spellings base (node ∷ nodes) (note ∷ notes) id ≡ tree_from modes spellings (suc base) nodes notes id
-skips modes spellings base node nodes note notes id ne =
-    ⊎_elim (λ h. absurd (ne h.1))
-    (λ h. ap (λ b. if b then unit modes spellings node note (trees_at (tree_from modes spellings (suc base) nodes notes) node.parts) else tree_from modes spellings (suc base) nodes notes id) h.0)
-    (eqb_tells id base)
+skips : (a : Annotated) (base : ℕ) (node : Node) (nodes : List Node) (note : Note) (notes : List Note) (id : ℕ) → id ≢ base
+    → tree_from a base (node ∷ nodes) (note ∷ notes) id ≡ tree_from a (suc base) nodes notes id
+skips a base node nodes note notes id ne =
+    ap (λ (b : Bool). if b then unit a (tree_from a (suc base) nodes notes) node note else tree_from a (suc base) nodes notes id) (ne_eqb id base ne)
 
-skips_all : (modes : List Shape) (spellings : List (List ℕ)) (base : ℕ) (node : Node) (nodes : List Node) (note : Note) (notes : List Note) (id end : ℕ) (ids : List ℕ) → base ≤ id → AllBetween id end ids
-    → trees_at (tree_from modes spellings (suc base) nodes notes) ids ≡ trees_at (tree_from modes spellings base (node ∷ nodes) (note ∷ notes)) ids
-skips_all modes spellings base node nodes note notes id end [] le behind = refl
-skips_all modes spellings base node nodes note notes id end (i ∷ ids) le behind =
-    let later = behind.0 in
-    let ne : i ≢ base = λ e. omega arith in
-    ap (λ t. t and_tree trees_at (tree_from modes spellings (suc base) nodes notes) ids) (sym (skips modes spellings base node nodes note notes i ne))
-    ∙ ap (λ ts. tree_from modes spellings base (node ∷ nodes) (note ∷ notes) i and_tree ts) (skips_all modes spellings base node nodes note notes id end ids le behind.2)
+-- a node before all of them
+before_all : (a : Annotated) (base : ℕ) (nodes : List Node) (notes : List Note) (id : ℕ) → id < base → tree_from a base nodes notes id ≡ unbuilt
+before_all a base [] notes id less = refl
+before_all a base (node ∷ nodes) [] id less = refl
+before_all a base (node ∷ nodes) (note ∷ notes) id less =
+    let ne : id ≢ base = λ e. omega arith in skips a base node nodes note notes id ne ∙ before_all a (suc base) nodes notes id (omega arith)
 
-tree_of_node : (modes : List Shape) (spellings : List (List ℕ)) (base : ℕ) (nodes : List Node) (notes : List Note) (k end : ℕ) (node : Node) (note : Note) → AllBetween (base + k) end node.parts
-    → slice_get nodes k ≡ Some node → slice_get notes k ≡ Some note
-    → tree_from modes spellings base nodes notes (base + k) ≡ unit modes spellings node note (trees_at (tree_from modes spellings base nodes notes) node.parts)
-tree_of_node modes spellings base [] notes k end node note behind e f = absurd (cc)
-tree_of_node modes spellings base (n ∷ nodes) [] k end node note behind e f = absurd (cc)
-tree_of_node modes spellings base (first ∷ nodes) (about ∷ notes) zero end node note behind e f =
+-- the nodes but the first are those behind it
+rest_is : (a : Annotated) (base : ℕ) (node : Node) (nodes : List Node) (note : Note) (notes : List Note)
+    → tree_from a (suc base) nodes notes ≡ behind base (tree_from a base (node ∷ nodes) (note ∷ notes))
+rest_is a base node nodes note notes = fun_ext (λ i. same i (cases_lt base i))
+  where
+    same : (i : ℕ) → (base < i) ⊎ (i ≤ base) → tree_from a (suc base) nodes notes i ≡ behind base (tree_from a base (node ∷ nodes) (note ∷ notes)) i
+    same i c =
+        ⊎_elim (λ h. let ne : i ≢ base = λ e. omega arith in
+        sym (skips a base node nodes note notes i ne) ∙ sym (behind_is base i (tree_from a base (node ∷ nodes) (note ∷ notes)) h))
+        (λ h. before_all a (suc base) nodes notes i (omega arith) ∙ sym (behind_none base i (tree_from a base (node ∷ nodes) (note ∷ notes)) h)) c
+
+tree_of_node : (a : Annotated) (base : ℕ) (nodes : List Node) (notes : List Note) (k : ℕ) (node : Node) (note : Note) → slice_get nodes k ≡ Some node → slice_get notes k ≡ Some note
+    → tree_from a base nodes notes (base + k) ≡ unit a (behind (base + k) (tree_from a base nodes notes)) node note
+tree_of_node a base [] notes k node note e f = absurd (cc)
+tree_of_node a base (n ∷ nodes) [] k node note e f = absurd (cc)
+tree_of_node a base (first ∷ nodes) (about ∷ notes) zero node note e f =
+    let all = tree_from a base (first ∷ nodes) (about ∷ notes) in
     let is : first ≡ node = cc in
     let is_note : about ≡ note = cc in
     let q : base + 0 ≡ base = omega arith in
-    let le : base ≤ base + 0 = omega arith in
-    ap (tree_from modes spellings base (first ∷ nodes) (about ∷ notes)) q
-    ∙ ap (λ b. if b then unit modes spellings first about (trees_at (tree_from modes spellings (suc base) nodes notes) first.parts) else tree_from modes spellings (suc base) nodes notes base) (eq-eqb base base refl)
-    ∙ ap (λ n. unit modes spellings n about (trees_at (tree_from modes spellings (suc base) nodes notes) n.parts)) is
-    ∙ ap (λ n. unit modes spellings node n (trees_at (tree_from modes spellings (suc base) nodes notes) node.parts)) is_note
-    ∙ ap (unit modes spellings node note) (skips_all modes spellings base first nodes about notes (base + 0) end node.parts le behind)
-tree_of_node modes spellings base (first ∷ nodes) (about ∷ notes) (suc k) end node note behind e f =
+    ap all q
+    ∙ ap (λ (b : Bool). if b then unit a (tree_from a (suc base) nodes notes) first about else tree_from a (suc base) nodes notes base) (eq-eqb base base refl)
+    ∙ ap (λ (g : ℕ → Tree). unit a g first about) (rest_is a base first nodes about notes)
+    ∙ ap (λ (n : ℕ). unit a (behind n all) first about) (sym q)
+    ∙ ap (λ n. unit a (behind (base + 0) all) n about) is
+    ∙ ap (λ n. unit a (behind (base + 0) all) node n) is_note
+tree_of_node a base (first ∷ nodes) (about ∷ notes) (suc k) node note e f =
+    let all = tree_from a base (first ∷ nodes) (about ∷ notes) in
     let q : base + suc k ≡ suc base + k = omega arith in
     let ne : base + suc k ≢ base = λ x. omega arith in
-    let le : base ≤ base + suc k = omega arith in
-    let behind2 : AllBetween (suc base + k) end node.parts = rw q at behind in
-    skips modes spellings base first nodes about notes (base + suc k) ne
-    ∙ ap (tree_from modes spellings (suc base) nodes notes) q
-    ∙ tree_of_node modes spellings (suc base) nodes notes k end node note behind2 e f
-    ∙ ap (unit modes spellings node note) (skips_all modes spellings base first nodes about notes (base + suc k) end node.parts le behind)
+    skips a base first nodes about notes (base + suc k) ne
+    ∙ ap (tree_from a (suc base) nodes notes) q
+    ∙ tree_of_node a (suc base) nodes notes k node note e f
+    ∙ ap (λ (g : ℕ → Tree). unit a (behind (suc base + k) g) node note) (rest_is a base first nodes about notes)
+    ∙ ap (λ (g : ℕ → Tree). unit a g node note) (behind_twice base (suc base + k) all (omega arith))
+    ∙ ap (λ (n : ℕ). unit a (behind n all) node note) (sym q)
 
-pub tree_of_nodes : (program : Annotated) (id end : ℕ) (node : Node) (note : Note) → slice_get program.tree.nodes id ≡ Some node → slice_get program.notes id ≡ Some note
-    → AllBetween id end node.parts → tree_at program id ≡ unit program.modes program.tree.spellings node note (trees_at (tree_at program) node.parts)
+pub tree_of_nodes : (program : Annotated) (id : ℕ) (node : Node) (note : Note) → slice_get program.tree.nodes id ≡ Some node → slice_get program.notes id ≡ Some note
+    → tree_at program id ≡ unit program (behind id (tree_at program)) node note
 unfolding tree_at
-tree_of_nodes program id end node note e f behind =
+tree_of_nodes program id node note e f =
+    let all = tree_from program 0 program.tree.nodes program.notes in
     let q : 0 + id ≡ id = omega arith in
-    let behind2 : AllBetween (0 + id) end node.parts = rw q behind in
-    ap (tree_from program.modes program.tree.spellings 0 program.tree.nodes program.notes) (sym q)
-    ∙ tree_of_node program.modes program.tree.spellings 0 program.tree.nodes program.notes id end node note behind2 e f
+    ap all (sym q) ∙ tree_of_node program 0 program.tree.nodes program.notes id node note e f ∙ ap (λ (n : ℕ). unit program (behind n all) node note) q

@@ -1,12 +1,13 @@
 -- The tree of a program, of the list of its annotated nodes.
-use Rattle.std.specs.Prelude.{ℕ, ℤ, zero, suc, pos, Bool, false, not, List, [], ◌∷◌, None, Some, slice_get, nat_eq, if◌then◌else◌}
-use Rattle.std.specs.Option.{option_map_or, option_and_then}
+use Rattle.std.specs.Prelude.{ℕ, zero, suc, pos, Bool, true, false, not, List, [], ◌∷◌, None, Some, codes, slice_get, nat_eq, nat_lt, if◌then◌else◌}
+use Rattle.std.specs.Option.{is_some, option_map_or, option_and_then}
 use Rattle.std.specs.declared.option.Option.{Option}
-use Rattle.a68_acts.specs.Operations.{constant, skip, tag, make, bind, deref, store, apply, drop, print}
+use Rattle.a68_acts.specs.Operations.{Operation, constant, skip, nil, tag, make, heap, bind, deref, store, apply, same, unite, drop, print, whole}
 use Rattle.a68_annot.specs.declared.annotated.Annotated.{Annotated}
 use Rattle.a68_annot.specs.declared.note.Note.{Note}
-use Rattle.a68_denote.specs.Numbers.{int_in}
-use Rattle.a68_elab.specs.Trees.{collateral, serial, Tree, Trees, operation, phrases, range, choice, loop, unbuilt, while_in, no_trees, ◌and_tree◌, Program}
+use Rattle.a68_base.specs.Tables.{is_listed}
+use Rattle.a68_elab.specs.Constants.{value_in, standard_in}
+use Rattle.a68_elab.specs.Trees.{collateral, serial, Tree, Trees, operation, together, phrases, range, choice, loop, unbuilt, Test, no_test, while_in, no_trees, ◌and_tree◌, Program}
 use Rattle.a68_modes.specs.Nodes.{shape_at, is_void}
 use Rattle.a68_modes.specs.declared.coercion.Coercion.{Coercion}
 use Rattle.a68_modes.specs.declared.coercion.Coercion.TheVariants as coercion
@@ -15,7 +16,7 @@ use Rattle.a68_modes.specs.declared.shape.Shape.TheVariants as shape
 use Rattle.a68_tree.specs.declared.kind.NodeKind.{NodeKind}
 use Rattle.a68_tree.specs.declared.kind.NodeKind.TheVariants as kind
 use Rattle.a68_tree.specs.declared.node.Node.{Node}
-use Rattle.a68_values.specs.Content.{plain}
+use Rattle.a68_values.specs.Content.{Content, plain}
 use Rattle.a68_values.specs.declared.plain.Plain.TheVariants as value
 
 abbrev pub only : Tree → Trees
@@ -31,6 +32,50 @@ last_tree no_trees = unbuilt
 last_tree (t and_tree no_trees) = t
 last_tree (t and_tree (u and_tree ts)) = last_tree (u and_tree ts)
 
+-- an operation without parts
+abbrev pub leaf : (place : ℕ) → Operation → Tree
+leaf place op = operation place op serial no_trees
+
+-- ---- nodes
+
+-- the trees of these nodes
+abbrev pub trees_at : (ℕ → Tree) → List ℕ → Trees
+trees_at f [] = no_trees
+trees_at f (id ∷ ids) = f id and_tree trees_at f ids
+
+-- the kind of a node; that of VOID where there is no such node
+abbrev pub kind_at : Annotated → (id : ℕ) → NodeKind
+kind_at a id = option_map_or (λ (node : Node). node.kind) (slice_get a.tree.nodes id) kind.VoidWord
+
+abbrev pub parts_at : Annotated → (id : ℕ) → List ℕ
+parts_at a id = option_map_or (λ (node : Node). node.parts) (slice_get a.tree.nodes id) []
+
+-- the spelling of the symbol that names a node
+abbrev pub spelling_of : Annotated → Node → Option (List ℕ)
+spelling_of a node = slice_get a.tree.spellings node.name
+
+-- whether a node is named by one of these words
+abbrev pub is_one_of : List (List ℕ) → Option (List ℕ) → Bool
+is_one_of words spelling = option_map_or (is_listed words) spelling false
+
+abbrev pub is_heap : NodeKind → Bool
+is_heap kind.Heap = true
+is_heap _ = false
+
+abbrev pub is_declarer : NodeKind → Bool
+is_declarer kind.Declarer = true
+is_declarer _ = false
+
+abbrev pub is_collateral : NodeKind → Bool
+is_collateral kind.Collateral = true
+is_collateral _ = false
+
+abbrev pub is_tag : NodeKind → Bool
+is_tag kind.Tag = true
+is_tag _ = false
+
+-- ---- coercions
+
 -- the mode of what a name of this mode refers to
 abbrev pub behind_ref : Shape → ℕ
 behind_ref (shape.Ref m) = m
@@ -43,35 +88,89 @@ coerced modes place mode [] t = t
 coerced modes place mode (coercion.Deref ∷ path) t =
     let m = behind_ref (shape_at modes mode) in
     coerced modes place m path (operation place (deref m) serial (only t))
+-- uniting names the mode from which it starts
+coerced modes place mode (coercion.Unite from ∷ path) t = coerced modes place from path (operation place (unite from) serial (only t))
 coerced modes place mode (coercion.Drop ∷ path) t = coerced modes place 0 path (operation place drop serial (only t))
 coerced modes place mode (_ ∷ path) t = unbuilt
 
--- the value of a number
-abbrev pub denoted : (place : ℕ) → Option ℤ → Tree
+-- a denotation, by its value
+abbrev pub denoted : (place : ℕ) → Option Content → Tree
 denoted place None = unbuilt
-denoted place (Some n) = operation place (constant (plain (value.Int n))) serial no_trees
+denoted place (Some v) = operation place (constant v) serial no_trees
 
--- a variable: a new name; its source, which is assigned to it; and its slot bound to it (Report, 4.4.2)
-abbrev pub variable : (place mode slot : ℕ) → Trees → Tree
-variable place mode slot (declarer and_tree (source and_tree no_trees)) =
-    operation place (bind slot) serial (only (operation place (store mode) serial (operation place (make mode 0) serial no_trees and_tree only source)))
-variable place mode slot (declarer and_tree no_trees) = operation place (bind slot) serial (only (operation place (make mode 0) serial no_trees))
-variable place mode slot _ = unbuilt
+-- the value that a tag of the standard environ stands for; a tag that is defined stands for none
+abbrev pub standard_of : (definition : Option ℕ) → (spelling : Option (List ℕ)) → Option Content
+standard_of (Some d) spelling = None
+standard_of None spelling = option_and_then standard_in spelling
 
--- a part that is left out yields nothing
-abbrev pub nothing : (place : ℕ) → Tree
-nothing place = operation place (skip 0) serial no_trees
+-- what an applied tag does: one that stands for no value of the standard environ yields that of its slot
+abbrev pub tag_of : Option Content → (hops slot : ℕ) → Operation
+tag_of (Some v) hops slot = constant v
+tag_of None hops slot = tag hops slot
 
--- FROM, BY and TO where they are left out: 1, 1 and no limit (Report, 3.5.1)
-abbrev pub controls : (place : ℕ) → Trees
-controls place =
-    let one = operation place (constant (plain (value.Int (pos 1)))) serial no_trees in
-    one and_tree (one and_tree only (operation place (skip 1) serial no_trees))
+-- a new name of a plain mode, of scope 0 or of that of the frame (Report, 5.2.3)
+abbrev pub new_name : (in_heap : Bool) (place mode : ℕ) → Tree
+new_name true place mode = leaf place (heap mode 0)
+new_name false place mode = leaf place (make mode 0)
 
--- a call: what is called is the print of the standard environ, and its only parameter is the item
-abbrev pub call_of : (place : ℕ) → Trees → Tree
-call_of place (called and_tree (item and_tree no_trees)) = operation place print collateral (only item)
-call_of place _ = unbuilt
+-- the parts behind HEAP
+abbrev pub behind_heap : (has : Bool) → List ℕ → List ℕ
+behind_heap true (id ∷ ids) = ids
+behind_heap _ ids = ids
+
+-- A variable: a new name; its source, which is assigned to it; and its slot bound to it (Report, 4.4.2). One that a
+-- routine text begins is not built yet.
+abbrev pub variable_of : (new : Tree) (begins : Bool) (place mode slot : ℕ) → Trees → Tree
+variable_of new true place mode slot (declarer and_tree (source and_tree no_trees)) =
+    operation place (bind slot) serial (only (operation place (store mode) serial (new and_tree only source)))
+variable_of new true place mode slot (declarer and_tree no_trees) = operation place (bind slot) serial (only new)
+variable_of new _ place mode slot _ = unbuilt
+
+abbrev pub begins_with : (NodeKind → Bool) → Annotated → List ℕ → Bool
+begins_with is a [] = false
+begins_with is a (id ∷ ids) = is (kind_at a id)
+
+abbrev pub variable : Annotated → (ℕ → Tree) → (place mode slot : ℕ) → List ℕ → Tree
+variable a f place mode slot ids =
+    let in_heap = begins_with is_heap a ids in
+    let parts = behind_heap in_heap ids in
+    variable_of (new_name in_heap place mode) (begins_with is_declarer a parts) place mode slot (trees_at f parts)
+
+-- a part that is left out is a skip of the mode that is asked of it
+abbrev pub left_out : (place mode : ℕ) → Tree
+left_out place mode = leaf place (skip mode)
+
+-- ---- calls
+
+-- the spelling of what is called, where it is a tag that is not defined
+abbrev pub called_by : NodeKind → (definition : Option ℕ) → (spelling : Option (List ℕ)) → Option (List ℕ)
+called_by kind.Tag None spelling = spelling
+called_by _ definition spelling = None
+
+abbrev pub called_at : Annotated → Option Node → Option Note → Option (List ℕ)
+called_at a (Some node) (Some note) = called_by node.kind note.definition (spelling_of a node)
+called_at a _ _ = None
+
+abbrev pub called : Annotated → (id : ℕ) → Option (List ℕ)
+called a id = called_at a (slice_get a.tree.nodes id) (slice_get a.notes id)
+
+-- print and write have the units of a collateral clause as their items, or one unit (own)
+abbrev pub items_at : Annotated → List ℕ → List ℕ
+items_at a (id ∷ []) = if is_collateral (kind_at a id) then parts_at a id else id ∷ []
+items_at a ids = ids
+
+abbrev pub printers : List (List ℕ)
+printers = codes "print" ∷ codes "write" ∷ []
+
+abbrev pub wholes : List (List ℕ)
+wholes = codes "whole" ∷ []
+
+-- a call of print, write or whole of the standard environ (Report, 10.3); the others are not built yet
+abbrev pub call_of : Annotated → (ℕ → Tree) → (place : ℕ) → List ℕ → Tree
+call_of a f place [] = unbuilt
+call_of a f place (primary ∷ ids) =
+    if is_one_of printers (called a primary) then operation place print collateral (trees_at f (items_at a ids))
+    else (if is_one_of wholes (called a primary) then operation place whole collateral (trees_at f ids) else unbuilt)
 
 -- a construct in a range, which makes a frame where it has slots
 abbrev pub in_range : (place slots : ℕ) (yields : Bool) → Tree → Tree
@@ -88,56 +187,160 @@ abbrev pub only_of : Trees → Tree
 only_of (t and_tree no_trees) = t
 only_of _ = unbuilt
 
--- a choice by an enquiry; a part that is left out yields nothing (Report, 3.4)
-abbrev pub choice_of : (place : ℕ) → Trees → Tree
-choice_of place (enquiry and_tree (t and_tree no_trees)) = choice place enquiry t (nothing place)
-choice_of place (enquiry and_tree (t and_tree (e and_tree no_trees))) = choice place enquiry t e
-choice_of place _ = unbuilt
+-- a choice by an enquiry (Report, 3.4)
+abbrev pub choice_of : (place goal : ℕ) → Trees → Tree
+choice_of place goal (enquiry and_tree (t and_tree no_trees)) = choice place enquiry t (left_out place goal)
+choice_of place goal (enquiry and_tree (t and_tree (e and_tree no_trees))) = choice place enquiry t e
+choice_of place goal _ = unbuilt
 
--- a loop with WHILE and DO; the others are not built yet (Report, 3.5)
-abbrev pub loop_of : (place : ℕ) → Trees → Tree
-loop_of place (test and_tree (body and_tree no_trees)) = loop place (controls place) false false (while_in place 0 test) body
-loop_of place _ = unbuilt
+-- ---- loops
+
+abbrev pub is_for : NodeKind → Bool
+is_for kind.For = true
+is_for _ = false
+
+abbrev pub is_from : NodeKind → Bool
+is_from kind.From = true
+is_from _ = false
+
+abbrev pub is_by : NodeKind → Bool
+is_by kind.By = true
+is_by _ = false
+
+abbrev pub is_to : NodeKind → Bool
+is_to kind.To = true
+is_to _ = false
+
+abbrev pub is_while : NodeKind → Bool
+is_while kind.While = true
+is_while _ = false
+
+-- the first of these nodes, where it is of this kind
+abbrev pub if_first : (NodeKind → Bool) → Annotated → List ℕ → Option ℕ
+if_first is a [] = None
+if_first is a (id ∷ ids) = if is (kind_at a id) then Some id else None
+
+-- the nodes behind the first, where that was taken
+abbrev pub past : (taken : Option ℕ) → List ℕ → List ℕ
+past (Some first) (id ∷ ids) = ids
+past _ ids = ids
+
+abbrev pub only_id : List ℕ → Option ℕ
+only_id (id ∷ []) = Some id
+only_id _ = None
+
+-- FROM, BY and TO; where they are left out 1, 1 and no limit (Report, 3.5.1)
+abbrev pub controls_of : (f : ℕ → Tree) (place : ℕ) (from by to : Option ℕ) → Trees
+controls_of f place from by to =
+    let one = leaf place (constant (plain (value.Int (pos 1)))) in
+    option_map_or f from one and_tree (option_map_or f by one and_tree only (option_map_or f to (leaf place (skip 1))))
+
+-- the phrases of a serial clause in a range that is not its own
+abbrev pub phrases_of : (place : ℕ) → Trees → Tree
+phrases_of place no_trees = unbuilt
+phrases_of place (t and_tree ts) = phrases place (all_but_last (t and_tree ts)) (last_tree (t and_tree ts))
+
+abbrev pub enquiry_of : (f : ℕ → Tree) → Option Node → Option Note → Test
+enquiry_of f (Some node) (Some note) = while_in node.span.from note.slots (phrases_of node.span.from (trees_at f node.parts))
+enquiry_of f _ _ = while_in 0 0 unbuilt
+
+abbrev pub enquiry_at : Annotated → (f : ℕ → Tree) → (clause : Option ℕ) → Test
+enquiry_at a f (Some clause) = enquiry_of f (slice_get a.tree.nodes clause) (slice_get a.notes clause)
+enquiry_at a f None = while_in 0 0 unbuilt
+
+-- WHILE, whose range also holds the body
+abbrev pub test_of : Annotated → (f : ℕ → Tree) → (test : Option ℕ) → Test
+test_of a f None = no_test
+test_of a f (Some id) = enquiry_at a f (only_id (parts_at a id))
+
+-- a loop of these parts, as far as they are there (Report, 3.5)
+abbrev pub loop_by : Annotated → (f : ℕ → Tree) → (place : ℕ) (counts : Bool) (from by to test body : Option ℕ) → Tree
+loop_by a f place counts from by to test body =
+    loop place (controls_of f place from by to) (is_some to) counts (test_of a f test) (option_map_or f body unbuilt)
+
+-- FOR, FROM, BY, TO and WHILE stand in this order
+abbrev pub loop_of : Annotated → (f : ℕ → Tree) → (place : ℕ) → List ℕ → Tree
+loop_of a f place ids =
+    let tag = if_first is_for a ids in
+    let froms = past tag ids in
+    let from = if_first is_from a froms in
+    let bys = past from froms in
+    let by = if_first is_by a bys in
+    let tos = past by bys in
+    let to = if_first is_to a tos in
+    let tests = past to tos in
+    let test = if_first is_while a tests in
+    loop_by a f place (is_some tag) from by to test (only_id (past test tests))
 
 -- a formula, which applies its operator to the values of its operands (Report, 5.4.2)
 abbrev pub formula : (place : ℕ) → Option ℕ → Trees → Tree
 formula place None ts = unbuilt
 formula place (Some row) ts = operation place (apply row) collateral ts
 
--- The construct that a node stands for, of the trees of its parts. One row for each kind of node; the others are not
--- built yet.
-abbrev pub made : List Shape → List (List ℕ) → Node → Note → NodeKind → Trees → Tree
-made modes spellings node note kind.Denotation ts = denoted node.span.from (option_and_then int_in (slice_get spellings node.name))
-made modes spellings node note kind.Tag ts = operation node.span.from (tag note.step.hops note.step.slot) serial no_trees
-made modes spellings node note kind.Dyadic ts = formula node.span.from note.op ts
-made modes spellings node note kind.Assignation ts = operation node.span.from (store (behind_ref (shape_at modes note.mode))) collateral ts
-made modes spellings node note kind.Variable ts = variable node.span.from (behind_ref (shape_at modes note.mode)) note.step.slot ts
-made modes spellings node note kind.Call ts = call_of node.span.from ts
-made modes spellings node note kind.Serial ts = serial_of node.span.from note.slots (not (is_void (shape_at modes note.mode))) ts
-made modes spellings node note kind.Closed ts = only_of ts
-made modes spellings node note kind.While ts = only_of ts
-made modes spellings node note kind.Conditional ts = choice_of node.span.from ts
-made modes spellings node note kind.Loop ts = loop_of node.span.from ts
-made modes spellings node note _ ts = unbuilt
+-- a collateral clause: of VOID its parts alone (Report, 3.3); displays are not built yet
+abbrev pub collateral_of : (is_void : Bool) → Trees → Tree
+collateral_of true ts = together ts
+collateral_of false ts = unbuilt
 
-abbrev pub unit : List Shape → List (List ℕ) → Node → Note → Trees → Tree
-unit modes spellings node note ts = coerced modes node.span.from note.mode note.path (made modes spellings node note node.kind ts)
+-- 1 where an identity relation is negated
+abbrev pub negated : Bool → ℕ
+negated true = 1
+negated false = 0
 
-abbrev pub trees_at : (ℕ → Tree) → List ℕ → Trees
-trees_at f [] = no_trees
-trees_at f (id ∷ ids) = f id and_tree trees_at f ids
+abbrev pub isnt : List (List ℕ)
+isnt = codes "ISNT" ∷ codes ":/=:" ∷ []
+
+abbrev pub heaps : List (List ℕ)
+heaps = codes "HEAP" ∷ []
+
+-- The construct that a node stands for: `f` gives the trees of the nodes behind it. One row for each kind of node; the
+-- others are not built yet.
+abbrev pub made : Annotated → (f : ℕ → Tree) → Node → Note → NodeKind → Tree
+made a f node note kind.Denotation = denoted node.span.from (option_and_then value_in (spelling_of a node))
+made a f node note kind.Skip = leaf node.span.from (skip note.goal)
+made a f node note kind.Nil = leaf node.span.from nil
+made a f node note kind.Tag = leaf node.span.from (tag_of (standard_of note.definition (spelling_of a node)) note.step.hops note.step.slot)
+made a f node note kind.Monadic = formula node.span.from note.op (trees_at f node.parts)
+made a f node note kind.Dyadic = formula node.span.from note.op (trees_at f node.parts)
+made a f node note kind.Assignation = operation node.span.from (store (behind_ref (shape_at a.modes note.mode))) collateral (trees_at f node.parts)
+made a f node note kind.Identity = operation node.span.from (same (negated (is_one_of isnt (spelling_of a node)))) collateral (trees_at f node.parts)
+made a f node note kind.Generator = new_name (is_one_of heaps (spelling_of a node)) node.span.from (behind_ref (shape_at a.modes note.mode))
+made a f node note kind.IdentityDefinition = operation node.span.from (bind note.step.slot) serial (only (last_tree (trees_at f node.parts)))
+made a f node note kind.Variable = variable a f node.span.from (behind_ref (shape_at a.modes note.mode)) note.step.slot node.parts
+made a f node note kind.ModeDefinition = together no_trees
+made a f node note kind.Priority = together no_trees
+made a f node note kind.Joined = together (trees_at f node.parts)
+made a f node note kind.Call = call_of a f node.span.from node.parts
+made a f node note kind.Cast = last_tree (trees_at f node.parts)
+made a f node note kind.Collateral = collateral_of (is_void (shape_at a.modes note.goal)) (trees_at f node.parts)
+made a f node note kind.Serial = serial_of node.span.from note.slots (not (is_void (shape_at a.modes note.goal))) (trees_at f node.parts)
+made a f node note kind.Closed = only_of (trees_at f node.parts)
+made a f node note kind.Out = only_of (trees_at f node.parts)
+made a f node note kind.From = only_of (trees_at f node.parts)
+made a f node note kind.By = only_of (trees_at f node.parts)
+made a f node note kind.To = only_of (trees_at f node.parts)
+made a f node note kind.While = only_of (trees_at f node.parts)
+made a f node note kind.Conditional = choice_of node.span.from note.goal (trees_at f node.parts)
+made a f node note kind.Loop = loop_of a f node.span.from node.parts
+made a f node note _ = unbuilt
+
+abbrev pub unit : Annotated → (ℕ → Tree) → Node → Note → Tree
+unit a f node note = coerced a.modes node.span.from note.mode note.path (made a f node note node.kind)
 
 -- the tree of node `id`, where the lists begin with node `base`: the parts of a node stand behind it
-abbrev pub tree_from : List Shape → List (List ℕ) → (base : ℕ) → List Node → List Note → (id : ℕ) → Tree
-tree_from modes spellings base [] notes id = unbuilt
-tree_from modes spellings base (node ∷ nodes) [] id = unbuilt
-tree_from modes spellings base (node ∷ nodes) (note ∷ notes) id =
-    if nat_eq id base then unit modes spellings node note (trees_at (tree_from modes spellings (suc base) nodes notes) node.parts)
-    else tree_from modes spellings (suc base) nodes notes id
+abbrev pub tree_from : Annotated → (base : ℕ) → List Node → List Note → (id : ℕ) → Tree
+tree_from a base [] notes id = unbuilt
+tree_from a base (node ∷ nodes) [] id = unbuilt
+tree_from a base (node ∷ nodes) (note ∷ notes) id =
+    if nat_eq id base then unit a (tree_from a (suc base) nodes notes) node note else tree_from a (suc base) nodes notes id
 
 -- the tree of a node
 unfoldable pub tree_at : Annotated → (id : ℕ) → Tree
-tree_at program id = tree_from program.modes program.tree.spellings 0 program.tree.nodes program.notes id
+tree_at a id = tree_from a 0 a.tree.nodes a.notes id
+
+-- the trees of the nodes behind a node; nothing else is looked at
+abbrev pub behind : (id : ℕ) → (ℕ → Tree) → ℕ → Tree
+behind id f i = if nat_lt id i then f i else unbuilt
 
 -- the program of an annotated tree, whose first node is that of the whole text
 abbrev pub program_of : Annotated → Program

@@ -1,6 +1,6 @@
 -- What the rules of the language permit a run to have done.
 use Rattle.std.specs.Prelude.{◌≡◌, ◌≢◌, ◌≤◌, ℕ, [], ◌∷◌, length}
-use Rattle.a68_acts.specs.Does.{did, refuses, does}
+use Rattle.a68_acts.specs.Does.{did, refuses, waits, does}
 use Rattle.a68_acts.specs.Keeping.{IsKept}
 use Rattle.a68_acts.specs.Store.{Store, opening_store}
 use Rattle.a68_acts.specs.declared.want.Reply.{Reply}
@@ -27,10 +27,9 @@ abbrev pub CanAct : Store → Then Term → Type 0
 CanAct store (acts place want next) = (act : Act) × (reply : Reply) × (after : Store) × (does want store ≡ did act reply after)
 CanAct store _ = ⊥
 
--- what comes next is an act that has to wait: the store neither does it nor refuses it
+-- what comes next is an act that has to wait
 abbrev pub IsHalted : Store → Then Term → Type 0
-IsHalted store (acts place want next) =
-    ((act : Act) (reply : Reply) (after : Store) → does want store ≢ did act reply after) × ((why : FaultKind) → does want store ≢ refuses why)
+IsHalted store (acts place want next) = does want store ≡ waits
 IsHalted store _ = ⊥
 
 -- strand 0 has not ended: the program has not yielded

@@ -1,12 +1,13 @@
 -- Inner: the headline does not rest on this file.
 -- Where the constructs of a program begin.
 use Rattle.std.specs.Prelude.{ℕ, ◌≤◌}
-use Rattle.a68_elab.specs.Trees.{Tree, Trees, operation, phrases, range, choice, cases, loop, unbuilt, Test, no_test, while_in, no_trees, ◌and_tree◌, Program}
+use Rattle.a68_elab.specs.Trees.{Tree, Trees, operation, together, phrases, range, choice, cases, loop, unbuilt, Test, no_test, while_in, no_trees, ◌and_tree◌, Program}
 
 -- each construct of the tree begins at this byte or before it
 abbrev mutual
   pub BeginsBy : (end : ℕ) → Tree → Type 0
   BeginsBy end (operation place op order parts) = (place ≤ end) × AllBeginBy end parts
+  BeginsBy end (together parts) = AllBeginBy end parts
   BeginsBy end (phrases place before final) = (place ≤ end) × AllBeginBy end before × BeginsBy end final
   BeginsBy end (range place out slots yields within) = (place ≤ end) × (out ≤ end) × BeginsBy end within
   BeginsBy end (choice place enquiry if_true if_false) = (place ≤ end) × BeginsBy end enquiry × BeginsBy end if_true × BeginsBy end if_false

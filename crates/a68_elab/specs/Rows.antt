@@ -3,7 +3,7 @@ use Rattle.std.specs.Prelude.{ℕ, zero, suc, Bool, true, false, ◌&&◌, List,
 use Rattle.std.specs.Option.{option_map, option_map_or}
 use Rattle.std.specs.declared.option.Option.{Option}
 use Rattle.std.specs.declared.result.Result.{Result}
-use Rattle.a68_acts.specs.Operations.{start, resumed, tested, case_of, monadic, counter_of, has_turn, advanced}
+use Rattle.a68_acts.specs.Operations.{start, resumed, tested, case_of, counter_of, has_turn, advanced}
 use Rattle.a68_acts.specs.declared.operation.Counter.{Counter}
 use Rattle.a68_acts.specs.declared.operation.Doing.{Doing}
 use Rattle.a68_acts.specs.declared.operation.Doing.TheVariants as doing
@@ -11,8 +11,10 @@ use Rattle.a68_acts.specs.declared.want.Reply.{Reply}
 use Rattle.a68_acts.specs.declared.want.Reply.TheVariants as reply
 use Rattle.a68_acts.specs.declared.want.Want.{Want}
 use Rattle.a68_acts.specs.declared.want.Want.TheVariants as want
-use Rattle.a68_elab.specs.Terms.{Job, operating, resuming, preceding, ending, ranged, choosing, casing, chosen, limiting, counting, stepping, turning, opening, naming, indexing, ranging, testing, running, advancing, quitting, leaving, Term, todo, part, yielded, no_terms, ◌and_term◌, only, todos, values, last_of}
-use Rattle.a68_elab.specs.Trees.{Tree, operation, phrases, range, choice, cases, loop, unbuilt, Trees, no_trees, ◌and_tree◌, count, Test, no_test, while_in, Turns, depth, Program}
+use Rattle.a68_elab.specs.Terms.{Job, operating, resuming, gathering, preceding, ending, ranged, choosing, casing, chosen, limiting, counting, stepping, turning, opening, naming, indexing, ranging, testing, running, advancing, quitting, leaving, Term, todo, part, yielded, no_terms, ◌and_term◌, only, todos, values, last_of}
+use Rattle.a68_elab.specs.Trees.{Tree, operation, together, phrases, range, choice, cases, loop, unbuilt, Trees, no_trees, ◌and_tree◌, count, Test, no_test, while_in, Turns, depth, Program}
+use Rattle.a68_modes.specs.declared.shape.Shape.{Shape}
+use Rattle.a68_ops.specs.Applied.{applied}
 use Rattle.a68_values.specs.Content.{Content, plain, void, scope_of}
 use Rattle.a68_values.specs.declared.act.FaultKind.{FaultKind}
 use Rattle.a68_values.specs.declared.act.FaultKind.TheVariants as fault
@@ -34,10 +36,10 @@ goes_with place f (Err kind) = meets kind place
 -- ---- operations
 
 -- an operation yields, meets a fault, or asks for an act and goes on with the reply
-abbrev pub operates : (place : ℕ) → List Environ → Doing → Then Term
-operates place chain (doing.Yields v) = goes (yielded v)
-operates place chain (doing.Asks w next) = acts place w (λ r. part (resuming place (resumed next r)) chain no_terms)
-operates place chain (doing.Meets kind) = meets kind place
+abbrev pub operates : List Shape → (place : ℕ) → List Environ → Doing → Then Term
+operates modes place chain (doing.Yields v) = goes (yielded v)
+operates modes place chain (doing.Asks w next) = acts place w (λ r. part (resuming place (resumed modes next r)) chain no_terms)
+operates modes place chain (doing.Meets kind) = meets kind place
 
 -- behind a reply to another act, which no store gives, there is the fault Kind (own)
 abbrev pub misled : (place : ℕ) → List Environ → Term
@@ -78,7 +80,7 @@ arm (t and_tree ts) (suc k) out = arm ts k out
 -- TO is looked at alone: it is the operand of a monadic + (own)
 abbrev pub limits : Turns → List Environ → List Content → Then Term
 limits l chain (from ∷ by ∷ to ∷ []) =
-    goes_with l.place (λ t. part (counting l) chain (yielded from and_term (yielded by and_term only (yielded (plain t))))) (monadic 26 to)
+    goes_with l.place (λ t. part (counting l) chain (yielded from and_term (yielded by and_term only (yielded t)))) (applied 26 void to)
 limits l chain _ = meets fault.Kind l.place
 
 -- the counter of the values of FROM, BY and TO (Report, 3.5.2)
@@ -113,6 +115,8 @@ goes_out place _ f = meets fault.Kind place
 abbrev pub begin : Tree → List Environ → Then Term
 -- an operation: its parts (Report, 5.2.1.2 and 5.4.2.2)
 begin (operation place op order parts) chain = goes (part (operating place op order) chain (todos parts chain))
+-- parts at any time (Report, 3.3.2)
+begin (together parts) chain = goes (part gathering chain (todos parts chain))
 -- a serial clause: the phrases before the last one (Report, 3.2.2)
 begin (phrases place before final) chain = goes (part (preceding final) chain (todos before chain))
 -- a range: its frame, and within it its construct (Report, 3.2.2)
@@ -132,8 +136,10 @@ begin unbuilt chain = meets fault.Kind 0
 -- what a construct does whose parts at hand have yielded these values
 abbrev pub finish : Program → Job → List Environ → List Content → Then Term
 -- an operation begins with the values of its parts, and goes on
-finish program (operating place op order) chain vs = operates place chain (start program.modes op chain vs)
-finish program (resuming place d) chain vs = operates place chain d
+finish program (operating place op order) chain vs = operates program.modes place chain (start program.modes op chain vs)
+finish program (resuming place d) chain vs = operates program.modes place chain d
+-- nothing comes behind them
+finish program gathering chain vs = goes (yielded void)
 -- the last phrase comes, and its yield is that of the clause (Report, 3.2.2)
 finish program (preceding final) chain vs = goes (part ending chain (only (todo final chain)))
 finish program ending chain vs = goes (yielded (last_of vs))

@@ -15,6 +15,8 @@ pub data Job : Type 0 where
   operating : (place : ℕ) (op : Operation) (order : Order) → Job
   -- an operation that has begun, and has no parts left, goes on like this
   resuming : (place : ℕ) (doing : Doing) → Job
+  -- nothing behind the parts
+  gathering : Job
   -- the last phrase, behind those before it
   preceding : (final : Tree) → Job
   -- the yield of the last phrase
@@ -73,10 +75,11 @@ abbrev pub todos : Trees → List Environ → Terms
 todos no_trees chain = no_terms
 todos (tree and_tree trees) chain = todo tree chain and_term todos trees chain
 
--- how the parts at hand are elaborated: those of an operation as the tree says, FROM, BY and TO at any time, and all
--- others one after another (Report, 2.1.4.2 and 3.5.2)
+-- how the parts at hand are elaborated: those of an operation as the tree says, those of a collateral clause and FROM, BY
+-- and TO at any time, and all others one after another (Report, 2.1.4.2, 3.3.2 and 3.5.2)
 abbrev pub order_of : Job → Order
 order_of (operating place op order) = order
+order_of gathering = collateral
 order_of (limiting l) = collateral
 order_of (counting l) = collateral
 order_of _ = serial

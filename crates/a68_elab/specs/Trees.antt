@@ -15,6 +15,9 @@ mutual
     -- an operation on the values of its parts: denotations, tags, coercions, formulas (Report, 5.4.2), assignations
     -- (5.2.1), what a declaration makes and binds (4.4.2), and prints
     operation : (place : ℕ) (op : Operation) (order : Order) (parts : Trees) → Tree
+    -- parts at any time, and nothing behind them: a collateral clause of VOID (Report, 3.3), joined definitions (4.1), and
+    -- without parts what is not elaborated
+    together : (parts : Trees) → Tree
     -- a serial clause: its phrases but the last, and the last (Report, 3.2)
     phrases : (place : ℕ) (before : Trees) (final : Tree) → Tree
     -- a range that makes a frame of so many slots: it is entered at one place of the text and left at another, and

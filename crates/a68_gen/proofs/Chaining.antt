@@ -1,16 +1,14 @@
 -- Chains of choices, link by link, and their jumps once they are patched.
 use Rattle.std.proofs.Common.{◌≡◌, ℕ, zero, suc, ◌+◌, List, [], ◌∷◌, ◌++◌, length, refl, sym, ◌∙◌, ap, subst, arith, append_assoc, append-nil, length-append, None, Some, ◌⊎◌, inl, inr}
-use Rattle.std.specs.Option.{option_map_or}
 use Rattle.std.specs.declared.option.Option.{Option}
 use Rattle.a68_base.specs.declared.refusal.Stop.{Stop}
-use Rattle.a68_base.specs.declared.refusal.Stop.TheVariants.{NoMemory}
 use Rattle.a68_builder.specs.Aiming.{aimed_at}
 use Rattle.a68_code.specs.declared.code.Instr.{Instr}
 use Rattle.a68_code.specs.declared.does.Does.TheVariants as does
-use Rattle.a68_elab.specs.Trees.{Tree, operation, phrases, range, choice, cases, loop, unbuilt}
+use Rattle.a68_elab.specs.Trees.{Tree, operation, together, phrases, range, choice, cases, loop, unbuilt}
 use Rattle.a68_gen.specs.Chains.{holes, link_list, link_size, pending}
 use Rattle.a68_gen.specs.Listing.{instr, size, stretch}
-use Rattle.a68_gen.specs.Writing.{aim_all, places, ran_out, Stops, Writes}
+use Rattle.a68_gen.specs.Writing.{aim_all, places, ran_out, Writes}
 use Rattle.a68_gen.proofs.Sizes.{size_stretch}
 use Rattle.a68_gen.proofs.Writing.{aim-middle, and_behind, had_not, is_written, places-append, stops-places}
 
@@ -117,6 +115,7 @@ places_holes (suc n) (choice place e a b) at =
     ∙ sym (places-append (link_list place e a at) (stretch b (at + link_size e a))) ∙ ap (λ (k : ℕ). places (link_list place e a at ++ stretch b k)) same
     ∙ places_link place e a b at (x + size b) (stretch b x)
 places_holes (suc n) (operation place op order parts) at = refl
+places_holes (suc n) (together parts) at = refl
 places_holes (suc n) (phrases place before final) at = refl
 places_holes (suc n) (range place out slots yields within) at = refl
 places_holes (suc n) (cases place enquiry arms out) at = refl
@@ -158,6 +157,7 @@ aim_holes (suc n) (choice place e a b) l0 end is =
     ∙ ap (λ (l : List Instr). l0 ++ l) (append_assoc q (u ∷ p) (je ∷ stretch b x))
     ∙ ap (λ (z : ℕ). l0 ++ (q ++ (u ∷ (p ++ (instr place (does.Jump z) ∷ stretch b x))))) last
 aim_holes (suc n) (operation place op order parts) l0 end is = refl
+aim_holes (suc n) (together parts) l0 end is = refl
 aim_holes (suc n) (phrases place before final) l0 end is = refl
 aim_holes (suc n) (range place out slots yields within) l0 end is = refl
 aim_holes (suc n) (cases place enquiry arms out) l0 end is = refl

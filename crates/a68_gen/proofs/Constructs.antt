@@ -1,14 +1,24 @@
 -- What each function that writes a construct has written, and what is refused midway.
-use Rattle.std.proofs.Common.{◌≡◌, ◌≢◌, ℕ, zero, suc, ◌+◌, ◌<◌, Bool, true, false, List, [], ◌∷◌, ◌++◌, length, drop, get_or, refl, sym, ◌∙◌, ap, arith, append_assoc, append-nil, length-append, drop-cons, add-one}
+use Rattle.std.proofs.Common.{◌≡◌, ◌≢◌, ℕ, zero, suc, ◌+◌, ◌-◌, ◌<◌, Bool, true, false, List, [], ◌∷◌, ◌++◌, length, drop, get_or, refl, sym, ◌∙◌, ap, arith, append_assoc, append-nil, drop-cons, add-one, length-append, None, Some, slice_get}
 use Rattle.std.proofs.lemmas.Bool.{false≢true}
+use Rattle.std.proofs.lemmas.Option.{same_Some}
+use Rattle.std.specs.Option.{option_map, option_map_or}
 use Rattle.std.specs.Prelude.{if◌then◌else◌}
+use Rattle.std.specs.declared.option.Option.{Option}
+use Rattle.a68_annot.specs.declared.annotated.Annotated.{Annotated}
+use Rattle.a68_annot.specs.declared.note.Note.{Note}
+use Rattle.a68_tree.specs.declared.node.Node.{Node}
 use Rattle.a68_code.specs.declared.code.Instr.{Instr}
+use Rattle.a68_acts.specs.Operations.{bind, Operation}
+use Rattle.a68_code.specs.declared.does.Does.{Does}
 use Rattle.a68_code.specs.declared.does.Does.TheVariants as does
 use Rattle.a68_elab.specs.Made as made
-use Rattle.a68_elab.specs.Made.{coerced, behind_ref, only, trees_at, all_but_last, last_tree}
-use Rattle.a68_elab.specs.Trees.{Tree, Trees, choice, unbuilt, no_trees, ◌and_tree◌}
+use Rattle.a68_elab.specs.Made.{coerced, behind_ref, leaf, only, trees_at, all_but_last, last_tree}
+use Rattle.a68_elab.specs.Trees.{Tree, Trees, operation, serial, choice, unbuilt, no_trees, ◌and_tree◌, count}
 use Rattle.a68_gen.specs.Coercing.{coercions, are_built}
-use Rattle.a68_gen.specs.Listing.{instr, size, sizes, stretch, stretches}
+use Rattle.a68_gen.specs.Listing.{instr, opens, size, sizes, stretch, stretches, test_stretch}
+use Rattle.a68_gen.specs.Loops.{asked, unless_at}
+use Rattle.a68_gen.specs.Stretches.{does_of}
 use Rattle.a68_gen.proofs.Sizes.{size_stretch}
 use Rattle.a68_modes.specs.Nodes.{shape_at}
 use Rattle.a68_modes.specs.declared.coercion.Coercion.{Coercion}
@@ -28,6 +38,8 @@ coerced_list modes place mode at [] t built = sym (append-nil (stretch t at))
 coerced_list modes place mode at (coercion.Deref ∷ path) t built =
     let m = behind_ref (shape_at modes mode) in
     coerced_list modes place m at path _ built ∙ one_more (stretch t at) (coercions modes place m path) (instr place (does.Deref m))
+coerced_list modes place mode at (coercion.Unite m ∷ path) t built =
+    coerced_list modes place m at path _ built ∙ one_more (stretch t at) (coercions modes place m path) (instr place (does.Unite m))
 coerced_list modes place mode at (coercion.Drop ∷ path) t built =
     coerced_list modes place 0 at path _ built ∙ one_more (stretch t at) (coercions modes place 0 path) (instr place does.Drop)
 coerced_list modes place mode at (_ ∷ path) t built = absurd (false≢true built)
@@ -36,6 +48,7 @@ coerced_list modes place mode at (_ ∷ path) t built = absurd (false≢true bui
 pub coerced_unbuilt : (modes : List Shape) (place mode : ℕ) (path : List Coercion) (t : Tree) → are_built path ≡ false → coerced modes place mode path t ≡ unbuilt
 coerced_unbuilt modes place mode [] t none = absurd (false≢true (sym none))
 coerced_unbuilt modes place mode (coercion.Deref ∷ path) t none = coerced_unbuilt modes place _ path _ none
+coerced_unbuilt modes place mode (coercion.Unite m ∷ path) t none = coerced_unbuilt modes place m path _ none
 coerced_unbuilt modes place mode (coercion.Drop ∷ path) t none = coerced_unbuilt modes place 0 path _ none
 coerced_unbuilt modes place mode (_ ∷ path) t none = refl
 
@@ -45,6 +58,11 @@ pub between-each : (a b i : ℕ) (ids : List ℕ) → AllBetween a b ids → i <
 between-each a b i [] all p = absurd (omega arith)
 between-each a b zero (x ∷ ids) all p = (all.0, all.1)
 between-each a b (suc i) (x ∷ ids) all p = between-each a b i ids all.2 (omega arith)
+
+-- what stands behind a node stands behind one before it
+pub between-above : (a b n : ℕ) (ids : List ℕ) → a < b → AllBetween b n ids → AllBetween a n ids
+between-above a b n [] less all = tt
+between-above a b n (x ∷ ids) less all = let e = all.0 in (omega arith, all.1, between-above a b n ids less all.2)
 
 -- the parts from one on
 pub part-cons : (f : ℕ → Tree) (at i : ℕ) (ids : List ℕ) → i < length ids
@@ -57,10 +75,29 @@ two_parts (a ∷ []) e = absurd (omega arith)
 two_parts (a ∷ b ∷ []) e = refl
 two_parts (a ∷ b ∷ c ∷ ids) e = absurd (omega arith)
 
--- ---- calls
+-- ---- definitions and calls
 
-pub call_whole : (place at : ℕ) (called item : Tree) → stretch item at ++ instr place (does.Print 1) ∷ [] ≡ stretch (made.call_of place (called and_tree only item)) at
-call_whole place at called item = ap (λ l. l ++ instr place (does.Print 1) ∷ []) (sym (append-nil (stretch item at)))
+pub definition_whole : (place slot at : ℕ) (t : Tree) → stretch t at ++ instr place (does.Bind slot) ∷ [] ≡ stretch (operation place (bind slot) serial (only t)) at
+definition_whole place slot at t = ap (λ l. l ++ instr place (does.Bind slot) ∷ []) (sym (append-nil (stretch t at)))
+
+pub last_is : (f : ℕ → Tree) (ids : List ℕ) → 0 < length ids → last_tree (trees_at f ids) ≡ f (get_or ids (length ids - 1) 0)
+last_is f [] some = absurd (omega arith)
+last_is f (a ∷ []) some = refl
+last_is f (a ∷ (b ∷ ids)) some =
+    let e : length (a ∷ (b ∷ ids)) - 1 ≡ suc (length (b ∷ ids) - 1) = omega arith in
+    last_is f (b ∷ ids) (omega arith) ∙ sym (ap (λ n. f (get_or (a ∷ (b ∷ ids)) n 0)) e)
+
+pub count_trees : (f : ℕ → Tree) (ids : List ℕ) → count (trees_at f ids) ≡ length ids
+count_trees f [] = refl
+count_trees f (i ∷ ids) = ap (λ n. suc n) (count_trees f ids)
+
+-- the instruction of a new name
+abbrev pub new_does : (in_heap : Bool) (mode : ℕ) → Does
+new_does in_heap mode = if in_heap then does.Heap mode 0 else does.Make mode 0
+
+pub new_list : (in_heap : Bool) (place mode at : ℕ) → stretch (made.new_name in_heap place mode) at ≡ instr place (new_does in_heap mode) ∷ []
+new_list true place mode at = refl
+new_list false place mode at = refl
 
 -- ---- serial clauses
 
@@ -92,29 +129,41 @@ framed_serial place (suc n) at kept yields t ts ne e =
 
 -- ---- variables
 
-pub variable_plain : (f : ℕ → Tree) (place mode slot at : ℕ) (ids : List ℕ) → length ids ≡ 1
-    → instr place (does.Make mode 0) ∷ instr place (does.Bind slot) ∷ [] ≡ stretch (made.variable place mode slot (trees_at f ids)) at
-variable_plain f place mode slot at [] e = absurd (omega arith)
-variable_plain f place mode slot at (a ∷ []) e = refl
-variable_plain f place mode slot at (a ∷ b ∷ ids) e = absurd (omega arith)
+pub declared_plain : (f : ℕ → Tree) (in_heap begins : Bool) (place mode slot at : ℕ) (ids : List ℕ) → begins ≡ true → length ids ≡ 1
+    → instr place (new_does in_heap mode) ∷ instr place (does.Bind slot) ∷ [] ≡ stretch (made.variable_of (made.new_name in_heap place mode) begins place mode slot (trees_at f ids)) at
+declared_plain f h false place mode slot at ids is e = absurd (false≢true is)
+declared_plain f h true place mode slot at [] is e = absurd (omega arith)
+declared_plain f true true place mode slot at (a ∷ []) is e = refl
+declared_plain f false true place mode slot at (a ∷ []) is e = refl
+declared_plain f h true place mode slot at (a ∷ (b ∷ ids)) is e = absurd (omega arith)
 
-pub variable_none : (f : ℕ → Tree) (place mode slot : ℕ) (ids : List ℕ) → length ids ≢ 1 → length ids ≢ 2 → unbuilt ≡ made.variable place mode slot (trees_at f ids)
-variable_none f place mode slot [] n m = refl
-variable_none f place mode slot (a ∷ []) n m = absurd (n refl)
-variable_none f place mode slot (a ∷ b ∷ []) n m = absurd (m refl)
-variable_none f place mode slot (a ∷ b ∷ c ∷ ids) n m = refl
+pub declared_none : (f : ℕ → Tree) (in_heap begins : Bool) (place mode slot : ℕ) (ids : List ℕ) → begins ≡ true → length ids ≢ 1 → length ids ≢ 2
+    → unbuilt ≡ made.variable_of (made.new_name in_heap place mode) begins place mode slot (trees_at f ids)
+declared_none f h false place mode slot ids is n m = absurd (false≢true is)
+declared_none f h true place mode slot [] is n m = refl
+declared_none f h true place mode slot (a ∷ []) is n m = absurd (n refl)
+declared_none f h true place mode slot (a ∷ (b ∷ [])) is n m = absurd (m refl)
+declared_none f h true place mode slot (a ∷ (b ∷ (c ∷ ids))) is n m = refl
 
-pub variable_set : (place mode slot at : ℕ) (d source : Tree)
-    → (instr place (does.Make mode 0) ∷ []) ++ (stretch source (at + 1) ++ instr place (does.Store mode) ∷ instr place (does.Bind slot) ∷ [])
-    ≡ stretch (made.variable place mode slot (d and_tree (source and_tree no_trees))) at
-variable_set place mode slot at d source =
-    let s = stretch source (at + 1) in
-    let m = instr place (does.Make mode 0) in
-    let k = instr place (does.Store mode) in
-    let b = instr place (does.Bind slot) in
+pub declared_other : (f : ℕ → Tree) (in_heap begins : Bool) (place mode slot : ℕ) (ids : List ℕ) → begins ≡ false
+    → unbuilt ≡ made.variable_of (made.new_name in_heap place mode) begins place mode slot (trees_at f ids)
+declared_other f h true place mode slot ids is = absurd (false≢true (sym is))
+declared_other f h false place mode slot ids is = refl
+
+set_list : (s : List Instr) (m k b : Instr) → (m ∷ []) ++ (s ++ k ∷ b ∷ []) ≡ (((m ∷ (s ++ [])) ++ k ∷ []) ++ []) ++ b ∷ []
+set_list s m k b =
     sym (ap (λ l. l ++ b ∷ []) (append-nil ((m ∷ (s ++ [])) ++ k ∷ []))
     ∙ ap (λ l. ((m ∷ l) ++ k ∷ []) ++ b ∷ []) (append-nil s)
     ∙ append_assoc (m ∷ s) (k ∷ []) (b ∷ []))
+
+pub declared_set : (in_heap begins : Bool) (place mode slot at : ℕ) (d source : Tree) → begins ≡ true
+    → (instr place (new_does in_heap mode) ∷ []) ++ (stretch source (at + 1) ++ instr place (does.Store mode) ∷ instr place (does.Bind slot) ∷ [])
+    ≡ stretch (made.variable_of (made.new_name in_heap place mode) begins place mode slot (d and_tree (source and_tree no_trees))) at
+declared_set h false place mode slot at d source is = absurd (false≢true is)
+declared_set true true place mode slot at d source is =
+    set_list (stretch source (at + 1)) (instr place (does.Heap mode 0)) (instr place (does.Store mode)) (instr place (does.Bind slot))
+declared_set false true place mode slot at d source is =
+    set_list (stretch source (at + 1)) (instr place (does.Make mode 0)) (instr place (does.Store mode)) (instr place (does.Bind slot))
 
 -- ---- what is not built
 
@@ -123,24 +172,12 @@ only_none f [] n = refl
 only_none f (a ∷ []) n = absurd (n refl)
 only_none f (a ∷ b ∷ ids) n = refl
 
-pub call_none : (f : ℕ → Tree) (place : ℕ) (ids : List ℕ) → length ids ≢ 2 → unbuilt ≡ made.call_of place (trees_at f ids)
-call_none f place [] n = refl
-call_none f place (a ∷ []) n = refl
-call_none f place (a ∷ b ∷ []) n = absurd (n refl)
-call_none f place (a ∷ b ∷ c ∷ ids) n = refl
-
-pub loop_none : (f : ℕ → Tree) (place : ℕ) (ids : List ℕ) → length ids ≢ 2 → unbuilt ≡ made.loop_of place (trees_at f ids)
-loop_none f place [] n = refl
-loop_none f place (a ∷ []) n = refl
-loop_none f place (a ∷ b ∷ []) n = absurd (n refl)
-loop_none f place (a ∷ b ∷ c ∷ ids) n = refl
-
-pub choice_none : (f : ℕ → Tree) (place : ℕ) (ids : List ℕ) → length ids ≢ 2 → length ids ≢ 3 → unbuilt ≡ made.choice_of place (trees_at f ids)
-choice_none f place [] n m = refl
-choice_none f place (a ∷ []) n m = refl
-choice_none f place (a ∷ b ∷ []) n m = absurd (n refl)
-choice_none f place (a ∷ b ∷ c ∷ []) n m = absurd (m refl)
-choice_none f place (a ∷ b ∷ c ∷ d ∷ ids) n m = refl
+pub choice_none : (f : ℕ → Tree) (place goal : ℕ) (ids : List ℕ) → length ids ≢ 2 → length ids ≢ 3 → unbuilt ≡ made.choice_of place goal (trees_at f ids)
+choice_none f place goal [] n m = refl
+choice_none f place goal (a ∷ []) n m = refl
+choice_none f place goal (a ∷ b ∷ []) n m = absurd (n refl)
+choice_none f place goal (a ∷ b ∷ c ∷ []) n m = absurd (m refl)
+choice_none f place goal (a ∷ b ∷ c ∷ d ∷ ids) n m = refl
 
 pub one_part : (ids : List ℕ) → length ids ≡ 1 → ids ≡ get_or ids 0 0 ∷ []
 one_part [] e = absurd (omega arith)
@@ -160,15 +197,79 @@ some_parts (a ∷ ids) e = refl
 
 -- ---- links of chains
 
-pub choice_two : (f : ℕ → Tree) (place : ℕ) (ids : List ℕ) → length ids ≡ 2 → made.choice_of place (trees_at f ids) ≡ choice place (f (get_or ids 0 0)) (f (get_or ids 1 0)) (made.nothing place)
-choice_two f place [] e = absurd (omega arith)
-choice_two f place (a ∷ []) e = absurd (omega arith)
-choice_two f place (a ∷ b ∷ []) e = refl
-choice_two f place (a ∷ b ∷ c ∷ ids) e = absurd (omega arith)
+pub choice_two : (f : ℕ → Tree) (place goal : ℕ) (ids : List ℕ) → length ids ≡ 2 → made.choice_of place goal (trees_at f ids) ≡ choice place (f (get_or ids 0 0)) (f (get_or ids 1 0)) (made.left_out place goal)
+choice_two f place goal [] e = absurd (omega arith)
+choice_two f place goal (a ∷ []) e = absurd (omega arith)
+choice_two f place goal (a ∷ b ∷ []) e = refl
+choice_two f place goal (a ∷ b ∷ c ∷ ids) e = absurd (omega arith)
 
-pub choice_three : (f : ℕ → Tree) (place : ℕ) (ids : List ℕ) → length ids ≡ 3 → made.choice_of place (trees_at f ids) ≡ choice place (f (get_or ids 0 0)) (f (get_or ids 1 0)) (f (get_or ids 2 0))
-choice_three f place [] e = absurd (omega arith)
-choice_three f place (a ∷ []) e = absurd (omega arith)
-choice_three f place (a ∷ b ∷ []) e = absurd (omega arith)
-choice_three f place (a ∷ b ∷ c ∷ []) e = refl
-choice_three f place (a ∷ b ∷ c ∷ d ∷ ids) e = absurd (omega arith)
+pub choice_three : (f : ℕ → Tree) (place goal : ℕ) (ids : List ℕ) → length ids ≡ 3 → made.choice_of place goal (trees_at f ids) ≡ choice place (f (get_or ids 0 0)) (f (get_or ids 1 0)) (f (get_or ids 2 0))
+choice_three f place goal [] e = absurd (omega arith)
+choice_three f place goal (a ∷ []) e = absurd (omega arith)
+choice_three f place goal (a ∷ b ∷ []) e = absurd (omega arith)
+choice_three f place goal (a ∷ b ∷ c ∷ []) e = refl
+choice_three f place goal (a ∷ b ∷ c ∷ d ∷ ids) e = absurd (omega arith)
+
+-- ---- loops
+
+-- FROM, BY or TO, or what is meant where it is left out
+pub control_list : (f : ℕ → Tree) (place at : ℕ) (part : Option ℕ) (op : Operation)
+    → option_map_or (λ p. stretch (f p) at) part (instr place (does_of op 0) ∷ []) ≡ stretch (option_map_or f part (leaf place op)) at
+control_list f place at (Some p) op = refl
+control_list f place at None op = refl
+
+pub three_list : (x y z : Tree) (at : ℕ) (rest : List Instr)
+    → stretch x at ++ (stretch y (at + length (stretch x at)) ++ (stretch z (at + length (stretch x at) + length (stretch y (at + length (stretch x at)))) ++ rest))
+    ≡ stretches (x and_tree (y and_tree (z and_tree no_trees))) at ++ rest
+three_list x y z at rest =
+    let m = at + size x in
+    let n = m + size y in
+    rw (size_stretch x at, size_stretch y m)
+    (sym (append_assoc (stretch x at) (stretch y m ++ (stretch z n ++ [])) rest
+    ∙ ap (λ k. stretch x at ++ k) (append_assoc (stretch y m) (stretch z n ++ []) rest ∙ ap (λ k. stretch y m ++ k) (append_assoc (stretch z n) [] rest))))
+
+-- the phrases of a clause
+pub phrases_whole : (place at : ℕ) (ts : Trees) → stretches ts at ≡ stretch (made.phrases_of place ts) at
+phrases_whole place at no_trees = refl
+phrases_whole place at (t and_tree ts) = sym (phrases_list t ts at)
+
+-- an enquiry up to its Unless, and the Unless
+asked_list : (f : ℕ → Tree) (place at : ℕ) (node : Option Node) (noted : Option Note)
+    → asked (made.enquiry_of f node noted) at ++ instr place (does.Unless 0) ∷ [] ≡ test_stretch place 0 (made.enquiry_of f node noted) at
+asked_list f place at (Some node) (Some note) =
+    let o = opens note.slots node.span.from in
+    append_assoc o (stretch (made.phrases_of node.span.from (trees_at f node.parts)) (at + length o)) (instr place (does.Unless 0) ∷ [])
+asked_list f place at (Some node) None = refl
+asked_list f place at None noted = refl
+
+pub asked_whole : (a : Annotated) (f : ℕ → Tree) (place at : ℕ) (clause : Option ℕ)
+    → asked (made.enquiry_at a f clause) at ++ instr place (does.Unless 0) ∷ [] ≡ test_stretch place 0 (made.enquiry_at a f clause) at
+asked_whole a f place at (Some clause) = asked_list f place at (slice_get a.tree.nodes clause) (slice_get a.notes clause)
+asked_whole a f place at None = refl
+
+-- where its Unless stands
+asked_end : (f : ℕ → Tree) (at : ℕ) (node : Option Node) (noted : Option Note)
+    → Some (at + length (asked (made.enquiry_of f node noted) at)) ≡ unless_at (made.enquiry_of f node noted) at
+asked_end f at (Some node) (Some note) =
+    let o = opens note.slots node.span.from in
+    let t = made.phrases_of node.span.from (trees_at f node.parts) in
+    let k = size_stretch t (at + length o) in
+    ap (λ n. Some n) (omega (arith, k, length-append o (stretch t (at + length o))))
+asked_end f at (Some node) None = ap (λ n. Some n) (omega arith)
+asked_end f at None noted = ap (λ n. Some n) (omega arith)
+
+pub unless_stands : (a : Annotated) (f : ℕ → Tree) (at : ℕ) (clause : Option ℕ)
+    → Some (at + length (asked (made.enquiry_at a f clause) at)) ≡ unless_at (made.enquiry_at a f clause) at
+unless_stands a f at (Some clause) = asked_end f at (slice_get a.tree.nodes clause) (slice_get a.notes clause)
+unless_stands a f at None = ap (λ n. Some n) (omega arith)
+
+-- the test of a loop with WHILE
+pub test_is : (a : Annotated) (f : ℕ → Tree) (test : Option ℕ) (part : ℕ) (ids : List ℕ) → test ≡ Some part → option_map (λ (n : Node). n.parts) (slice_get a.tree.nodes part) ≡ Some ids
+    → made.test_of a f test ≡ made.enquiry_at a f (made.only_id ids)
+test_is a f test part ids e there =
+    let parts : made.parts_at a part ≡ ids = parts_of (slice_get a.tree.nodes part) there in
+    ap (λ (o : Option ℕ). made.test_of a f o) e ∙ ap (λ (l : List ℕ). made.enquiry_at a f (made.only_id l)) parts
+  where
+    parts_of : (o : Option Node) → option_map (λ (n : Node). n.parts) o ≡ Some ids → option_map_or (λ (n : Node). n.parts) o [] ≡ ids
+    parts_of None w = absurd (cc)
+    parts_of (Some n) w = same_Some n.parts ids w

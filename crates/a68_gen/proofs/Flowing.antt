@@ -3,11 +3,11 @@ use Rattle.std.proofs.Common.{◌≡◌, ◌<◌, ◌≤◌, ◌⊎◌, ◌+◌,
 use Rattle.std.proofs.lemmas.Bool.{lt-ltb}
 use Rattle.std.proofs.lemmas.List.Elements.{All-cons, All-contains, All-from_recursion, Contains-push_cases}
 use Rattle.std.proofs.lemmas.List.Sums.{list_all-from_AllPass}
-use Rattle.std.specs.List.{All, Contains, list_all}
+use Rattle.std.specs.List.{All, Contains}
 use Rattle.std.specs.Option.{option_map}
 use Rattle.std.specs.Prelude.{not, ◌&&◌, if◌then◌else◌}
 use Rattle.std.specs.declared.option.Option.{Option}
-use Rattle.a68_acts.specs.Operations.{Operation, constant, skip, tag, make, bind, deref, store, apply, drop, print, leaves}
+use Rattle.a68_acts.specs.Operations.{Operation, constant, skip, nil, tag, make, heap, bind, deref, store, apply, same, unite, drop, print, whole, leaves}
 use Rattle.a68_code.specs.Flow.{does_at, takes, landings}
 use Rattle.a68_code.specs.Flow as flow
 use Rattle.a68_code.specs.Operands.{is_well_made}
@@ -16,9 +16,9 @@ use Rattle.a68_code.specs.declared.code.Code.{Code}
 use Rattle.a68_code.specs.declared.code.Instr.{Instr}
 use Rattle.a68_code.specs.declared.does.Does.{Does}
 use Rattle.a68_code.specs.declared.does.Does.TheVariants as does
-use Rattle.a68_elab.specs.Trees.{Tree, Trees, operation, phrases, range, choice, cases, loop, unbuilt, no_trees, ◌and_tree◌, count, Test, no_test, while_in, depth_of}
-use Rattle.a68_gen.proofs.Forward.{forward, forward_limit, forward_index, forward_leaves, forward_arms, forward_test}
-use Rattle.a68_gen.proofs.Heights.{bit, after, after_true, after_false, At, LimitHeights, IndexHeights, OpenHeights, LeaveHeights, HeightsOf, AllHeights, ArmHeights, TestHeights, starts, starts_all, starts_limit, starts_index, starts_leave, starts_test}
+use Rattle.a68_elab.specs.Trees.{Tree, Trees, operation, together, phrases, range, choice, cases, loop, unbuilt, no_trees, ◌and_tree◌, count, Test, no_test, while_in, depth_of}
+use Rattle.a68_gen.proofs.Forward.{forward, forward_index, forward_leaves, forward_arms, forward_test}
+use Rattle.a68_gen.proofs.Heights.{bit, after, after_true, after_false, At, LimitHeights, IndexHeights, OpenHeights, LeaveHeights, HeightsOf, AllHeights, ArmHeights, TestHeights, nothing_more, starts, starts_all, starts_limit, starts_index, starts_leave, starts_test}
 use Rattle.a68_gen.specs.Operands.{FitsModes, FitAll, TestFitsModes}
 use Rattle.a68_gen.specs.Stretches.{Has, Limits, Indexes, Opens, Leaves, Stands, StandAll, StandArms, Tests, with_last, does_of, leave}
 use Rattle.a68_modes.specs.Nodes.{shape_at, is_void}
@@ -47,14 +47,19 @@ straight list modes c k (skip m) n = record { lands = refl; ordered = tt; made =
     by_void : (x : Bool) → (if x then 0 else 1) ≡ bit (not x)
     by_void true = refl
     by_void false = refl
+straight list modes c k nil n = record { lands = refl; ordered = tt; made = refl; left = refl }
 straight list modes c k (tag hops slot) n = record { lands = refl; ordered = tt; made = refl; left = refl }
 straight list modes c k (make m bounds) n = record { lands = refl; ordered = tt; made = refl; left = refl }
+straight list modes c k (heap m bounds) n = record { lands = refl; ordered = tt; made = refl; left = refl }
 straight list modes c k (bind slot) n = record { lands = refl; ordered = tt; made = refl; left = refl }
 straight list modes c k (deref m) n = record { lands = refl; ordered = tt; made = refl; left = refl }
 straight list modes c k (store m) n = record { lands = refl; ordered = tt; made = refl; left = refl }
 straight list modes c k (apply r) n = record { lands = refl; ordered = tt; made = refl; left = refl }
+straight list modes c k (same negated) n = record { lands = refl; ordered = tt; made = refl; left = refl }
+straight list modes c k (unite m) n = record { lands = refl; ordered = tt; made = refl; left = refl }
 straight list modes c k drop n = record { lands = refl; ordered = tt; made = refl; left = refl }
 straight list modes c k print n = record { lands = refl; ordered = tt; made = refl; left = refl }
+straight list modes c k whole n = record { lands = refl; ordered = tt; made = refl; left = refl }
 
 -- the instruction at k finds so many values, and W has the height of each place where it goes on
 pub record Flows (code : Code) (W : ℕ → ℕ → Type 0) (k h : ℕ) : Type 0 where
@@ -173,7 +178,7 @@ module _ (code : Code) (W : ℕ → ℕ → Type 0) (is_inside : (k h : ℕ) →
   arms_all g p e no_trees (q ∷ ps) a b s base x P each last = absurd s
   arms_all g p e (t and_tree ts) [] a b s base x P each last = absurd s
   arms_all g p e (t and_tree ts) (q ∷ ps) a b s base x P each last =
-      All-cons P q (with_last ps x) (subst P (sym s.2) (each a (omega arith) (inl (starts code g t a s.0 s.3 base))))
+      All-cons P q (with_last ps x) (subst P (sym s.2) (each a (omega arith) (⊎_elim (λ y. inl y) (λ e. inr (inl (e.0, nothing_more base g e.1))) (starts code g t a s.0 s.3 base))))
       (arms_all g p e ts ps s.1 b s.5 base x P (λ k le y. each k (let f = forward code g t a s.0 s.3 in let z = s.4.1 in omega arith) (inr (inr y))) last)
 
   some_last : (ps : List ℕ) (x : ℕ) → nat_lt 0 (length (with_last ps x)) ≡ true
@@ -182,6 +187,13 @@ module _ (code : Code) (W : ℕ → ℕ → Type 0) (is_inside : (k h : ℕ) →
 
   both_true : {x y : Bool} → x ≡ true → y ≡ true → IsTrue (x && y)
   both_true {x = x} {y = y} e f = rw (e, f) refl
+
+  -- a tree is reached at its height, whether it is empty or not
+  begun : (g : Bool) (t : Tree) (a b : ℕ) (s : Stands code g t a b) (base : ℕ) → ((k h : ℕ) → HeightsOf code g t a b s base k h → W k h) → W b (base + bit g) → W a base
+  begun g t a b s base into out =
+      ⊎_elim (λ y. into a base y)
+      (λ e. at_place b a (base + bit g) base e.0 (sym (nothing_more base g e.1)) out)
+      (starts code g t a b s base)
 
   -- the places of a loop, in order
   in_loop : (g : Bool) (p : ℕ) (controls : Trees) (limited counts : Bool) (test : Test) (body : Tree) (a b : ℕ) (s : Stands code g (loop p controls limited counts test body) a b)
@@ -212,7 +224,10 @@ module _ (code : Code) (W : ℕ → ℕ → Type 0) (is_inside : (k h : ℕ) →
       let at_e : W s.11 (base + 1) = into s.11 (base + 1) (inr (inr (inr (inr (inr (inr (inr (inr (inr (inr (inr (inr (refl, refl))))))))))))) in
       let at_v : W s.9 (base + 1) = into s.9 (base + 1) (inr (inr (inr (inr (inr (inr (inr (inr (inr (inr (inl (refl, refl)))))))))))) in
       let at_n' : W s.8 (base + 1) = into s.8 (base + 1) (inr (inr (inr (inr (inr (inr (inr (inr (inr (inl (refl, refl))))))))))) in
-      let at_x : W s.6 (base + 1) = into s.6 (base + 1) (inr (inr (inr (inr (inr (inr (inr (inl (starts code false body s.6 s.7 s.21 (base + 1)))))))))) in
+      let at_n : W s.7 (base + 1) =
+      ⊎_elim (λ y. into s.7 (base + 1) (inr (inr (inr (inr (inr (inr (inr (inr (inl y)))))))))) (λ e. subst (λ (y : ℕ). W y (base + 1)) (sym e) at_n') (starts_leave code p (depth_of counts test) s.7 s.8 s.22 (base + 1)) in
+      let at_x : W s.6 (base + 1) =
+      begun false body s.6 s.7 s.21 (base + 1) (λ k h y. into k h (inr (inr (inr (inr (inr (inr (inr (inl y))))))))) (at_place s.7 s.7 (base + 1) (base + 1 + 0) refl (omega arith) at_n) in
       let at_c' : W s.1 (base + 3) = into s.1 (base + 3) (inr (inr (inl (refl, refl)))) in
       let at_w : W s.5 (base + 1) = ⊎_elim (λ y. into s.5 (base + 1) (inr (inr (inr (inr (inr (inr (inl y)))))))) (λ e. subst (λ (y : ℕ). W y (base + 1)) (sym e) at_x) (starts_test code test p s.10 s.5 s.6 s.20 (base + 1)) in
       record {
@@ -223,7 +238,7 @@ module _ (code : Code) (W : ℕ → ℕ → Type 0) (is_inside : (k h : ℕ) →
         at_u = ⊎_elim (λ y. into s.4 (base + 1) (inr (inr (inr (inr (inr (inl y))))))) (λ e. subst (λ (y : ℕ). W y (base + 1)) (sym e) at_w) (starts_index code counts p s.4 s.5 s.19 base);
         at_w = at_w;
         at_x = at_x;
-        at_n = ⊎_elim (λ y. into s.7 (base + 1) (inr (inr (inr (inr (inr (inr (inr (inr (inl y)))))))))) (λ e. subst (λ (y : ℕ). W y (base + 1)) (sym e) at_n') (starts_leave code p (depth_of counts test) s.7 s.8 s.22 (base + 1));
+        at_n = at_n;
         at_n' = at_n';
         at_v = at_v;
         at_f = ⊎_elim (λ y. into s.10 (base + 1) (inr (inr (inr (inr (inr (inr (inr (inr (inr (inr (inr (inl y))))))))))))) (λ e. subst (λ (y : ℕ). W y (base + 1)) (sym e) at_e) (starts_leave code p (depth_of counts test) s.10 s.11 s.25 (base + 1));
@@ -248,14 +263,16 @@ module _ (code : Code) (W : ℕ → ℕ → Type 0) (is_inside : (k h : ℕ) →
             next s.0 b p (does_of op n) base _ s.4 straightly.lands (ap (λ (x : ℕ). base + x) s.2 ∙ sym (after_true parts base))
             (subst (W b) (ap (λ (x : ℕ). base + x) (ap bit s.1 ∙ sym straightly.left)) out)
             (subst IsTrue (sym straightly.made) fit.0) straightly.ordered
+    flows g (together parts) a b s base fit into out k h x =
+        flows_all false parts a b s.1 base fit into (subst (W b) (sym (nothing_more base g s.0) ∙ sym (after_false parts base)) out) k h x
     flows g (phrases p before final) a b s base fit into out k h (inl x) =
         flows_all false before a s.0 s.1 base fit.0 (λ k h y. into k h (inl y))
-        (subst (W s.0) (sym (after_false before base)) (into s.0 base (inr (starts code g final s.0 b s.2 base)))) k h x
+        (subst (W s.0) (sym (after_false before base)) (begun g final s.0 b s.2 base (λ k h y. into k h (inr y)) out)) k h x
     flows g (phrases p before final) a b s base fit into out k h (inr x) = flows g final s.0 b s.2 base fit.1 (λ k h y. into k h (inr y)) out k h x
     flows g (range p left n yields within) a b s base fit into out k h (inl x) =
         at_flows a base
         (next a s.0 p (does.Enter n) base base s.3 refl (omega arith)
-        (at_place s.0 s.0 base (base + 0) refl (omega arith) (into s.0 base (inr (inl (starts code g within s.0 s.1 s.4 base))))) refl tt) k h x
+        (at_place s.0 s.0 base (base + 0) refl (omega arith) (begun g within s.0 s.1 s.4 base (λ k h y. into k h (inr (inl y))) (into s.1 (base + bit g) (inr (inr (refl, refl)))))) refl tt) k h x
     flows g (range p left n yields within) a b s base fit into out k h (inr (inl x)) =
         flows g within s.0 s.1 s.4 base fit (λ k h y. into k h (inr (inl y))) (into s.1 (base + bit g) (inr (inr (refl, refl)))) k h x
     flows g (range p left n yields within) a b s base fit into out k h (inr (inr x)) =
@@ -267,10 +284,10 @@ module _ (code : Code) (W : ℕ → ℕ → Type 0) (is_inside : (k h : ℕ) →
     flows g (choice p enquiry if_true if_false) a b s base fit into out k h (inr (inl x)) = at_flows s.0 (base + 1) here k h x
       where
         yes : W s.1 base
-        yes = into s.1 base (inr (inr (inl (starts code g if_true s.1 s.2 s.6 base))))
+        yes = begun g if_true s.1 s.2 s.6 base (λ k h y. into k h (inr (inr (inl y)))) (into s.2 (base + bit g) (inr (inr (inr (inl (refl, refl))))))
 
         no : W s.3 base
-        no = into s.3 base (inr (inr (inr (inr (starts code g if_false s.3 b s.8 base)))))
+        no = begun g if_false s.3 b s.8 base (λ k h y. into k h (inr (inr (inr (inr y))))) out
 
         here : Flows code W s.0 (base + 1)
         here =
@@ -291,7 +308,7 @@ module _ (code : Code) (W : ℕ → ℕ → Type 0) (is_inside : (k h : ℕ) →
         places = with_last s.3 s.2
 
         last : W s.2 base
-        last = into s.2 base (inr (inr (inr (starts code g final s.2 b s.7 base))))
+        last = begun g final s.2 b s.7 base (λ k h y. into k h (inr (inr (inr y)))) out
 
         each : (k : ℕ) → ArmHeights code g p b arms s.3 s.1 s.2 s.6 base k base → W k base
         each k y = into k base (inr (inr (inl y)))
@@ -402,7 +419,7 @@ module _ (code : Code) (W : ℕ → ℕ → Type 0) (is_inside : (k h : ℕ) →
         → W b base → W f base → b ≤ f → (k h : ℕ) → TestHeights code t p f a b s base k h → Flows code W k h
     test_flows no_test p f a b s base fit into out quit le k h x = absurd x
     test_flows (while_in at slots t) p f a b s base fit into out quit le k h (inl x) =
-        open_flows slots at a s.0 s.2 base (into s.0 base (inr (inl (starts code true t s.0 s.1 s.3 base)))) k h x
+        open_flows slots at a s.0 s.2 base (begun true t s.0 s.1 s.3 base (λ k h y. into k h (inr (inl y))) (into s.1 (base + 1) (inr (inr (refl, refl))))) k h x
     test_flows (while_in at slots t) p f a b s base fit into out quit le k h (inr (inl x)) =
         flows true t s.0 s.1 s.3 base fit (λ k h y. into k h (inr (inl y))) (into s.1 (base + 1) (inr (inr (refl, refl)))) k h x
     test_flows (while_in at slots t) p f a b s base fit into out quit le k h (inr (inr x)) =

@@ -1,7 +1,7 @@
 -- A stretch goes forward.
 use Rattle.std.proofs.Common.{◌≡◌, ◌≤◌, ◌+◌, ℕ, zero, suc, arith, Bool, true, false, List, [], ◌∷◌}
 use Rattle.a68_code.specs.declared.code.Code.{Code}
-use Rattle.a68_elab.specs.Trees.{Tree, Trees, operation, phrases, range, choice, cases, loop, unbuilt, no_trees, ◌and_tree◌, Test, no_test, while_in, depth_of}
+use Rattle.a68_elab.specs.Trees.{Tree, Trees, operation, together, phrases, range, choice, cases, loop, unbuilt, no_trees, ◌and_tree◌, Test, no_test, while_in, depth_of}
 use Rattle.a68_gen.specs.Stretches.{Limits, Indexes, Opens, Leaves, Stands, StandAll, StandArms, Tests}
 
 pub next_is : (k m : ℕ) → k + 1 ≡ m → suc k ≡ m
@@ -26,6 +26,7 @@ forward_leaves code p (suc n) a b s = let x = s.1.1 in let y = forward_leaves co
 mutual
   pub forward : (code : Code) (g : Bool) (t : Tree) (a b : ℕ) → Stands code g t a b → a ≤ b
   forward code g (operation p op o parts) a b s = let x = forward_all code true parts a s.0 s.3 in let y = s.4.1 in omega arith
+  forward code g (together parts) a b s = forward_all code false parts a b s.1
   forward code g (phrases p before final) a b s =
       let x = forward_all code false before a s.0 s.1 in let y = forward code g final s.0 b s.2 in omega arith
   forward code g (range p out n yields within) a b s =

@@ -1,8 +1,8 @@
 -- How many values are on the stack at each place of a stretch.
 use Rattle.std.proofs.Common.{◌≡◌, ◌<◌, ◌≤◌, ◌⊎◌, ◌+◌, ℕ, zero, suc, arith, Bool, true, false, List, [], ◌∷◌, refl, sym, ap, ◌∙◌, subst, inl, inr, ⊎_elim}
-use Rattle.std.proofs.lemmas.Bool.{cases_lt}
+use Rattle.std.proofs.lemmas.Bool.{cases_lt, false≢true}
 use Rattle.a68_code.specs.declared.code.Code.{Code}
-use Rattle.a68_elab.specs.Trees.{Tree, Trees, operation, phrases, range, choice, cases, loop, unbuilt, no_trees, ◌and_tree◌, count, Test, no_test, while_in, depth_of}
+use Rattle.a68_elab.specs.Trees.{Tree, Trees, operation, together, phrases, range, choice, cases, loop, unbuilt, no_trees, ◌and_tree◌, count, Test, no_test, while_in, depth_of}
 use Rattle.a68_gen.specs.Stretches.{Limits, Indexes, Opens, Leaves, Stands, StandAll, StandArms, Tests}
 
 abbrev pub bit : Bool → ℕ
@@ -50,6 +50,7 @@ LeaveHeights code p (suc n) a b s base k h = At a base k h ⊎ LeaveHeights code
 abbrev mutual
   pub HeightsOf : (code : Code) (g : Bool) (t : Tree) (a b : ℕ) → Stands code g t a b → (base : ℕ) → ℕ → ℕ → Type 0
   HeightsOf code g (operation p op o parts) a b s base k h = AllHeights code true parts a s.0 s.3 base k h ⊎ At s.0 (after true parts base) k h
+  HeightsOf code g (together parts) a b s base k h = AllHeights code false parts a b s.1 base k h
   HeightsOf code g (phrases p before final) a b s base k h = AllHeights code false before a s.0 s.1 base k h ⊎ HeightsOf code g final s.0 b s.2 base k h
   HeightsOf code g (range p out n yields within) a b s base k h =
       At a base k h ⊎ (HeightsOf code g within s.0 s.1 s.4 base k h ⊎ At s.1 (base + bit g) k h)
@@ -143,6 +144,7 @@ leave_piece code p (suc n) a b s base = both _ _ _ _ _ (one a s.0 base s.1.1) (l
 mutual
   pub piece : (code : Code) (g : Bool) (t : Tree) (a b : ℕ) (s : Stands code g t a b) (base : ℕ) → Piece a b (HeightsOf code g t a b s base)
   piece code g (operation p op o parts) a b s base = both _ _ _ _ _ (pieces code true parts a s.0 s.3 base) (one s.0 b (after true parts base) s.4.1)
+  piece code g (together parts) a b s base = pieces code false parts a b s.1 base
   piece code g (phrases p before final) a b s base = both _ _ _ _ _ (pieces code false before a s.0 s.1 base) (piece code g final s.0 b s.2 base)
   piece code g (range p out n yields within) a b s base =
       both _ _ _ _ _ (one a s.0 base s.3.1) (both _ _ _ _ _ (piece code g within s.0 s.1 s.4 base) (one s.1 b (base + bit g) s.5.1))
@@ -185,22 +187,35 @@ mutual
   test_piece code (while_in at slots t) p f a b s base =
       both _ _ _ _ _ (open_piece code slots at a s.0 s.2 base) (both _ _ _ _ _ (piece code true t s.0 s.1 s.3 base) (one s.1 b (base + 1) s.4.1))
 
+-- what leaves nothing adds nothing
+pub nothing_more : (n : ℕ) (g : Bool) → g ≡ false → n ≡ n + bit g
+nothing_more n g e = let x : n ≡ n + 0 = omega arith in x ∙ ap (λ (y : Bool). n + bit y) (sym e)
+
 mutual
-  -- a stretch begins at its height
-  pub starts : (code : Code) (g : Bool) (t : Tree) (a b : ℕ) (s : Stands code g t a b) (base : ℕ) → HeightsOf code g t a b s base a base
-  starts code g (operation p op o parts) a b s base = ⊎_elim inl inr (starts_all code true parts a s.0 s.3 base)
+  -- a stretch begins at its height, or it is empty and leaves nothing
+  pub starts : (code : Code) (g : Bool) (t : Tree) (a b : ℕ) (s : Stands code g t a b) (base : ℕ) → HeightsOf code g t a b s base a base ⊎ ((a ≡ b) × (g ≡ false))
+  starts code g (operation p op o parts) a b s base = ⊎_elim (λ y. inl (inl y)) (λ e. inl (inr e)) (starts_all code true parts a s.0 s.3 base)
+  starts code g (together parts) a b s base = ⊎_elim inl (λ e. inr (e.0, s.0)) (starts_all code false parts a b s.1 base)
   starts code g (phrases p before final) a b s base =
-      ⊎_elim inl (λ e. inr (subst (λ (x : ℕ). HeightsOf code g final s.0 b s.2 base x base) (sym e.0) (starts code g final s.0 b s.2 base))) (starts_all code false before a s.0 s.1 base)
-  starts code g (range p out n yields within) a b s base = inl (refl, refl)
-  starts code g (choice p enquiry if_true if_false) a b s base = inl (starts code true enquiry a s.0 s.4 base)
-  starts code g (cases p enquiry arms out) a b s base = inl (starts code true enquiry a s.0 s.4 base)
+      ⊎_elim (λ y. inl (inl y))
+      (λ e. ⊎_elim (λ y. inl (inr (subst (λ (x : ℕ). HeightsOf code g final s.0 b s.2 base x base) (sym e.0) y))) (λ f. inr (e.0 ∙ f.0, f.1)) (starts code g final s.0 b s.2 base))
+      (starts_all code false before a s.0 s.1 base)
+  starts code g (range p out n yields within) a b s base = inl (inl (refl, refl))
+  starts code g (choice p enquiry if_true if_false) a b s base = ⊎_elim (λ y. inl (inl y)) (λ e. absurd (false≢true (sym e.1))) (starts code true enquiry a s.0 s.4 base)
+  starts code g (cases p enquiry arms out) a b s base = ⊎_elim (λ y. inl (inl y)) (λ e. absurd (false≢true (sym e.1))) (starts code true enquiry a s.0 s.4 base)
   starts code g (loop p controls limited counts test body) a b s base =
-      ⊎_elim inl (λ e. absurd (omega (arith, e.1 ∙ after_true controls base ∙ ap (λ (n : ℕ). base + n) s.13))) (starts_all code true controls a s.0 s.14 base)
+      ⊎_elim (λ y. inl (inl y)) (λ e. absurd (omega (arith, e.1 ∙ after_true controls base ∙ ap (λ (n : ℕ). base + n) s.13))) (starts_all code true controls a s.0 s.14 base)
   starts code g unbuilt a b s base = absurd s
 
   pub starts_all : (code : Code) (g : Bool) (ts : Trees) (a b : ℕ) (s : StandAll code g ts a b) (base : ℕ) → AllHeights code g ts a b s base a base ⊎ ((a ≡ b) × (base ≡ after g ts base))
   starts_all code g no_trees a b s base = inr (s, refl)
-  starts_all code g (t and_tree ts) a b s base = inl (inl (starts code g t a s.0 s.1 base))
+  starts_all code g (t and_tree ts) a b s base =
+      ⊎_elim (λ y. inl (inl y))
+      (λ e. let f : base ≡ base + bit g = nothing_more base g e.1 in
+      ⊎_elim (λ y. inl (inr (subst (λ (k : ℕ). AllHeights code g ts s.0 b s.2 (base + bit g) k base) (sym e.0)
+      (subst (λ (h : ℕ). AllHeights code g ts s.0 b s.2 (base + bit g) s.0 h) (sym f) y))))
+      (λ x. inr (e.0 ∙ x.0, f ∙ x.1)) (starts_all code g ts s.0 b s.2 (base + bit g)))
+      (starts code g t a s.0 s.1 base)
 
 -- such a stretch begins at its height, or there is none of it
 pub starts_index : (code : Code) (counts : Bool) (p a b : ℕ) (s : Indexes code counts p a b) (base : ℕ) → IndexHeights code counts p a b s base a (base + 1) ⊎ (a ≡ b)
@@ -222,5 +237,7 @@ starts_limit code true p a b s base = inl (refl, refl)
 pub starts_test : (code : Code) (t : Test) (p f a b : ℕ) (s : Tests code t p f a b) (base : ℕ) → TestHeights code t p f a b s base a base ⊎ (a ≡ b)
 starts_test code no_test p f a b s base = inr s
 starts_test code (while_in at slots t) p f a b s base =
-    ⊎_elim (λ y. inl (inl y)) (λ e. inl (inr (inl (subst (λ (y : ℕ). HeightsOf code true t s.0 s.1 s.3 base y base) (sym e) (starts code true t s.0 s.1 s.3 base)))))
+    ⊎_elim (λ y. inl (inl y))
+    (λ e. ⊎_elim (λ y. inl (inr (inl (subst (λ (x : ℕ). HeightsOf code true t s.0 s.1 s.3 base x base) (sym e) y)))) (λ f. absurd (false≢true (sym f.1)))
+    (starts code true t s.0 s.1 s.3 base))
     (starts_open code slots at a s.0 s.2 base)

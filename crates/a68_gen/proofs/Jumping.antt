@@ -1,19 +1,20 @@
 -- Choices and loops, step by step.
-use Rattle.std.proofs.Common.{◌≡◌, ℕ, ◌+◌, List, [], ◌∷◌, ◌++◌, length, false, refl, sym, ◌∙◌, ap, subst, arith, length-append, None, Some}
+use Rattle.std.proofs.Common.{Bool, ◌≡◌, ℕ, ◌+◌, List, [], ◌∷◌, ◌++◌, length, refl, sym, ◌∙◌, ap, subst, arith, length-append, None, Some}
+use Rattle.std.specs.Option.{is_some}
 use Rattle.std.specs.declared.option.Option.{Option}
 use Rattle.a68_base.specs.declared.refusal.Stop.{Stop}
 use Rattle.a68_code.specs.declared.code.Instr.{Instr}
 use Rattle.a68_code.specs.declared.does.Does.TheVariants as does
-use Rattle.a68_elab.specs.Made as made
+use Rattle.a68_elab.specs.Made.{controls_of}
 use Rattle.a68_elab.specs.Trees as trees
-use Rattle.a68_elab.specs.Trees.{Tree, while_in}
-use Rattle.a68_gen.specs.Coercing.{head_of}
+use Rattle.a68_elab.specs.Trees.{Tree, Trees, Test, depth_of}
 use Rattle.a68_builder.specs.Aiming.{aimed_at}
 use Rattle.a68_gen.specs.Chains.{link_list}
-use Rattle.a68_gen.specs.Listing.{instr, size, stretch}
-use Rattle.a68_gen.proofs.Sizes.{size_stretch}
+use Rattle.a68_gen.specs.Listing.{instr, indexes, leaves, limits, size, sizes, stretch, stretches, test_size, test_stretch}
+use Rattle.a68_gen.specs.Loops.{counted, unless_at}
+use Rattle.a68_gen.proofs.Sizes.{size_leaves, size_stretch, size_stretches, size_test}
 use Rattle.a68_gen.specs.Writing.{Writes}
-use Rattle.a68_gen.proofs.Patching.{link_writes, loop_writes, loop_list}
+use Rattle.a68_gen.proofs.Patching.{link_writes, aimed_some, front, front_writes, in_order, tail_of}
 use Rattle.a68_gen.proofs.Writing.{and_behind, writes-as, had_not, is_written}
 
 -- what a writer that has stopped was to write does not matter
@@ -59,29 +60,99 @@ link_jump s0 s1 s2 s3 l0 l1 l2 l3 place j e a w1 w2 w3 ej n =
     let s1 = size_stretch e (length l0) in let s2 = size_stretch a (length l2) in
     omega arith
 
-pub loop_all : (s0 s1 s2 s3 s4 s5 s6 s7 s8 s9 : Option Stop) (l0 l1 l2 l3 l4 l5 l6 l7 l8 l9 : List Instr) (place step u end : ℕ) (test body : Tree)
-    → step ≡ length l0 + 4 → Writes s0 s1 l0 l1 (head_of place 0) → Writes s1 s2 l1 l2 (stretch test (length l1)) → u ≡ length l2
-    → Writes s2 s3 l2 l3 (instr place (does.Unless 0) ∷ []) → Writes s3 s4 l3 l4 (stretch body (length l3)) → end ≡ length l4 + 2
-    → l5 ≡ aimed_at l4 step 0 end → s5 ≡ s4 → l6 ≡ aimed_at l5 u 0 end → s6 ≡ s5
-    → Writes s6 s7 l6 l7 (instr place (does.Advance step) ∷ []) → Writes s7 s8 l7 l8 (instr place (does.Jump end) ∷ []) → Writes s8 s9 l8 l9 (instr place does.Forget ∷ [])
-    → Writes s0 s9 l0 l9 (stretch (trees.loop place (made.controls place) false false (while_in place 0 test) body) (length l0))
-loop_all s0 s1 s2 s3 s4 s5 s6 s7 s8 s9 l0 l1 l2 l3 l4 l5 l6 l7 l8 l9 place step u end test body es w1 w2 eu w3 w4 ee e5 t5 e6 t6 w7 w8 w9 =
+-- a loop in one piece
+loop_form : (at place : ℕ) (controls : Trees) (limited counts : Bool) (test : Test) (body : Tree) (frames : ℕ) → frames ≡ depth_of counts test → (
+    let out = leaves place frames in
+    let t = at + sizes controls + length (limits limited place) + 1 in
+    let w = t + 2 + length (indexes counts place) in
+    let x = w + test_size test in
+    let f = x + size body + frames + 2 in
+    front (stretches controls at ++ (limits limited place ++ instr place does.Counter ∷ [])) (instr place does.Turn ∷ indexes counts place) (stretch body x ++ out) place (f + frames) f test w
+    ++ tail_of out place t (f + frames)
+    ≡ stretch (trees.loop place controls limited counts test body) at)
+loop_form at place controls limited counts test body frames e =
+    let n = depth_of counts test in
+    let out = leaves place n in
+    let t = at + sizes controls + length (limits limited place) + 1 in
+    let w = t + 2 + length (indexes counts place) in
+    let x = w + test_size test in
+    let f = x + size body + n + 2 in
+    rw e (in_order (stretches controls at) (limits limited place) (instr place does.Turn ∷ indexes counts place) (test_stretch place f test w) (stretch body x) out
+    (tail_of out place t (f + n)) (instr place does.Counter) (instr place (does.Step (f + n))))
+
+-- a loop, step by step
+pub loop_all : (s0 s1 s2 s3 s4 s5 s6 s7 s8 s9 s10 s11 : Option Stop) (l0 l1 l2 l3 l4 l5 l6 l7 l8 l9 l10 l11 : List Instr) (f : ℕ → Tree) (place : ℕ)
+    (from by to : Option ℕ) (counts : Bool) (test : Test) (body : Tree) (step quit end frames : ℕ) (o : Option ℕ)
+    → Writes s0 s1 l0 l1 (counted f place from by to (length l0)) → step ≡ length l1
+    → Writes s1 s2 l1 l2 (instr place (does.Step 0) ∷ instr place does.Turn ∷ indexes counts place)
+    → Writes s2 s3 l2 l3 (test_stretch place 0 test (length l2)) → (s3 ≡ None → o ≡ unless_at test (length l2))
+    → Writes s3 s4 l3 l4 (stretch body (length l3)) → frames ≡ depth_of counts test → Writes s4 s5 l4 l5 (leaves place frames)
+    → quit ≡ length l5 + 2 → end ≡ quit + frames → l6 ≡ aimed_at l5 step 0 end → s6 ≡ s5 → l7 ≡ aimed_some l6 o quit → s7 ≡ s6
+    → Writes s7 s8 l7 l8 (instr place (does.Advance step) ∷ []) → Writes s8 s9 l8 l9 (instr place (does.Jump end) ∷ []) → Writes s9 s10 l9 l10 (leaves place frames)
+    → Writes s10 s11 l10 l11 (instr place does.Forget ∷ [])
+    → Writes s0 s11 l0 l11 (stretch (trees.loop place (controls_of f place from by to) (is_some to) counts test body) (length l0))
+loop_all s0 s1 s2 s3 s4 s5 s6 s7 s8 s9 s10 s11 l0 l1 l2 l3 l4 l5 l6 l7 l8 l9 l10 l11 f place from by to counts test body step quit end frames o
+    w1 es w2 w3 eo w4 ed w5 eq ee e6 t6 e7 t7 w8 w9 w10 w11 =
     let at = length l0 in
-    let ts = stretch test (at + 6) in
-    let m = at + 6 + length ts + 1 in
-    let bs = stretch body m in
-    let ends = m + length bs + 2 in
-    let u0 = instr place (does.Unless 0) in
-    let h = head_of place 0 in
-    let w24 = and_behind s2 s3 s4 l2 l3 l4 (u0 ∷ []) (λ n. stretch body n) w3 w4 in
-    let w14 = and_behind s1 s2 s4 l1 l2 l4 (stretch test (length l1)) (λ n. u0 ∷ stretch body (n + 1)) w2 w24 in
-    let w04 = and_behind s0 s1 s4 l0 l1 l4 h (λ n. stretch test n ++ u0 ∷ stretch body (n + length (stretch test n) + 1)) w1 w14 in
-    let w02 = and_behind s0 s1 s2 l0 l1 l2 h (λ n. stretch test n) w1 w2 in
-    let n2 : s4 ≡ None → u ≡ at + 6 + length ts =
-    λ n. let k = long l0 l2 (h ++ ts) (is_written s0 s2 l0 l2 (h ++ ts) w02 (had_not s2 s4 l2 l4 _ w24 n)) in omega (arith, eu, k, length-append h ts) in
-    let n4 : s4 ≡ None → end ≡ ends =
-    λ n. let k = long l0 l4 (h ++ (ts ++ u0 ∷ bs)) (is_written s0 s4 l0 l4 (h ++ (ts ++ u0 ∷ bs)) w04 n) in omega (arith, ee, k, length-append h (ts ++ u0 ∷ bs), length-append ts (u0 ∷ bs)) in
-    let w79 = and_behind s7 s8 s9 l7 l8 l9 (instr place (does.Jump end) ∷ []) (λ n. instr place does.Forget ∷ []) w8 w9 in
-    let w69 = and_behind s6 s7 s9 l6 l7 l9 (instr place (does.Advance step) ∷ []) (λ n. instr place (does.Jump end) ∷ instr place does.Forget ∷ []) w7 w79 in
-    let w49 : Writes s4 s9 l6 l9 (instr place (does.Advance step) ∷ instr place (does.Jump end) ∷ instr place does.Forget ∷ []) = rw (t6, t5) at w69 in
-    rw (← loop_list place at test body) (loop_writes s0 s4 s9 l0 l4 l5 l6 l9 ts bs place step u end ends (at + 4) w04 (λ n. es) n2 n4 (λ n. es) e5 e6 w49)
+    let controls = controls_of f place from by to in
+    let lim = limits (is_some to) place in
+    let c = counted f place from by to at in
+    let turns = instr place does.Turn ∷ indexes counts place in
+    let s = instr place (does.Step 0) in
+    let out = leaves place frames in
+    let test_at : ℕ → List Instr = λ n. test_stretch place 0 test n in
+    let rest_at : ℕ → List Instr = λ n. stretch body n ++ out in
+    let w = at + length c + 1 + length turns in
+    let t' = at + sizes controls + length lim + 1 in
+    let w' = t' + 2 + length (indexes counts place) in
+    let x' = w' + test_size test in
+    let f' = x' + size body + frames + 2 in
+    let e' = f' + frames in
+    let long_c : length c ≡ sizes controls + (length lim + 1) =
+    length-append (stretches controls at) (lim ++ instr place does.Counter ∷ []) ∙ ap (λ (n : ℕ). n + length (lim ++ instr place does.Counter ∷ [])) (size_stretches controls at)
+    ∙ ap (λ (n : ℕ). sizes controls + n) (length-append lim (instr place does.Counter ∷ [])) in
+    let same_w : w ≡ w' = omega (arith, long_c) in
+    let w35 = and_behind s3 s4 s5 l3 l4 l5 (stretch body (length l3)) (λ n. out) w4 w5 in
+    let w25 = and_behind s2 s3 s5 l2 l3 l5 (test_at (length l2)) rest_at w3 w35 in
+    let w15 = and_behind s1 s2 s5 l1 l2 l5 (s ∷ turns) (λ n. test_at n ++ rest_at (n + length (test_at n))) w2 w25 in
+    let w05 = and_behind s0 s1 s5 l0 l1 l5 c (λ n. s ∷ (turns ++ (test_at (n + length (s ∷ turns)) ++ rest_at (n + length (s ∷ turns) + length (test_at (n + length (s ∷ turns))))))) w1 w15 in
+    let same_x : at + length c + length (s ∷ turns) + length (test_at (at + length c + length (s ∷ turns))) ≡ x' =
+    let k = size_test place 0 test (at + length c + length (s ∷ turns)) in omega (arith, long_c, k) in
+    let here : at + length c + length (s ∷ turns) ≡ w' = omega (arith, long_c) in
+    let fronts : Writes s0 s5 l0 l5 (front c turns (rest_at x') place 0 0 test w') =
+    subst (λ (n : ℕ). Writes s0 s5 l0 l5 (c ++ (s ∷ (turns ++ (test_at n ++ rest_at x'))))) here
+    (subst (λ (n : ℕ). Writes s0 s5 l0 l5 (c ++ (s ∷ (turns ++ (test_at (at + length c + length (s ∷ turns)) ++ rest_at n))))) same_x w05) in
+    let none1 : s5 ≡ None → s1 ≡ None = λ n. had_not s1 s5 l1 l5 _ w15 n in
+    let none2 : s5 ≡ None → s2 ≡ None = λ n. had_not s2 s5 l2 l5 _ w25 n in
+    let none3 : s5 ≡ None → s3 ≡ None = λ n. had_not s3 s5 l3 l5 _ w35 n in
+    let step_is : s5 ≡ None → step ≡ at + length c = λ n. es ∙ long l0 l1 c (is_written s0 s1 l0 l1 c w1 (none1 n)) in
+    let second : s5 ≡ None → length l2 ≡ w' =
+    λ n. let one = long l0 l1 c (is_written s0 s1 l0 l1 c w1 (none1 n)) in let two = long l1 l2 (s ∷ turns) (is_written s1 s2 l1 l2 (s ∷ turns) w2 (none2 n)) in omega (arith, one, two, long_c) in
+    let unless_is : s5 ≡ None → o ≡ unless_at test w' = λ n. eo (none3 n) ∙ ap (λ (k : ℕ). unless_at test k) (second n) in
+    let quit_is : s5 ≡ None → quit ≡ f' =
+    λ n. let all = long l0 l5 (front c turns (rest_at x') place 0 0 test w') (is_written s0 s5 l0 l5 _ fronts n) in
+    let k1 = size_test place 0 test w' in let k2 = size_stretch body x' in let k3 = size_leaves place frames in
+    omega (
+      arith,
+      eq,
+      all,
+      long_c,
+      k1,
+      k2,
+      k3,
+      length-append c (s ∷ (turns ++ (test_at w' ++ rest_at x'))),
+      length-append turns (test_at w' ++ rest_at x'),
+      length-append (test_at w') (rest_at x'),
+      length-append (stretch body x') out,
+    ) in
+    let end_is : s5 ≡ None → end ≡ e' = λ n. omega (arith, ee, quit_is n) in
+    let all_front : Writes s0 s5 l0 l7 (front c turns (rest_at x') place e' f' test w') =
+    front_writes s0 s5 l0 l5 l6 l7 c turns (rest_at x') place step end e' quit f' w' o test fronts step_is (sym same_w) unless_is end_is quit_is e6 e7 in
+    let w9' = and_behind s9 s10 s11 l9 l10 l11 out (λ n. instr place does.Forget ∷ []) w10 w11 in
+    let w8' = and_behind s8 s9 s11 l8 l9 l11 (instr place (does.Jump end) ∷ []) (λ n. out ++ instr place does.Forget ∷ []) w9 w9' in
+    let w7' = and_behind s7 s8 s11 l7 l8 l11 (instr place (does.Advance step) ∷ []) (λ n. instr place (does.Jump end) ∷ (out ++ instr place does.Forget ∷ [])) w8 w8' in
+    let tail : Writes s5 s11 l7 l11 (tail_of out place step end) = subst (λ (z : Option Stop). Writes z s11 l7 l11 (tail_of out place step end)) (t7 ∙ t6) w7' in
+    let closed : Writes s5 s11 l7 l11 (tail_of out place t' e') =
+    writes-at s5 s11 l7 l11 _ _ (λ n. ap (λ (k : ℕ). tail_of out place k end) (omega (arith, step_is n, long_c)) ∙ ap (λ (k : ℕ). tail_of out place t' k) (end_is n)) tail in
+    writes-as s0 s11 l0 l11 _ _ (loop_form at place controls (is_some to) counts test body frames ed)
+    (and_behind s0 s5 s11 l0 l7 l11 (front c turns (rest_at x') place e' f' test w') (λ n. tail_of out place t' e') all_front closed)

@@ -13,3 +13,4 @@ pub mod Sizes
 pub mod Standing
 pub mod Validity
 pub mod Writing
+pub mod Quoting

@@ -7,7 +7,7 @@ use Rattle.a68_code.specs.declared.code.Code.{Code}
 use Rattle.a68_code.specs.declared.code.Instr.{Instr}
 use Rattle.a68_code.specs.declared.code.RoutineEntrance.{RoutineEntrance}
 use Rattle.a68_code.specs.declared.does.Does.TheVariants as does
-use Rattle.a68_elab.specs.Trees.{Tree, Trees, operation, phrases, range, choice, cases, loop, unbuilt, no_trees, ◌and_tree◌, count, Test, no_test, while_in, depth_of, Program}
+use Rattle.a68_elab.specs.Trees.{Tree, Trees, operation, together, phrases, range, choice, cases, loop, unbuilt, no_trees, ◌and_tree◌, count, Test, no_test, while_in, depth_of, Program}
 use Rattle.a68_gen.specs.Listing.{instr, limits, indexes, opens, leaves, size, sizes, test_size, arm_places, stretch, stretches, arm_stretches, test_stretch, listing}
 use Rattle.a68_gen.proofs.Sizes.{size_leaves, size_stretch, size_stretches, size_arms, size_test}
 use Rattle.a68_gen.specs.Stretches.{does_of, leave, Limits, Indexes, Opens, Leaves, Stands, StandAll, StandArms, Tests, with_last, Translates}
@@ -177,6 +177,7 @@ mutual
   part code gives (operation place op order parts) a b s =
       let i = instr place (does_of op (count parts)) in
       behind code.list a s.0 b (stretches parts a) (i ∷ []) (all_part code true parts a s.0 s.3) (last code.list s.0 b i s.4.0 s.4.1)
+  part code gives (together parts) a b s = all_part code false parts a b s.1
   part code gives (phrases place before final) a b s =
       both_part code.list a s.0 b (sizes before) (stretches before a) (λ z. stretch final z) (size_stretches before a) (all_part code false before a s.0 s.1) (part code gives final s.0 b s.2)
   part code gives (range place out slots yields within) a b s =

@@ -5,7 +5,7 @@ use Rattle.a68_base.specs.declared.refusal.Refusal.{Refusal}
 use Rattle.a68_code.specs.declared.code.Instr.{Instr}
 use Rattle.a68_code.specs.declared.does.Does.TheVariants as does
 use Rattle.a68_elab.specs.Places.{BeginsBy, AllBeginBy, TestBeginsBy, ProgramBeginsBy}
-use Rattle.a68_elab.specs.Trees.{Tree, Trees, operation, phrases, range, choice, cases, loop, unbuilt, no_trees, ◌and_tree◌, count, Test, no_test, while_in, depth_of, Program}
+use Rattle.a68_elab.specs.Trees.{Tree, Trees, operation, together, phrases, range, choice, cases, loop, unbuilt, no_trees, ◌and_tree◌, count, Test, no_test, while_in, depth_of, Program}
 use Rattle.a68_gen.specs.Listing.{instr, limits, indexes, opens, leaves, size, sizes, test_size, arm_places, stretch, stretches, arm_stretches, test_stretch, listing}
 use Rattle.a68_gen.specs.Stretches.{does_of, leave, with_last}
 use Rattle.a68_gen.specs.Writing.{IsTooLong, most, places}
@@ -44,6 +44,7 @@ module _ (end : ℕ) where
   mutual
     lies : (tree : Tree) (at : ℕ) → BeginsBy end tree → LieBy end (stretch tree at)
     lies (operation place op order parts) at b = lie-append (stretches parts at) (instr place (does_of op (count parts)) ∷ []) (all_lie parts at b.1) (b.0, tt)
+    lies (together parts) at b = all_lie parts at b
     lies (phrases place before final) at b =
         let m = at + sizes before in lie-append (stretches before at) (stretch final m) (all_lie before at b.1) (lies final m b.2)
     lies (range place out slots yields within) at b =

@@ -1,8 +1,7 @@
 -- How long a stretch is.
-use Rattle.std.proofs.Common.{◌≡◌, ℕ, zero, suc, ◌+◌, List, [], ◌∷◌, ◌++◌, length, refl, ap, arith, length-append}
-use Rattle.a68_code.specs.declared.code.Instr.{Instr}
+use Rattle.std.proofs.Common.{◌≡◌, ℕ, zero, suc, ◌+◌, [], ◌∷◌, ◌++◌, length, refl, ap, arith, length-append}
 use Rattle.a68_code.specs.declared.does.Does.TheVariants as does
-use Rattle.a68_elab.specs.Trees.{Tree, Trees, operation, phrases, range, choice, cases, loop, unbuilt, no_trees, ◌and_tree◌, count, Test, no_test, while_in, depth_of}
+use Rattle.a68_elab.specs.Trees.{Tree, Trees, operation, together, phrases, range, choice, cases, loop, unbuilt, no_trees, ◌and_tree◌, count, Test, no_test, while_in, depth_of}
 use Rattle.a68_gen.specs.Listing.{instr, limits, indexes, opens, leaves, size, sizes, test_size, arm_places, stretch, stretches, arm_stretches, test_stretch}
 use Rattle.a68_gen.specs.Stretches.{does_of, leave, with_last}
 
@@ -15,6 +14,7 @@ mutual
   pub size_stretch : (tree : Tree) (at : ℕ) → length (stretch tree at) ≡ size tree
   size_stretch (operation place op order parts) at =
       let s = size_stretches parts at in omega (arith, length-append (stretches parts at) (instr place (does_of op (count parts)) ∷ []))
+  size_stretch (together parts) at = size_stretches parts at
   size_stretch (phrases place before final) at =
       let m = at + sizes before in
       let s = size_stretches before at in let t = size_stretch final m in omega (arith, length-append (stretches before at) (stretch final m))

@@ -4,7 +4,7 @@ use Rattle.a68_code.specs.declared.code.Code.{Code}
 use Rattle.a68_code.specs.declared.code.Instr.{Instr}
 use Rattle.a68_code.specs.declared.does.Does.{Does}
 use Rattle.a68_code.specs.declared.does.Does.TheVariants as does
-use Rattle.a68_elab.specs.Trees.{Tree, Trees, operation, phrases, range, choice, cases, loop, unbuilt, no_trees, ◌and_tree◌, count, Test, no_test, while_in, depth_of, Program}
+use Rattle.a68_elab.specs.Trees.{Tree, Trees, operation, together, phrases, range, choice, cases, loop, unbuilt, no_trees, ◌and_tree◌, count, Test, no_test, while_in, depth_of, Program}
 use Rattle.a68_gen.specs.Listing.{instr, limits, indexes, opens, leaves, size, sizes, test_size, arm_places, stretch, stretches, arm_stretches, test_stretch, listing}
 use Rattle.a68_gen.specs.Fits.{Fits, AllFit, TestFits}
 use Rattle.a68_gen.specs.Stretches.{does_of, leave, Has, Limits, Indexes, Opens, Leaves, Stands, StandAll, StandArms, Tests, with_last, Translates}
@@ -90,6 +90,7 @@ mutual
       let i = instr place (does_of op (count parts)) in
       let e : at + sizes parts + 1 ≡ at + (sizes parts + 1) = omega arith in
       (at + sizes parts, f.0, f.1, all_stand code true parts at f.2 (holds-front ps (i ∷ []) h), (holds-head i [] (holds-on (sizes parts) ps (i ∷ []) (size_stretches parts at) h), e))
+  stands code gives (together parts) at f h = (f.0, all_stand code false parts at f.1 h)
   stands code gives (phrases place before final) at f h =
       let m = at + sizes before in
       let first = stretches before at in

@@ -1,5 +1,5 @@
 -- Translated code is valid.
-use Rattle.std.proofs.Common.{◌≡◌, ◌<◌, ◌⊎◌, ◌+◌, ℕ, arith, false, IsTrue, length, Some, refl, sym, ap, ◌∙◌, subst, inl, inr, Contains}
+use Rattle.std.proofs.Common.{◌≡◌, ◌<◌, ◌⊎◌, ◌+◌, ℕ, arith, false, IsTrue, length, Some, refl, sym, ap, ◌∙◌, subst, inl, inr, ⊎_elim, Contains}
 use Rattle.std.proofs.lemmas.Option.{same_Some}
 use Rattle.std.specs.Option.{option_map}
 use Rattle.std.specs.declared.option.Option.{Option}
@@ -48,7 +48,7 @@ module _ (program : Program) (code : Code) (tr : Translates program code) (fit :
 
   -- a way comes to each place with its height
   reached : (k h : ℕ) → Reaches code k h → W k h
-  reached k h begins = inl (starts code false program.tree 0 tr.end tr.stands 0)
+  reached k h begins = ⊎_elim (λ y. inl y) (λ e. inr (e.0, refl)) (starts code false program.tree 0 tr.end tr.stands 0)
   reached k h (goes_on {at = at} {to = to} {does = d} below r is i) = on (all_flow at (below + takes d) (reached at (below + takes d) r))
     where
       on : Flows code W at (below + takes d) → W to (below + flow.leaves code.modes d)

@@ -1,17 +1,17 @@
 -- Inner: the headline does not rest on this file.
 -- Chains of choices, each the other part of the one before it, whose jumps to the end are yet to come.
-use Rattle.std.specs.Prelude.{◌≡◌, ◌<◌, ◌+◌, ℕ, zero, suc, List, [], ◌∷◌, ◌++◌, IfSome}
+use Rattle.std.specs.Prelude.{◌<◌, ◌+◌, ℕ, suc, List, [], ◌∷◌, ◌++◌, IfSome}
 use Rattle.std.specs.Option.{option_map_or}
 use Rattle.a68_code.specs.declared.code.Instr.{Instr}
 use Rattle.a68_code.specs.declared.does.Does.TheVariants as does
-use Rattle.a68_elab.specs.Made.{nothing}
+use Rattle.a68_elab.specs.Made.{left_out}
 use Rattle.a68_elab.specs.Trees.{Tree, choice}
 use Rattle.a68_gen.specs.Listing.{instr, size, stretch}
 use Rattle.a68_gen.specs.declared.chains.Link.{Link}
 
 -- the choice of a link, of the trees of its parts
 abbrev pub link_tree : (ℕ → Tree) → Link → Tree
-link_tree f l = choice l.place (f l.enquiry) (f l.part) (option_map_or f l.other (nothing l.place))
+link_tree f l = choice l.place (f l.enquiry) (f l.part) (option_map_or f l.other (left_out l.place l.goal))
 
 -- the parts of a link stand behind it, among so many nodes
 pub record IsWithin (count : ℕ) (l : Link) : Type 0 where

@@ -3,7 +3,7 @@
 use Rattle.std.specs.Prelude.{◌≡◌, Bool, true, false, List}
 use Rattle.a68_acts.specs.Operations.{leaves}
 use Rattle.a68_code.specs.Flow.{takes}
-use Rattle.a68_elab.specs.Trees.{Tree, Trees, operation, phrases, range, choice, cases, loop, unbuilt, Test, no_test, while_in, no_trees, ◌and_tree◌, count}
+use Rattle.a68_elab.specs.Trees.{Tree, Trees, operation, together, phrases, range, choice, cases, loop, unbuilt, Test, no_test, while_in, no_trees, ◌and_tree◌, count}
 use Rattle.a68_gen.specs.Stretches.{does_of}
 use Rattle.a68_modes.specs.declared.shape.Shape.{Shape}
 
@@ -13,6 +13,7 @@ abbrev mutual
   pub Fits : List Shape → (gives : Bool) → Tree → Type 0
   Fits modes gives (operation place op order parts) =
       (gives ≡ leaves modes op) × (takes (does_of op (count parts)) ≡ count parts) × AllFit modes true parts
+  Fits modes gives (together parts) = (gives ≡ false) × AllFit modes false parts
   Fits modes gives (phrases place before final) = AllFit modes false before × Fits modes gives final
   Fits modes gives (range place out slots yields within) = (gives ≡ yields) × Fits modes gives within
   Fits modes gives (choice place enquiry if_true if_false) =

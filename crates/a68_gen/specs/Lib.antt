@@ -3,6 +3,7 @@ pub mod Coercing
 pub mod Fits
 pub mod Generated
 pub mod Listing
+pub mod Loops
 pub mod Operands
 pub mod Stretches
 pub mod Writers

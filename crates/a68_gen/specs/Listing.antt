@@ -3,7 +3,7 @@ use Rattle.std.specs.Prelude.{ℕ, zero, suc, Bool, true, false, ◌+◌, List, 
 use Rattle.a68_code.specs.declared.code.Instr.{Instr}
 use Rattle.a68_code.specs.declared.does.Does.{Does}
 use Rattle.a68_code.specs.declared.does.Does.TheVariants as does
-use Rattle.a68_elab.specs.Trees.{Tree, Trees, operation, phrases, range, choice, cases, loop, unbuilt, no_trees, ◌and_tree◌, count, Test, no_test, while_in, depth_of, Program}
+use Rattle.a68_elab.specs.Trees.{Tree, Trees, operation, together, phrases, range, choice, cases, loop, unbuilt, no_trees, ◌and_tree◌, count, Test, no_test, while_in, depth_of, Program}
 use Rattle.a68_gen.specs.Stretches.{does_of, leave, with_last}
 
 -- an instruction keeps the place of its construct
@@ -34,6 +34,7 @@ leaves place (suc n) = instr place (does.Leave 0) ∷ leaves place n
 abbrev mutual
   pub size : Tree → ℕ
   size (operation place op order parts) = sizes parts + 1
+  size (together parts) = sizes parts
   size (phrases place before final) = sizes before + size final
   size (range place out slots yields within) = size within + 2
   size (choice place enquiry if_true if_false) = size enquiry + 1 + size if_true + 1 + size if_false
@@ -60,6 +61,8 @@ abbrev mutual
   pub stretch : Tree → (at : ℕ) → List Instr
   -- the parts, and then the instruction of the operation, which takes their values
   stretch (operation place op order parts) at = stretches parts at ++ instr place (does_of op (count parts)) ∷ []
+  -- the parts
+  stretch (together parts) at = stretches parts at
   -- the phrases
   stretch (phrases place before final) at = stretches before at ++ stretch final (at + sizes before)
   -- Enter, the construct, Leave

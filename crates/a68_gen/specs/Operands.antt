@@ -2,7 +2,7 @@
 -- Trees whose operations have operands that the instructions may have.
 use Rattle.std.specs.Prelude.{⊤, IsTrue, List}
 use Rattle.a68_code.specs.Operands.{is_well_made}
-use Rattle.a68_elab.specs.Trees.{Tree, Trees, operation, phrases, range, choice, cases, loop, unbuilt, Test, no_test, while_in, no_trees, ◌and_tree◌, count}
+use Rattle.a68_elab.specs.Trees.{Tree, Trees, operation, together, phrases, range, choice, cases, loop, unbuilt, Test, no_test, while_in, no_trees, ◌and_tree◌, count}
 use Rattle.a68_gen.specs.Stretches.{does_of}
 use Rattle.a68_modes.specs.declared.shape.Shape.{Shape}
 
@@ -11,6 +11,7 @@ use Rattle.a68_modes.specs.declared.shape.Shape.{Shape}
 abbrev mutual
   pub FitsModes : List Shape → Tree → Type 0
   FitsModes modes (operation place op order parts) = IsTrue (is_well_made modes 0 (does_of op (count parts))) × FitAll modes parts
+  FitsModes modes (together parts) = FitAll modes parts
   FitsModes modes (phrases place before final) = FitAll modes before × FitsModes modes final
   FitsModes modes (range place out slots yields within) = FitsModes modes within
   FitsModes modes (choice place enquiry if_true if_false) = FitsModes modes enquiry × FitsModes modes if_true × FitsModes modes if_false

@@ -1,24 +1,29 @@
 -- Translation: which instructions a construct becomes, and where they stand.
 use Rattle.std.specs.Prelude.{◌≡◌, ℕ, zero, suc, ◌+◌, Bool, true, false, List, [], ◌∷◌, length, Some, slice_get, if◌then◌else◌}
-use Rattle.a68_acts.specs.Operations.{Operation, constant, skip, tag, make, bind, deref, store, apply, drop, print, leaves}
+use Rattle.a68_acts.specs.Operations.{Operation, constant, skip, nil, tag, make, heap, bind, deref, store, apply, same, unite, drop, print, whole, leaves}
 use Rattle.a68_code.specs.Flow.{takes}
 use Rattle.a68_code.specs.declared.code.Code.{Code}
 use Rattle.a68_code.specs.declared.does.Does.{Does}
 use Rattle.a68_code.specs.declared.does.Does.TheVariants as does
-use Rattle.a68_elab.specs.Trees.{Tree, Trees, operation, phrases, range, choice, cases, loop, unbuilt, no_trees, ◌and_tree◌, count, Test, no_test, while_in, depth_of, Program}
+use Rattle.a68_elab.specs.Trees.{Tree, Trees, operation, together, phrases, range, choice, cases, loop, unbuilt, no_trees, ◌and_tree◌, count, Test, no_test, while_in, depth_of, Program}
 
 -- the instruction of an operation on so many values
 abbrev pub does_of : Operation → ℕ → Does
 does_of (constant v) n = does.Push v
 does_of (skip mode) n = does.Skip mode
+does_of nil n = does.Nil
 does_of (tag hops slot) n = does.Tag hops slot
 does_of (make mode bounds) n = does.Make mode bounds
+does_of (heap mode bounds) n = does.Heap mode bounds
 does_of (bind slot) n = does.Bind slot
 does_of (deref mode) n = does.Deref mode
 does_of (store mode) n = does.Store mode
 does_of (apply row) n = does.Apply row
+does_of (same negated) n = does.Same negated
+does_of (unite mode) n = does.Unite mode
 does_of drop n = does.Drop
 does_of print n = does.Print n
+does_of whole n = does.Whole
 
 -- one instruction, which stands at a, where b is the next place
 abbrev pub Has : Code → (place : ℕ) → Does → (a b : ℕ) → Type 0
@@ -60,6 +65,8 @@ abbrev mutual
   Stands code gives (operation place op order parts) a b =
       (m : ℕ) × (gives ≡ leaves code.modes op) × (takes (does_of op (count parts)) ≡ count parts)
       × StandAll code true parts a m × Has code place (does_of op (count parts)) m b
+  -- the parts
+  Stands code gives (together parts) a b = (gives ≡ false) × StandAll code false parts a b
   -- the phrases
   Stands code gives (phrases place before final) a b = (m : ℕ) × StandAll code false before a m × Stands code gives final m b
   -- Enter, the construct, Leave

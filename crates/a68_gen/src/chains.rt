@@ -7,9 +7,10 @@ ghost use Rattle.a68_gen.specs.Chains.{IsWithin, link_tree};
 ghost use Rattle.a68_tree.specs.Trees.{AllBetween};
 
 use a68_annot::{Annotated, Note};
+use a68_modes::ModeId;
 use a68_tree::{Node, NodeId, NodeKind};
 
-/// A choice: its node, the parts of it, and the byte at which it begins.
+/// A choice: its node, the parts of it, the byte at which it begins, and the mode that is asked of it.
 #[derive(Clone, Copy)]
 pub struct Link {
     pub id: NodeId,
@@ -17,11 +18,12 @@ pub struct Link {
     pub part: NodeId,
     pub other: Option<NodeId>,
     pub place: u32,
+    pub goal: ModeId,
 }
 
 /// The choice of a node with these parts, where there are two or three.
-pub fn link_of(id: NodeId, parts: &[NodeId], place: u32) -> Option<Link>
-    ensures tree { (f : ℕ → Tree) → MatchOption result (choice_of place (trees_at f parts.now) ≡ trees.unbuilt) (λ link. choice_of place (trees_at f parts.now) ≡ link_tree f link) }
+pub fn link_of(id: NodeId, parts: &[NodeId], place: u32, goal: ModeId) -> Option<Link>
+    ensures tree { (f : ℕ → Tree) → MatchOption result (choice_of place goal (trees_at f parts.now) ≡ trees.unbuilt) (λ link. choice_of place goal (trees_at f parts.now) ≡ link_tree f link) }
     ensures within { (count : ℕ) → AllBetween id count parts.now → IfSome result (IsWithin count) }
     ensures node { IfSome result (λ link. link.id ≡ id) }
 {
@@ -32,6 +34,7 @@ pub fn link_of(id: NodeId, parts: &[NodeId], place: u32) -> Option<Link>
             part: parts[1],
             other: None,
             place,
+            goal,
         });
     }
     if parts.len() == 3 {
@@ -41,6 +44,7 @@ pub fn link_of(id: NodeId, parts: &[NodeId], place: u32) -> Option<Link>
             part: parts[1],
             other: Some(parts[2]),
             place,
+            goal,
         });
     }
     None
@@ -65,11 +69,12 @@ pub fn next_link(program: &Annotated, link: &Link) -> Option<Link>
         return None;
     };
     let node = program.tree.node(id);
-    if !is_link(node, program.note(id)) {
+    let note = program.note(id);
+    if !is_link(node, note) {
         return None;
     }
     let place = node.span.from;
     let parts = &node.parts.items;
-    let next = link_of(id, parts, place);
+    let next = link_of(id, parts, place, note.goal);
     next
 }

@@ -29,7 +29,10 @@ pub fn are_built(note: &Note) -> bool
     ensures { result ≡ coercing.are_built note.now.path }
 {
     let path = &note.path.items;
-    path.iter().all(|coercion| matches!(coercion, Coercion::Deref | Coercion::Drop))
+    path.iter().all(|coercion| matches!(
+        coercion,
+        Coercion::Deref | Coercion::Unite(_) | Coercion::Drop
+    ))
 }
 
 // Writes a coercion from a mode, and gives the mode behind it.
@@ -48,6 +51,10 @@ fn coerce_once(
             let behind = behind_ref(modes, mode);
             out.emit(place, Does::Deref(behind));
             behind
+        }
+        Coercion::Unite(from) => {
+            out.emit(place, Does::Unite(from));
+            from
         }
         Coercion::Drop => {
             out.emit(place, Does::Drop);

@@ -1,4 +1,5 @@
 //! Writing instructions.
+ghost use Rattle.std.specs.Option.{option_map_or};
 ghost use Rattle.std.specs.Prelude.{◌≡◌, ◌≤◌, ◌∷◌, [], length, IfOk};
 ghost use Rattle.a68_builder.specs.Aiming.{aimed_at};
 ghost use Rattle.a68_gen.specs.Listing.{instr};
@@ -60,6 +61,16 @@ impl Writer {
     {
         if 0 < self.list.names(at) {
             self.list.patch(at, 0, to);
+        }
+    }
+
+    /// Puts a place into the instruction of this number, where there is one.
+    pub fn patch_some(&mut self, at: Option<u32>, to: u32)
+        ensures list { self.new.list ≡ option_map_or (λ at. aimed_at self.old.list at 0 to) at self.old.list }
+        ensures stop { self.new.stop ≡ self.old.stop }
+    {
+        if let Some(at) = at {
+            self.patch(at, to);
         }
     }
 

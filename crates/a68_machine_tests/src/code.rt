@@ -56,17 +56,25 @@ const CASES: &str = "\
 - a cell with a bound | Push, Make 1 1, Drop, End
 - a row is fetched | Push, Deref 7, Drop, End
 - a row is assigned | Push, Push, Store 7, Drop, End
++ a cell of INT that stays | Heap 1 0, Drop, End
+- a cell of a row that stays | Heap 7 0, Drop, End
++ whether two names are the same | Nil, Nil, Same 1, Drop, End
+- a relation of one name | Nil, Same 0, Drop, End
+- a relation negated twice | Nil, Nil, Same 2, Drop, End
++ a number as a text | Push, Push, Whole, Drop, End
++ an item of a union | Push, Unite 1, Print 1, End
 + a value is kept | Enter 0, Push, Leave 1, Drop, End
 + no value is kept | Enter 0, Push, Drop, Leave 0, End
 - two values are kept | Enter 0, Push, Push, Leave 2, Drop, Drop, End
-- row 8 | Push, Push, Apply 8, Drop, End
-+ row 9 | Push, Push, Apply 9, Drop, End
-+ row 17 | Push, Push, Apply 17, Drop, End
-- row 18 | Push, Push, Apply 18, Drop, End
+- row 6 | Push, Push, Apply 6, Drop, End
++ row 7 | Push, Push, Apply 7, Drop, End
++ row 23 | Push, Push, Apply 23, Drop, End
+- row 24 | Push, Push, Apply 24, Drop, End
 - row 40 | Push, Push, Apply 40, Drop, End
 + row 26 | Push, Apply 26, Drop, End
 - row 26 on nothing | Apply 26, Drop, End
-- row 27 | Push, Apply 27, Drop, End
++ row 33 | Push, Apply 33, Drop, End
+- row 34 | Push, Apply 34, Drop, End
 + a limit's own step | Push, Push, Push, Apply 26, Counter, Step 9, Turn, Advance 5, Jump 9, Forget, End
 + a choice by a number | Push, Case 2 4 6, Skip 0, Jump 6, Skip 0, Jump 6, End
 + one part for every number | Push, Case 2, End

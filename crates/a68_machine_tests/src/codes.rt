@@ -31,6 +31,11 @@ enum Form {
     Advance,
     Forget,
     Index,
+    Nil,
+    Heap,
+    Same,
+    Unite,
+    Whole,
     End,
 }
 
@@ -55,6 +60,11 @@ const FORMS: &[(&str, Form)] = &[
     ("Advance", Form::Advance),
     ("Forget", Form::Forget),
     ("Index", Form::Index),
+    ("Nil", Form::Nil),
+    ("Heap", Form::Heap),
+    ("Same", Form::Same),
+    ("Unite", Form::Unite),
+    ("Whole", Form::Whole),
     ("End", Form::End),
 ];
 
@@ -86,6 +96,14 @@ fn instruction(form: Form, one: u32, two: u32) -> Does {
         Form::Advance => Does::Advance(one),
         Form::Forget => Does::Forget,
         Form::Index => Does::Index,
+        Form::Nil => Does::Nil,
+        Form::Heap => Does::Heap {
+            mode: one,
+            bounds: two,
+        },
+        Form::Same => Does::Same(one),
+        Form::Unite => Does::Unite(one),
+        Form::Whole => Does::Whole,
         Form::End => Does::End,
     }
 }

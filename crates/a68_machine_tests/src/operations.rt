@@ -1,63 +1,75 @@
 //! Operations on the values of their parts, by hand.
 use crate::shown;
-use crate::table::{agrees, cut, holds};
+use crate::table::{agrees, holds};
 use a68_acts::{Doing, Next, Reply, *};
 use a68_modes::Modes;
-use a68_values::{Chain, Environ, FaultKind, Plain, Value, ValueNode, Values};
+use a68_values::{Chain, Environ, Plain, Value, ValueNode, Values};
 use std::alloc::Global;
 use std::panic::Expect;
 use std::process::Abort;
 
-/// Rows of the table of operators on two INT, with the left and the right operand, and what comes of it.
-const OPERATORS: &str = "\
-9 3 3 = Bool(true)
-9 3 4 = Bool(false)
-10 3 3 = Bool(false)
-10 3 4 = Bool(true)
-11 3 4 = Bool(true)
-11 4 4 = Bool(false)
-12 4 4 = Bool(true)
-12 5 4 = Bool(false)
-13 4 4 = Bool(true)
-13 3 4 = Bool(false)
-14 5 4 = Bool(true)
-14 4 4 = Bool(false)
-15 3 -4 = Int(-1)
-15 9223372036854775806 1 = Int(9223372036854775807)
-15 9223372036854775807 1 = Overflow
-15 -9223372036854775807 -1 = Overflow
-16 3 4 = Int(-1)
-16 -9223372036854775807 1 = Overflow
-16 9223372036854775807 -1 = Overflow
-17 -3 4 = Int(-12)
-17 3037000499 3037000499 = Int(9223372030926249001)
-17 3037000500 3037000500 = Overflow
-17 4294967296 -2147483648 = Overflow
-17 9223372036854775807 -1 = Int(-9223372036854775807)
-";
+/// Rows of the table of operators, with the left and the right operand, and what comes of it. A row from 26 on has no
+/// left operand.
+const OPERATORS: &[(u32, Plain, Plain, &str)] = &[
+    (15, Plain::Int(3), Plain::Int(-4), "Int(-1)"),
+    (
+        15,
+        Plain::Int(9223372036854775807),
+        Plain::Int(1),
+        "Overflow",
+    ),
+    (18, Plain::Int(-7), Plain::Int(2), "Int(-3)"),
+    (19, Plain::Int(-7), Plain::Int(2), "Int(1)"),
+    (18, Plain::Int(1), Plain::Int(0), "Divisor"),
+    (21, Plain::Int(2), Plain::Int(10), "Int(1024)"),
+    (21, Plain::Int(2), Plain::Int(-1), "Domain"),
+    (7, Plain::Bool(true), Plain::Bool(false), "Bool(true)"),
+    (8, Plain::Bits(12), Plain::Bits(10), "Bits(8)"),
+    (22, Plain::Bits(1), Plain::Int(3), "Bits(8)"),
+    (20, Plain::Int(64), Plain::Bits(1), "Bool(true)"),
+    (11, Plain::Char(97), Plain::Char(98), "Bool(true)"),
+    (15, Plain::Int(1), Plain::Bool(true), "Kind"),
+    (15, Plain::Unset, Plain::Bool(true), "Unset"),
+    (24, Plain::Int(1), Plain::Int(1), "Kind"),
+];
 
-fn int(rt: &impl Abort, value: &str) -> Value {
-    Value::of(Plain::Int(value.parse().expect(rt, "a number")))
-}
+/// Rows before one operand.
+const MONADIC: &[(u32, Plain, &str)] = &[
+    (26, Plain::Int(-3), "Int(-3)"),
+    (26, Plain::Unset, "Unset"),
+    (26, Plain::Bool(true), "Kind"),
+    (27, Plain::Int(3), "Int(-3)"),
+    (28, Plain::Bool(true), "Bool(false)"),
+    (29, Plain::Char(65), "Int(65)"),
+    (32, Plain::Int(256), "Domain"),
+    (33, Plain::Int(5), "Bits(5)"),
+    (34, Plain::Int(5), "Kind"),
+];
 
 // What comes of an operator and its operands.
-fn outcome(rt: &impl Abort, operation: &str) -> Doing {
-    let (row, operands) = cut(rt, operation, " ");
-    let (left, right) = cut(rt, operands, " ");
-    let row = row.parse().expect(rt, "a row");
-    let (left, right) = (int(rt, left), int(rt, right));
-    let doing = applied(row, &left, &right);
+fn outcome(rt: &impl Abort, alloc: Global, row: u32, left: Value, right: Value) -> Doing {
+    let doing = applied(alloc, row, &left, &right);
     drop(left);
     drop(right);
-    doing
+    doing.expect(rt, "memory")
 }
 
 #[test]
 fn operators(rt: HostRuntime) {
-    for line in OPERATORS.lines() {
-        let (operation, expected) = cut(&rt, line, " = ");
-        let outcome = outcome(&rt, operation);
-        is_shown(&rt, rt.alloc(), outcome, expected, operation);
+    for (row, left, right, expected) in OPERATORS {
+        let outcome = outcome(&rt, rt.alloc(), *row, Value::of(*left), Value::of(*right));
+        is_shown(&rt, rt.alloc(), outcome, expected, expected);
+    }
+}
+
+#[test]
+fn monadic_operators(rt: HostRuntime) {
+    for (row, right, expected) in MONADIC {
+        let left = Value {
+            node: ValueNode::Void,
+        };
+        let outcome = outcome(&rt, rt.alloc(), *row, left, Value::of(*right));
+        is_shown(&rt, rt.alloc(), outcome, expected, expected);
     }
 }
 
@@ -80,16 +92,6 @@ fn choices(rt: HostRuntime) {
     }
 }
 
-#[test]
-fn monadic_operators(rt: HostRuntime) {
-    let plus = monadic(26, Plain::Int(-3)).ok();
-    holds(&rt, plus == Some(Plain::Int(-3)), "+ of an INT");
-    let unset = monadic(26, Plain::Unset).err();
-    holds(&rt, unset == Some(FaultKind::Unset), "+ of nothing");
-    let other = monadic(27, Plain::Int(3)).err();
-    holds(&rt, other == Some(FaultKind::Kind), "another row");
-}
-
 // A new INT is asked for where the newest frame is of scope 3, and then the first cell is 7.
 #[test]
 fn a_name_is_made(rt: HostRuntime) {
@@ -99,9 +101,11 @@ fn a_name_is_made(rt: HostRuntime) {
     let chain = Chain { items };
     let asked = made(alloc, &modes, 1, &chain).expect(&rt, "memory");
     drop(chain);
-    drop(modes);
     is_shown(&rt, alloc, asked, "Make 1 of scope 3", "a new INT");
-    let named = resumed(alloc, Next::Made { scope: 3 }, Reply::Base(7)).expect(&rt, "memory");
+    let named = resumed(alloc, &modes, Next::Made { scope: 3 }, Reply::Base(7)).expect(
+        &rt, "memory",
+    );
+    drop(modes);
     let name = "Name(Name { cell: 7, scope: 3 })";
     is_shown(&rt, alloc, named, name, "its name");
 }
@@ -124,7 +128,7 @@ fn is_void(doing: &Doing) -> bool {
 #[test]
 fn values_are_printed(rt: HostRuntime) {
     let alloc = rt.alloc();
-    let items = vec![in alloc; int(&rt, "3")].expect(&rt, "memory");
+    let items = vec![in alloc; Value::of(Plain::Int(3))].expect(&rt, "memory");
     let printed = print_next(alloc, Values { items }).expect(&rt, "memory");
     is_shown(&rt, alloc, printed, "Print \"                  +3\"", "3");
 }
@@ -135,7 +139,9 @@ fn all_is_printed(rt: HostRuntime) {
     let alloc = rt.alloc();
     let items = Vec::new(alloc);
     let next = Next::Printing(Values { items });
-    let doing = resumed(alloc, next, Reply::Go).expect(&rt, "memory");
+    let modes = Modes::new(alloc).expect(&rt, "memory");
+    let doing = resumed(alloc, &modes, next, Reply::Go).expect(&rt, "memory");
+    drop(modes);
     holds(&rt, is_void(&doing), "all is printed");
     drop(doing);
 }

@@ -168,3 +168,43 @@ fn meets_kind(rt: HostRuntime) {
     let ops = "Skip 0, Tag 0 0, End";
     run(&rt, rt.alloc(), ops, "Look 0 0 = Go", "Kind at 1");
 }
+
+/// print((NIL IS NIL, 97 < 100, whole (7, 0))), each item united.
+const UNITED: &str =
+    "Nil, Nil, Same 0, Unite 2, Push 97, Push 100, Apply 11, Unite 2, Push 7, Push 0, Whole, Unite 7, Print 3, End";
+
+const ITEMS: &str = "\
+Print \"T\" = Go
+Print \"T\" = Done
+Print \"7\" = Go
+";
+
+#[test]
+fn prints_united_items(rt: HostRuntime) {
+    run(&rt, rt.alloc(), UNITED, ITEMS, "End");
+}
+
+/// A new name of scope 0, which is no NIL.
+const IN_HEAP: &str = "Heap 1 0, Nil, Same 1, Unite 2, Print 1, End";
+
+const MADE: &str = "\
+Make 1 = Base
+Print \"T\" = Go
+";
+
+#[test]
+fn makes_names_that_stay(rt: HostRuntime) {
+    run(&rt, rt.alloc(), IN_HEAP, MADE, "End");
+}
+
+// An operator meets its own fault, at its own place.
+#[test]
+fn meets_the_fault_of_an_operator(rt: HostRuntime) {
+    run(
+        &rt,
+        rt.alloc(),
+        "Push 1, Push 0, Apply 18, Drop, End",
+        "",
+        "Divisor at 2",
+    );
+}

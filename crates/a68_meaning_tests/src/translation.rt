@@ -25,6 +25,7 @@ fn is_one(value: &Value) -> bool {
 fn name(does: &Does) -> &'static str {
     match does {
         Does::Push(value) if is_one(value) => "push 1",
+        Does::Unite(1) => "unite 1",
         Does::Print(1) => "print 1",
         Does::End => "end",
         _ => "another",
@@ -40,10 +41,11 @@ fn is_as_told(rt: &impl Abort, instr: &Instr, told: &str) {
 
 // The listing of the program.
 fn are_as_told(rt: &impl Abort, list: &[Instr]) {
-    holds(rt, list.len() == 3, "three instructions");
+    holds(rt, list.len() == 4, "four instructions");
     is_as_told(rt, &list[0], "12 push 1");
-    is_as_told(rt, &list[1], "6 print 1");
-    is_as_told(rt, &list[2], "0 end");
+    is_as_told(rt, &list[1], "12 unite 1");
+    is_as_told(rt, &list[2], "6 print 1");
+    is_as_told(rt, &list[3], "0 end");
 }
 
 #[test]

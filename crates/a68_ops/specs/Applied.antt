@@ -1,4 +1,3 @@
--- Inner: the headline does not rest on this file.
 -- What the operators that yield at once yield, or the fault that they meet.
 use Rattle.std.specs.Prelude.{ℕ, ℤ, pos, ◌+◌, nat_eq, nat_lt, not, ◌&&◌, ◌||◌, None, Some, Err, if◌then◌else◌}
 use Rattle.std.specs.Option.{option_map_or}

@@ -1,4 +1,3 @@
--- Inner: the headline does not rest on this file.
 -- Operators on BITS (Report, 10.2.3.8): numbers of 64 binary places, of which the first is the highest.
 use Rattle.std.specs.Prelude.{ℕ, suc, ℤ, pos, negsuc, ◌-◌, ◌*◌, ◌/◌, ◌%◌, ◌^◌, bit_and, bit_or, nat_eq, nat_lt, not, Err, if◌then◌else◌}
 use Rattle.a68_values.specs.declared.act.FaultKind.TheVariants as fault

@@ -1,4 +1,3 @@
--- Inner: the headline does not rest on this file.
 -- Operators on truth values (Report, 10.2.3.2).
 use Rattle.std.specs.Prelude.{Bool, not, ◌&&◌, ◌||◌, Err}
 use Rattle.a68_values.specs.declared.act.FaultKind.TheVariants as fault

@@ -1,4 +1,3 @@
--- Inner: the headline does not rest on this file.
 -- Operators on integers (Report, 10.2.3.3).
 use Rattle.std.specs.Prelude.{zero, suc, ℤ, pos, negsuc, ◌%◌, ◌+ℤ◌, ◌-ℤ◌, ◌*ℤ◌, neg_ℤ, int_div, unsigned_abs, int_lt, nat_lt, nat_eq, Ok, Err, if◌then◌else◌}
 use Rattle.std.specs.Int.{int_pow}

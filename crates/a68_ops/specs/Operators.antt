@@ -1,4 +1,3 @@
--- Inner: the headline does not rest on this file.
 -- The operators that yield at once, by their rows in the table of operators.
 use Rattle.std.specs.Prelude.{ℕ, None, Some, nat_eq, if◌then◌else◌, Bool, not, ◌||◌, Err}
 use Rattle.std.specs.declared.option.Option.{Option}

@@ -1,4 +1,3 @@
--- Inner: the headline does not rest on this file.
 -- How values are written.
 use Rattle.std.specs.Prelude.{ℕ, zero, suc, ℤ, pos, ◌-◌, ◌/◌, ◌%◌, ◌^◌, unsigned_abs, int_lt, nat_lt, nat_eq, List, [], ◌∷◌, ◌++◌, length, map, replicate, codes, decimal, Some, Ok, Err, if◌then◌else◌}
 use Rattle.std.specs.List.{range_with_len}

@@ -1,4 +1,3 @@
--- Inner: the headline does not rest on this file.
 -- Operators on texts, which are CHAR or rows of CHAR (Report, 10.2.3.6 and 10.2.3.10).
 use Rattle.std.specs.Prelude.{ℕ, zero, suc, ℤ, pos, negsuc, ◌++◌, Bool, true, false, ◌&&◌, List, [], ◌∷◌, None, Some, Err, if◌then◌else◌}
 use Rattle.std.specs.Ordering.{nat_cmp, ordering_then, is_lt, is_eq}

@@ -1,4 +1,3 @@
--- Inner: the headline does not rest on this file.
 -- What an operator yields, or the fault that it meets.
 use Rattle.std.specs.Prelude.{◌≡◌, ℕ, ℤ, pos, negsuc, ◌+◌, ◌^◌, Bool, true, false, ◌||◌, List, [], ◌∷◌, length, map, Ok, Err, IfOk, IfErr, IsTrue, nat_lt, if◌then◌else◌}
 use Rattle.std.specs.declared.result.Result.{Result}

@@ -82,6 +82,25 @@ fn row_of(alloc: Global, items: Vec<Value>) -> Result<Value, NoMemory>
     ensures { IfOk result (λ value. value ≡ yields.row_from_1 items.items) }
 {
     let upper = items.len() as i64;
+    row_to(alloc, upper, items)
+}
+
+// Makes CHAR values of bytes.
+fn chars(alloc: Global, bytes: &[u8]) -> Result<Vec<Value>, NoMemory>
+    ensures { IfOk result (λ items. items.items ≡ yields.char_values bytes.now) }
+{
+    let mut items = Vec::with_capacity(alloc, bytes.len())?;
+    for byte in bytes {
+        items.push(Value::of(Plain::Char(*byte)))?;
+    }
+    Ok(items)
+}
+
+// Makes a row of these items, with bounds from 1 to this one.
+fn row_to(alloc: Global, upper: i64, items: Vec<Value>) -> Result<Value, NoMemory>
+    requires { upper ≡ pos (length items.items) }
+    ensures { IfOk result (λ value. value ≡ yields.row_from_1 items.items) }
+{
     match vec![in alloc; (1, upper)] {
         Ok(bounds) => Ok(Value {
             node: ValueNode::Row {
@@ -94,6 +113,17 @@ fn row_of(alloc: Global, items: Vec<Value>) -> Result<Value, NoMemory>
             Err(NoMemory)
         }
     }
+}
+
+/// Makes a row of CHAR of these bytes, with bounds from 1. For more of them than a bound can tell there is no memory.
+pub fn text_value(alloc: Global, bytes: &[u8]) -> Result<Value, NoMemory>
+    ensures { IfOk result (λ value. value ≡ yields.text_row bytes.now) }
+{
+    let Ok(upper) = i64::try_from(bytes.len()) else {
+        return Err(NoMemory);
+    };
+    let items = chars(alloc, bytes)?;
+    row_to(alloc, upper, items)
 }
 
 // Makes a text of one behind another.

@@ -1,11 +1,12 @@
 -- The journals of a choice by a number, and of a loop without WHILE, computed by hand.
-use Rattle.std.proofs.Common.{◌≡◌, ℕ, pos, true, false, List, [], ◌∷◌, Some, refl, sym, subst, arith}
+use Rattle.std.proofs.Common.{◌≡◌, ℕ, pos, true, false, List, [], ◌∷◌, refl, sym, subst, arith}
 use Rattle.a68_acts.specs.Does.{does}
 use Rattle.a68_acts.specs.Operations.{constant, skip, print, start, resumed, case_of, counter_of, has_turn, advanced}
-use Rattle.a68_acts.specs.Printed.{printed_int}
-use Rattle.a68_acts.specs.Store.{Store, opening_store, standard_frame, chain_of}
+use Rattle.a68_ops.specs.Printed.{item_text, whole_text}
+use Rattle.a68_acts.specs.Store.{Store, opening_store, chain_of}
 use Rattle.a68_acts.specs.declared.operation.Next.TheVariants as next
 use Rattle.a68_acts.specs.declared.want.Want.TheVariants as want
+use Rattle.a68_ops.specs.Applied.{applied}
 use Rattle.a68_code.specs.declared.code.Code.{Code}
 use Rattle.a68_code.specs.declared.does.Does.TheVariants as does
 use Rattle.a68_elab.specs.Permitted.{Permitted}
@@ -89,17 +90,17 @@ before_print printed = record {
   strands = record last_state { at = 6; stance = Asking (want.Print printed) (waiting.Operation (next.Printing [])) } ∷ [];
 }
 
-printed_two : printed_int (pos 2) ≡ text
+printed_two : whole_text (pos 2) (pos 20) ≡ text
 printed_two = printed_digit 2 (omega arith)
 
-prints_two : IfNext (acted code (before_print (printed_int (pos 2))) 0) (act.Print 0 20) (λ behind. behind ≡ record { store = last_store; strands = last_state ∷ [] })
-unfolding does settle start resumed chain_of
+prints_two : IfNext (acted code (before_print (whole_text (pos 2) (pos 20))) 0) (act.Print 0 20) (λ behind. behind ≡ record { store = last_store; strands = last_state ∷ [] })
+unfolding does settle start resumed chain_of item_text applied
 prints_two =
     subst (λ (t : List ℕ). IfNext (acted code (before_print t) 0) (act.Print 0 20) (λ behind. behind ≡ record { store = last_store; strands = last_state ∷ [] }))
     (sym printed_two) (refl, refl)
 
 ran : RunOf code 1 kept
-unfolding does settle start resumed chain_of case_of
+unfolding does settle start resumed chain_of item_text case_of applied
 ran = record {
   world = record { store = last_store; strands = last_state ∷ [] };
   runs = prints_two;
@@ -174,7 +175,7 @@ abbrev turned : State
 turned = record { at = 11; stack = stack_of []; chain = record { frame = 0; scope = 0 } ∷ []; stance = Idle }
 
 turning_ran : RunOf turning_code 9 turning_kept
-unfolding does settle start resumed chain_of counter_of has_turn advanced
+unfolding does settle start resumed chain_of item_text counter_of has_turn advanced applied
 turning_ran = record {
   world = record { store = opening_store; strands = turned ∷ [] };
   runs = (refl, (refl, refl));
@@ -251,7 +252,7 @@ abbrev stopped : State
 stopped = record { at = 3; stack = stack_of []; chain = record { frame = 0; scope = 0 } ∷ []; stance = Failed fault.Unset }
 
 unlimited_ran : RunOf unlimited_code 9 unlimited_kept
-unfolding does settle start resumed chain_of counter_of has_turn advanced
+unfolding does settle start resumed chain_of item_text counter_of has_turn advanced applied
 unlimited_ran = record {
   world = record { store = opening_store; strands = stopped ∷ [] };
   runs = refl;

@@ -2,10 +2,11 @@
 use Rattle.std.proofs.Common.{◌≡◌, ℕ, pos, false, List, [], ◌∷◌, ◌++◌, Some, refl, sym, subst, arith}
 use Rattle.a68_acts.specs.Does.{does}
 use Rattle.a68_acts.specs.Operations.{constant, skip, tag, make, bind, deref, store, apply, drop, print, start, resumed, tested, counter_of, has_turn, advanced}
-use Rattle.a68_acts.specs.Printed.{printed_int}
+use Rattle.a68_ops.specs.Printed.{item_text, whole_text}
 use Rattle.a68_acts.specs.Store.{Store, standard_frame, chain_of}
 use Rattle.a68_acts.specs.declared.operation.Next.TheVariants as next
 use Rattle.a68_acts.specs.declared.want.Want.TheVariants as want
+use Rattle.a68_ops.specs.Applied.{applied}
 use Rattle.a68_code.specs.declared.code.Code.{Code}
 use Rattle.a68_code.specs.declared.does.Does.TheVariants as does
 use Rattle.a68_elab.specs.Made.{program_of, tree_at}
@@ -51,7 +52,7 @@ assignation =
 abbrev counting : Tree
 counting =
     loop 18 (number 18 1 and_tree number 18 1 and_tree operation 18 (skip 1) serial no_trees and_tree no_trees) false false
-    (while_in 18 0 (phrases 24 no_trees (operation 24 (apply 11) collateral (its_value 24 and_tree number 28 3 and_tree no_trees)))) (phrases 33 no_trees assignation)
+    (while_in 24 0 (phrases 24 no_trees (operation 24 (apply 11) collateral (its_value 24 and_tree number 28 3 and_tree no_trees)))) (phrases 33 no_trees assignation)
 
 abbrev program : Program
 program = record {
@@ -204,17 +205,17 @@ before_print printed = record {
   strands = record last_state { at = 28; chain = record { frame = 1; scope = 1 } ∷ record { frame = 0; scope = 0 } ∷ []; stance = Asking (want.Print printed) (waiting.Operation (next.Printing [])) } ∷ [];
 }
 
-printed_three : printed_int (pos 3) ≡ text
+printed_three : whole_text (pos 3) (pos 20) ≡ text
 printed_three = printed_digit 3 (omega arith)
 
-prints_three : IfNext (acted code (before_print (printed_int (pos 3))) 0) (act.Print 0 20) (λ behind. behind ≡ record { store = last_store; strands = last_state ∷ [] })
-unfolding does settle start resumed chain_of
+prints_three : IfNext (acted code (before_print (whole_text (pos 3) (pos 20))) 0) (act.Print 0 20) (λ behind. behind ≡ record { store = last_store; strands = last_state ∷ [] })
+unfolding does settle start resumed chain_of item_text applied
 prints_three =
     subst (λ (t : List ℕ). IfNext (acted code (before_print t) 0) (act.Print 0 20) (λ behind. behind ≡ record { store = last_store; strands = last_state ∷ [] }))
     (sym printed_three) (refl, refl)
 
 ran : RunOf code 1000 kept
-unfolding does settle start resumed chain_of tested counter_of has_turn advanced
+unfolding does settle start resumed chain_of item_text tested counter_of has_turn advanced applied
 ran = record {
   world = record { store = last_store; strands = last_state ∷ [] };
   runs = (refl, (refl, (refl, (refl, (refl, (refl, (refl, (refl, (refl, (refl, (refl, (refl, (refl, (refl, (refl, (refl, (refl, (refl, (refl, (refl, (refl, (refl, (refl, (refl, (refl, (refl, (refl, (refl, (refl, (refl, prints_three))))))))))))))))))))))))))))));

@@ -1,15 +1,16 @@
 -- Journals that were computed by hand.
-use Rattle.std.proofs.Common.{◌≡◌, ◌≢◌, ◌<◌, ◌+◌, ℕ, pos, List, [], ◌∷◌, Some, None, refl, sym, ap, ◌∙◌, subst, arith}
+use Rattle.std.proofs.Common.{◌≡◌, ◌≢◌, ◌<◌, ◌+◌, ℕ, pos, List, [], ◌∷◌, Some, None, refl, sym, ap, ◌∙◌, subst, arith, false, le-ltb}
 use Rattle.std.proofs.lemmas.Fmt.{decimal_digit}
 use Rattle.std.proofs.lemmas.Option.{same_Some}
-use Rattle.std.specs.Prelude.{◌++◌, replicate, slice_get}
+use Rattle.std.specs.Prelude.{◌++◌, replicate, slice_get, int_lt}
 use Rattle.a68_acts.specs.Does.{did, does}
 use Rattle.a68_acts.specs.Operations.{tag, apply, start, resumed}
-use Rattle.a68_acts.specs.Printed.{printed_int, right_in_20}
+use Rattle.a68_ops.specs.Printed.{item_text, set_right, whole_text}
 use Rattle.a68_acts.specs.Store.{Store, opening_store, standard_frame, chain_of}
 use Rattle.a68_acts.specs.declared.operation.Next.TheVariants as next
 use Rattle.a68_acts.specs.declared.want.Want.{Want}
 use Rattle.a68_acts.specs.declared.want.Want.TheVariants as want
+use Rattle.a68_ops.specs.Applied.{applied}
 use Rattle.a68_code.specs.declared.code.Code.{Code}
 use Rattle.a68_code.specs.declared.code.Instr.{Instr}
 use Rattle.a68_code.specs.declared.does.Does.{Does}
@@ -57,8 +58,12 @@ five = whole 5
 abbrev pub digit_text : ℕ → List ℕ
 digit_text d = replicate 18 32 ++ 43 ∷ (48 + d) ∷ []
 
-pub printed_digit : (d : ℕ) → d < 10 → printed_int (pos d) ≡ digit_text d
-printed_digit d less = ap (λ s. right_in_20 (43 ∷ s)) (decimal_digit d less)
+pub printed_digit : (d : ℕ) → d < 10 → whole_text (pos d) (pos 20) ≡ digit_text d
+unfolding whole_text
+printed_digit d less = rw (not_below d) (ap (λ s. set_right 20 (43 ∷ s)) (decimal_digit d less))
+  where
+    not_below : (n : ℕ) → int_lt (pos n) (pos 0) ≡ false
+    not_below n = le-ltb n 0 (omega arith)
 
 -- a strand that is about something has not ended
 pub not_ended : (w : World) (st : State) → slice_get w.strands 0 ≡ Some st → (st.stance ≡ Idle → ⊥) → run.HasEnded w 0 → ⊥
@@ -131,17 +136,17 @@ before_print printed = record {
   strands = record last_state { at = 7; chain = record { frame = 1; scope = 1 } ∷ record { frame = 0; scope = 0 } ∷ []; stance = Asking (want.Print printed) (waiting.Operation (next.Printing [])) } ∷ [];
 }
 
-printed_five : printed_int (pos 5) ≡ text
+printed_five : whole_text (pos 5) (pos 20) ≡ text
 printed_five = printed_digit 5 (omega arith)
 
-prints_five : IfNext (acted code (before_print (printed_int (pos 5))) 0) (act.Print 0 20) (λ behind. behind ≡ record { store = last_store; strands = last_state ∷ [] })
-unfolding does settle start resumed chain_of
+prints_five : IfNext (acted code (before_print (whole_text (pos 5) (pos 20))) 0) (act.Print 0 20) (λ behind. behind ≡ record { store = last_store; strands = last_state ∷ [] })
+unfolding does settle start resumed chain_of item_text applied
 prints_five =
     subst (λ (t : List ℕ). IfNext (acted code (before_print t) 0) (act.Print 0 20) (λ behind. behind ≡ record { store = last_store; strands = last_state ∷ [] }))
     (sym printed_five) (refl, refl)
 
 ran : RunOf code 7 kept
-unfolding does settle start resumed chain_of
+unfolding does settle start resumed chain_of item_text applied
 ran = record {
   world = record { store = last_store; strands = last_state ∷ [] };
   runs = (refl, (refl, (refl, (refl, (refl, (refl, prints_five))))));
@@ -167,18 +172,18 @@ kept_at_six = record {
   end = ends.Spent;
 }
 
-can_print : acted code (before_print (printed_int (pos 5))) 0 ≢ None
-unfolding does settle start resumed chain_of
+can_print : acted code (before_print (whole_text (pos 5) (pos 20))) 0 ≢ None
+unfolding does settle start resumed chain_of item_text applied
 can_print = subst (λ (t : List ℕ). acted code (before_print t) 0 ≢ None) (sym printed_five) (λ e. absurd (cc))
 
 ran_at_six : RunOf code 6 kept_at_six
-unfolding does settle start resumed chain_of
+unfolding does settle start resumed chain_of item_text applied
 ran_at_six = record {
-  world = before_print (printed_int (pos 5));
+  world = before_print (whole_text (pos 5) (pos 20));
   runs = (refl, (refl, (refl, (refl, (refl, (refl, refl))))));
   keeps = record { text = refl; cells = refl; outer = refl };
   within = omega arith;
-  ends = run.spent 0 (not_ended (before_print (printed_int (pos 5))) _ refl (λ e. absurd (cc))) refl can_print;
+  ends = run.spent 0 (not_ended (before_print (whole_text (pos 5) (pos 20))) _ refl (λ e. absurd (cc))) refl can_print;
 }
 
 pub six : Permitted program 6 kept_at_six
@@ -246,7 +251,7 @@ unset_world = record {
 }
 
 unset_ran : RunOf unset_code 100 kept_unset
-unfolding does settle start resumed chain_of
+unfolding does settle start resumed chain_of item_text applied
 unset_ran = record {
   world = unset_world;
   runs = (refl, (refl, (refl, (refl, (refl, refl)))));
@@ -320,7 +325,7 @@ newer_world = record {
 }
 
 newer_ran : RunOf newer_code 100 kept_newer
-unfolding does settle start resumed chain_of
+unfolding does settle start resumed chain_of item_text applied
 newer_ran = record {
   world = newer_world;
   runs = (refl, (refl, (refl, (refl, refl))));
@@ -349,7 +354,7 @@ sum = operation 2 (apply 15) collateral (operand 0 and_tree operand 1 and_tree n
 
 -- the elaboration may look at the right operand first
 right_first : Elaborates program (todo sum standard) of_both (entry (act.Look 0 1) ∷ entry (act.Look 0 0) ∷ []) (yielded (plain (value.Int (pos 10)))) of_both
-unfolding does start resumed
+unfolding does start resumed applied
 right_first =
     silently here refl
     (silently (within (beside (in_this here))) refl

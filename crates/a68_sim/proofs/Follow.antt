@@ -9,12 +9,12 @@ use Rattle.a68_code.specs.declared.code.Code.{Code}
 use Rattle.a68_code.specs.declared.does.Does.TheVariants as does
 use Rattle.a68_elab.specs.Positions.{within, OpensIn, in_this, past}
 use Rattle.a68_elab.specs.Rows.{meets, acts, within_frame}
-use Rattle.a68_elab.specs.Terms.{only, Job, operating, resuming, preceding, ending, ranged, choosing, casing, chosen, limiting, counting, stepping, turning, opening, naming, indexing, ranging, testing, running, advancing, quitting, leaving, Term, todo, part, yielded, Terms, no_terms, ◌and_term◌, todos, order_of}
-use Rattle.a68_elab.specs.Trees.{Tree, Trees, operation, phrases, range, choice, cases, loop, unbuilt, Turns, no_trees, ◌and_tree◌, count, Order, Program}
+use Rattle.a68_elab.specs.Terms.{only, Job, operating, resuming, gathering, preceding, ending, ranged, choosing, casing, chosen, limiting, counting, stepping, turning, opening, naming, indexing, ranging, testing, running, advancing, quitting, leaving, Term, todo, part, yielded, Terms, no_terms, ◌and_term◌, todos, order_of}
+use Rattle.a68_elab.specs.Trees.{Tree, Trees, operation, together, phrases, range, choice, cases, loop, unbuilt, Turns, no_trees, ◌and_tree◌, count, Order, Program}
 use Rattle.a68_gen.specs.Stretches.{Has, Stands, StandAll, leave}
 use Rattle.a68_sim.proofs.Asking.{idle, at_instr, place_is, is_inside}
 use Rattle.a68_gen.proofs.Forward.{next_is}
-use Rattle.a68_sim.proofs.Jobs.{Done, row_done, misled_sim, operating_done, resuming_done, ending_done, ranged_done, choosing_done, casing_done, chosen_done, limiting_done, counting_done, stepping_done, turning_done, opening_done, naming_done, indexing_done, ranging_done, testing_done, running_done, advancing_done, quitting_done, leaving_done}
+use Rattle.a68_sim.proofs.Jobs.{Done, row_done, misled_sim, operating_done, resuming_done, gathering_done, ending_done, ranged_done, choosing_done, casing_done, chosen_done, limiting_done, counting_done, stepping_done, turning_done, opening_done, naming_done, indexing_done, ranging_done, testing_done, running_done, advancing_done, quitting_done, leaving_done}
 use Rattle.a68_sim.proofs.Quiet.{still, quiet_in, Hole, moves_in, Progress, moves, finishes, progress_after, progress_row, moves_act, moves_fault}
 use Rattle.a68_sim.proofs.Relation.{doing_of, count_terms, AllTodo, posed, parts_give, inner, OperationAt, LoopAt, Tail, Begins, DoesParts, Sim, yields, left, does_yields, does_todos, does_first, same_count, left_none, todos_all, count_todos}
 use Rattle.a68_strand.specs.Machine.{State, asks_for, told_by}
@@ -116,6 +116,11 @@ module _ (program : Program) (code : Code) (same : code.modes ≡ program.modes)
         progress_row program code _ _ _ st refl
         (trees_progress parts (operating p op o) c [] s.a z.0 b base home g st refl z.3 (s.state ∙ ap (λ x. idle s.a base x) (sym s.chain)) (at, s.chain)
         (operating_done program code b base home g same p op o c z.0))
+    tree_progress (together parts) c b base home g st s =
+        let z = s.stands in
+        progress_row program code _ _ _ st refl
+        (trees_progress parts gathering c [] s.a b b base home g st refl z.1 (s.state ∙ ap (λ x. idle s.a base x) (sym s.chain)) (z.0, refl, s.chain)
+        (gathering_done program code b base home g c b))
     tree_progress (phrases p front final) c b base home g st s =
         let z = s.stands in
         progress_row program code _ _ _ st refl
@@ -175,8 +180,9 @@ module _ (program : Program) (code : Code) (same : code.modes ≡ program.modes)
   -- what comes next once the parts at hand have yielded
   all_done : (job : Job) (ch : List Environ) (k b : ℕ) (base : List Item) (home : List Environ) (g : Bool) → Done program code job ch k b base home g
   all_done (operating p op o) ch k b base home g = operating_done program code b base home g same p op o ch k
-  all_done (resuming p d) ch k b base home g = resuming_done program code b base home g p d ch k
+  all_done (resuming p d) ch k b base home g = resuming_done program code b base home g same p d ch k
   all_done (preceding final) ch k b base home g = preceding_done final ch k b base home g (λ m x. tree_progress final ch m base ch g x)
+  all_done gathering ch k b base home g = gathering_done program code b base home g ch k
   all_done ending ch k b base home g = ending_done program code b base home g ch k
   all_done (ranged out yields) ch k b base home g = ranged_done program code b base home g out yields ch k
   all_done (choosing p if_true if_false) ch k b base home g = choosing_done program code b base home g p if_true if_false ch k

@@ -5,7 +5,7 @@ use Rattle.std.specs.Prelude.{Ok, Err, ◌-◌, length, pos, negsuc, slice_get, 
 use Rattle.std.proofs.lemmas.Bool.{ltb-true}
 use Rattle.std.specs.declared.option.Option.{Option}
 use Rattle.std.specs.declared.result.Result.{Result}
-use Rattle.a68_acts.specs.Operations.{Operation, leaves, start, resumed, tested, case_of, monadic, doing_of, counter_of, has_turn, advanced}
+use Rattle.a68_acts.specs.Operations.{Operation, leaves, start, resumed, tested, case_of, yielding, counter_of, has_turn, advanced}
 use Rattle.a68_acts.specs.declared.operation.Counter.{Counter}
 use Rattle.a68_acts.specs.declared.operation.Next.TheVariants as next
 use Rattle.a68_acts.specs.declared.want.Reply.{Reply}
@@ -13,7 +13,6 @@ use Rattle.a68_acts.specs.declared.want.Reply.TheVariants as reply
 use Rattle.a68_acts.specs.declared.want.Want.TheVariants as want
 use Rattle.a68_code.specs.Flow.{does_at}
 use Rattle.a68_code.specs.declared.code.Code.{Code}
-use Rattle.a68_values.specs.declared.plain.Plain.{Plain}
 use Rattle.a68_values.specs.declared.plain.Plain.TheVariants as value
 use Rattle.a68_acts.specs.declared.want.Want.{Want}
 use Rattle.a68_code.specs.declared.does.Does.{Does}
@@ -21,15 +20,17 @@ use Rattle.a68_code.specs.declared.does.Does.TheVariants as does
 use Rattle.a68_elab.specs.Positions.{here}
 use Rattle.a68_elab.specs.Rows.{in_turn, goes, acts, meets, goes_with, counted, turned, finish, row}
 use Rattle.a68_elab.specs.Rows as rows
-use Rattle.a68_elab.specs.Terms.{Job, operating, resuming, ending, ranged, choosing, casing, chosen, limiting, counting, stepping, turning, opening, naming, indexing, ranging, testing, running, advancing, quitting, leaving, Term, todo, part, yielded, no_terms, ◌and_term◌, only}
+use Rattle.a68_elab.specs.Terms.{Job, operating, resuming, gathering, ending, ranged, choosing, casing, chosen, limiting, counting, stepping, turning, opening, naming, indexing, ranging, testing, running, advancing, quitting, leaving, Term, todo, part, yielded, no_terms, ◌and_term◌, only}
 use Rattle.a68_elab.specs.Trees.{Tree, Trees, no_trees, ◌and_tree◌, count, Order, Test, no_test, while_in, Turns, depth, depth_of, Program}
 use Rattle.a68_gen.specs.Stretches.{Indexes, Leaves, Has, Stands, StandArms, Tests, with_last, does_of, leave}
 use Rattle.a68_modes.specs.declared.shape.Shape.{Shape}
+use Rattle.a68_ops.specs.Applied.{applied}
+use Rattle.a68_ops.specs.Yields.{Yield}
 use Rattle.a68_sim.proofs.Asking.{idle, seen, ask, at_instr, place_is, does_is, is_inside, Back}
 use Rattle.a68_gen.proofs.Forward.{next_is, forward, forward_index, forward_leaves, forward_arms, forward_test}
 use Rattle.a68_sim.proofs.Operating.{exec_of, not_end, operation_begins, operation_goes_on}
 use Rattle.a68_sim.proofs.Quiet.{progress_row, still, quietly, outwards, Progress, moves, finishes, moves_on, moves_act, moves_fault}
-use Rattle.a68_sim.proofs.Relation.{drops, bit_of, doing_of as doing_in, push, count_terms, posed, parts_give, inner, LoopAt, Tail, Sim, yields, left, onto, size, values_yields, pops_left, count_yields, left_none, does_yields}
+use Rattle.a68_sim.proofs.Relation.{drops, bit_of, doing_of, push, count_terms, posed, parts_give, inner, LoopAt, Tail, Sim, yields, left, onto, size, values_yields, pops_left, count_yields, left_none, does_yields}
 use Rattle.a68_strand.specs.Machine.{leaves_at, does_leave, State, exec, follows, fails, goes_on, goes_to, branches, chooses as goes_by, with_counter, told_by, asks_for}
 use Rattle.a68_stack.specs.Values.{pop_values}
 use Rattle.a68_strand.specs.declared.ask.Stance.TheVariants.{Asking}
@@ -50,7 +51,7 @@ abbrev pub Done : Program → Code → Job → List Environ → ℕ → ℕ → 
 Done program code job ch k b base home g =
     (acc : List Content) → Tail code job (count_terms (yields acc no_terms)) ch k b home g
     → Progress program code (Sim code b base home g) (part job ch (yields acc no_terms))
-    (posed (doing_in job) k (left (parts_give job g) acc (inner job base)) ch (parts_give job g))
+    (posed (doing_of job) k (left (parts_give job g) acc (inner job base)) ch (parts_give job g))
 
 -- a list of parts has another length
 two_or_more : (v w : Content) (acc : List Content) → count_terms (yields (v ∷ (w ∷ acc)) no_terms) ≡ 1 → ⊥
@@ -145,13 +146,19 @@ module _ (program : Program) (code : Code) where
         ∙ ap (λ x. option_map_or (λ popped. follows st (leaves code.modes op) popped.1 (start code.modes op ch popped.0)) x (fails st fault.Kind)) pop
         ∙ ap (λ x. follows st x base (start code.modes op ch (onto acc []))) (sym at.gives)
         ∙ ap (λ (modes : List Shape). follows st g base (start modes op ch (onto acc []))) same in
-        operation_begins program code b base home g p op n k ch (left true acc base) _ (start program.modes op ch (onto acc [])) at tail.1
+        operation_begins program code same b base home g p op n k ch (left true acc base) _ (start program.modes op ch (onto acc [])) at tail.1
         (row_done program (operating p op o) ch acc)
         (at_instr code k p (left true acc base) ch (does_of op n) at.has.0 (not_end op n) ∙ ap (λ s. Some (seen code s)) done)
 
-    pub resuming_done : (p : ℕ) (d : _) (ch : List Environ) (k : ℕ) → Done program code (resuming p d) ch k b base home g
-    resuming_done p d ch k [] tail = operation_goes_on program code b base home g p k ch d tail.1
-    resuming_done p d ch k (v ∷ acc) tail = absurd (omega (arith, tail.0, count_yields (v ∷ acc) no_terms))
+    pub resuming_done : (same : code.modes ≡ program.modes) (p : ℕ) (d : _) (ch : List Environ) (k : ℕ) → Done program code (resuming p d) ch k b base home g
+    resuming_done same p d ch k [] tail = operation_goes_on program code same b base home g p k ch d tail.1
+    resuming_done same p d ch k (v ∷ acc) tail = absurd (omega (arith, tail.0, count_yields (v ∷ acc) no_terms))
+
+    pub gathering_done : (ch : List Environ) (k : ℕ) → Done program code gathering ch k b base home g
+    gathering_done ch k acc tail =
+        finishes void (quietly here (row_done program gathering ch acc) still)
+        (ap (λ s. idle k s ch) (left_none acc base) ∙ ap (λ n. idle n base ch) tail.1 ∙ ap (λ c. idle b base c) tail.2
+        ∙ ap (λ (x : Bool). idle b (push x void base) home) (sym tail.0))
 
     pub ending_done : (ch : List Environ) (k : ℕ) → Done program code ending ch k b base home g
     ending_done ch k [] tail = absurd (omega (arith, tail.0))
@@ -255,7 +262,7 @@ module _ (program : Program) (code : Code) where
     limiting_done l ch k (v ∷ (w ∷ [])) tail = absurd (omega (arith, tail.2))
     limiting_done l ch k (v ∷ (w ∷ (x ∷ (y ∷ acc)))) tail = absurd (omega (arith, tail.2, count_yields (v ∷ (w ∷ (x ∷ (y ∷ acc)))) no_terms))
     limiting_done l ch k (to ∷ (by ∷ (from ∷ []))) tail =
-        by_result (monadic 26 to) (row_done program (limiting l) ch (to ∷ (by ∷ (from ∷ []))))
+        by_result (applied 26 void to) (row_done program (limiting l) ch (to ∷ (by ∷ (from ∷ []))))
         (at_instr code k l.place (item.Value to ∷ (item.Value by ∷ (item.Value from ∷ base))) ch (does.Apply 26) tail.5.0 refl)
       where
         st : State
@@ -264,13 +271,10 @@ module _ (program : Program) (code : Code) where
         t : Term
         t = part (limiting l) ch (yields (to ∷ (by ∷ (from ∷ []))) no_terms)
 
-        next_term : Plain → Term
-        next_term p = part (counting l) ch (yielded from and_term (yielded by and_term only (yielded (plain p))))
-
-        by_result : (res : Result Plain FaultKind) → row program t ≡ Some (goes_with l.place (λ p. part (counting l) ch (yielded from and_term (yielded by and_term only (yielded (plain p))))) res)
-            → ask code st ≡ Some (seen code (follows st true (item.Value by ∷ (item.Value from ∷ base)) (doing_of res))) → Progress program code (Sim code b base home g) t st
-        by_result (Ok p) e a =
-            let items = item.Value (plain p) ∷ (item.Value by ∷ (item.Value from ∷ base)) in
+        by_result : (res : Yield) → row program t ≡ Some (goes_with l.place (λ v. part (counting l) ch (yielded from and_term (yielded by and_term only (yielded v)))) res)
+            → ask code st ≡ Some (seen code (follows st true (item.Value by ∷ (item.Value from ∷ base)) (yielding res))) → Progress program code (Sim code b base home g) t st
+        by_result (Ok v) e a =
+            let items = item.Value v ∷ (item.Value by ∷ (item.Value from ∷ base)) in
             moves_on program code _ t _ _ (idle (suc k) items ch) e a (is_inside code k l.place (does.Apply 26) tail.5.0) (inl (omega arith))
             (tail.3, ap (λ n. idle n items ch) (next_is k tail.3 tail.5.1), (tail.0, tail.1, refl, tail.4, tail.6, tail.7))
         by_result (Err why) e a =
@@ -462,7 +466,7 @@ module _ (program : Program) (code : Code) where
         misled_here = misled_sim code b base home g l.place k (does.Bind 0) (e ∷ outer) tail.5.0
 
         by_leaves : (y : Bool) → y ≡ false → (r : Reply)
-            → Sim code b base home g (turned l.place (e ∷ outer) (in_turn l.test c l (e ∷ outer)) r) (follows st y (item.Counter c ∷ base) (resumed next.Void r))
+            → Sim code b base home g (turned l.place (e ∷ outer) (in_turn l.test c l (e ∷ outer)) r) (follows st y (item.Counter c ∷ base) (resumed code.modes next.Void r))
         by_leaves true is r = absurd (cc)
         by_leaves false is reply.Go =
             turn_sim c l l.test refl (e ∷ outer) tail.0 (ap (λ (y : Bool). drops (bit_of y) (e ∷ outer)) tail.4 ∙ tail.1) tail.2 tail.3 _

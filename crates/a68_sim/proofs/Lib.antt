@@ -1,9 +1,11 @@
 pub mod Asking
 pub mod Casing
 pub mod Counting
+pub mod Declared
 pub mod Examples
 pub mod Follow
 pub mod Jobs
+pub mod Looped
 pub mod Operating
 pub mod Quiet
 pub mod Relation

@@ -2,7 +2,7 @@
 use Rattle.std.proofs.Common.{◌≡◌, ℕ, suc, arith, Bool, true, false, List, [], Some, refl, sym, ap, ◌∙◌, inl}
 use Rattle.std.specs.Option.{option_map_or}
 use Rattle.std.specs.declared.option.Option.{Option}
-use Rattle.a68_acts.specs.Operations.{Operation, constant, skip, tag, make, bind, deref, store, apply, drop, print, leaves, resumed}
+use Rattle.a68_acts.specs.Operations.{Operation, constant, skip, nil, tag, make, heap, bind, deref, store, apply, same, unite, drop, print, whole, leaves, resumed}
 use Rattle.a68_acts.specs.declared.operation.Doing.{Doing}
 use Rattle.a68_acts.specs.declared.operation.Doing.TheVariants as doing
 use Rattle.a68_acts.specs.declared.operation.Next.{Next}
@@ -11,6 +11,7 @@ use Rattle.a68_acts.specs.declared.want.Want.{Want}
 use Rattle.a68_code.specs.Flow.{takes}
 use Rattle.a68_code.specs.declared.code.Code.{Code}
 use Rattle.a68_code.specs.declared.does.Does.{Does}
+use Rattle.a68_code.specs.declared.does.Does.TheVariants as does
 use Rattle.a68_elab.specs.Positions.{here}
 use Rattle.a68_elab.specs.Rows.{Then, acts, meets, row}
 use Rattle.a68_elab.specs.Rows as rows
@@ -22,49 +23,47 @@ use Rattle.a68_sim.proofs.Asking.{idle, seen, ask, place_is, does_is, is_inside}
 use Rattle.a68_gen.proofs.Forward.{next_is}
 use Rattle.a68_sim.proofs.Quiet.{still, quietly, Progress, finishes, moves_on, moves_act, moves_fault}
 use Rattle.a68_sim.proofs.Relation.{push, OperationAt, Continues, Sim}
-use Rattle.a68_strand.specs.Machine.{State, exec, operates, follows, at_end, does_leave, leaves_at, asks_for, told_by}
+use Rattle.a68_strand.specs.Machine.{State, exec, operation_of, controls, operates, follows, at_end, does_leave, leaves_at, asks_for, told_by}
 use Rattle.a68_strand.specs.declared.ask.Stance.TheVariants.{Asking}
 use Rattle.a68_strand.specs.declared.ask.Waiting.TheVariants as waiting
 use Rattle.a68_stack.specs.declared.stack.Item.{Item}
 use Rattle.a68_values.specs.Content.{Content}
 use Rattle.a68_values.specs.declared.chain.Environ.{Environ}
 
+-- an instruction has the operation that it was made for
+operation_is : (op : Operation) (n : ℕ) → operation_of (does_of op n) ≡ Some op
+operation_is (constant v) n = refl
+operation_is (skip m) n = refl
+operation_is nil n = refl
+operation_is (tag hops slot) n = refl
+operation_is (make m bounds) n = refl
+operation_is (heap m bounds) n = refl
+operation_is (bind slot) n = refl
+operation_is (deref m) n = refl
+operation_is (store m) n = refl
+operation_is (apply r) n = refl
+operation_is (same negated) n = refl
+operation_is (unite m) n = refl
+operation_is drop n = refl
+operation_is print n = refl
+operation_is whole n = refl
+
 -- the instruction of an operation does it
 pub exec_of : (modes : List Shape) (op : Operation) (n : ℕ) (st : State) → takes (does_of op n) ≡ n → exec modes (does_of op n) st ≡ operates modes st op n
-exec_of modes (constant v) n st e = ap (operates modes st (constant v)) e
-exec_of modes (skip m) n st e = ap (operates modes st (skip m)) e
-exec_of modes (tag hops slot) n st e = ap (operates modes st (tag hops slot)) e
-exec_of modes (make m bounds) n st e = ap (operates modes st (make m bounds)) e
-exec_of modes (bind slot) n st e = ap (operates modes st (bind slot)) e
-exec_of modes (deref m) n st e = ap (operates modes st (deref m)) e
-exec_of modes (store m) n st e = ap (operates modes st (store m)) e
-exec_of modes (apply r) n st e = ap (operates modes st (apply r)) e
-exec_of modes drop n st e = ap (operates modes st drop) e
-exec_of modes print n st e = ap (operates modes st print) e
+exec_of modes op n st e =
+    ap (λ (o : Option Operation). option_map_or (λ found. operates modes st found (takes (does_of op n))) o (controls (does_of op n) st)) (operation_is op n)
+    ∙ ap (operates modes st op) e
+
+-- the end has no operation
+is_no_end : (d : Does) (op : Operation) → operation_of d ≡ Some op → at_end (Some d) ≡ false
+is_no_end does.End op e = absurd (cc)
+is_no_end _ op e = refl
 
 pub not_end : (op : Operation) (n : ℕ) → at_end (Some (does_of op n)) ≡ false
-not_end (constant v) n = refl
-not_end (skip m) n = refl
-not_end (tag hops slot) n = refl
-not_end (make m bounds) n = refl
-not_end (bind slot) n = refl
-not_end (deref m) n = refl
-not_end (store m) n = refl
-not_end (apply r) n = refl
-not_end drop n = refl
-not_end print n = refl
+not_end op n = is_no_end (does_of op n) op (operation_is op n)
 
 leaves_of : (modes : List Shape) (op : Operation) (n : ℕ) → does_leave modes (does_of op n) ≡ leaves modes op
-leaves_of modes (constant v) n = refl
-leaves_of modes (skip m) n = refl
-leaves_of modes (tag hops slot) n = refl
-leaves_of modes (make m bounds) n = refl
-leaves_of modes (bind slot) n = refl
-leaves_of modes (deref m) n = refl
-leaves_of modes (store m) n = refl
-leaves_of modes (apply r) n = refl
-leaves_of modes drop n = refl
-leaves_of modes print n = refl
+leaves_of modes op n = ap (λ (o : Option Operation). option_map_or (leaves modes) o false) (operation_is op n)
 
 -- what an operation does leaves the stack and the mode behind
 follows_any : (st : State) (g : Bool) (items : List Item) (d : Doing) → follows st g items d ≡ follows (idle st.at [] st.chain) g items d
@@ -77,7 +76,7 @@ yields_is : (st : State) (g : Bool) (items : List Item) (v : Content) → follow
 yields_is st true items v = refl
 yields_is st false items v = refl
 
-module _ (program : Program) (code : Code) (b : ℕ) (base : List Item) (home : List Environ) (g : Bool) where
+module _ (program : Program) (code : Code) (same : code.modes ≡ program.modes) (b : ℕ) (base : List Item) (home : List Environ) (g : Bool) where
   continues : (p : ℕ) (op : Operation) (n k : ℕ) (ch : List Environ) → OperationAt code p op n k b g → ch ≡ home → (d : Doing) → Continues code p d ch k b home g
   continues p op n k ch at ec (doing.Yields v) = (next_is k b at.has.1, ec)
   continues p op n k ch at ec (doing.Asks w next) = (op, n, at, ec)
@@ -90,15 +89,19 @@ module _ (program : Program) (code : Code) (b : ℕ) (base : List Item) (home : 
 
   -- an operation goes on with the reply to its act
   told_continues : (p : ℕ) (op : Operation) (n k : ℕ) (ch : List Environ) (items : List Item) (w : Want) (next : Next) → OperationAt code p op n k b g → ch ≡ home
-      → (r : Reply) → Sim code b base home g (part (resuming p (resumed next r)) ch no_terms)
+      → (r : Reply) → Sim code b base home g (part (resuming p (resumed program.modes next r)) ch no_terms)
       (told_by code (asks_for (idle k items ch) base (Asking w (waiting.Operation next))) (waiting.Operation next) r)
   told_continues p op n k ch items w next at ec r =
-      let st = asks_for (idle k items ch) base (Asking w (waiting.Operation next)) in
-      (k, ap (λ (x : Bool). follows st x base (resumed next r)) (leaves_is p op n k at) ∙ follows_any st g base (resumed next r), (refl, continues p op n k ch at ec (resumed next r)))
+      let st = asks_for (idle k items ch) base (Asking w (waiting.Operation next)) in (
+        k,
+        ap (λ (x : Bool). follows st x base (resumed code.modes next r)) (leaves_is p op n k at) ∙ follows_any st g base (resumed code.modes next r)
+            ∙ ap (λ (modes : List Shape). follows (idle k [] ch) g base (resumed modes next r)) same,
+        (refl, continues p op n k ch at ec (resumed program.modes next r)),
+      )
 
   -- an operation of which all parts have yielded
   pub operation_begins : (p : ℕ) (op : Operation) (n k : ℕ) (ch : List Environ) (items : List Item) (t : Term) (d : Doing) → OperationAt code p op n k b g → ch ≡ home
-      → row program t ≡ Some (rows.operates p ch d) → ask code (idle k items ch) ≡ Some (seen code (follows (idle k items ch) g base d))
+      → row program t ≡ Some (rows.operates program.modes p ch d) → ask code (idle k items ch) ≡ Some (seen code (follows (idle k items ch) g base d))
       → Progress program code (Sim code b base home g) t (idle k items ch)
   operation_begins p op n k ch items t (doing.Yields v) at ec e a =
       moves_on program code _ t _ _ (idle (suc k) (push g v base) ch) e (a ∙ ap (λ s. Some (seen code s)) (yields_is (idle k items ch) g base v))

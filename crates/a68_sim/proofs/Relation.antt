@@ -10,7 +10,7 @@ use Rattle.a68_code.specs.Flow.{takes}
 use Rattle.a68_code.specs.declared.code.Code.{Code}
 use Rattle.a68_code.specs.declared.does.Does.{Does}
 use Rattle.a68_code.specs.declared.does.Does.TheVariants as does
-use Rattle.a68_elab.specs.Terms.{Job, operating, resuming, preceding, ending, ranged, choosing, casing, chosen, limiting, counting, stepping, turning, opening, naming, indexing, ranging, testing, running, advancing, quitting, leaving, Term, todo, part, yielded, Terms, no_terms, ◌and_term◌, todos, values}
+use Rattle.a68_elab.specs.Terms.{Job, operating, resuming, gathering, preceding, ending, ranged, choosing, casing, chosen, limiting, counting, stepping, turning, opening, naming, indexing, ranging, testing, running, advancing, quitting, leaving, Term, todo, part, yielded, Terms, no_terms, ◌and_term◌, todos, values}
 use Rattle.a68_elab.specs.Trees.{Tree, Turns, depth, Trees, no_trees, ◌and_tree◌, count}
 use Rattle.a68_gen.specs.Stretches.{Indexes, Leaves, Has, Stands, StandAll, StandArms, Tests, with_last, does_of, leave}
 use Rattle.a68_sim.proofs.Asking.{idle}
@@ -124,6 +124,7 @@ abbrev pub Tail : Code → Job → ℕ → List Environ → ℕ → ℕ → List
 Tail code (operating p op o) n ch k b home g = OperationAt code p op n k b g × (ch ≡ home)
 Tail code (resuming p d) n ch k b home g = (n ≡ 0) × Continues code p d ch k b home g
 Tail code (preceding final) n ch k b home g = (ch ≡ home) × Stands code g final k b
+Tail code gathering n ch k b home g = (g ≡ false) × (k ≡ b) × (ch ≡ home)
 Tail code ending n ch k b home g = (n ≡ 1) × (k ≡ b) × (ch ≡ home)
 Tail code (ranged out yields) n ch k b home g = (n ≡ 1) × (g ≡ yields) × Has code out (leave g) k b × (outwards ch ≡ home)
 Tail code (choosing p if_true if_false) n ch k b home g =

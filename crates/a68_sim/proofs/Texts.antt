@@ -9,11 +9,11 @@ use Rattle.a68_tree.specs.declared.kind.NodeKind.{NodeKind}
 use Rattle.a68_tree.specs.declared.kind.NodeKind.TheVariants as kind
 use Rattle.a68_tree.specs.declared.node.Node.{Node}
 
-abbrev node : NodeKind → (from to name : ℕ) → List ℕ → Node
+abbrev pub node : NodeKind → (from to name : ℕ) → List ℕ → Node
 node k from to name parts = record { kind = k; span = record { from = from; to = to }; name = name; parts = parts }
 
 -- a unit or a clause of a mode under these coercions, behind which it has that mode
-abbrev has_mode : ℕ → List Coercion → (goal : ℕ) → Note
+abbrev pub has_mode : ℕ → List Coercion → (goal : ℕ) → Note
 has_mode mode path goal = record { mode = mode; path = path; goal = goal; op = None; definition = None; step = record { hops = 0; slot = 0 }; slots = 0; need = None }
 
 -- a range of a mode with one slot

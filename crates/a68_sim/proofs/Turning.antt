@@ -3,6 +3,7 @@ use Rattle.std.proofs.Common.{◌+◌, ℕ, true, List, [], ◌∷◌, ◌++◌,
 use Rattle.a68_acts.specs.Does.{does}
 use Rattle.a68_acts.specs.Operations.{constant, tag, bind, drop, start, resumed, tested, counter_of, has_turn, advanced}
 use Rattle.a68_acts.specs.Store.{Frame, Store, standard_frame, chain_of}
+use Rattle.a68_ops.specs.Applied.{applied}
 use Rattle.a68_code.specs.declared.code.Code.{Code}
 use Rattle.a68_code.specs.declared.does.Does.TheVariants as does
 use Rattle.a68_elab.specs.Permitted.{Permitted}
@@ -107,7 +108,7 @@ abbrev last_state : State
 last_state = record { at = 24; stack = stack_of []; chain = record { frame = 0; scope = 0 } ∷ []; stance = Idle }
 
 ran : RunOf code 1000 kept
-unfolding does settle start resumed chain_of tested counter_of has_turn advanced
+unfolding does settle start resumed chain_of tested counter_of has_turn advanced applied
 ran = record {
   world = record { store = last_store; strands = last_state ∷ [] };
   runs = (refl, (refl, (refl, (refl, (refl, (refl, (refl, (refl, (refl, (refl, (refl, (refl, (refl, (refl, refl))))))))))))));

@@ -2,14 +2,14 @@
 use Rattle.std.proofs.Common.{◌≡◌, ℕ, zero, suc, arith, false, List, [], ◌∷◌, length, None, Some, refl, sym, ap, ◌∙◌, subst, inl}
 use Rattle.std.proofs.lemmas.Option.{same_Some}
 use Rattle.std.specs.Prelude.{slice_get}
-use Rattle.a68_acts.specs.Does.{Outcome, did, refuses, does}
+use Rattle.a68_acts.specs.Does.{Outcome, did, refuses, waits, does}
 use Rattle.a68_acts.specs.Store.{Store}
 use Rattle.a68_acts.specs.declared.want.Reply.{Reply}
 use Rattle.a68_acts.specs.declared.want.Want.{Want}
 use Rattle.a68_code.specs.declared.code.Code.{Code}
 use Rattle.a68_code.specs.declared.does.Does.TheVariants as does
 use Rattle.a68_elab.specs.Elaborations.{Elaborates, stays, silently, by_act}
-use Rattle.a68_elab.specs.Permitted.{Permitted, IsUnended, EndsWith, done, fault, spent}
+use Rattle.a68_elab.specs.Permitted.{Permitted, IsUnended, EndsWith, done, fault, all_halted, spent}
 use Rattle.a68_elab.specs.Positions.{Opens, here, within, HasOpen}
 use Rattle.a68_elab.specs.Rows.{Then, acts, meets, row}
 use Rattle.a68_elab.specs.Terms.{Term, todo, yielded}
@@ -93,6 +93,7 @@ module _ (program : Program) (code : Code) (same : code.modes ≡ program.modes)
       by_outcome : (o : Outcome) → does w store ≡ o → IfNext (after code (world store st) 0 st o) act (λ behind. Machine code behind es w2)
           → Runs (record { strand = 0; act = act } ∷ es) t (world store st) w2
       by_outcome (refuses why) d m = absurd m
+      by_outcome waits d m = absurd m
       by_outcome (did act' r next) d m =
           let later = told_follows t store next at stack ch w wait act r (d ∙ ap (λ (a : Act). did a r next) m.0) s in
           let w' = world next (settle code (replied code st r)) in
@@ -129,6 +130,7 @@ module _ (program : Program) (code : Code) (same : code.modes ≡ program.modes)
       where
         by_outcome : (o : Outcome) → does w store ≡ o → refused o ≡ Some why → Ends (ends.Fault why (place_at code.list at) 0)
         by_outcome (did act r after) d e = absurd (cc)
+        by_outcome waits d e = absurd (cc)
         by_outcome (refuses found) d e =
             let f : ActsNext program K t (place_at code.list at) w (told_by code (state at stack ch (Asking w wait)) wait) = s in
             (f.now, f.quiet, fault (acts (place_at code.list at) w f.next) (is_unended program f.now 0 _ f.open_at) f.open_at (d ∙ ap (λ (x : FaultKind). refuses x) (same_Some found why e), refl))
@@ -143,22 +145,26 @@ module _ (program : Program) (code : Code) (same : code.modes ≡ program.modes)
 
         by_outcome : (o : Outcome) → does w store ≡ o → Ends ends.Spent
         by_outcome (refuses why) d = absurd (can (ap (after code (world store st) 0 st) d))
+        by_outcome waits d = absurd (can (ap (after code (world store st) 0 st) d))
         by_outcome (did act r next) d =
             let f : ActsNext program K t (place_at code.list at) w (told_by code (state at stack ch (Asking w wait)) wait) = s in
             (t, still, spent f.now 0 (acts (place_at code.list at) w f.next) e (quiet_elaborates f.quiet stays) (is_unended program f.now 0 _ f.open_at) f.open_at (act, r, next, d))
 
-    -- a single strand never waits
-    never_halted : (stance : Stance) → (HasEnded (at_world stance) 0 → ⊥) → (CanAct code (at_world stance) 0 → ⊥) → fault_of (at_world stance) 0 ≡ None → ⊥
-    never_halted Idle not_ended no_act no_fault = not_ended (record { st = state at stack ch Idle; there = refl; idle = refl })
-    never_halted (Failed why) not_ended no_act no_fault = absurd (cc)
-    never_halted (Asking w wait) not_ended no_act no_fault = by_outcome (does w store) refl no_fault
+    halted_too : (stance : Stance) → Stands stance → (HasEnded (at_world stance) 0 → ⊥) → (CanAct code (at_world stance) 0 → ⊥) → fault_of (at_world stance) 0 ≡ None
+        → Ends ends.AllHalted
+    halted_too Idle s not_ended no_act no_fault = absurd (not_ended (record { st = state at stack ch Idle; there = refl; idle = refl }))
+    halted_too (Failed why) s not_ended no_act no_fault = absurd (cc)
+    halted_too (Asking w wait) s not_ended no_act no_fault = by_outcome (does w store) refl no_fault
       where
         st : State
         st = state at stack ch (Asking w wait)
 
-        by_outcome : (o : Outcome) → does w store ≡ o → refused o ≡ None → ⊥
+        by_outcome : (o : Outcome) → does w store ≡ o → refused o ≡ None → Ends ends.AllHalted
         by_outcome (refuses why) d none = absurd (cc)
-        by_outcome (did act r next) d none = no_act (λ q. let x = sym (ap (after code (world store st) 0 st) d) ∙ q in absurd (cc))
+        by_outcome (did act r next) d none = absurd (no_act (λ q. let x = sym (ap (after code (world store st) 0 st) d) ∙ q in absurd (cc)))
+        by_outcome waits d none =
+            let f : ActsNext program K t (place_at code.list at) w (told_by code (state at stack ch (Asking w wait)) wait) = s in
+            (f.now, f.quiet, all_halted (acts (place_at code.list at) w f.next) f.open_at d)
 
     ends_too : (es : List Entry) (stance : Stance) (k : End) → n ≡ length es → Stands stance → run.EndsWith code fuel es (at_world stance) k → Ends k
     ends_too es stance k e s (run.done h) = done_too stance s (ap (λ (x : State). x.stance) (same_Some _ h.st h.there) ∙ h.idle)
@@ -166,7 +172,7 @@ module _ (program : Program) (code : Code) (same : code.modes ≡ program.modes)
         let same_at : at ≡ st.at = ap (λ (x : State). x.at) (same_Some _ st there) in
         subst (λ (x : ℕ). Ends (ends.Fault why x 0)) (ap (place_at code.list) same_at ∙ sym is) (fault_too stance why s f)
     ends_too es stance k e s (run.fault {strand = suc x} unended f there is) = absurd (cc)
-    ends_too es stance k e s (run.all_halted not_ended no_act no_fault) = absurd (never_halted stance not_ended (no_act 0) (no_fault 0))
+    ends_too es stance k e s (run.all_halted not_ended no_act no_fault) = halted_too stance s not_ended (no_act 0) (no_fault 0)
     ends_too es stance k e s (run.spent zero unended full can) = spent_too stance s (e ∙ full) can
     ends_too es stance k e s (run.spent (suc x) unended full can) = absurd (can refl)
 

@@ -1,11 +1,10 @@
 -- No operation asks for a frame.
-use Rattle.std.proofs.Common.{ℕ, Bool, true, false, List, [], ◌∷◌}
-use Rattle.std.specs.Prelude.{ℤ, None, Some, Ok, Err, slice_get, reverse, nat_eq, nat_lt, ◌+ℤ◌, ◌-ℤ◌, ◌*ℤ◌, if◌then◌else◌}
+use Rattle.std.proofs.Common.{ℕ, zero, suc, Bool, true, false, List, [], ◌∷◌}
+use Rattle.std.specs.Prelude.{None, Some, Ok, Err, slice_get, reverse, nat_lt, ◌||◌, if◌then◌else◌}
 use Rattle.std.specs.Option.{option_map_or}
 use Rattle.std.specs.declared.option.Option.{Option}
 use Rattle.std.specs.declared.result.Result.{Result}
-use Rattle.a68_acts.specs.Operations.{Operation, constant, skip, tag, make, bind, deref, store, apply, drop, print, start, resumed, skipped, fetched, given, assigned, is_int, int_result, on_ints, applied, monadic, doing_of, print_next}
-use Rattle.a68_acts.specs.Printed.{printed_item}
+use Rattle.a68_acts.specs.Operations.{Operation, constant, skip, nil, tag, make, heap, bind, deref, store, apply, same, unite, drop, print, whole, start, resumed, skipped, fetched, making, given, assigned, yielding, is_same, related, printing, print_next, worded, whole_of}
 use Rattle.a68_acts.specs.declared.operation.Doing.{Doing}
 use Rattle.a68_acts.specs.declared.operation.Doing.TheVariants.{Yields, Asks, Meets}
 use Rattle.a68_acts.specs.declared.operation.Next.{Next}
@@ -16,14 +15,16 @@ use Rattle.a68_acts.specs.declared.want.Want.TheVariants as want
 use Rattle.a68_layout.specs.Plans.{new_cells}
 use Rattle.a68_modes.specs.Nodes.{shape_at, is_plain, is_void}
 use Rattle.a68_modes.specs.declared.shape.Shape.{Shape}
-use Rattle.a68_values.specs.Content.{Content, plain, scope_of}
+use Rattle.a68_ops.specs.Applied.{applied}
+use Rattle.a68_ops.specs.Printed.{item_text, whole as whole_number}
+use Rattle.a68_ops.specs.Yields.{Yield, is_unset}
+use Rattle.a68_values.specs.Content.{Content, void, plain, scope_of}
 use Rattle.a68_values.specs.declared.act.FaultKind.{FaultKind}
 use Rattle.a68_values.specs.declared.act.FaultKind.TheVariants as fault
 use Rattle.a68_values.specs.declared.chain.Environ.{Environ}
 use Rattle.a68_values.specs.declared.held.Held.{Held}
 use Rattle.a68_values.specs.declared.held.Held.TheVariants as held
 use Rattle.a68_values.specs.declared.plain.Name.{Name}
-use Rattle.a68_values.specs.declared.plain.Plain.{Plain}
 use Rattle.a68_values.specs.declared.plain.Plain.TheVariants as value
 use Rattle.a68_world.specs.Scopes.{DoingBelow}
 
@@ -52,38 +53,35 @@ assigned-below n modes m (plain value.Nil) (plain p) = choose-below n (is_plain 
 assigned-below n modes m (plain (value.Name x)) v = choose-below n (is_plain (shape_at modes m)) (given x v) (Meets fault.Kind) (given-below n x v) tt
 assigned-below n modes m _ _ = tt
 
-int_result-below : (n : ℕ) (z : ℤ) → DoingBelow n (int_result z)
-int_result-below n z = choose-below n (is_int z) (Yields (plain (value.Int z))) (Meets fault.Overflow) tt tt
+yielding-below : (n : ℕ) (y : Yield) → DoingBelow n (yielding y)
+yielding-below n (Ok v) = tt
+yielding-below n (Err kind) = tt
 
-on_ints-below : (n row : ℕ) (a b : ℤ) → DoingBelow n (on_ints row a b)
-on_ints-below n row a b =
-    choose-below n (nat_eq row 9) _ _ tt (choose-below n (nat_eq row 10) _ _ tt (choose-below n (nat_eq row 11) _ _ tt
-    (choose-below n (nat_eq row 12) _ _ tt (choose-below n (nat_eq row 13) _ _ tt (choose-below n (nat_eq row 14) _ _ tt
-    (choose-below n (nat_eq row 15) _ _ (int_result-below n (a +ℤ b)) (choose-below n (nat_eq row 16) _ _ (int_result-below n (a -ℤ b))
-    (choose-below n (nat_eq row 17) _ _ (int_result-below n (a *ℤ b)) tt))))))))
-
-applied-below : (n row : ℕ) (v w : Content) → DoingBelow n (applied row v w)
-applied-below n row (plain value.Unset) w = tt
-applied-below n row v (plain value.Unset) = tt
-applied-below n row (plain (value.Int a)) (plain (value.Int b)) = on_ints-below n row a b
-applied-below n row v w = tt
-
-result-below : (n : ℕ) (res : Result Plain FaultKind) → DoingBelow n (doing_of res)
-result-below n (Ok p) = tt
-result-below n (Err kind) = tt
-
-printed-below : (n : ℕ) (o : Option (List ℕ)) (items : List Content)
-    → DoingBelow n (option_map_or (λ text. Asks (want.Print text) (next.Printing (reverse items))) o (Meets fault.Kind))
-printed-below n None items = tt
-printed-below n (Some text) items = tt
+printing-below : (n : ℕ) (o : Result (List ℕ) FaultKind) (items : List Content) → DoingBelow n (printing o items)
+printing-below n (Ok text) items = tt
+printing-below n (Err kind) items = tt
 
 print_next-below : (n : ℕ) (items : List Content) → DoingBelow n (print_next items)
 print_next-below n [] = tt
-print_next-below n (v ∷ items) = item v
-  where
-    item : (v : Content) → DoingBelow n (print_next (v ∷ items))
-    item (plain value.Unset) = tt
-    item v = printed-below n (printed_item v) items
+print_next-below n (v ∷ items) = printing-below n (item_text v) items
+
+making-below : (n : ℕ) (modes : List Shape) (m scope : ℕ) → DoingBelow n (making modes m scope)
+making-below n modes m scope =
+    option-below n (λ (cells : List Held). Asks (want.Make (record { cells = cells; shifted = false })) (next.Made scope)) (new_cells modes m []) (Meets fault.Kind) (λ cells. tt) tt
+
+related-below : (n negated : ℕ) (o : Result Bool FaultKind) → DoingBelow n (related negated o)
+related-below n zero (Ok b) = tt
+related-below n (suc k) (Ok b) = tt
+related-below n zero (Err kind) = tt
+related-below n (suc k) (Err kind) = tt
+
+worded-below : (n : ℕ) (o : Result (List ℕ) FaultKind) → DoingBelow n (worded o)
+worded-below n (Ok text) = tt
+worded-below n (Err kind) = tt
+
+whole-below : (n : ℕ) (v w : Content) → DoingBelow n (whole_of v w)
+whole-below n (plain (value.Int v)) (plain (value.Int w)) = worded-below n (whole_number v w)
+whole-below n v w = choose-below n (is_unset v || is_unset w) (Meets fault.Unset) (Meets fault.Kind) tt tt
 
 pub start-below : (n : ℕ) (modes : List Shape) (op : Operation) (chain : List Environ) (vs : List Content) → DoingBelow n (start modes op chain vs)
 unfolding start
@@ -91,26 +89,29 @@ start-below n modes (constant v) chain [] = tt
 start-below n modes (skip m) chain [] = skipped-below n modes m
 start-below n modes (tag hops slot) chain [] =
     option-below n (λ (e : Environ). Asks (want.Look e.frame slot) next.Value) (slice_get chain hops) (Meets fault.Kind) (λ e. tt) tt
+start-below n modes nil chain [] = tt
 start-below n modes (make m k) chain [] =
-    option-below n (λ (e : Environ). option_map_or (λ cells. Asks (want.Make (record { cells = cells; shifted = false })) (next.Made e.scope))
-    (new_cells modes m []) (Meets fault.Kind)) (slice_get chain 0) (Meets fault.Kind)
-    (λ e. option-below n (λ (cells : List Held). Asks (want.Make (record { cells = cells; shifted = false })) (next.Made e.scope)) (new_cells modes m []) (Meets fault.Kind) (λ cells. tt) tt) tt
+    option-below n (λ (e : Environ). making modes m e.scope) (slice_get chain 0) (Meets fault.Kind) (λ e. making-below n modes m e.scope) tt
+start-below n modes (heap m k) chain [] = making-below n modes m 0
 start-below n modes (bind slot) chain (v ∷ []) =
     option-below n (λ (e : Environ). Asks (want.Bind e.frame slot v) next.Void) (slice_get chain 0) (Meets fault.Kind) (λ e. tt) tt
 start-below n modes (deref m) chain (v ∷ []) = fetched-below n modes m v
 start-below n modes (store m) chain (name ∷ v ∷ []) = assigned-below n modes m name v
-start-below n modes (apply row) chain (v ∷ w ∷ []) = applied-below n row v w
-start-below n modes (apply row) chain (v ∷ []) = result-below n (monadic row v)
+start-below n modes (apply row) chain (v ∷ w ∷ []) = yielding-below n (applied row v w)
+start-below n modes (apply row) chain (v ∷ []) = yielding-below n (applied row void v)
+start-below n modes (same negated) chain (v ∷ w ∷ []) = related-below n negated (is_same v w)
+start-below n modes (unite m) chain (v ∷ []) = tt
 start-below n modes drop chain (v ∷ []) = tt
 start-below n modes print chain items = print_next-below n items
+start-below n modes whole chain (v ∷ w ∷ []) = whole-below n v w
 start-below n modes _ chain _ = tt
 
-pub resumed-below : (n : ℕ) (go : Next) (r : Reply) → DoingBelow n (resumed go r)
+pub resumed-below : (n : ℕ) (modes : List Shape) (go : Next) (r : Reply) → DoingBelow n (resumed modes go r)
 unfolding resumed
-resumed-below n next.Value (reply.Value v) = tt
-resumed-below n next.Void reply.Go = tt
-resumed-below n (next.Name m) reply.Go = tt
-resumed-below n (next.Made scope) (reply.Base cell) = tt
-resumed-below n (next.Printing left) reply.Go = print_next-below n (reverse left)
-resumed-below n next.Held (reply.Held (held.Plain p)) = tt
-resumed-below n _ _ = tt
+resumed-below n modes next.Value (reply.Value v) = tt
+resumed-below n modes next.Void reply.Go = tt
+resumed-below n modes (next.Name m) reply.Go = tt
+resumed-below n modes (next.Made scope) (reply.Base cell) = tt
+resumed-below n modes (next.Printing left) reply.Go = print_next-below n (reverse left)
+resumed-below n modes next.Held (reply.Held (held.Plain p)) = tt
+resumed-below n modes _ _ = tt

@@ -5,7 +5,7 @@ use Rattle.std.proofs.lemmas.Option.{slice_get-get_or}
 use Rattle.std.specs.Bool.{⊤}
 use Rattle.std.specs.Option.{option_and_then, option_map_or, unwrap_or}
 use Rattle.std.specs.declared.option.Option.{Option}
-use Rattle.a68_acts.specs.Does.{Outcome, did, refuses, does, refused}
+use Rattle.a68_acts.specs.Does.{Outcome, did, refuses, waits, does, refused}
 use Rattle.a68_code.specs.declared.code.Code.{Code}
 use Rattle.a68_strand.specs.Cyclic.{HasTurn, Sooner, IsFirstBehind, TakeTurns, IsTurnOf, EndsInTurn, last_of, Cyclic}
 use Rattle.a68_strand.specs.Ends.{fault_of, fault_in, CanAct}
@@ -116,6 +116,7 @@ one_turn_of code w (Some b) n m p q = one_first (HasTurn code w) b n m p q
 calm_outcome : (code : Code) (w : World) (n : ℕ) (st : State) (o : Outcome) → after code w n st o ≢ None → refused o ≡ None
 calm_outcome code w n st (did act reply store) can = refl
 calm_outcome code w n st (refuses why) can = absurd (can refl)
+calm_outcome code w n st waits can = absurd (can refl)
 
 calm_in : (code : Code) (w : World) (n : ℕ) (st : State) (m : Stance) → acts_in m code w n st ≢ None → fault_in m w.store ≡ None
 calm_in code w n st Idle can = absurd (can refl)

@@ -2,7 +2,8 @@
 use Rattle.std.proofs.Common.{◌≡◌, ℕ, zero, suc, List, [], ◌∷◌, refl, ap, sym, ◌∙◌, inl, inr}
 use Rattle.std.specs.Prelude.{None, Some, IfSome}
 use Rattle.std.specs.declared.option.Option.{Option}
-use Rattle.a68_acts.specs.Does.{Outcome, did, refuses, refused, does}
+use Rattle.a68_acts.specs.Does.{Outcome, did, refuses, waits, refused, does}
+use Rattle.a68_acts.proofs.Waiting.{never_waits}
 use Rattle.a68_acts.specs.Store.{Store}
 use Rattle.a68_acts.specs.declared.want.Want.{Want}
 use Rattle.a68_code.specs.declared.code.Code.{Code}
@@ -52,6 +53,7 @@ has-turn code store st open_ = by_stance st.stance refl
         inl (λ n. let some = next-act code store st w x e ∙ ap (after code (alone store st) 0 st) f in absurd (cc))
     by_act w x e (refuses why) f =
         inr (λ n. let some = ap (λ (m : Stance). fault_in m store) e ∙ ap refused f in absurd (cc))
+    by_act w x e waits f = absurd (never_waits w store f)
 
     by_stance : (m : Stance) → st.stance ≡ m → HasTurn code (alone store st) 0
     by_stance Idle e = absurd (open_ e)

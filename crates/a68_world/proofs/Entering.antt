@@ -4,7 +4,7 @@ use Rattle.std.specs.Prelude.{⊤, None, Some, slice_get, slice_set, nat_eq, nat
 use Rattle.std.specs.Option.{option_map_or}
 use Rattle.std.proofs.Math.ListN.{length-set}
 use Rattle.std.specs.declared.option.Option.{Option}
-use Rattle.a68_acts.specs.Does.{Outcome, did, refuses, does, entered, bound, looked, made, within_count}
+use Rattle.a68_acts.specs.Does.{Outcome, did, refuses, waits, does, entered, bound, looked, made, within_count}
 use Rattle.a68_acts.specs.Store.{Store, Frame, chain_step, chain_within, chain_of, counted, slot_weight, most_counted, most_printed}
 use Rattle.a68_acts.specs.declared.want.Reply.{Reply}
 use Rattle.a68_acts.specs.declared.want.Reply.TheVariants as reply
@@ -29,6 +29,7 @@ pub record RoomAfter (frames : ℕ) (told : Reply) (after : Store) : Type 0 wher
 abbrev pub RoomBehind : ℕ → Outcome → Type 0
 RoomBehind n (did done told after) = RoomAfter n told after
 RoomBehind n (refuses why) = ⊤
+RoomBehind n waits = ⊤
 
 -- ---- chains
 

@@ -5,7 +5,7 @@ use Rattle.std.specs.Option.{option_map_or}
 use Rattle.std.specs.declared.option.Option.{Option}
 use Rattle.std.specs.declared.result.Result.{Result}
 use Rattle.std.proofs.lemmas.Bool.{lt-ltb}
-use Rattle.a68_acts.specs.Operations.{Operation, constant, skip, tag, make, bind, deref, store, apply, drop, print, leaves, start, resumed, tested, case_of, counter_of, has_turn, advanced}
+use Rattle.a68_acts.specs.Operations.{Operation, leaves, start, resumed, tested, case_of, counter_of, has_turn, advanced}
 use Rattle.a68_acts.specs.declared.operation.Counter.{Counter}
 use Rattle.a68_acts.specs.declared.operation.Doing.{Doing}
 use Rattle.a68_acts.specs.declared.operation.Doing.TheVariants.{Yields, Asks, Meets}
@@ -13,12 +13,12 @@ use Rattle.a68_acts.specs.declared.want.Reply.{Reply}
 use Rattle.a68_acts.specs.declared.want.Reply.TheVariants as reply
 use Rattle.a68_acts.specs.declared.want.Want.{Want}
 use Rattle.a68_acts.specs.declared.want.Want.TheVariants as want
-use Rattle.a68_code.specs.Flow.{does_at, operands_of}
+use Rattle.a68_code.specs.Flow.{does_at, takes}
 use Rattle.a68_code.specs.declared.code.Code.{Code}
 use Rattle.a68_code.specs.declared.does.Does.{Does}
 use Rattle.a68_code.specs.declared.does.Does.TheVariants as does
 use Rattle.a68_modes.specs.declared.shape.Shape.{Shape}
-use Rattle.a68_strand.specs.Machine.{State, goes_on, goes_to, fails, follows, operates, enters, yields_to, leaves_frame, branches, unless, chooses, cases, with_counter, counts, indexes, steps, advances, forgets, exec, at_end, does_one, silently, next_state, settle_in, settle, leaves_at, told_by, replied_in, replied}
+use Rattle.a68_strand.specs.Machine.{State, goes_on, goes_to, fails, follows, operates, enters, yields_to, leaves_frame, branches, unless, chooses, cases, with_counter, counts, indexes, steps, advances, forgets, operation_of, controls, exec, at_end, does_one, silently, next_state, settle_in, settle, leaves_at, told_by, replied_in, replied}
 use Rattle.a68_strand.specs.Room.{has_room, brings_room}
 use Rattle.a68_stack.specs.Values.{pop_values, top_counter, top_value}
 use Rattle.a68_strand.specs.declared.ask.Stance.{Stance}
@@ -133,29 +133,26 @@ forgets-below : (n : ℕ) (st : State) (items : List Item) → ChainBelow n st.c
 forgets-below n st (item.Counter c ∷ items) p = on n st items p
 forgets-below n st _ p = failed n st fault.Kind p
 
+controls-below : (n : ℕ) (d : Does) (st : State) → StateBelow n st → StateBelow n (controls d st)
+controls-below n (does.Enter slots) st p = enters-below n st slots st.chain p.chain p.chain
+controls-below n (does.Leave kept) st p = leaves-below n st kept st.chain p.chain p.chain
+controls-below n (does.Jump to) st p = to-place n st to st.stack.items p.chain
+controls-below n (does.Unless to) st p = unless-below n st to st.stack.items p.chain
+controls-below n (does.Case places) st p = cases-below n st places st.stack.items p.chain
+controls-below n does.Counter st p = counts-below n st st.stack.items p.chain
+controls-below n does.Index st p = indexes-below n st (top_counter st.stack.items) p.chain
+controls-below n (does.Step to) st p = steps-below n st to (top_counter st.stack.items) p.chain
+controls-below n does.Turn st p = record { chain = p.chain; stance = tt }
+controls-below n (does.Advance to) st p = advances-below n st to st.stack.items p.chain
+controls-below n does.Forget st p = forgets-below n st st.stack.items p.chain
+controls-below n _ st p = p
+
 exec-below : (n : ℕ) (modes : List Shape) (d : Does) (st : State) → StateBelow n st → StateBelow n (exec modes d st)
-exec-below n modes (does.Push v) st p = operates-below n modes st (constant v) 0 p.chain
-exec-below n modes (does.Skip mode) st p = operates-below n modes st (skip mode) 0 p.chain
-exec-below n modes (does.Tag hops slot) st p = operates-below n modes st (tag hops slot) 0 p.chain
-exec-below n modes (does.Enter slots) st p = enters-below n st slots st.chain p.chain p.chain
-exec-below n modes (does.Leave kept) st p = leaves-below n st kept st.chain p.chain p.chain
-exec-below n modes (does.Bind slot) st p = operates-below n modes st (bind slot) 1 p.chain
-exec-below n modes (does.Make mode bounds) st p = operates-below n modes st (make mode bounds) bounds p.chain
-exec-below n modes (does.Deref mode) st p = operates-below n modes st (deref mode) 1 p.chain
-exec-below n modes (does.Store mode) st p = operates-below n modes st (store mode) 2 p.chain
-exec-below n modes (does.Apply row) st p = operates-below n modes st (apply row) (operands_of row) p.chain
-exec-below n modes does.Drop st p = operates-below n modes st drop 1 p.chain
-exec-below n modes (does.Print count) st p = operates-below n modes st print count p.chain
-exec-below n modes (does.Jump to) st p = to-place n st to st.stack.items p.chain
-exec-below n modes (does.Unless to) st p = unless-below n st to st.stack.items p.chain
-exec-below n modes (does.Case places) st p = cases-below n st places st.stack.items p.chain
-exec-below n modes does.Counter st p = counts-below n st st.stack.items p.chain
-exec-below n modes does.Index st p = indexes-below n st (top_counter st.stack.items) p.chain
-exec-below n modes (does.Step to) st p = steps-below n st to (top_counter st.stack.items) p.chain
-exec-below n modes does.Turn st p = record { chain = p.chain; stance = tt }
-exec-below n modes (does.Advance to) st p = advances-below n st to st.stack.items p.chain
-exec-below n modes does.Forget st p = forgets-below n st st.stack.items p.chain
-exec-below n modes does.End st p = p
+exec-below n modes d st p = by_operation (operation_of d)
+  where
+    by_operation : (o : Option Operation) → StateBelow n (option_map_or (λ op. operates modes st op (takes d)) o (controls d st))
+    by_operation None = controls-below n d st p
+    by_operation (Some op) = operates-below n modes st op (takes d) p.chain
 
 does_one-below : (n : ℕ) (modes : List Shape) (o : Option Does) (st : State) → StateBelow n st → StateBelow n (does_one modes o st)
 does_one-below n modes None st p = failed n st fault.Kind p.chain
@@ -187,7 +184,7 @@ unfolding settle
 settle-below n code st p = settle_in-below n (length code.list) code st p
 
 told_by-below : (n : ℕ) (code : Code) (st : State) (wait : Waiting) (r : Reply) → ChainBelow n st.chain → ReplyBelow n r → StateBelow n (told_by code st wait r)
-told_by-below n code st (waiting.Operation go) r p q = follows-below n st (leaves_at code st.at) st.stack.items (resumed go r) p (resumed-below n go r)
+told_by-below n code st (waiting.Operation go) r p q = follows-below n st (leaves_at code st.at) st.stack.items (resumed code.modes go r) p (resumed-below n code.modes go r)
 told_by-below n code st waiting.Frame (reply.Frame []) p q = failed n st fault.Kind p
 told_by-below n code st waiting.Frame (reply.Frame (e ∷ about)) p q = record { chain = (q.0, p); stance = tt }
 told_by-below n code st waiting.Turn reply.Go p q = record { chain = p; stance = tt }

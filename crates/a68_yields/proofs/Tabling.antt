@@ -27,7 +27,7 @@ set_entry (x ∷ xs) (suc i) (suc k) y d = later (set_entry xs i k y d)
     later (inl same) = inl same
     later (inr new) = inr (ap suc new.0, new.1)
 
-leaf_longer : (n m : ℕ) (l : Leaf) → n ≤ m → IsLeafBelow n l → IsLeafBelow m l
+pub leaf_longer : (n m : ℕ) (l : Leaf) → n ≤ m → IsLeafBelow n l → IsLeafBelow m l
 leaf_longer n m (leaf.Mode x) h below = omega arith
 leaf_longer n m leaf.StrongOnly h below = tt
 
@@ -35,7 +35,7 @@ operator_longer : (n m : ℕ) (o : Identified) → n ≤ m → IsOperatorBelow n
 operator_longer n m (Standard o) h below = let a = below.0 in let b = below.1 in let c = below.2 in (omega arith, omega arith, omega arith)
 operator_longer n m (Declared d) h below = tt
 
-finding_longer : (n m : ℕ) (f : Finding) → n ≤ m → IsFindingBelow n f → IsFindingBelow m f
+pub finding_longer : (n m : ℕ) (f : Finding) → n ≤ m → IsFindingBelow n f → IsFindingBelow m f
 finding_longer n m finding.Nothing h below = tt
 finding_longer n m (finding.Mode None) h below = tt
 finding_longer n m (finding.Mode (Some x)) h below = omega arith

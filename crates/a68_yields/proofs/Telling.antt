@@ -169,6 +169,15 @@ module _ (nodes : List Shape) (holds : HoldsNodes nodes) (many : 13 ≤ length n
   selected_fine name (finding.Mode (Some m)) below = from_fine name (structured nodes m) (structured_there m (shape_at nodes m) below (holds.within m below))
   selected_fine name (finding.Operator o) below = tt
 
+  -- of a slice and of a selection alone
+  pub sliced_below : (tree : Built) (parts : List ℕ) (f : Finding) → IsFindingBelow (length nodes) f → IsToldBelow (length nodes) count node (sliced tree nodes parts f)
+  unfolding Fine
+  sliced_below tree parts f below = sliced_fine tree parts f below
+
+  pub selected_below : (name : ℕ) (f : Finding) → IsFindingBelow (length nodes) f → IsToldBelow (length nodes) count node (selected nodes name f)
+  unfolding Fine
+  selected_below name f below = selected_fine name f below
+
   pub told_below : (k : Known) (ys : List Yielding) (f : Finding) (form : NodeKind) → AllBelow (length nodes) k.defined → IsFindingBelow (length nodes) f
       → AllBetween node count (parts_at k.tree node) → IsToldBelow (length nodes) count node (told k nodes ys node f form)
   unfolding Fine

@@ -81,8 +81,8 @@ fn wanted(
     }
 }
 
-// Finds what is asked of a part.
-fn part_found(
+/// Finds what is asked of a part: the mode to which the units that it may yield are balanced.
+pub fn part_found(
     alloc: Global,
     tree: &Tree,
     modes: &ModeTable,

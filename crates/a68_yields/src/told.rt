@@ -111,7 +111,8 @@ fn tag(nodes: u32, defined: &[ModeId], found: Option<NodeId>) -> Told
     }
 }
 
-fn is_unknown(yielding: Yielding) -> bool
+/// Is what a node may yield not known?
+pub fn is_unknown(yielding: Yielding) -> bool
     ensures { result ≡ specs.is_unknown yielding }
 {
     matches!(yielding, Yielding::Unknown)

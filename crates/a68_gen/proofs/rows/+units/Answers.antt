@@ -1,91 +1,74 @@
-use Rattle.std.proofs.Common.{◌≡◌, ℕ, List, Option, ◌+◌, ◌++◌, [], ◌∷◌, length, refl, sym, ◌∙◌, ap, subst, drop, get_or, arith}
-use Rattle.std.specs.Option.{option_map_or}
+use Rattle.std.proofs.Common.{◌≡◌, ℕ, List, Option, ◌+◌, ◌-◌, ◌++◌, [], ◌∷◌, length, true, refl, sym, ◌∙◌, ap, subst, drop, get_or, arith, ◌<◌, Some, length-append}
+use Rattle.std.specs.Option.{is_some, option_map, option_map_or}
 use Rattle.std.proofs.lemmas.List.{drop_all, nil_from_length}
+use Rattle.std.proofs.lemmas.Option.{same_Some}
 use Rattle.a68_code.specs.declared.does.Does.TheVariants as does
-use Rattle.a68_elab.proofs.Nodes.{tree_of_nodes}
+use Rattle.a68_elab.proofs.Nodes.{tree_of_nodes, behind_is}
+use Rattle.a68_gen.proofs.Linking.{link_behind}
 use Rattle.a68_elab.specs.Made as made
-use Rattle.a68_elab.specs.Trees.{Tree, ◌and_tree◌}
-use Rattle.a68_elab.specs.Made.{tree_at, trees_at, behind_ref}
+use Rattle.a68_elab.specs.Trees.{Tree, Test, no_trees, unbuilt, ◌and_tree◌, count}
+use Rattle.a68_elab.specs.Made.{behind, tree_at, trees_at, behind_ref}
 use Rattle.a68_gen.specs.Coercing.{coercions}
-use Rattle.a68_gen.specs.Listing.{instr, stretch, stretches}
+use Rattle.a68_gen.specs.Listing.{instr, limits, opens, stretch, stretches, test_stretch}
+use Rattle.a68_gen.specs.Loops.{asked, unless_at}
 use Rattle.a68_code.specs.declared.code.Instr.{Instr}
 use Rattle.a68_gen.specs.Writing.{aim_all, Writes}
 use Rattle.a68_gen.specs.Chains.{link_tree}
 use Rattle.a68_gen.proofs.Chaining.{Ahead, ahead_first, ahead_on, ends_writes, ends_jumps, chain_writes}
-use Rattle.a68_gen.proofs.Constructs.{coerced_list, coerced_unbuilt, part-cons, between-each, one_part, two_parts, some_parts, call_whole, plain_serial, framed_serial, variable_plain, variable_none, variable_set, only_none, call_none, loop_none}
+use Rattle.a68_gen.proofs.Constructs.{coerced_list, coerced_unbuilt, part-cons, between-each, one_part, two_parts, some_parts, definition_whole, last_is, count_trees, new_does, plain_serial, framed_serial, declared_plain, declared_none, declared_other, declared_set, only_none, between-above, control_list, three_list, phrases_whole, asked_whole, unless_stands, test_is}
 use Rattle.a68_gen.proofs.Jumping.{link_all, link_jump, loop_all}
-use Rattle.a68_gen.proofs.Writing.{and_behind, had_not, nothing-written, writes-as}
+use Rattle.a68_gen.proofs.Writing.{and_behind, had_not, is_written, nothing-written, writes-as}
 use Rattle.a68_gen.proofs.rows.+units.Goals as goal
-use Rattle.std.specs.Prelude.{not, if◌then◌else◌}
+use Rattle.std.specs.Prelude.{not, pos, if◌then◌else◌}
+use Rattle.a68_acts.specs.Operations.{constant, skip}
+use Rattle.a68_tree.specs.declared.node.Node.{Node}
+use Rattle.a68_values.specs.Content.{plain}
+use Rattle.a68_values.specs.declared.plain.Plain.TheVariants as value
 use Rattle.a68_modes.specs.Nodes.{shape_at, is_void}
 
 pub unit-returns-then-not-are_built : goal.unit-returns-then-not-are_built
 unit-returns-then-not-are_built t c =
     let note = c.note-note.result.now in
     let node = c.node-node.result.now in
-    let tree = tree_of_nodes c.args.program.now c.args.id (length c.args.program.now.tree.nodes) node note c.node-node.ensures.is c.note-note.ensures c.node-node.ensures.behind in
+    let tree = tree_of_nodes c.args.program.now c.args.id node note c.node-node.ensures.is c.note-note.ensures in
     rw (tree, coerced_unbuilt c.args.program.now.modes node.span.from note.mode note.path _ (sym c.are_built.ensures ∙ c.if-not-are_built.true)) c.unbuilt.ensures
 
 pub unit-returns : goal.unit-returns
 unit-returns t c =
     let note = c.note-note.result.now in
     let node = c.node-node.result.now in
-    let tree = tree_of_nodes c.args.program.now c.args.id (length c.args.program.now.tree.nodes) node note c.node-node.ensures.is c.note-note.ensures c.node-node.ensures.behind in
+    let tree = tree_of_nodes c.args.program.now c.args.id node note c.node-node.ensures.is c.note-note.ensures in
     let path = coercions c.args.program.now.modes node.span.from note.mode note.path in
     rw (tree, coerced_list c.args.program.now.modes node.span.from note.mode (length c.args.out.now.list) note.path _ (sym c.are_built.ensures ∙ c.if-not-are_built.false))
     (and_behind c.args.out.now.stop c.construct.new.out.stop c.coerce.new.out.stop c.args.out.now.list c.construct.new.out.list c.coerce.new.out.list _ (λ n. path) c.construct.ensures c.coerce.ensures)
 
-pub all-unit-requires : goal.all-unit-requires
-all-unit-requires t c =
+pub write_part-unit-requires : goal.write_part-unit-requires
+write_part-unit-requires t c = let less = c.requires.0 in (omega arith, c.requires.1)
+
+pub write_part-returns : goal.write_part-returns
+write_part-returns t c = rw (behind_is c.args.id c.args.part (tree_at c.args.program.now) c.requires.0) c.unit.ensures
+
+pub all-write_part-requires : goal.all-write_part-requires
+all-write_part-requires t c =
     let b = between-each c.args.id (length c.args.program.now.tree.nodes) c.loop-part.part-index c.args.parts.now c.requires c.loop-part-test.true in
     let below = b.0 in
-    let within = b.1 in
-    (omega arith, b.1)
+    (omega arith, b)
 
 pub all-loop-part-preserved : goal.all-loop-part-preserved
 all-loop-part-preserved t c =
-    let f = tree_at c.args.program.now in
+    let f = behind c.args.id (tree_at c.args.program.now) in
     let at = length c.loop-part.out.list in
     let i = c.loop-part.part-index in
     let one = get_or c.args.parts.now i 0 in
     let step = part-cons f at i c.args.parts.now c.loop-part-test.true in
     λ s end w. c.loop-part.invariant s end (rw step
-    (and_behind c.loop-part.out.stop c.unit.new.out.stop s c.loop-part.out.list c.unit.new.out.list end (stretch (f one) at) (λ n. stretches (trees_at f (drop (i + 1) c.args.parts.now)) n) c.unit.ensures w))
+    (and_behind c.loop-part.out.stop c.write_part.new.out.stop s c.loop-part.out.list c.write_part.new.out.list end (stretch (f one) at) (λ n. stretches (trees_at f (drop (i + 1) c.args.parts.now)) n) c.write_part.ensures w))
 
-pub call-unit-requires : goal.call-unit-requires
-call-unit-requires t c =
-    let b = between-each c.args.id (length c.args.program.now.tree.nodes) 1 c.args.parts.now c.requires (omega arith) in
-    let below = b.0 in
-    let within = b.1 in
-    (omega arith, b.1)
-
-pub variable-unit-requires : goal.variable-unit-requires
-variable-unit-requires t c =
-    let b = between-each c.args.id (length c.args.program.now.tree.nodes) 1 c.args.parts.now c.requires (omega arith) in
-    let below = b.0 in
-    let within = b.1 in
-    (omega arith, b.1)
-
-pub only-unit-requires : goal.only-unit-requires
-only-unit-requires t c =
+pub only-write_part-requires : goal.only-write_part-requires
+only-write_part-requires t c =
     let b = between-each c.args.id (length c.args.program.now.tree.nodes) 0 c.args.parts.now c.requires (omega arith) in
     let below = b.0 in
-    let within = b.1 in
-    (omega arith, b.1)
-
-pub repeat-unit-requires : goal.repeat-unit-requires
-repeat-unit-requires t c =
-    let b = between-each c.args.id (length c.args.program.now.tree.nodes) 0 c.args.parts.now c.requires (omega arith) in
-    let below = b.0 in
-    let within = b.1 in
-    (omega arith, b.1)
-
-pub repeat-unit-requires-2 : goal.repeat-unit-requires-2
-repeat-unit-requires-2 t c =
-    let b = between-each c.args.id (length c.args.program.now.tree.nodes) 1 c.args.parts.now c.requires (omega arith) in
-    let below = b.0 in
-    let within = b.1 in
-    (omega arith, b.1)
+    (omega arith, b)
 
 pub all-returns : goal.all-returns
 all-returns t c =
@@ -95,47 +78,97 @@ all-returns t c =
 pub operation-returns : goal.operation-returns
 operation-returns t c =
     and_behind c.args.out.now.stop c.all.new.out.stop c.emit.new.self.stop c.args.out.now.list c.all.new.out.list c.emit.new.self.list
-    (stretches (trees_at (tree_at c.args.program.now) c.args.parts.now) (length c.args.out.now.list)) (λ n. instr c.args.place c.args.does ∷ []) c.all.ensures c.emit.ensures
+    (stretches (trees_at (behind c.args.id (tree_at c.args.program.now)) c.args.parts.now) (length c.args.out.now.list)) (λ n. instr c.args.place c.args.does ∷ []) c.all.ensures c.emit.ensures
 
-pub call-returns-then-parts-ne2 : goal.call-returns-then-parts-ne2
-call-returns-then-parts-ne2 t c = rw (← call_none (tree_at c.args.program.now) c.args.place c.args.parts.now (λ e. absurd (omega arith))) c.unbuilt.ensures
+pub last-write_part-requires : goal.last-write_part-requires
+last-write_part-requires t c =
+    let b = between-each c.args.id (length c.args.program.now.tree.nodes) (length c.args.parts.now - 1) c.args.parts.now c.requires (omega arith) in
+    let below = b.0 in
+    (omega arith, b)
 
-pub call-returns : goal.call-returns
-call-returns t c =
-    let two = two_parts c.args.parts.now (omega arith) in
-    let item = tree_at c.args.program.now (get_or c.args.parts.now 1 0) in
+pub last-returns-then-parts-eq0 : goal.last-returns-then-parts-eq0
+last-returns-then-parts-eq0 t c = rw (nil_from_length c.args.parts.now (omega arith)) c.unbuilt.ensures
+
+pub last-returns : goal.last-returns
+last-returns t c =
+    let f = behind c.args.id (tree_at c.args.program.now) in
+    subst (λ (u : Tree). Writes c.args.out.now.stop c.write_part.new.out.stop c.args.out.now.list c.write_part.new.out.list (stretch u (length c.args.out.now.list)))
+    (sym (last_is f c.args.parts.now (omega arith))) c.write_part.ensures
+
+pub definition-returns : goal.definition-returns
+definition-returns t c =
+    let u = made.last_tree (trees_at (behind c.args.id (tree_at c.args.program.now)) c.args.parts.now) in
     let at = length c.args.out.now.list in
-    rw two (writes-as c.args.out.now.stop c.emit.new.self.stop c.args.out.now.list c.emit.new.self.list _ _ (call_whole c.args.place at (tree_at c.args.program.now (get_or c.args.parts.now 0 0)) item)
-    (and_behind c.args.out.now.stop c.unit.new.out.stop c.emit.new.self.stop c.args.out.now.list c.unit.new.out.list c.emit.new.self.list (stretch item at) (λ n. instr c.args.place (does.Print 1) ∷ []) c.unit.ensures c.emit.ensures))
+    writes-as c.args.out.now.stop c.emit.new.self.stop c.args.out.now.list c.emit.new.self.list _ _ (definition_whole c.args.place c.args.note.now.step.slot at u)
+    (and_behind c.args.out.now.stop c.last.new.out.stop c.emit.new.self.stop c.args.out.now.list c.last.new.out.list c.emit.new.self.list (stretch u at)
+    (λ n. instr c.args.place (does.Bind c.args.note.now.step.slot) ∷ []) c.last.ensures c.emit.ensures)
 
-pub variable-returns-then-parts-eq1 : goal.variable-returns-then-parts-eq1
-variable-returns-then-parts-eq1 t c =
+pub declared-write_part-requires : goal.declared-write_part-requires
+declared-write_part-requires t c =
+    let b = between-each c.args.id (length c.args.program.now.tree.nodes) 1 c.args.parts.now c.requires (omega arith) in
+    let below = b.0 in
+    (omega arith, b)
+
+pub declared-returns-then-not-begins_with_declarer : goal.declared-returns-then-not-begins_with_declarer
+declared-returns-then-not-begins_with_declarer t c =
+    let f = behind c.args.id (tree_at c.args.program.now) in
+    subst (λ (u : Tree). Writes c.args.out.now.stop c.unbuilt.new._out.stop c.args.out.now.list c.unbuilt.new._out.list (stretch u (length c.args.out.now.list)))
+    (declared_other f c.args.in_heap _ c.args.place _ c.args.note.now.step.slot c.args.parts.now (sym c.begins_with_declarer.ensures ∙ c.if-not-begins_with_declarer.true)) c.unbuilt.ensures
+
+pub declared-returns-then-parts-eq1 : goal.declared-returns-then-parts-eq1
+declared-returns-then-parts-eq1 t c =
     let mode = c.behind_ref-mode.result in
-    rw (← c.behind_ref-mode.ensures, ← variable_plain (tree_at c.args.program.now) c.args.place mode c.args.note.now.step.slot (length c.args.out.now.list) c.args.parts.now (omega arith))
+    let slot = c.args.note.now.step.slot in
+    let begins : made.begins_with made.is_declarer c.args.program.now c.args.parts.now ≡ true = sym c.begins_with_declarer.ensures ∙ c.if-not-begins_with_declarer.false in
+    let first : Writes c.args.out.now.stop c.emit.new.self.stop c.args.out.now.list c.emit.new.self.list (instr c.args.place (new_does c.args.in_heap mode) ∷ []) = rw c.new_name.ensures at c.emit.ensures in
+    rw (← c.behind_ref-mode.ensures) (writes-as c.args.out.now.stop c.emit-then-parts-eq1.new.self.stop c.args.out.now.list c.emit-then-parts-eq1.new.self.list _ _
+    (declared_plain (behind c.args.id (tree_at c.args.program.now)) c.args.in_heap _ c.args.place mode slot (length c.args.out.now.list) c.args.parts.now begins (omega arith))
     (and_behind c.args.out.now.stop c.emit.new.self.stop c.emit-then-parts-eq1.new.self.stop c.args.out.now.list c.emit.new.self.list c.emit-then-parts-eq1.new.self.list
-    (instr c.args.place (does.Make mode 0) ∷ []) (λ n. instr c.args.place (does.Bind c.args.note.now.step.slot) ∷ []) c.emit.ensures c.emit-then-parts-eq1.ensures)
+    (instr c.args.place (new_does c.args.in_heap mode) ∷ []) (λ n. instr c.args.place (does.Bind slot) ∷ []) first c.emit-then-parts-eq1.ensures))
 
-pub variable-returns-then-parts-ne2 : goal.variable-returns-then-parts-ne2
-variable-returns-then-parts-ne2 t c = rw (← variable_none (tree_at c.args.program.now) c.args.place _ c.args.note.now.step.slot c.args.parts.now (λ e. absurd (omega arith)) (λ e. absurd (omega arith))) c.unbuilt.ensures
+pub declared-returns-then-parts-ne2 : goal.declared-returns-then-parts-ne2
+declared-returns-then-parts-ne2 t c =
+    let f = behind c.args.id (tree_at c.args.program.now) in
+    subst (λ (u : Tree). Writes c.args.out.now.stop c.unbuilt-then-parts-ne2.new._out.stop c.args.out.now.list c.unbuilt-then-parts-ne2.new._out.list (stretch u (length c.args.out.now.list)))
+    (declared_none f c.args.in_heap _ c.args.place _ c.args.note.now.step.slot c.args.parts.now (sym c.begins_with_declarer.ensures ∙ c.if-not-begins_with_declarer.false)
+    (λ e. absurd (omega arith)) (λ e. absurd (omega arith))) c.unbuilt-then-parts-ne2.ensures
 
-pub variable-returns : goal.variable-returns
-variable-returns t c =
+pub declared-returns : goal.declared-returns
+declared-returns t c =
     let two = two_parts c.args.parts.now (omega arith) in
+    let f = behind c.args.id (tree_at c.args.program.now) in
     let mode = c.behind_ref-mode.result in
     let place = c.args.place in
     let slot = c.args.note.now.step.slot in
-    let source = tree_at c.args.program.now (get_or c.args.parts.now 1 0) in
+    let first = f (get_or c.args.parts.now 0 0) in
+    let source = f (get_or c.args.parts.now 1 0) in
     let w0 = c.args.out.now in
     let w1 = c.emit-2.new.self in
-    let w2 = c.unit.new.out in
+    let w2 = c.write_part.new.out in
     let w3 = c.emit-3.new.self in
     let w4 = c.emit-4.new.self in
     let store = instr place (does.Store mode) in
     let bind = instr place (does.Bind slot) in
+    let begins : made.begins_with made.is_declarer c.args.program.now c.args.parts.now ≡ true = sym c.begins_with_declarer.ensures ∙ c.if-not-begins_with_declarer.false in
+    let new : Writes w0.stop w1.stop w0.list w1.list (instr place (new_does c.args.in_heap mode) ∷ []) = rw c.new_name-2.ensures at c.emit-2.ensures in
     let w24 = and_behind w2.stop w3.stop w4.stop w2.list w3.list w4.list (store ∷ []) (λ n. bind ∷ []) c.emit-3.ensures c.emit-4.ensures in
-    let w14 = and_behind w1.stop w2.stop w4.stop w1.list w2.list w4.list (stretch source (length w1.list)) (λ n. store ∷ bind ∷ []) c.unit.ensures w24 in
-    let w04 = and_behind w0.stop w1.stop w4.stop w0.list w1.list w4.list (instr place (does.Make mode 0) ∷ []) (λ n. stretch source n ++ store ∷ bind ∷ []) c.emit-2.ensures w14 in
-    rw (two, ← c.behind_ref-mode.ensures) (writes-as w0.stop w4.stop w0.list w4.list _ _ (variable_set place mode slot (length w0.list) (tree_at c.args.program.now (get_or c.args.parts.now 0 0)) source) w04)
+    let w14 = and_behind w1.stop w2.stop w4.stop w1.list w2.list w4.list (stretch source (length w1.list)) (λ n. store ∷ bind ∷ []) c.write_part.ensures w24 in
+    let w04 = and_behind w0.stop w1.stop w4.stop w0.list w1.list w4.list (instr place (new_does c.args.in_heap mode) ∷ []) (λ n. stretch source n ++ store ∷ bind ∷ []) new w14 in
+    let all : Writes w0.stop w4.stop w0.list w4.list (stretch (made.variable_of (made.new_name c.args.in_heap place mode) (made.begins_with made.is_declarer c.args.program.now c.args.parts.now) place mode slot (first and_tree (source and_tree no_trees))) (length w0.list)) =
+    writes-as w0.stop w4.stop w0.list w4.list _ _ (declared_set c.args.in_heap _ place mode slot (length w0.list) first source begins) w04 in
+    let whole : Writes w0.stop w4.stop w0.list w4.list (stretch (made.variable_of (made.new_name c.args.in_heap place mode) (made.begins_with made.is_declarer c.args.program.now c.args.parts.now) place mode slot (trees_at f c.args.parts.now)) (length w0.list)) =
+    subst (λ (ids : List ℕ). Writes w0.stop w4.stop w0.list w4.list (stretch (made.variable_of (made.new_name c.args.in_heap place mode) (made.begins_with made.is_declarer c.args.program.now c.args.parts.now) place mode slot (trees_at f ids)) (length w0.list)))
+    (sym two) all in
+    rw (← c.behind_ref-mode.ensures) whole
+
+pub prints-returns-in-Ok : goal.prints-returns-in-Ok
+prints-returns-in-Ok t c =
+    let f = behind c.args.id (tree_at c.args.program.now) in
+    let ts = trees_at f c.args.items.now in
+    let w0 = c.args.out.now in
+    let w1 = c.operation.new.out in
+    let many : c.in-Ok.count ≡ count ts = c.in-Ok.ensures.1 ∙ sym (count_trees f c.args.items.now) in
+    subst (λ (n : ℕ). Writes w0.stop w1.stop w0.list w1.list (stretches ts (length w0.list) ++ instr c.args.place (does.Print n) ∷ [])) many c.operation.ensures
 
 pub serial-returns-then-parts-eq0 : goal.serial-returns-then-parts-eq0
 serial-returns-then-parts-eq0 t c = rw (nil_from_length c.args.parts.now (omega arith)) c.unbuilt.ensures
@@ -143,22 +176,22 @@ serial-returns-then-parts-eq0 t c = rw (nil_from_length c.args.parts.now (omega 
 pub serial-returns-then-note-eq0 : goal.serial-returns-then-note-eq0
 serial-returns-then-note-eq0 t c =
     let some = some_parts c.args.parts.now (omega arith) in
-    let f = tree_at c.args.program.now in
+    let f = behind c.args.id (tree_at c.args.program.now) in
     rw some (rw some at (writes-as c.args.out.now.stop c.all.new.out.stop c.args.out.now.list c.all.new.out.list _ _
-    (plain_serial c.args.place c.args.note.now.slots (length c.args.out.now.list) (not (is_void (shape_at c.args.program.now.modes c.args.note.now.mode))) (f (get_or c.args.parts.now 0 0)) (trees_at f (drop 1 c.args.parts.now)) c.if-note-eq0.true)
+    (plain_serial c.args.place c.args.note.now.slots (length c.args.out.now.list) (not (is_void (shape_at c.args.program.now.modes c.args.note.now.goal))) (f (get_or c.args.parts.now 0 0)) (trees_at f (drop 1 c.args.parts.now)) c.if-note-eq0.true)
     (rw some at c.all.ensures)))
 
 pub serial-returns : goal.serial-returns
 serial-returns t c =
     let some = some_parts c.args.parts.now (omega arith) in
-    let f = tree_at c.args.program.now in
+    let f = behind c.args.id (tree_at c.args.program.now) in
     let w0 = c.args.out.now in
     let w1 = c.emit.new.self in
     let w2 = c.all-2.new.out in
     let w3 = c.emit-2.new.self in
     let place = c.args.place in
     let note = c.args.note.now in
-    let yields = not (is_void (shape_at c.args.program.now.modes note.mode)) in
+    let yields = not (is_void (shape_at c.args.program.now.modes note.goal)) in
     let first = f (get_or c.args.parts.now 0 0) in
     let rest = trees_at f (drop 1 c.args.parts.now) in
     let enter = instr place (does.Enter note.slots) in
@@ -170,10 +203,10 @@ serial-returns t c =
     rw some (writes-as w0.stop w3.stop w0.list w3.list _ _ (framed_serial place note.slots (length w0.list) (if yields then 1 else 0) yields first rest (λ e. absurd (omega arith)) refl) w03)
 
 pub only-returns-then-parts-ne1 : goal.only-returns-then-parts-ne1
-only-returns-then-parts-ne1 t c = rw (← only_none (tree_at c.args.program.now) c.args.parts.now (λ e. absurd (omega arith))) c.unbuilt.ensures
+only-returns-then-parts-ne1 t c = rw (← only_none (behind c.args.id (tree_at c.args.program.now)) c.args.parts.now (λ e. absurd (omega arith))) c.unbuilt.ensures
 
 pub only-returns : goal.only-returns
-only-returns t c = rw (one_part c.args.parts.now (omega arith)) c.unit.ensures
+only-returns t c = rw (one_part c.args.parts.now (omega arith)) c.write_part.ensures
 
 pub write_link-returns-clause-writes : goal.write_link-returns-clause-writes
 write_link-returns-clause-writes t c =
@@ -198,7 +231,7 @@ write_links-links-preserved t c =
     let f = tree_at c.args.program.now in
     let link = c.links.link in
     let whole = link_tree f c.args.first in
-    let other = option_map_or f link.other (made.nothing link.place) in
+    let other = option_map_or f link.other (made.left_out link.place link.goal) in
     let s0 = c.args.out.now.stop in
     let l0 = c.args.out.now.list in
     let w2 = c.write_link-jump.new.out in
@@ -206,7 +239,7 @@ write_links-links-preserved t c =
     let jumps = c.keep.new.jumps.items in
     let on = ahead_on whole other (f link.enquiry) (f link.part) link.place c.write_link-jump.result c.links.jumps.items jumps s0 c.links.out.stop w2.stop w3.stop l0 c.links.out.list w2.list
     c.links.invariant.2 c.write_link-jump.ensures.writes c.write_link-jump.ensures.jump c.keep.ensures.stop c.keep.ensures.kept in
-    let same : other ≡ link_tree f c.in-Some.next = ap (λ (o : Option ℕ). option_map_or f o (made.nothing link.place)) c.in-Some.ensures.there.0 ∙ c.in-Some.ensures.tree in
+    let same : other ≡ link_tree f c.in-Some.next = ap (λ (o : Option ℕ). option_map_or f o (made.left_out link.place link.goal)) c.in-Some.ensures.there.0 ∙ c.in-Some.ensures.tree in
     let so_far = c.links.invariant.1 in
     let below = c.in-Some.ensures.there.1 in (
       c.in-Some.ensures.within,
@@ -219,7 +252,7 @@ write_links-returns-in-None-clause-chain t c =
     let f = tree_at c.args.program.now in
     let link = c.links.link in
     let whole = link_tree f c.args.first in
-    let other = option_map_or f link.other (made.nothing link.place) in
+    let other = option_map_or f link.other (made.left_out link.place link.goal) in
     let s0 = c.args.out.now.stop in
     let l0 = c.args.out.now.list in
     let w2 = c.write_link-jump.new.out in
@@ -258,20 +291,118 @@ conditional-chain-requires t c =
     let same = c.in-Some.ensures.node in (omega arith, c.in-Some.ensures.within (length c.args.program.now.tree.nodes) c.requires)
 
 pub conditional-returns-in-Some : goal.conditional-returns-in-Some
-conditional-returns-in-Some t c = rw (c.in-Some.ensures.tree (tree_at c.args.program.now)) c.chain.ensures
+conditional-returns-in-Some t c =
+    let tree = tree_at c.args.program.now in
+    let count = length c.args.program.now.tree.nodes in
+    let same = c.in-Some.ensures.tree (behind c.args.id tree) ∙ link_behind c.args.id count tree c.in-Some.first (c.in-Some.ensures.within count c.requires) c.in-Some.ensures.node in
+    subst (λ (u : Tree). Writes c.args.out.now.stop c.chain.new.out.stop c.args.out.now.list c.chain.new.out.list (stretch u (length c.args.out.now.list))) (sym same) c.chain.ensures
 
 pub conditional-returns-in-None : goal.conditional-returns-in-None
-conditional-returns-in-None t c = rw (c.in-None.ensures.tree (tree_at c.args.program.now)) c.unbuilt.ensures
+conditional-returns-in-None t c = rw (c.in-None.ensures.tree (behind c.args.id (tree_at c.args.program.now))) c.unbuilt.ensures
 
-pub repeat-returns-then-parts-ne2 : goal.repeat-returns-then-parts-ne2
-repeat-returns-then-parts-ne2 t c = rw (← loop_none (tree_at c.args.program.now) c.args.place c.args.parts.now (λ e. absurd (omega arith))) c.unbuilt.ensures
+pub count-returns : goal.count-returns
+count-returns t c =
+    let f = behind c.args.id (tree_at c.args.program.now) in
+    let place = c.args.place in
+    let l = c.args.parts.now in
+    let one = constant (plain (value.Int (pos 1))) in
+    let x = option_map_or f l.from (made.leaf place one) in
+    let y = option_map_or f l.by (made.leaf place one) in
+    let z = option_map_or f l.to (made.leaf place (skip 1)) in
+    let w0 = c.args.out.now in
+    let w1 = c.control.new.out in
+    let w2 = c.control-2.new.out in
+    let w3 = c.control-3.new.out in
+    let w4 = c.limit.new.out in
+    let w5 = c.emit.new.self in
+    let lim = limits (is_some l.to) place in
+    let last = instr place does.Counter ∷ [] in
+    let from : Writes w0.stop w1.stop w0.list w1.list (stretch x (length w0.list)) =
+    writes-as w0.stop w1.stop w0.list w1.list _ _ (control_list f place (length w0.list) l.from one) (rw c.push_int.ensures at c.control.ensures) in
+    let by : Writes w1.stop w2.stop w1.list w2.list (stretch y (length w1.list)) =
+    writes-as w1.stop w2.stop w1.list w2.list _ _ (control_list f place (length w1.list) l.by one) (rw c.push_int-2.ensures at c.control-2.ensures) in
+    let to : Writes w2.stop w3.stop w2.list w3.list (stretch z (length w2.list)) =
+    writes-as w2.stop w3.stop w2.list w3.list _ _ (control_list f place (length w2.list) l.to (skip 1)) c.control-3.ensures in
+    let limit : Writes w3.stop w4.stop w3.list w4.list lim = rw c.is_some.ensures at c.limit.ensures in
+    let w35 = and_behind w3.stop w4.stop w5.stop w3.list w4.list w5.list lim (λ n. last) limit c.emit.ensures in
+    let w25 = and_behind w2.stop w3.stop w5.stop w2.list w3.list w5.list (stretch z (length w2.list)) (λ n. lim ++ last) to w35 in
+    let w15 = and_behind w1.stop w2.stop w5.stop w1.list w2.list w5.list (stretch y (length w1.list)) (λ n. stretch z n ++ (lim ++ last)) by w25 in
+    let w05 = and_behind w0.stop w1.stop w5.stop w0.list w1.list w5.list (stretch x (length w0.list)) (λ n. stretch y n ++ (stretch z (n + length (stretch y n)) ++ (lim ++ last))) from w15 in
+    writes-as w0.stop w5.stop w0.list w5.list _ _ (three_list x y z (length w0.list) (lim ++ last)) w05
+
+pub enquire-returns : goal.enquire-returns
+enquire-returns t c =
+    let f = behind c.args.id (tree_at c.args.program.now) in
+    let place = c.args.place in
+    let ts = trees_at f c.args.parts.now in
+    let w0 = c.args.out.now in
+    let w1 = c.open.new.out in
+    let w2 = c.all.new.out in
+    let begins = opens c.args.slots place in
+    writes-as w0.stop w2.stop w0.list w2.list _ _ (ap (λ (z : List Instr). begins ++ z) (phrases_whole place (length w0.list + length begins) ts))
+    (and_behind w0.stop w1.stop w2.stop w0.list w1.list w2.list begins (λ n. stretches ts n) c.open.ensures c.all.ensures)
+
+pub ask-enquire-requires : goal.ask-enquire-requires
+ask-enquire-requires t c =
+    let there : (c.args.id < c.in-Some.clause) × (c.in-Some.clause < length c.args.program.now.tree.nodes) = rw c.in-Some.is at c.requires in
+    (omega arith, between-above c.args.id c.in-Some.clause (length c.args.program.now.tree.nodes) c.parts-parts.result.now there.0 c.parts-parts.ensures.behind)
+
+pub ask-returns-in-Some : goal.ask-returns-in-Some
+ask-returns-in-Some t c =
+    let f = behind c.args.id (tree_at c.args.program.now) in
+    let node = c.node.result.now in
+    let same : node.parts ≡ c.parts-parts.result.now = same_Some node.parts c.parts-parts.result.now (sym (ap (option_map (λ (n : Node). n.parts)) c.node.ensures.is) ∙ c.parts-parts.ensures.is) in
+    rw (c.in-Some.is, c.node.ensures.is, c.note.ensures, same) c.enquire.ensures
+
+pub test-returns-clause-writes : goal.test-returns-clause-writes
+test-returns-clause-writes t c =
+    let f = behind c.args.id (tree_at c.args.program.now) in
+    let place = c.args.place in
+    let clause = made.only_id c.parts.result.now in
+    let w0 = c.args.out.now in
+    let w1 = c.ask.new.out in
+    let w2 = c.emit.new.self in
+    let first : Writes w0.stop w1.stop w0.list w1.list (asked (made.enquiry_at c.args.program.now f clause) (length w0.list)) = rw c.only_id.ensures.only at c.ask.ensures in
+    let here = test_is c.args.program.now f c.args.test c.in-Some.part c.parts.result.now c.in-Some.is c.parts.ensures.is in
+    writes-as w0.stop w2.stop w0.list w2.list _ _ (asked_whole c.args.program.now f place (length w0.list) clause ∙ ap (λ (u : Test). test_stretch place 0 u (length w0.list)) (sym here))
+    (and_behind w0.stop w1.stop w2.stop w0.list w1.list w2.list (asked (made.enquiry_at c.args.program.now f clause) (length w0.list)) (λ n. instr place (does.Unless 0) ∷ []) first c.emit.ensures)
+
+pub test-returns-clause-unless : goal.test-returns-clause-unless
+test-returns-clause-unless t c = λ none.
+    let f = behind c.args.id (tree_at c.args.program.now) in
+    let clause = made.only_id c.parts.result.now in
+    let w0 = c.args.out.now in
+    let w1 = c.ask.new.out in
+    let at = length w0.list in
+    let w2 = c.emit.new.self in
+    let what = asked (made.enquiry_at c.args.program.now f clause) at in
+    let first : Writes w0.stop w1.stop w0.list w1.list what = rw c.only_id.ensures.only at c.ask.ensures in
+    let here = test_is c.args.program.now f c.args.test c.in-Some.part c.parts.result.now c.in-Some.is c.parts.ensures.is in
+    let list = is_written w0.stop w1.stop w0.list w1.list what first (had_not w1.stop w2.stop w1.list w2.list _ c.emit.ensures none) in
+    let long : c.len-unless.result ≡ at + length what = c.len-unless.ensures.long ∙ ap (λ (l : List Instr). length l) list ∙ length-append w0.list what in
+    ap (λ n. Some n) long ∙ unless_stands c.args.program.now f at clause ∙ ap (λ (u : Test). unless_at u at) (sym here)
 
 pub repeat-returns : goal.repeat-returns
 repeat-returns t c =
-    let two = two_parts c.args.parts.now (omega arith) in
-    let all = loop_all c.args.out.now.stop c.loop_head.new.out.stop c.unit.new.out.stop c.emit.new.self.stop c.unit-2.new.out.stop c.patch.new.self.stop c.patch-2.new.self.stop c.emit-2.new.self.stop c.emit-3.new.self.stop c.emit-4.new.self.stop
-    c.args.out.now.list c.loop_head.new.out.list c.unit.new.out.list c.emit.new.self.list c.unit-2.new.out.list c.patch.new.self.list c.patch-2.new.self.list c.emit-2.new.self.list c.emit-3.new.self.list c.emit-4.new.self.list
-    c.args.place (c.len-step.result + 4) c.len-unless.result (c.len-end.result + 2)
-    (tree_at c.args.program.now (get_or c.args.parts.now 0 0)) (tree_at c.args.program.now (get_or c.args.parts.now 1 0))
-    (ap (λ n. n + 4) c.len-step.ensures.long) c.loop_head.ensures c.unit.ensures c.len-unless.ensures.long c.emit.ensures c.unit-2.ensures (ap (λ n. n + 2) c.len-end.ensures.long) c.patch.ensures.list c.patch.ensures.stop c.patch-2.ensures.list c.patch-2.ensures.stop c.emit-2.ensures c.emit-3.ensures c.emit-4.ensures in
-    rw two all
+    let f = behind c.args.id (tree_at c.args.program.now) in
+    let l = c.loop_parts-parts.result in
+    let w0 = c.args.out.now in
+    let w1 = c.count.new.out in
+    let w2 = c.turn.new.out in
+    let w3 = c.test-unless.new.out in
+    let w4 = c.body.new.out in
+    let w5 = c.leave_frames.new.out in
+    let w6 = c.patch.new.self in
+    let w7 = c.patch_some.new.self in
+    let w8 = c.emit.new.self in
+    let w9 = c.emit-2.new.self in
+    let w10 = c.leave_frames-2.new.out in
+    let w11 = c.emit-3.new.self in
+    let all = loop_all w0.stop w1.stop w2.stop w3.stop w4.stop w5.stop w6.stop w7.stop w8.stop w9.stop w10.stop w11.stop
+    w0.list w1.list w2.list w3.list w4.list w5.list w6.list w7.list w8.list w9.list w10.list w11.list
+    f c.args.place l.from l.by l.to l.counts (made.test_of c.args.program.now f l.test) (option_map_or f l.body unbuilt)
+    c.len-step.result (c.len-quit.result + 2) (c.len-quit.result + 2 + c.depth-frames.result) c.depth-frames.result c.test-unless.result
+    c.count.ensures c.len-step.ensures.long c.turn.ensures c.test-unless.ensures.writes c.test-unless.ensures.unless c.body.ensures (c.depth-frames.ensures.frames f) c.leave_frames.ensures
+    (ap (λ n. n + 2) c.len-quit.ensures.long) refl c.patch.ensures.list c.patch.ensures.stop c.patch_some.ensures.list c.patch_some.ensures.stop
+    c.emit.ensures c.emit-2.ensures c.leave_frames-2.ensures c.emit-3.ensures in
+    subst (λ (u : Tree). Writes w0.stop w11.stop w0.list w11.list (stretch u (length w0.list))) (sym (c.loop_parts-parts.ensures.is f c.args.place)) all

@@ -2,7 +2,7 @@ use Rattle.std.proofs.Common.{List, ◌≤◌, ◌-◌, ◌+◌, ◌*◌, drop, 
 use Rattle.std.specs.declared.option.Option.{Option}
 use Rattle.a68_base.specs.declared.refusal.Stop.{Stop}
 use Rattle.a68_code.specs.declared.code.Instr.{Instr}
-use Rattle.a68_elab.specs.Made.{tree_at, trees_at}
+use Rattle.a68_elab.specs.Made.{behind, tree_at, trees_at}
 use Rattle.a68_gen.specs.Chains.{IsWithin, link_tree}
 use Rattle.a68_gen.specs.Listing.{stretches}
 use Rattle.a68_gen.specs.Writing.{Writes}
@@ -54,10 +54,46 @@ decreases-all l = 8 * (length l.program.now.tree.nodes - l.id) + 1
 abbrev pub decreases-otherwise : goal.decreases-otherwise
 decreases-otherwise l = 8 * (length l.program.now.tree.nodes - l.id) + 1
 
+abbrev pub decreases-write_part : goal.decreases-write_part
+decreases-write_part l = 8 * (length l.program.now.tree.nodes - l.id) + 0
+
+abbrev pub decreases-last : goal.decreases-last
+decreases-last l = 8 * (length l.program.now.tree.nodes - l.id) + 2
+
+abbrev pub decreases-definition : goal.decreases-definition
+decreases-definition l = 8 * (length l.program.now.tree.nodes - l.id) + 3
+
+abbrev pub decreases-declared : goal.decreases-declared
+decreases-declared l = 8 * (length l.program.now.tree.nodes - l.id) + 3
+
+abbrev pub decreases-collateral : goal.decreases-collateral
+decreases-collateral l = 8 * (length l.program.now.tree.nodes - l.id) + 5
+
+abbrev pub decreases-prints : goal.decreases-prints
+decreases-prints l = 8 * (length l.program.now.tree.nodes - l.id) + 3
+
+abbrev pub decreases-control : goal.decreases-control
+decreases-control l = 8 * (length l.program.now.tree.nodes - l.id) + 1
+
+abbrev pub decreases-count : goal.decreases-count
+decreases-count l = 8 * (length l.program.now.tree.nodes - l.id) + 2
+
+abbrev pub decreases-enquire : goal.decreases-enquire
+decreases-enquire l = 8 * (length l.program.now.tree.nodes - l.id) + 2
+
+abbrev pub decreases-ask : goal.decreases-ask
+decreases-ask l = 8 * (length l.program.now.tree.nodes - l.id) + 3
+
+abbrev pub decreases-test : goal.decreases-test
+decreases-test l = 8 * (length l.program.now.tree.nodes - l.id) + 4
+
+abbrev pub decreases-body : goal.decreases-body
+decreases-body l = 8 * (length l.program.now.tree.nodes - l.id) + 1
+
 -- with the rest of the parts, all of them are written
 abbrev pub invariant-all-loop-part : goal.invariant-all-loop-part
-invariant-all-loop-part l = (s : Option Stop) (end : List Instr) → Writes l.out.stop s l.out.list end (stretches (trees_at (tree_at l.program) (drop l.part-index l.parts)) (length l.out.list))
-    → Writes l.initial.out.stop s l.initial.out.list end (stretches (trees_at (tree_at l.program) l.parts) (length l.initial.out.list))
+invariant-all-loop-part l = (s : Option Stop) (end : List Instr) → Writes l.out.stop s l.out.list end (stretches (trees_at (behind l.id (tree_at l.program)) (drop l.part-index l.parts)) (length l.out.list))
+    → Writes l.initial.out.stop s l.initial.out.list end (stretches (trees_at (behind l.id (tree_at l.program)) l.parts) (length l.initial.out.list))
 
 -- the links before this one are written
 abbrev pub invariant-write_links-links : goal.invariant-write_links-links

@@ -1,4 +1,4 @@
-use Rattle.std.proofs.Common.{◌≡◌, ◌+◌, [], drop, get_or, sym, ◌∙◌, ap, arith, List}
+use Rattle.std.proofs.Common.{◌≡◌, ◌+◌, [], drop, sym, ◌∙◌, ap, arith, List}
 use Rattle.std.proofs.lemmas.List.{drop_all}
 use Rattle.a68_code.specs.declared.code.Instr.{Instr}
 use Rattle.a68_gen.specs.Writing.{aim_all}

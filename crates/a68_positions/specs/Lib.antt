@@ -1,0 +1,4 @@
+pub mod Given
+pub mod Aside
+pub mod Positions
+pub mod Below

@@ -1,0 +1,7 @@
+//! Tests of what is asked of the nodes of a tree, by hand.
+#![tactic(auto)]
+
+#[cfg(test)]
+mod asked;
+#[cfg(test)]
+mod rows;

@@ -1,0 +1,6 @@
+pub mod Beginning
+pub mod Descending
+pub mod Fitting
+pub mod Ones
+pub mod Ordering
+pub mod Walking
