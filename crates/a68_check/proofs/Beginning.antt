@@ -1,12 +1,12 @@
 -- Where all nodes of a tree begin by a byte, so do those of its shaped tree; so the tree is refused at a place of its own.
-use Rattle.std.proofs.Common.{◌≡◌, ℕ, ◌≤◌, List, arith, refl, Some, None, slice_get}
+use Rattle.std.proofs.Common.{◌≡◌, ℕ, ◌≤◌, List, arith, refl, sym, subst, Some, None, slice_get}
 use Rattle.std.specs.Option.{option_map_or}
 use Rattle.std.specs.declared.option.Option.{Option}
 use Rattle.a68_annot.specs.declared.annotated.Annotated.{Annotated}
 use Rattle.a68_base.specs.declared.refusal.Refusal.{Refusal}
-use Rattle.a68_check.specs.Annotates.{Annotates, Breaks, IsMisdeclared, Refuses, broken, declared_twice, declarer, misdeclared, related, unshaped, place_at, other, repeats, undefined}
+use Rattle.a68_check.specs.Annotates.{Annotates, Breaks, IsMeantWrong, Refuses, broken, declared_twice, meant_wrong, misused, twice, unshaped, place_at, other, repeats, undefined}
 use Rattle.a68_check.specs.Definitions.{in_text}
-use Rattle.a68_declare.specs.Outcome.{IsFirstBroken}
+use Rattle.a68_meaning.specs.Meaning.{IsMisused}
 use Rattle.a68_op_ident.specs.Shapes.{Shaped, IsBegun}
 use Rattle.a68_tree.specs.Trees.{Built}
 use Rattle.a68_tree.specs.declared.node.Node.{Node}
@@ -31,7 +31,7 @@ broken_by tree end r by (undefined n rule place runs new first) = let w = place_
 abbrev StartBy : List ℕ → (end : ℕ) → Type 0
 StartBy starts end = (i s : ℕ) → slice_get starts i ≡ Some s → s ≤ end
 
-module _ (declared : (flat : Built) (end : ℕ) (r : Refusal) → BeginBy flat.nodes end → StartBy flat.starts end → IsFirstBroken flat r → r.place ≤ end) (begun : (flat shaped : Built) → Shaped flat shaped → (id : ℕ) (n : Node) → slice_get shaped.nodes id ≡ Some n → IsBegun flat.nodes n.span.from) where
+module _ (misuse : (tree : Built) (end : ℕ) (r : Refusal) → BeginBy tree.nodes end → StartBy tree.starts end → IsMisused tree r → r.place ≤ end) (begun : (flat shaped : Built) → Shaped flat shaped → (id : ℕ) (n : Node) → slice_get shaped.nodes id ≡ Some n → IsBegun flat.nodes n.span.from) where
   shaped_by : (flat shaped : Built) (end : ℕ) → BeginBy flat.nodes end → Shaped flat shaped → BeginBy shaped.nodes end
   shaped_by flat shaped end by s id n at =
       let b = begun flat shaped s id n at in
@@ -39,15 +39,16 @@ module _ (declared : (flat : Built) (end : ℕ) (r : Refusal) → BeginBy flat.n
       let w = by b.id b.node b.there in
       omega arith
 
-  misdeclared_by : (flat : Built) (end : ℕ) (r : Refusal) → BeginBy flat.nodes end → StartBy flat.starts end → IsMisdeclared flat r → r.place ≤ end
-  misdeclared_by flat end r by starts (declarer b) = declared flat end r by starts b
-  misdeclared_by flat end r by starts (related m f later are first rule place) = let w = place_by flat end by later in omega arith
+  wrong_by : (tree : Built) (end : ℕ) (r : Refusal) → BeginBy tree.nodes end → StartBy tree.starts end → IsMeantWrong tree r → r.place ≤ end
+  wrong_by tree end r by starts (twice t) = let e = t.place_is in let w = place_by tree end by t.id in omega arith
+  wrong_by tree end r by starts (misused once b) = misuse tree end r by starts b
 
   pub refused_by : (flat : Built) (end : ℕ) (r : Refusal) → BeginBy flat.nodes end → StartBy flat.starts end → Refuses flat r → r.place ≤ end
   refused_by flat end r by starts (declared_twice t) = let e = t.place_is in let w = place_by flat end by t.id in omega arith
   refused_by flat end r by starts (unshaped once t) = let e = t.place_is in let w = place_by flat end by t.id in omega arith
-  refused_by flat end r by starts (misdeclared shaped once is b) = misdeclared_by flat end r by starts b
-  refused_by flat end r by starts (broken shaped once well is b) = broken_by shaped end r (shaped_by flat shaped end by is) b
+  refused_by flat end r by starts (meant_wrong shaped once is b) =
+      wrong_by shaped end r (shaped_by flat shaped end by is) (subst (λ x. StartBy x end) (sym is.starts) starts) b
+  refused_by flat end r by starts (broken shaped once is well b) = broken_by shaped end r (shaped_by flat shaped end by is) b
 
   pub annotated_by : (flat : Built) (end : ℕ) (program : Annotated) → BeginBy flat.nodes end → Annotates flat program → BeginBy program.tree.nodes end
   annotated_by flat end program by a = shaped_by flat program.tree end by a.shaped

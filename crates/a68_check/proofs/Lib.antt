@@ -1,6 +1,5 @@
 pub mod Answering
 pub mod Beginning
-pub mod Declaring
 pub mod Defining
 pub mod Fitting
 pub mod Forming

@@ -5,13 +5,16 @@ use Rattle.a68_annot.specs.declared.note.Note.{Note}
 use Rattle.a68_modes.specs.declared.shape.Shape.{Shape}
 use Rattle.a68_annot.specs.declared.annotated.Annotated.{Annotated}
 use Rattle.a68_base.specs.declared.refusal.Refusal.{Refusal}
-use Rattle.a68_check.specs.Annotates.{IsAnnotated, Annotates, Breaks, Refuses, DeclaresOnce, IsMisdeclared, IsWellDeclared, broken, declared_twice, misdeclared, unshaped, other, repeats, undefined, place_at}
+use Rattle.a68_check.specs.Annotates.{IsAnnotated, Annotates, Breaks, Refuses, DeclaresOnce, IsMeantWrong, IsWellMeant, broken, declared_twice, meant_wrong, misused, twice, unshaped, other, repeats, undefined, place_at}
 use Rattle.a68_check.specs.Goals.{goals_of}
 use Rattle.a68_check.specs.Misfits.{FirstOther}
 use Rattle.a68_check.specs.Notes.{notes_of}
 use Rattle.a68_check.specs.Small.{Runs}
 use Rattle.a68_check.proofs.Missing.{one_other, other_runs_not}
 use Rattle.a68_check.specs.Definitions.{in_text, FirstRepeat, FirstUndefined}
+use Rattle.a68_declare.specs.Outcome.{ByNode}
+use Rattle.a68_meaning.specs.Meaning.{IsMisused, IsUnbroken}
+use Rattle.a68_refusals.specs.First.{Asked}
 use Rattle.a68_op_ident.specs.Lacking.{IsUnshaped, LacksPriority}
 use Rattle.a68_op_ident.specs.Shapes.{Shaped}
 use Rattle.a68_ranges.specs.Nodes as nodes
@@ -90,40 +93,52 @@ one_first tree P i j p q = let a = p.first j q.there q.broken in let b = q.first
 pub record Laws : Type 0 where
   pub shapes : (flat shaped another : Built) → DeclaresOnce flat → Shaped flat shaped → Shaped flat another → another ≡ shaped
   pub never : (flat shaped : Built) (why : Refusal) → DeclaresOnce flat → IsUnshaped flat why → Shaped flat shaped → ⊥
-  pub declared : (flat : Built) → DeclaresOnce flat → (r s : Refusal) → IsMisdeclared flat r → IsMisdeclared flat s → AreOne r s
-  pub unbroken : (flat : Built) → DeclaresOnce flat → (r : Refusal) → IsWellDeclared flat → IsMisdeclared flat r → ⊥
+  pub misuse : (tree : Built) → DeclaresOnce tree → (r s : Refusal) → IsMisused tree r → IsMisused tree s → AreOne r s
+  pub unbroken : (of : ByNode) (a : Asked) (r : Refusal) → DeclaresOnce a.tree → IsUnbroken of a → IsMisused a.tree r → ⊥
 
 module _ (laws : Laws) where
-  fine : (flat : Built) (r : Refusal) → DeclaresOnce flat → IsWellDeclared flat → IsMisdeclared flat r → ⊥
-  fine flat r once well b = laws.unbroken flat once r well b
+  -- of shaped trees
+  one_wrong : (tree : Built) (r s : Refusal) → IsMeantWrong tree r → IsMeantWrong tree s → AreOne r s
+  one_wrong tree r s (twice t) (twice u) = (t.rule_is ∙ sym u.rule_is, t.place_is ∙ one_first tree (IsTwice tree) t.id u.id t.first u.first ∙ sym u.place_is)
+  one_wrong tree r s (twice t) (misused once u) = absurd (once t.id t.first.broken)
+  one_wrong tree r s (misused once t) (twice u) = absurd (once u.id u.first.broken)
+  one_wrong tree r s (misused once t) (misused so u) = laws.misuse tree once r s t u
+
+  not_wrong : (tree : Built) (r : Refusal) → IsWellMeant tree → IsMeantWrong tree r → ⊥
+  not_wrong tree r well (twice t) = well.once t.id t.first.broken
+  not_wrong tree r well (misused once t) =
+      laws.unbroken well.of well.asked r (subst DeclaresOnce (sym well.tree_is) once) well.fine (subst (λ t. IsMisused t r) (sym well.tree_is) t)
 
   twice_alone : (flat : Built) (r s : Refusal) → IsRefused flat r → Refuses flat s → AreOne r s
   twice_alone flat r s t (declared_twice u) = (t.rule_is ∙ sym u.rule_is, t.place_is ∙ one_first flat (IsTwice flat) t.id u.id t.first u.first ∙ sym u.place_is)
   twice_alone flat r s t (unshaped once u) = absurd (once t.id t.first.broken)
-  twice_alone flat r s t (misdeclared shaped once is b) = absurd (once t.id t.first.broken)
-  twice_alone flat r s t (broken shaped once well is b) = absurd (once t.id t.first.broken)
+  twice_alone flat r s t (meant_wrong shaped once is b) = absurd (once t.id t.first.broken)
+  twice_alone flat r s t (broken shaped once is well b) = absurd (once t.id t.first.broken)
 
   pub one_refusal : (flat : Built) (r s : Refusal) → Refuses flat r → Refuses flat s → AreOne r s
   one_refusal flat r s (declared_twice t) q = twice_alone flat r s t q
   one_refusal flat r s (unshaped once u) (declared_twice t) = absurd (once t.id t.first.broken)
   one_refusal flat r s (unshaped once t) (unshaped so u) = (t.rule_is ∙ sym u.rule_is, t.place_is ∙ one_first flat (LacksPriority flat) t.id u.id t.first u.first ∙ sym u.place_is)
-  one_refusal flat r s (unshaped once u) (misdeclared shaped so is b) = absurd (laws.never flat shaped r once u is)
-  one_refusal flat r s (unshaped once u) (broken shaped so well is b) = absurd (laws.never flat shaped r once u is)
-  one_refusal flat r s (misdeclared shaped once is b) (declared_twice t) = absurd (once t.id t.first.broken)
-  one_refusal flat r s (misdeclared shaped once is b) (unshaped so u) = absurd (laws.never flat shaped s once u is)
-  one_refusal flat r s (misdeclared shaped once is b) (misdeclared another so also c) = laws.declared flat once r s b c
-  one_refusal flat r s (misdeclared shaped once is b) (broken another so well also c) = absurd (fine flat r once well b)
-  one_refusal flat r s (broken shaped once well is b) (declared_twice t) = absurd (once t.id t.first.broken)
-  one_refusal flat r s (broken shaped once well is b) (unshaped so u) = absurd (laws.never flat shaped s once u is)
-  one_refusal flat r s (broken shaped once well is b) (misdeclared another so also c) = absurd (fine flat s once well c)
-  one_refusal flat r s (broken shaped once well is b) (broken another so good also c) =
+  one_refusal flat r s (unshaped once u) (meant_wrong shaped so is b) = absurd (laws.never flat shaped r once u is)
+  one_refusal flat r s (unshaped once u) (broken shaped so is well b) = absurd (laws.never flat shaped r once u is)
+  one_refusal flat r s (meant_wrong shaped once is b) (declared_twice t) = absurd (once t.id t.first.broken)
+  one_refusal flat r s (meant_wrong shaped once is b) (unshaped so u) = absurd (laws.never flat shaped s once u is)
+  one_refusal flat r s (meant_wrong shaped once is b) (meant_wrong another so also c) = one_wrong shaped r s b (subst (λ x. IsMeantWrong x s) (laws.shapes flat shaped another once is also) c)
+  one_refusal flat r s (meant_wrong shaped once is b) (broken another so also well c) =
+      absurd (not_wrong shaped r (subst IsWellMeant (laws.shapes flat shaped another once is also) well) b)
+  one_refusal flat r s (broken shaped once is well b) (declared_twice t) = absurd (once t.id t.first.broken)
+  one_refusal flat r s (broken shaped once is well b) (unshaped so u) = absurd (laws.never flat shaped s once u is)
+  one_refusal flat r s (broken shaped once is well b) (meant_wrong another so also c) =
+      absurd (not_wrong shaped s well (subst (λ x. IsMeantWrong x s) (laws.shapes flat shaped another once is also) c))
+  one_refusal flat r s (broken shaped once is well b) (broken another so also good c) =
       one_break shaped r s b (subst (λ x. Breaks x s) (laws.shapes flat shaped another once is also) c)
 
   pub not_refused : (flat : Built) (program : Annotated) (r : Refusal) → Annotates flat program → Refuses flat r → ⊥
   not_refused flat program r a (declared_twice t) = a.once t.id t.first.broken
   not_refused flat program r a (unshaped once u) = laws.never flat program.tree r once u a.shaped
-  not_refused flat program r a (misdeclared shaped once is b) = fine flat r once a.declared b
-  not_refused flat program r a (broken shaped once well is b) = no_break program r a.annotated (subst (λ x. Breaks x r) (laws.shapes flat program.tree shaped once a.shaped is) b)
+  not_refused flat program r a (meant_wrong shaped once is b) =
+      not_wrong program.tree r a.meant (subst (λ x. IsMeantWrong x r) (laws.shapes flat program.tree shaped once a.shaped is) b)
+  not_refused flat program r a (broken shaped once is well b) = no_break program r a.annotated (subst (λ x. Breaks x r) (laws.shapes flat program.tree shaped once a.shaped is) b)
 
   pub one_program : (flat : Built) (a b : Annotated) → Annotates flat a → Annotates flat b → a ≡ b
   one_program flat a b p q = one_annotation a b (sym (laws.shapes flat a.tree b.tree p.once p.shaped q.shaped)) p.annotated q.annotated

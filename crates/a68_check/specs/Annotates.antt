@@ -1,23 +1,21 @@
 -- The annotated tree of a program that runs, and why another one is refused.
-use Rattle.std.specs.Prelude.{◌≡◌, ℕ, ◌<◌, List, length, slice_get, Some}
+use Rattle.std.specs.Prelude.{◌≡◌, ℕ, ◌<◌, length, slice_get}
 use Rattle.std.specs.Option.{option_map_or}
 use Rattle.a68_annot.specs.declared.annotated.Annotated.{Annotated}
 use Rattle.a68_base.specs.declared.refusal.Refusal.{Refusal}
-use Rattle.a68_base.specs.declared.refusal.Rule.TheVariants.{X0, N1, N3, O2}
+use Rattle.a68_base.specs.declared.refusal.Rule.TheVariants.{X0, N1, N3}
 use Rattle.a68_check.specs.Definitions.{in_text, Repeats, FirstRepeat, Undefined, FirstUndefined}
 use Rattle.a68_check.specs.Goals.{goals_of}
 use Rattle.a68_check.specs.Misfits.{FirstOther}
 use Rattle.a68_check.specs.Notes.{notes_of}
 use Rattle.a68_check.specs.Small.{Runs}
-use Rattle.a68_declare.specs.Outcome.{AreModesOf, ByNode, IsFirstBroken}
-use Rattle.a68_identify.specs.Operators.{IsRelatedPair}
+use Rattle.a68_declare.specs.Outcome.{ByNode}
+use Rattle.a68_meaning.specs.Meaning.{IsMisused, IsUnbroken}
 use Rattle.a68_modes.specs.Nodes.{standard_shapes}
-use Rattle.a68_modes.specs.declared.shape.Shape.{Shape}
 use Rattle.a68_op_ident.specs.Lacking.{IsUnshaped}
 use Rattle.a68_op_ident.specs.Shapes.{Shaped}
-use Rattle.a68_ranges.specs.Indexed.{IsLeast}
-use Rattle.a68_ranges.specs.Nodes as nodes
 use Rattle.a68_ranges.specs.Twice.{IsTwice, IsRefused}
+use Rattle.a68_refusals.specs.First.{Asked}
 use Rattle.a68_tree.specs.Trees.{Built}
 use Rattle.a68_tree.specs.declared.node.Node.{Node}
 
@@ -50,30 +48,30 @@ pub data Breaks (tree : Built) (refusal : Refusal) : Type 0 where
 abbrev pub DeclaresOnce : Built → Type 0
 DeclaresOnce flat = (id : ℕ) → IsTwice flat id → ⊥
 
--- its declarers have modes, and break no rule; no range defines an operator that is related to an earlier one
-pub record IsWellDeclared (flat : Built) : Type 0 where
-  pub modes : List Shape
+-- Once its formulas are shaped, what each node means is known, and none breaks a rule.
+pub record IsWellMeant (shaped : Built) : Type 0 where
+  pub once : DeclaresOnce shaped
   pub of : ByNode
-  pub are : AreModesOf flat modes of
-  pub unrelated : (later : ℕ) → IsRelatedPair flat modes of later → ⊥
+  pub asked : Asked
+  pub tree_is : asked.tree ≡ shaped
+  pub fine : IsUnbroken of asked
 
--- the rule that its declarers break; else two related operators of one range, at the later one that stands first in the text
-pub data IsMisdeclared (flat : Built) (refusal : Refusal) : Type 0 where
-  declarer : IsFirstBroken flat refusal → IsMisdeclared flat refusal
-  related : (modes : List Shape) (of : ByNode) (later : ℕ) → AreModesOf flat modes of → IsLeast flat (IsRelatedPair flat modes of) (Some later)
-      → refusal.rule ≡ O2 → refusal.place ≡ nodes.place_at flat later → IsMisdeclared flat refusal
+-- a word of it is declared twice, or it breaks a rule of declarers, operators, tags, coercions or counts
+pub data IsMeantWrong (shaped : Built) (refusal : Refusal) : Type 0 where
+  twice : IsRefused shaped refusal → IsMeantWrong shaped refusal
+  misused : DeclaresOnce shaped → IsMisused shaped refusal → IsMeantWrong shaped refusal
 
 -- The annotated tree of a flat one: its formulas are shaped where they can be read.
 pub record Annotates (flat : Built) (program : Annotated) : Type 0 where
   pub once : DeclaresOnce flat
-  pub declared : IsWellDeclared flat
   pub shaped : Shaped flat program.tree
+  pub meant : IsWellMeant program.tree
   pub annotated : IsAnnotated program
 
--- The rule that a flat tree breaks: a word is declared twice; else a sign between two operands has no priority; else what
--- its declarers break, or operators that are related; else what it breaks once its formulas are shaped.
+-- The rule that a flat tree breaks: a word is declared twice; else a sign between two operands has no priority; else what it
+-- breaks once its formulas are shaped: the rules of what nodes mean, and then that a form does not run yet.
 pub data Refuses (flat : Built) (refusal : Refusal) : Type 0 where
   declared_twice : IsRefused flat refusal → Refuses flat refusal
   unshaped : DeclaresOnce flat → IsUnshaped flat refusal → Refuses flat refusal
-  misdeclared : (shaped : Built) → DeclaresOnce flat → Shaped flat shaped → IsMisdeclared flat refusal → Refuses flat refusal
-  broken : (shaped : Built) → DeclaresOnce flat → IsWellDeclared flat → Shaped flat shaped → Breaks shaped refusal → Refuses flat refusal
+  meant_wrong : (shaped : Built) → DeclaresOnce flat → Shaped flat shaped → IsMeantWrong shaped refusal → Refuses flat refusal
+  broken : (shaped : Built) → DeclaresOnce flat → Shaped flat shaped → IsWellMeant shaped → Breaks shaped refusal → Refuses flat refusal

@@ -1,7 +1,7 @@
 //! Trees that run, with what is known of each node.
 ghost use Rattle.std.specs.Prelude.{◌≡◌, ◌<◌, IfOk, IfErr, length};
 ghost use Rattle.a68_base.specs.declared.refusal.Stop.TheVariants as stop;
-ghost use Rattle.a68_check.specs.Annotates.{IsAnnotated, IsMisdeclared, IsNamed, Annotates, Breaks, Refuses, DeclaresOnce, IsWellDeclared, place_at};
+ghost use Rattle.a68_check.specs.Annotates.{IsAnnotated, IsMeantWrong, IsNamed, Annotates, Breaks, Refuses, DeclaresOnce, IsWellMeant, place_at};
 ghost use Rattle.a68_check.specs.Notes.{notes_of};
 ghost use Rattle.a68_check.specs.Small.{Runs};
 ghost use Rattle.a68_modes.specs.Nodes.{standard_shapes};
@@ -14,9 +14,7 @@ use crate::notes::notes;
 use crate::small::program;
 use a68_annot::{Annotated, Notes};
 use a68_base::{Refusal, Rule, Stop};
-use a68_declare::{Declared, declare};
-use a68_declarers::place_of;
-use a68_identify::{declared_modes_are_there, related_pair};
+use a68_meaning::find_meaning;
 use a68_modes::Modes;
 use a68_op_ident::shape;
 use a68_ranges::{Ranges, ranges};
@@ -75,57 +73,41 @@ fn annotate_shaped(alloc: Global, tree: Tree) -> Result<Annotated, Stop>
     }
 }
 
-// Tests the declarers of a tree, and the operators that its ranges define.
-fn declarations(alloc: Global, tree: &Tree, ranges: &Ranges) -> Result<(), Stop>
-    requires { AreRanges tree.now ranges.now }
-    ensures well { IfOk result (λ x. IsWellDeclared tree.now) }
-    ensures broken { IfErr result (StopsBy (IsMisdeclared tree.now)) }
+// Tests what the nodes of a tree mean, whose formulas are shaped.
+fn test_meaning(alloc: Global, tree: &Tree) -> Result<(), Stop>
+    ensures well { IfOk result (λ x. IsWellMeant tree.now) }
+    ensures wrong { IfErr result (StopsBy (IsMeantWrong tree.now)) }
 {
-    let declared = declare(alloc, tree, ranges)?;
-    let Declared {
-        modes,
-        classes,
-        of,
-        ..
-    } = &declared;
-    declared_modes_are_there();
-    let related = related_pair(alloc, tree, ranges, modes, classes, of)?;
-    match related {
-        None => Ok(()),
-        Some(later) => Err(Stop::Refused(Refusal {
-            rule: Rule::O2,
-            place: place_of(tree, later),
-        })),
+    let ranges = ranges(alloc, tree)?;
+    match find_meaning(alloc, tree, &ranges) {
+        Ok(_) => Ok(()),
+        Err(stop) => Err(stop),
     }
 }
 
-// Annotates a tree whose formulas are flat and whose ranges declare no word twice. A sign without a priority is told of
-// before what the declarers break.
+// Annotates a tree whose formulas are flat and whose ranges declare no word twice.
 fn annotate_flat(alloc: Global, tree: Tree, ranges: &Ranges) -> Result<Annotated, Stop>
     requires ranges { AreRanges tree ranges.now }
     requires once { DeclaresOnce tree }
     ensures ok { IfOk result (λ program. Annotates tree program) }
     ensures refused { IfErr result (λ why. StopsBy (Refuses tree) why) }
 {
-    let declared = declarations(alloc, &tree, ranges);
-    match shape(alloc, tree, ranges) {
-        Err(stop) => Err(stop),
-        Ok(shaped) => match declared {
-            Ok(()) => annotate_shaped(alloc, shaped),
-            Err(stop) => {
-                drop(shaped);
-                Err(stop)
-            }
-        },
+    let shaped = shape(alloc, tree, ranges)?;
+    match test_meaning(alloc, &shaped) {
+        Ok(()) => annotate_shaped(alloc, shaped),
+        Err(stop) => {
+            drop(shaped);
+            Err(stop)
+        }
     }
 }
 
 /// What each node of a tree means, whose formulas are flat. The tree is refused by N3 where a range declares a word of one
 /// sort twice, or a structure has two fields of one tag (Report, 7.1.1 and 7.2.1); by O3 where a sign between two operands
 /// has no priority (4.3); by N2, L4, M1, M2 or C4, the first of these that its declarers break (4.6 to 4.8 and 7.4); by O2
-/// where a range defines two operators of one sign with related parameters (7.1.1); by X0 where it has a form that does not
-/// run yet; and by N1 where it uses a tag that it does not define (7.2); each time at the first place in the text that breaks
-/// the rule.
+/// where a range defines two operators of one sign with related parameters (7.1.1); each time at the first place in the text
+/// that breaks the rule. Else it is refused by the first of N1, N4, O1, C1, C2, C3, P1 and P2 that a node breaks, where parts
+/// come before their node (3.3 to 3.4, 5.2 to 5.4, 6.1 and 7.2); and else by X0 where it has a form that does not run yet.
 pub fn annotate(alloc: Global, tree: Tree) -> Result<Annotated, Stop>
     ensures ok { IfOk result (λ program. Annotates tree program) }
     ensures refused { IfErr result (λ why. StopsBy (Refuses tree) why) }

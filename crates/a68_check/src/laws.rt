@@ -9,7 +9,7 @@ ghost use Rattle.a68_gen.specs.Operands.{FitsModes};
 ghost use Rattle.a68_tree.specs.Trees.{Built, IsSound};
 ghost use Rattle.a68_tree.specs.declared.node.Node.{Node};
 
-use a68_declare::{declarations_are_one, declarations_begin_by};
+use a68_meaning::{meanings_are_one, meanings_begin_by};
 use a68_op_ident::{shaped_trees_begin_alike, shapes_are_one};
 
 /// A law: the tree of an annotated program yields nothing, each operation in it has as many parts as it takes values,
@@ -28,7 +28,7 @@ pub fn annotations_are_one()
     ensures programs { (flat : Built) (a b : Annotated) → Annotates flat a → Annotates flat b → a ≡ b }
 {
     shapes_are_one();
-    declarations_are_one();
+    meanings_are_one();
 }
 
 /// A law: where the nodes and the symbols of a tree begin by a byte, it is refused by that byte, and the nodes of its
@@ -40,5 +40,5 @@ pub fn annotations_begin_by()
         → Annotates flat program → (id : ℕ) (n : Node) → slice_get program.tree.nodes id ≡ Some n → n.span.from ≤ end }
 {
     shaped_trees_begin_alike();
-    declarations_begin_by();
+    meanings_begin_by();
 }

@@ -1,20 +1,12 @@
-use Rattle.a68_check.proofs.Declaring.{DeclarersAreOne, not_misdeclared, one_misdeclared}
 use Rattle.a68_check.proofs.One.{Laws, one_refusal, not_refused, one_program}
 use Rattle.a68_check.proofs.laws.annotations_are_one.Goals as goal
 
-declarers : goal.After-declarations_are_one → DeclarersAreOne
-declarers c = record {
-  refusal = c.declarations_are_one.ensures.refusal;
-  apart = c.declarations_are_one.ensures.apart;
-  modes = c.declarations_are_one.ensures.modes;
-}
-
-laws : goal.After-declarations_are_one → Laws
+laws : goal.After-meanings_are_one → Laws
 laws c = record {
   shapes = c.shapes_are_one.ensures.one;
   never = c.shapes_are_one.ensures.apart;
-  declared = one_misdeclared (declarers c);
-  unbroken = not_misdeclared (declarers c);
+  misuse = c.meanings_are_one.ensures.refusal;
+  unbroken = c.meanings_are_one.ensures.apart;
 }
 
 pub returns : goal.returns
