@@ -285,7 +285,7 @@ const REFUSED: &[(&str, u8, &str)] = &[
     (
         "( ( OP P = (INT a) INT: a; OP P = (INT a) INT: a; SKIP ); OP Q = (INT a) INT: a; OP Q = (INT a) INT: a; SKIP )",
         1,
-        "a68: refused O2 at byte 7\n",
+        "a68: refused O2 at byte 30\n",
     ),
     (
         "( MODE A = STRUCT (INT v), B = STRUCT (INT v); OP Q = (A a) INT: 1; OP Q = (B b) INT: 2; SKIP )",
