@@ -4,10 +4,10 @@ use Rattle.std.specs.Option.{option_map_or}
 use Rattle.std.specs.declared.option.Option.{Option}
 use Rattle.a68_annot.specs.declared.annotated.Annotated.{Annotated}
 use Rattle.a68_base.specs.declared.refusal.Refusal.{Refusal}
-use Rattle.a68_check.specs.Annotates.{Annotates, Breaks, IsMeantWrong, Refuses, broken, declared_twice, meant_wrong, misused, twice, unshaped, place_at, other, repeats, undefined}
-use Rattle.a68_check.specs.Definitions.{in_text}
+use Rattle.a68_check.specs.Annotates.{Annotates, IsMeantWrong, Refuses, declared_twice, meant_wrong, misused, twice, unshaped}
 use Rattle.a68_meaning.specs.Meaning.{IsMisused}
 use Rattle.a68_op_ident.specs.Shapes.{Shaped, IsBegun}
+use Rattle.a68_ranges.specs.Nodes.{place_at}
 use Rattle.a68_tree.specs.Trees.{Built}
 use Rattle.a68_tree.specs.declared.node.Node.{Node}
 
@@ -21,11 +21,6 @@ begins_at end (Some n) h = h n refl
 
 place_by : (tree : Built) (end : ℕ) → BeginBy tree.nodes end → (id : ℕ) → place_at tree id ≤ end
 place_by tree end by id = begins_at end (slice_get tree.nodes id) (λ n at. by id n at)
-
-broken_by : (tree : Built) (end : ℕ) (r : Refusal) → BeginBy tree.nodes end → Breaks tree r → r.place ≤ end
-broken_by tree end r by (other id rule place lt not) = let w = place_by tree end by id in omega arith
-broken_by tree end r by (repeats n rule place runs first) = let w = place_by tree end by (in_text tree n) in omega arith
-broken_by tree end r by (undefined n rule place runs new first) = let w = place_by tree end by (in_text tree n) in omega arith
 
 -- all symbols of a text do
 abbrev StartBy : List ℕ → (end : ℕ) → Type 0
@@ -48,7 +43,6 @@ module _ (misuse : (tree : Built) (end : ℕ) (r : Refusal) → BeginBy tree.nod
   refused_by flat end r by starts (unshaped once t) = let e = t.place_is in let w = place_by flat end by t.id in omega arith
   refused_by flat end r by starts (meant_wrong shaped once is b) =
       wrong_by shaped end r (shaped_by flat shaped end by is) (subst (λ x. StartBy x end) (sym is.starts) starts) b
-  refused_by flat end r by starts (broken shaped once is well b) = broken_by shaped end r (shaped_by flat shaped end by is) b
 
   pub annotated_by : (flat : Built) (end : ℕ) (program : Annotated) → BeginBy flat.nodes end → Annotates flat program → BeginBy program.tree.nodes end
   annotated_by flat end program by a = shaped_by flat program.tree end by a.shaped

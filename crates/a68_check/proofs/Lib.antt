@@ -1,12 +1,3 @@
 pub mod Answering
 pub mod Beginning
-pub mod Defining
-pub mod Fitting
-pub mod Forming
-pub mod Known
-pub mod Leading
-pub mod Missing
-pub mod Noting
 pub mod One
-pub mod Parts
-pub mod Spelling

@@ -2,16 +2,7 @@
 #![tactic(auto)]
 
 mod annotation;
-mod construct;
-mod definitions;
-mod goals;
 mod laws;
-mod notes;
-mod small;
-mod spelled;
 
 pub use annotation::annotate;
-pub use construct::Construct;
-pub use definitions::Definition;
-pub use goals::Purpose;
-pub use laws::{annotated_trees_fit, annotations_are_one, annotations_begin_by};
+pub use laws::{annotations_are_one, annotations_begin_by};

@@ -1,4 +1,3 @@
--- Inner: the headline does not rest on this file.
 -- Balancing (Report, 3.2.1 e to g): one of the units that a choice may yield is coerced by the sort of the position, the others strongly to its mode.
 use Rattle.std.specs.Prelude.{◌≡◌, ◌≢◌, ◌<◌, ℕ, List, slice_get, Option, Some, None}
 use Rattle.a68_coerce.specs.declared.leaf.Balanced.{Balanced}

@@ -1,4 +1,3 @@
--- Inner: the headline does not rest on this file.
 -- Goals over nodes that are there.
 use Rattle.std.specs.Prelude.{◌<◌, ◌^◌, ◌+◌, ◌*◌, ℕ, zero, suc, List, Option, Some, None, length}
 use Rattle.a68_equiv.specs.Unfolding.{unfolded}

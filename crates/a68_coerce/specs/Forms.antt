@@ -1,4 +1,3 @@
--- Inner: the headline does not rest on this file.
 -- What a position asks for where the mode itself is not known.
 use Rattle.std.specs.Prelude.{◌≡◌, ◌∷◌, List, Bool, true, false}
 use Rattle.a68_coerce.specs.declared.form.Form.{Form}

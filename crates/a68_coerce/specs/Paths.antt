@@ -1,4 +1,3 @@
--- Inner: the headline does not rest on this file.
 -- Paths: the coercions from one mode to another (Report, 6.1 to 6.7). In which order the rules are tried is own.
 use Rattle.std.specs.Prelude.{◌≡◌, ◌<◌, ℕ, List, [], ◌∷◌, ◌++◌, length, false, Option, Some, None}
 use Rattle.std.specs.List.{All}

@@ -1,4 +1,3 @@
--- Inner: the headline does not rest on this file.
 -- The modes of what a tree defines, and of its routine texts, plans, generators and casts (Report, 3.4.1, 3.5.1, 4.4.1, 4.5.1, 5.2.3, 5.4.1
 -- and 5.5.1). In which order modes join the others is own.
 use Rattle.std.specs.Prelude.{◌≡◌, ◌<◌, ◌-◌, ℕ, suc, Bool, true, false, List, [], ◌∷◌, length, map, replicate, slice_index_or, slice_set, Option, Some, None, if◌then◌else◌}

@@ -1,4 +1,3 @@
--- Inner: the headline does not rest on this file.
 -- The definitions of the tags that a tree applies (Report, 4.8.1 and 7.2.1).
 use Rattle.std.specs.Prelude.{◌≡◌, ◌<◌, ◌-◌, ℕ, Bool, true, false, List, length, slice_get, slice_index_or, nat_lt, Option, Some, None, if◌then◌else◌}
 use Rattle.a68_ranges.specs.Nodes.{kind_at, name_at, parts_at}

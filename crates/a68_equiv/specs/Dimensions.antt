@@ -1,4 +1,3 @@
--- Inner: the headline does not rest on this file.
 -- Rows have dimensions (Report, 4.6.1 h).
 use Rattle.std.specs.Prelude.{◌<◌, ◌^◌, ℕ, List}
 use Rattle.a68_modes.specs.declared.shape.Shape.{Shape}

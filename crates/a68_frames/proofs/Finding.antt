@@ -12,8 +12,9 @@ use Rattle.a68_ranges.specs.Surroundings.{Lies}
 use Rattle.a68_ranges.specs.Links.{IsBelow}
 use Rattle.a68_ranges.specs.Tables.{at_key}
 use Rattle.a68_ranges.specs.declared.nests.Layer.{Layer}
-use Rattle.a68_frames.specs.Frames.{makes, makes_frame, slots_in, frames_of, StandsAt}
-use Rattle.a68_frames.specs.Tables.{Framed, outermost, passed, entered, Reaches, nowhere, here, further, moved, IsPlaceIn, AreSlotsBefore, AreFrames, IsWay, Tables}
+use Rattle.a68_frames.proofs.Slotting.{place_is}
+use Rattle.a68_frames.specs.Frames.{makes, makes_frame, slots_in, frames_of, moved, place_of, way_by, way_from, IsFirstWay, StandsAt, WaysAreOne}
+use Rattle.a68_frames.specs.Tables.{Framed, outermost, passed, entered, Reaches, nowhere, here, further, IsPlaceIn, AreSlotsBefore, AreFrames, IsWay, Tables}
 use Rattle.a68_tree.specs.Trees.{Built}
 use Rattle.a68_tree.specs.declared.kind.NodeKind.{NodeKind}
 use Rattle.a68_tree.specs.declared.kind.NodeKind.TheVariants as kind
@@ -50,12 +51,17 @@ slots_past : (tree : Built) (range : ℕ) → length tree.nodes ≤ range → sl
 unfolding slots_in declared_in
 slots_past tree range h = rw (past tree.nodes range h) refl
 
+place_there : (tree : Built) (entries : List ((ℕ × ℕ) × ℕ)) (counts : List ℕ) (made : List Bool) → AreSlotsBefore tree (length tree.nodes) entries counts made
+    → (range d : ℕ) → at_key entries range d ≡ place_of (slots_in tree range) d
+place_there tree entries counts made are range d =
+    ⊎_elim (λ h. are.places range d h)
+    (λ h. rw (are.none range d h, slots_past tree range h) refl)
+    (below_or range (length tree.nodes))
+
 pub placed : (tree : Built) (entries : List ((ℕ × ℕ) × ℕ)) (counts : List ℕ) (made : List Bool) → AreSlotsBefore tree (length tree.nodes) entries counts made
     → (range d : ℕ) → IsPlaceIn (slots_in tree range) d (at_key entries range d)
 placed tree entries counts made are range d =
-    ⊎_elim (λ h. are.places range d h)
-    (λ h. rw (are.none range d h, slots_past tree range h) (λ place e. absurd (cc)))
-    (below_or range (length tree.nodes))
+    subst (IsPlaceIn (slots_in tree range) d) (sym (place_there tree entries counts made are range d)) (place_is (slots_in tree range) d)
 
 positive : (n : ℕ) → nat_lt 0 (suc n) ≡ true
 positive n = grind (arith, nat_tests)
@@ -151,11 +157,44 @@ module _ (tree : Built) (frames : List Layer) (entries : List ((ℕ × ℕ) × �
   found_in (passed {range = range} {more = more} frameless rest) nest found e r = found_passed tree d range more found frameless (found_in rest nest found e r)
   found_in (entered {more = more} i frame is made rest) nest found e r = found_at more r i frame e is made (λ f q. found_in rest frame.outer f refl q)
 
+-- ---- the one way from the ranges
+
+no_place : (xs : List ℕ) (d : ℕ) → ((place n : ℕ) → slice_get xs place ≡ Some n → ⊥) → place_of xs d ≡ None
+no_place [] d never = refl
+no_place (x ∷ xs) d never = absurd (never 0 x refl)
+
+module _ (tree : Built) (frames : List Layer) (entries : List ((ℕ × ℕ) × ℕ)) (d : ℕ) (there : (range : ℕ) → at_key entries range d ≡ place_of (slots_in tree range) d) where
+  way_past : (range : ℕ) (rest : Option FrameStep) → makes_frame tree range ≡ false → rest ≡ way_from (place_of (slots_in tree range) d) (frames_of tree (range ∷ [])) rest
+  way_past range rest frameless =
+      rw (no_place (slots_in tree range) d (no_slot tree range frameless), frameless) (sym (moved_none rest))
+
+  way_here : (range slot : ℕ) (rest : Option FrameStep) → at_key entries range d ≡ Some slot → Some (record { hops = 0; slot = slot }) ≡ way_from (place_of (slots_in tree range) d) (frames_of tree (range ∷ [])) rest
+  way_here range slot rest at = rw (sym (there range) ∙ at) refl
+
+  way_further : (range : ℕ) (rest : Option FrameStep) → makes_frame tree range ≡ true → at_key entries range d ≡ None → moved 1 rest ≡ way_from (place_of (slots_in tree range) d) (frames_of tree (range ∷ [])) rest
+  way_further range rest made at = rw (sym (there range) ∙ at, made) refl
+
+  way_at : {nest : Option ℕ} {found : Option FrameStep} (more : List ℕ) → Reaches frames entries d nest found → (i : ℕ) (frame : Layer) → nest ≡ Some i → slice_get frames i ≡ Some frame → makes_frame tree frame.range ≡ true
+      → ((rest : Option FrameStep) → Reaches frames entries d frame.outer rest → rest ≡ way_by tree d more) → found ≡ way_by tree d (frame.range ∷ more)
+  way_at more nowhere i frame e is made go = absurd (cc)
+  way_at more (here {slot = slot} j other it at) i frame e is made go =
+      let same : other ≡ frame = some_one (sym it ∙ ap (slice_get frames) (some_one e) ∙ is) in
+      way_here frame.range slot (way_by tree d more) (subst (λ (l : Layer). at_key entries l.range d ≡ Some slot) same at)
+  way_at more (further {found = rest} j other it at out) i frame e is made go =
+      let same : other ≡ frame = some_one (sym it ∙ ap (slice_get frames) (some_one e) ∙ is) in
+      ap (moved 1) (go rest (subst (λ (l : Layer). Reaches frames entries d l.outer rest) same out))
+      ∙ way_further frame.range (way_by tree d more) made (subst (λ (l : Layer). at_key entries l.range d ≡ None) same at)
+
+  way_in : {to : Option ℕ} {ranges : List ℕ} → Framed tree frames to ranges → (nest : Option ℕ) (found : Option FrameStep) → nest ≡ to → Reaches frames entries d nest found → found ≡ way_by tree d ranges
+  way_in outermost nest found e r = none_at tree frames entries d (λ range. subst (IsPlaceIn (slots_in tree range) d) (sym (there range)) (place_is (slots_in tree range) d)) r e
+  way_in (passed {range = range} {more = more} frameless rest) nest found e r = way_in rest nest found e r ∙ way_past range (way_by tree d more) frameless
+  way_in (entered {more = more} i frame is made rest) nest found e r = way_at more r i frame e is made (λ f q. way_in rest frame.outer f refl q)
+
 -- ---- the way to a definition
 
-way_by : (tree : Built) (at d : ℕ) (ranges : List ℕ) (found : Option FrameStep) → Lies tree at ranges → Found tree d ranges found → IsWay tree at d found
-way_by tree at d ranges None lies none = λ hops slot s. none s.inner s.outer s.range slot (lies_one lies s.lies refl ∙ s.whole) s.slot_is
-way_by tree at d ranges (Some step) lies s =
+stands_way : (tree : Built) (at d : ℕ) (ranges : List ℕ) (found : Option FrameStep) → Lies tree at ranges → Found tree d ranges found → IsWay tree at d found
+stands_way tree at d ranges None lies none = λ hops slot s. none s.inner s.outer s.range slot (lies_one lies s.lies refl ∙ s.whole) s.slot_is
+stands_way tree at d ranges (Some step) lies s =
     record { inner = s.inner; range = s.range; outer = s.outer; ranges = ranges; lies = lies; whole = s.whole; slot_is = s.slot_is; hops_are = s.hops_are }
 
 pub way_is : (tree : Built) (t : Tables) (at d : ℕ) (found : Option FrameStep) → AreFrames tree t → at < length t.chain.about
@@ -163,8 +202,18 @@ pub way_is : (tree : Built) (t : Tables) (at d : ℕ) (found : Option FrameStep)
 way_is tree t at d found are low r =
     let nest : Option ℕ = slice_index_or t.chain.about at None in
     let tells = are.chain.tells at nest (read t.chain.about at None low) in
-    way_by tree at d tells.ranges found tells.lies
+    stands_way tree at d tells.ranges found tells.lies
     (found_in tree t.chain.frames t.places d (λ range. placed tree t.places t.slots t.makes are.slots range d) tells.framed nest found refl r)
+
+pub first_way_is : (tree : Built) (t : Tables) (at d : ℕ) (found : Option FrameStep) → AreFrames tree t → at < length t.chain.about
+    → Reaches t.chain.frames t.places d (slice_index_or t.chain.about at None) found → IsFirstWay tree at d found
+first_way_is tree t at d found are low r =
+    let nest : Option ℕ = slice_index_or t.chain.about at None in
+    let tells = are.chain.tells at nest (read t.chain.about at None low) in
+    (tells.ranges, tells.lies, way_in tree t.chain.frames t.places d (λ range. place_there tree t.places t.slots t.makes are.slots range d) tells.framed nest found refl r)
+
+pub one_way : WaysAreOne
+one_way tree at d one other a b = a.2 ∙ ap (way_by tree d) (lies_one a.1 b.1 refl) ∙ sym b.2
 
 pub stands_by : (tree : Built) (at d hops slot : ℕ) (found : Option FrameStep) (step : FrameStep) → IsWay tree at d found → StandsAt tree at d hops slot → ((s : FrameStep) → found ≡ Some s → step ≡ s)
     → StandsAt tree at d step.hops step.slot

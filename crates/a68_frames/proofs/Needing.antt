@@ -13,10 +13,10 @@ use Rattle.a68_ranges.specs.Tables.{at_key}
 use Rattle.a68_ranges.specs.declared.nests.Layer.{Layer}
 use Rattle.a68_ranges.specs.declared.sort.Sort.TheVariants as sorts
 use Rattle.a68_frames.proofs.Finding.{no_slot, none_at, found_in, placed, Found}
-use Rattle.a68_frames.specs.Frames.{has_slot, with_slots, makes_frame, slots_in, frames_of}
+use Rattle.a68_frames.specs.Frames.{has_slot, with_slots, makes_frame, slots_in, frames_of, moved}
 use Rattle.a68_frames.specs.Needs.{Innermost, Uses, outside, within, DeclaresTag, HasSlotFor, UsesTag, IsNeed}
 use Rattle.a68_frames.specs.Needs.{here as innermost_here, further as innermost_further}
-use Rattle.a68_frames.specs.Tables.{Framed, outermost, passed, entered, TellsFrames, Reaches, nowhere, moved, Crosses, crossed, onwards, IsPlaceIn, IsAtMost, Lowers, AreLowered, IsOneLowered, least_of, lowered, UsesAtFrame, UsesSlotAtFrame, UsesBefore, AreFrames, Tables, AreNeedsBefore, IsApplied, is_tag, below}
+use Rattle.a68_frames.specs.Tables.{Framed, outermost, passed, entered, TellsFrames, Reaches, nowhere, Crosses, crossed, onwards, IsPlaceIn, IsAtMost, Lowers, AreLowered, IsOneLowered, least_of, lowered, UsesAtFrame, UsesSlotAtFrame, UsesBefore, AreFrames, Tables, AreNeedsBefore, IsApplied, is_tag, below}
 use Rattle.a68_frames.specs.Tables.{here as reaches_here, further as reaches_further}
 use Rattle.a68_tree.specs.Trees.{Built}
 use Rattle.a68_tree.specs.declared.node.FrameStep.{FrameStep}

@@ -1,13 +1,14 @@
 -- The slots of ranges, as they are noted.
-use Rattle.std.proofs.Common.{◌≡◌, ◌≤◌, ℕ, zero, suc, ◌+◌, Bool, true, false, List, [], ◌∷◌, ◌++◌, length, take, refl, sym, ap, ◌∙◌, arith, subst, ⊎_elim, Some, None, slice_get, Option, length-append}
+use Rattle.std.proofs.Common.{◌≡◌, ◌≤◌, ℕ, zero, suc, ◌+◌, Bool, true, false, List, [], ◌∷◌, ◌++◌, length, take, refl, sym, ap, ◌∙◌, arith, subst, ⊎_elim, Some, None, slice_get, Option, length-append, nat_eq, eqb-true, eq-eqb, ne_eqb, add-one}
 use Rattle.std.specs.Prelude.{slice_index_or, if◌then◌else◌}
+use Rattle.std.proofs.lemmas.Bool.{false≢true}
 use Rattle.std.proofs.lemmas.Bool.Decides.{eqb_tells}
 use Rattle.a68_ranges.proofs.Taking.{some_one, take_next, read, past, below_or}
-use Rattle.a68_ranges.proofs.Layering.{get_front, get_last, get_pushed}
+use Rattle.a68_ranges.proofs.Layering.{get_front, get_last}
 use Rattle.a68_ranges.specs.Nodes.{kind_at}
 use Rattle.a68_ranges.specs.Definitions.{defines, declared_in}
 use Rattle.a68_ranges.specs.Tables.{at_key}
-use Rattle.a68_frames.specs.Frames.{has_slot, with_slots, slots_in, makes, makes_frame}
+use Rattle.a68_frames.specs.Frames.{has_slot, with_slots, slots_in, makes, makes_frame, place_behind, place_of}
 use Rattle.a68_frames.specs.Tables.{IsPlaceIn, IsSlotNoted, AreSlotsBefore, AreMade}
 use Rattle.a68_tree.specs.Trees.{Built}
 
@@ -28,14 +29,36 @@ append_nil : (xs : List ℕ) → xs ++ [] ≡ xs
 append_nil [] = refl
 append_nil (x ∷ xs) = ap (λ ys. x ∷ ys) (append_nil xs)
 
-place_more : (xs : List ℕ) (id d : ℕ) (o : Option ℕ) → (d ≡ id → ⊥) → IsPlaceIn xs d o → IsPlaceIn (xs ++ id ∷ []) d o
-place_more xs id d None apart never = λ place e. ⊎_elim (λ h. never place h) (λ h. apart (sym h.1)) (get_pushed xs id d place e)
-place_more xs id d (Some place) apart is = get_front xs (id ∷ []) place d is
+-- ---- the last place of a number
+
+-- it is a place
+pub place_is : (xs : List ℕ) (d : ℕ) → IsPlaceIn xs d (place_of xs d)
+place_is [] d = λ place e. absurd (cc)
+place_is (x ∷ xs) d = go (place_of xs d) (nat_eq x d) refl (place_is xs d)
+  where
+    go : (o : Option ℕ) (here : Bool) → nat_eq x d ≡ here → IsPlaceIn xs d o → IsPlaceIn (x ∷ xs) d (place_behind o here)
+    go (Some place) here e is = subst (λ n. slice_get (x ∷ xs) n ≡ Some d) (sym (add-one place)) is
+    go None true e never = ap (λ n. Some n) (eqb-true x d e)
+    go None false e never = none
+      where
+        none : (place : ℕ) → slice_get (x ∷ xs) place ≡ Some d → ⊥
+        none zero is = false≢true (sym e ∙ eq-eqb x d (some_one is))
+        none (suc place) is = never place is
+
+-- another number behind the list changes none
+place_more : (xs : List ℕ) (id d : ℕ) → (d ≡ id → ⊥) → place_of (xs ++ id ∷ []) d ≡ place_of xs d
+place_more [] id d apart = ⊎_elim (λ h. absurd (apart (sym h.1))) (λ h. ap (place_behind None) (ne_eqb id d (λ e. h.1 e))) (eqb_tells id d)
+place_more (x ∷ xs) id d apart = ap (λ o. place_behind o (nat_eq x d)) (place_more xs id d apart)
+
+-- the number behind a list has its last place
+place_last : (xs : List ℕ) (id : ℕ) → place_of (xs ++ id ∷ []) id ≡ Some (length xs)
+place_last [] id = ap (place_behind None) (eq-eqb id id refl)
+place_last (x ∷ xs) id = rw (place_last xs id) (ap (λ n. Some n) (add-one (length xs)))
 
 -- the slots of these definitions are noted
 pub record Slotted (range : ℕ) (xs : List ℕ) (old new : List ((ℕ × ℕ) × ℕ)) (slot : ℕ) : Type 0 where
   pub count : slot ≡ length xs
-  pub places : (d : ℕ) → IsPlaceIn xs d (at_key new range d)
+  pub places : (d : ℕ) → at_key new range d ≡ place_of xs d
   pub others : (r d : ℕ) → (r ≡ range → ⊥) → at_key new r d ≡ at_key old r d
 
 slotted_one : (range id : ℕ) (xs : List ℕ) (old mid new : List ((ℕ × ℕ) × ℕ)) (slot next : ℕ) (b : Bool) → Slotted range xs old mid slot → IsSlotNoted mid new range id slot b next
@@ -47,9 +70,9 @@ slotted_one range id xs old mid new slot next true before noted =
     record {
       count = omega (arith, length-append xs (id ∷ []));
       places = λ d. ⊎_elim
-          (λ h. subst (λ k. IsPlaceIn (xs ++ id ∷ []) k (at_key new range k)) (sym h.1)
-          (rw (noted.1, count) (get_last xs id)))
-          (λ h. rw (noted.2 range d (λ e. h.1 e.1)) (place_more xs id d (at_key mid range d) h.1 (before.places d)))
+          (λ h. subst (λ k. at_key new range k ≡ place_of (xs ++ id ∷ []) k) (sym h.1)
+          (noted.1 ∙ ap (λ n. Some n) count ∙ sym (place_last xs id)))
+          (λ h. noted.2 range d (λ e. h.1 e.1) ∙ before.places d ∙ sym (place_more xs id d h.1))
           (eqb_tells d id);
       others = λ r d apart. noted.2 r d (λ e. apart e.0) ∙ before.others r d apart;
     }
@@ -65,14 +88,14 @@ slotted_more tree range list i id old mid new slot next is before noted =
 pub none_slotted : (range : ℕ) (old : List ((ℕ × ℕ) × ℕ)) → ((d : ℕ) → at_key old range d ≡ None) → Slotted range [] old old 0
 none_slotted range old fresh = record {
   count = refl;
-  places = λ d. rw (fresh d) (λ place e. absurd (cc));
+  places = fresh;
   others = λ r d apart. refl;
 }
 
 -- one range more
 pub ranges_more : (tree : Built) (range count : ℕ) (declared : List ℕ) (old new : List ((ℕ × ℕ) × ℕ)) (counts : List ℕ) (made : List Bool) (makes_one : Bool)
     → AreSlotsBefore tree range old counts made → declared ≡ declared_in tree range → count ≡ length (with_slots tree declared)
-    → ((d : ℕ) → IsPlaceIn (with_slots tree declared) d (at_key new range d)) → ((r d : ℕ) → (r ≡ range → ⊥) → at_key new r d ≡ at_key old r d)
+    → ((d : ℕ) → at_key new range d ≡ place_of (with_slots tree declared) d) → ((r d : ℕ) → (r ≡ range → ⊥) → at_key new r d ≡ at_key old r d)
     → makes_one ≡ makes (kind_at tree range) count → AreSlotsBefore tree (range + 1) new (counts ++ count ∷ []) (made ++ makes_one ∷ [])
 unfolding slots_in makes_frame
 ranges_more tree range count declared old new counts made makes_one before declared_is count_is places others makes_is =
@@ -94,8 +117,8 @@ ranges_more tree range count declared old new counts made makes_one before decla
           (λ e. let d = e.1 in get_front made (makes_one ∷ []) r (makes_frame tree r) (before.makes_are r (omega arith)))
           (eqb_tells r range);
       places = λ r d h. ⊎_elim
-          (λ e. subst (λ k. IsPlaceIn (slots_in tree k) d (at_key new k d)) (sym e.1) (subst (λ xs. IsPlaceIn xs d (at_key new range d)) here (places d)))
-          (λ e. let n = e.1 in subst (λ o. IsPlaceIn (slots_in tree r) d o) (sym (others r d e.1)) (before.places r d (omega arith)))
+          (λ e. subst (λ k. at_key new k d ≡ place_of (slots_in tree k) d) (sym e.1) (places d ∙ ap (λ (xs : List ℕ). place_of xs d) here))
+          (λ e. let n = e.1 in others r d e.1 ∙ before.places r d (omega arith))
           (eqb_tells r range);
       none = λ r d h. others r d (λ e. absurd (omega arith)) ∙ before.none r d (omega arith);
     }

@@ -1,6 +1,6 @@
 -- Inner: the headline does not rest on this file.
 -- Frames, their slots and the way to them (own; Report, 2.1.1.3 has environs in their place).
-use Rattle.std.specs.Prelude.{◌≡◌, ◌+◌, ℕ, List, [], ◌∷◌, ◌++◌, length, slice_get, Option, Some, Bool, true, false, nat_lt, if◌then◌else◌}
+use Rattle.std.specs.Prelude.{◌≡◌, ◌+◌, ℕ, List, [], ◌∷◌, ◌++◌, length, slice_get, Option, Some, None, Bool, true, false, nat_eq, nat_lt, if◌then◌else◌}
 use Rattle.a68_ranges.specs.Nodes.{kind_at}
 use Rattle.a68_ranges.specs.Surroundings.{Lies}
 use Rattle.a68_ranges.specs.Definitions.{defines, declared_in}
@@ -9,6 +9,7 @@ use Rattle.a68_ranges.specs.declared.sort.Sort.TheVariants as sorts
 use Rattle.a68_tree.specs.Trees.{Built}
 use Rattle.a68_tree.specs.declared.kind.NodeKind.{NodeKind}
 use Rattle.a68_tree.specs.declared.kind.NodeKind.TheVariants as kind
+use Rattle.a68_tree.specs.declared.node.FrameStep.{FrameStep}
 
 -- a tag or an operator has a slot; a mode word, a priority or a field has none
 abbrev pub has_slot : Option Sort → Bool
@@ -48,3 +49,39 @@ pub record StandsAt (tree : Built) (at definition : ℕ) (hops slot : ℕ) : Typ
   pub whole : ranges ≡ inner ++ range ∷ outer
   pub slot_is : slice_get (slots_in tree range) slot ≡ Some definition
   pub hops_are : hops ≡ frames_of tree inner
+
+-- ---- the one way to a slot
+
+-- one place later; else the first place, where the number stands there
+abbrev pub place_behind : Option ℕ → (here : Bool) → Option ℕ
+place_behind (Some place) here = Some (place + 1)
+place_behind None true = Some 0
+place_behind None false = None
+
+-- the last place of a number in a list: what is noted later counts
+abbrev pub place_of : List ℕ → (d : ℕ) → Option ℕ
+place_of [] d = None
+place_of (x ∷ xs) d = place_behind (place_of xs d) (nat_eq x d)
+
+-- a step, moved so many frames outwards
+abbrev pub moved : ℕ → Option FrameStep → Option FrameStep
+moved hops None = None
+moved hops (Some step) = Some (record { hops = step.hops + hops; slot = step.slot })
+
+-- the slot of the first range, where it has one; else the way from the ranges outside it, which lie so many frames outwards
+abbrev pub way_from : Option ℕ → (hops : ℕ) → (outside : Option FrameStep) → Option FrameStep
+way_from (Some slot) hops outside = Some (record { hops = 0; slot = slot })
+way_from None hops outside = moved hops outside
+
+-- the way to a slot of a definition, from the innermost of these ranges outwards that has one
+abbrev pub way_by : Built → (d : ℕ) → List ℕ → Option FrameStep
+way_by tree d [] = None
+way_by tree d (r ∷ rs) = way_from (place_of (slots_in tree r) d) (frames_of tree (r ∷ [])) (way_by tree d rs)
+
+-- from a node
+abbrev pub IsFirstWay : Built → (at d : ℕ) → Option FrameStep → Type 0
+IsFirstWay tree at d found = (ranges : List ℕ) × Lies tree at ranges × (found ≡ way_by tree d ranges)
+
+-- there is one from each node
+abbrev pub WaysAreOne : Type 0
+WaysAreOne = (tree : Built) (at d : ℕ) (one other : Option FrameStep) → IsFirstWay tree at d one → IsFirstWay tree at d other → one ≡ other

@@ -1,7 +1,7 @@
 -- Inner: the headline does not rest on this file.
 -- The tables of the frames of a tree (own).
 use Rattle.std.specs.Prelude.{◌≡◌, ◌<◌, ◌≤◌, ◌+◌, ◌⊎◌, ℕ, Bool, true, false, nat_eq, nat_lt, min, List, [], ◌∷◌, ◌++◌, length, slice_get, slice_index_or, Option, Some, None, if◌then◌else◌}
-use Rattle.a68_frames.specs.Frames.{slots_in, makes_frame, StandsAt}
+use Rattle.a68_frames.specs.Frames.{slots_in, makes_frame, moved, place_of, StandsAt}
 use Rattle.a68_frames.specs.Needs.{UsesTag, UsesTagAt, UsesSlotAt, IsNeed}
 use Rattle.a68_ranges.specs.Nodes.{kind_at, name_at}
 use Rattle.a68_ranges.specs.Definitions.{IsDefinition, Undefined}
@@ -33,7 +33,7 @@ pub record AreSlotsBefore (tree : Built) (count : ℕ) (entries : List ((ℕ × 
   pub counts_are : (range : ℕ) → range < count → slice_get counts range ≡ Some (length (slots_in tree range))
   pub told : length makes ≡ count
   pub makes_are : (range : ℕ) → range < count → slice_get makes range ≡ Some (makes_frame tree range)
-  pub places : (range d : ℕ) → range < count → IsPlaceIn (slots_in tree range) d (at_key entries range d)
+  pub places : (range d : ℕ) → range < count → at_key entries range d ≡ place_of (slots_in tree range) d
   pub none : (range d : ℕ) → count ≤ range → at_key entries range d ≡ None
 
 -- The ranges about a node, the innermost first, as the chain of those of them that make frames tells of them.
@@ -89,11 +89,6 @@ pub record AreAboutBefore (tree : Built) (count : ℕ) (about : List (Option ℕ
   pub long : length about ≡ count
   pub linked : AreLinked about frames
   pub tells : (at : ℕ) (nest : Option ℕ) → slice_get about at ≡ Some nest → TellsFrames tree frames at nest
-
--- a step, moved so many frames outwards
-abbrev pub moved : ℕ → Option FrameStep → Option FrameStep
-moved hops None = None
-moved hops (Some step) = Some (record { hops = step.hops + hops; slot = step.slot })
 
 -- where a definition has a slot, by the chain of the frames: in the innermost one that has a slot for it
 pub data Reaches (frames : List Layer) (entries : List ((ℕ × ℕ) × ℕ)) (definition : ℕ) : Option ℕ → Option FrameStep → Type 0 where

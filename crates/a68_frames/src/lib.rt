@@ -3,10 +3,13 @@
 
 mod build;
 mod chain;
+mod laws;
 mod map;
 mod needs;
 mod reading;
 mod slots;
 
 pub use build::frames;
+pub use laws::ways_are_one;
 pub use map::FrameMap;
+pub use reading::has_slot;

@@ -1,6 +1,6 @@
 //! The frames of a tree.
 ghost use Rattle.std.specs.Prelude.{◌≡◌, ◌<◌, ◌++◌, ℕ, List, length};
-ghost use Rattle.a68_frames.specs.Frames.{slots_in, StandsAt};
+ghost use Rattle.a68_frames.specs.Frames.{slots_in, IsFirstWay, StandsAt};
 ghost use Rattle.a68_frames.specs.Frames as frames;
 ghost use Rattle.a68_frames.specs.Needs.{IsNeed, UsesTag};
 ghost use Rattle.a68_frames.specs.Tables.{AreFrames, AreLowered, IsPlaceIn, IsWay, UsesSlotAtFrame};
@@ -58,11 +58,12 @@ impl FrameMap {
         slot_at(&self.slots.places, range, definition)
     }
 
-    /// Where a definition stands, as seen from a node: so many frames outwards, in that slot. None where no range about
-    /// the node has a slot for it.
+    /// Where a definition stands, as seen from a node: so many frames outwards, in that slot; in the innermost range that
+    /// has a slot for it. None where no range about the node has one.
     pub fn way(&self, at: NodeId, definition: NodeId) -> Option<FrameStep>
         requires { at < length self.now.chain.about }
-        ensures { (tree : Built) → AreFrames tree self.now → IsWay tree at definition result }
+        ensures stands { (tree : Built) → AreFrames tree self.now → IsWay tree at definition result }
+        ensures first { (tree : Built) → AreFrames tree self.now → IsFirstWay tree at definition result }
     {
         let start = self.chains.about(at);
         find(&self.chains, &self.slots.places, start, definition)

@@ -1,8 +1,8 @@
 //! The slots of ranges.
 ghost use Rattle.std.specs.Prelude.{◌≡◌, ◌<◌, ◌+◌, ℕ, IfOk, OnOk, None, length, true};
-ghost use Rattle.a68_frames.specs.Frames.{with_slots};
+ghost use Rattle.a68_frames.specs.Frames.{place_of, with_slots};
 ghost use Rattle.a68_frames.specs.Frames as frames;
-ghost use Rattle.a68_frames.specs.Tables.{IsPlaceIn, IsSlotNoted, AreSlotsBefore};
+ghost use Rattle.a68_frames.specs.Tables.{IsSlotNoted, AreSlotsBefore};
 ghost use Rattle.a68_ranges.specs.Definitions as definitions;
 ghost use Rattle.a68_ranges.specs.Nodes.{kind_at};
 ghost use Rattle.a68_ranges.specs.Tables.{at_key, AreRanges};
@@ -62,7 +62,7 @@ fn note_slots(
 ) -> Result<u32, NoMemory>
     requires { (d : ℕ) → at_key places.old.entries range d ≡ None }
     ensures count { IfOk result (λ count. count ≡ length (with_slots tree.now list.now)) }
-    ensures places { OnOk result ((d : ℕ) → IsPlaceIn (with_slots tree.now list.now) d (at_key places.new.entries range d)) }
+    ensures places { OnOk result ((d : ℕ) → at_key places.new.entries range d ≡ place_of (with_slots tree.now list.now) d) }
     ensures others { OnOk result ((r d : ℕ) → (r ≡ range → ⊥) → at_key places.new.entries r d ≡ at_key places.old.entries r d) }
 {
     let mut slot = 0;

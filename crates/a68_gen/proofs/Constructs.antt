@@ -24,7 +24,6 @@ use Rattle.a68_modes.specs.Nodes.{shape_at}
 use Rattle.a68_modes.specs.declared.coercion.Coercion.{Coercion}
 use Rattle.a68_modes.specs.declared.coercion.Coercion.TheVariants as coercion
 use Rattle.a68_modes.specs.declared.shape.Shape.{Shape}
-use Rattle.a68_tree.specs.Trees.{AllBetween}
 
 -- ---- units
 
@@ -53,16 +52,6 @@ coerced_unbuilt modes place mode (coercion.Drop ∷ path) t none = coerced_unbui
 coerced_unbuilt modes place mode (_ ∷ path) t none = refl
 
 -- ---- parts
-
-pub between-each : (a b i : ℕ) (ids : List ℕ) → AllBetween a b ids → i < length ids → (a < get_or ids i 0) × (get_or ids i 0 < b)
-between-each a b i [] all p = absurd (omega arith)
-between-each a b zero (x ∷ ids) all p = (all.0, all.1)
-between-each a b (suc i) (x ∷ ids) all p = between-each a b i ids all.2 (omega arith)
-
--- what stands behind a node stands behind one before it
-pub between-above : (a b n : ℕ) (ids : List ℕ) → a < b → AllBetween b n ids → AllBetween a n ids
-between-above a b n [] less all = tt
-between-above a b n (x ∷ ids) less all = let e = all.0 in (omega arith, all.1, between-above a b n ids less all.2)
 
 -- the parts from one on
 pub part-cons : (f : ℕ → Tree) (at i : ℕ) (ids : List ℕ) → i < length ids

@@ -1,5 +1,6 @@
 pub mod Chaining
 pub mod Constructs
+pub mod Fitting
 pub mod Flowing
 pub mod Forward
 pub mod Generating
@@ -9,8 +10,8 @@ pub mod Linking
 pub mod Listed
 pub mod Patching
 pub mod Places
+pub mod Refusing
 pub mod Sizes
 pub mod Standing
 pub mod Validity
 pub mod Writing
-pub mod Quoting

@@ -1,10 +1,10 @@
 pub mod Chains
 pub mod Coercing
 pub mod Fits
-pub mod Generated
 pub mod Listing
 pub mod Loops
 pub mod Operands
+pub mod Runs
 pub mod Stretches
 pub mod Writers
 pub mod Writing

@@ -1,6 +1,6 @@
 -- Inner: the headline does not rest on this file.
 -- The instructions of loops, piece by piece.
-use Rattle.std.specs.Prelude.{◌<◌, ◌+◌, ℕ, List, [], ◌∷◌, ◌++◌, length, IfSome, None, Some}
+use Rattle.std.specs.Prelude.{◌+◌, ℕ, List, [], ◌∷◌, ◌++◌, length, None, Some}
 use Rattle.std.specs.Option.{is_some}
 use Rattle.std.specs.declared.option.Option.{Option}
 use Rattle.a68_code.specs.declared.code.Instr.{Instr}
@@ -8,15 +8,6 @@ use Rattle.a68_code.specs.declared.does.Does.TheVariants as does
 use Rattle.a68_elab.specs.Made.{controls_of}
 use Rattle.a68_elab.specs.Trees.{Tree, Test, no_test, while_in}
 use Rattle.a68_gen.specs.Listing.{instr, limits, opens, size, stretch, stretches}
-use Rattle.a68_gen.specs.declared.loops.LoopParts.{LoopParts}
-
--- the parts of a loop stand behind its node
-pub record AreWithin (id end : ℕ) (l : LoopParts) : Type 0 where
-  pub from : IfSome l.from (λ p. (id < p) × (p < end))
-  pub by : IfSome l.by (λ p. (id < p) × (p < end))
-  pub to : IfSome l.to (λ p. (id < p) × (p < end))
-  pub test : IfSome l.test (λ p. (id < p) × (p < end))
-  pub body : IfSome l.body (λ p. (id < p) × (p < end))
 
 -- FROM, BY and TO, TO's own step, and Counter
 abbrev pub counted : (f : ℕ → Tree) (place : ℕ) (from by to : Option ℕ) (at : ℕ) → List Instr

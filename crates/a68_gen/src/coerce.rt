@@ -1,28 +1,14 @@
 //! The instructions of coercions.
 ghost use Rattle.std.specs.Prelude.{◌≡◌};
-ghost use Rattle.a68_elab.specs.Made as made;
 ghost use Rattle.a68_gen.specs.Coercing as coercing;
 ghost use Rattle.a68_gen.specs.Coercing.{behind, coercion_of, coercions};
 ghost use Rattle.a68_gen.specs.Writers.{Wrote};
-ghost use Rattle.a68_modes.specs.Nodes.{shape_at};
 
 use crate::writer::Writer;
 use a68_annot::Note;
 use a68_code::Does;
-use a68_modes::{Coercion, ModeId, Modes, Shape};
-
-/// The mode of what a name of this mode refers to; VOID for another mode.
-pub fn behind_ref(modes: &Modes, mode: ModeId) -> ModeId
-    ensures { result ≡ made.behind_ref (shape_at modes.now mode) }
-{
-    if mode >= modes.len() {
-        return 0;
-    }
-    match modes.shape(mode) {
-        Shape::Ref(to) => *to,
-        _ => 0,
-    }
-}
+use a68_modes::{Coercion, ModeId, Modes};
+use a68_runs::behind_ref;
 
 /// Are all coercions of a unit built?
 pub fn are_built(note: &Note) -> bool

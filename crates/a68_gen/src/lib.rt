@@ -3,10 +3,8 @@
 
 mod chains;
 mod coerce;
-mod constants;
 mod emit;
 mod loops;
-mod nodes;
 mod rows;
 mod translate;
 mod writer;

@@ -8,26 +8,26 @@ ghost use Rattle.a68_elab.specs.Made.{behind, tree_at, trees_at};
 ghost use Rattle.a68_elab.specs.Trees as trees;
 ghost use Rattle.a68_gen.specs.Chains.{IsWithin, link_list, link_tree};
 ghost use Rattle.a68_gen.specs.Listing.{instr, size, stretch, stretches, test_stretch};
-ghost use Rattle.a68_gen.specs.Loops.{AreWithin, asked, counted, unless_at};
+ghost use Rattle.a68_gen.specs.Loops.{asked, counted, unless_at};
 ghost use Rattle.a68_gen.specs.Stretches.{does_of};
 ghost use Rattle.a68_gen.specs.Writers.{IsChain, Wrote};
 ghost use Rattle.a68_gen.specs.Writing.{ran_out};
 ghost use Rattle.a68_modes.specs.Nodes.{shape_at, is_void};
+ghost use Rattle.a68_runs.specs.Loops.{AreWithin};
 ghost use Rattle.a68_tree.specs.Trees.{AllBetween};
 
 use crate::chains::{Link, link_of, next_link};
-use crate::coerce::{are_built, behind_ref, coerce};
-use crate::constants::{standard_in, value_in};
+use crate::coerce::{are_built, coerce};
 use crate::emit::push_int;
-use crate::loops::{LoopParts, depth, leave_frames, limit, loop_parts, only_id, open, turn};
-use crate::nodes::{
-    begins_in_heap, begins_with_declarer, behind_heap, called, is_one_of, items_at, printers,
-    wholes,
-};
+use crate::loops::{depth, leave_frames, limit, open, turn};
 use crate::writer::Writer;
 use a68_annot::{Annotated, Note};
 use a68_code::Does;
 use a68_modes::ModeId;
+use a68_runs::{
+    LoopParts, begins_in_heap, begins_with_declarer, behind_heap, behind_ref, called, is_one_of,
+    items_at, loop_parts, only_id, printers, standard_of, value_in, wholes,
+};
 use a68_tree::{Node, NodeId, NodeKind};
 use a68_values::Value;
 use std::alloc::Global;
@@ -60,17 +60,6 @@ fn denotation(alloc: Global, program: &Annotated, node: &Node, out: &mut Writer)
     match value_in(alloc, program.tree.spelling(node.name)) {
         Ok(value) => denoted(node.span.from, value, out),
         Err(_) => out.run_out(),
-    }
-}
-
-// The value of a tag that is not defined, where it stands for one of the standard environ.
-fn standard_of(program: &Annotated, node: &Node, note: &Note) -> Option<Value>
-    requires { node.now.name < length program.now.tree.spellings }
-    ensures { result ≡ made.standard_of note.now.definition (made.spelling_of program.now node.now) }
-{
-    match note.definition {
-        Some(_) => None,
-        None => standard_in(program.tree.spelling(node.name)),
     }
 }
 

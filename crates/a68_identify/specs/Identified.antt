@@ -1,4 +1,3 @@
--- Inner: the headline does not rest on this file.
 -- The operator of a formula (Report, 7.2.1 and 10.2.3; which of several is taken is own).
 use Rattle.std.specs.Prelude.{◌≡◌, ◌≢◌, ◌<◌, ℕ, suc, List, [], ◌∷◌, length, slice_get, Option, Some, None, true}
 use Rattle.std.specs.List.{Contains}

@@ -197,3 +197,10 @@ module _ (laws : Laws) (tree : Built) (once : DeclaresOnce tree) where
   not_misused of a r e fine (node o a2 b2 e2 is2 second rule2 place2) =
       let same_first = first_one of o a a2 (on_tree of a e fine.is) (on_tree o a2 e2 is2) None (Some b2) (first_on a None e fine.none) (first_on a2 (Some b2) e2 second) in
       cc
+
+  -- what is known of the tree is one
+  pub one_meaning : (of other : ByNode) (a b : Asked) → a.tree ≡ tree → b.tree ≡ tree → IsUnbroken of a → IsUnbroken other b → (of ≡ other) × (a ≡ b)
+  one_meaning of other a b e f fine also =
+      let p = on_tree of a e fine.is in
+      let q = on_tree other b f also.is in
+      ((modes_one of other a b p q).1, ap (λ t. over t a) e ∙ same of other a b p q ∙ ap (λ t. over t b) (sym f))

@@ -18,6 +18,8 @@ use a68_yields::{yields_are_one, yields_are_sound};
 pub fn meanings_are_one()
     ensures refusal { (tree : Built) → ((id : ℕ) → IsTwice tree id → ⊥) → (r s : Refusal) → IsMisused tree r → IsMisused tree s
         → (r.rule ≡ s.rule) × (r.place ≡ s.place) }
+    ensures one { (of other : ByNode) (a b : Asked) → ((id : ℕ) → IsTwice a.tree id → ⊥) → a.tree ≡ b.tree → IsUnbroken of a → IsUnbroken other b
+        → (of ≡ other) × (a ≡ b) }
     ensures apart { (of : ByNode) (a : Asked) (r : Refusal) → ((id : ℕ) → IsTwice a.tree id → ⊥) → IsUnbroken of a → IsMisused a.tree r → ⊥ }
 {
     declarations_are_one();

@@ -1,6 +1,5 @@
 //! What each node of a tree means.
 ghost use Rattle.std.specs.Prelude.{◌≡◌, ◌≤◌, ℕ, IfOk, IfErr, length};
-ghost use Rattle.a68_base.specs.declared.limits.TheConstants.{MOST_MODES};
 ghost use Rattle.a68_definitions.specs.Defined.{AllBelow};
 ghost use Rattle.a68_meaning.specs.Meaning.{AreSoundModes, IsMeaning, IsMisused, IsUnbroken};
 ghost use Rattle.a68_positions.specs.Below.{ArePositionsBelow};
@@ -8,7 +7,7 @@ ghost use Rattle.a68_ranges.specs.Tables.{AreRanges};
 ghost use Rattle.a68_ranges.specs.Twice.{IsTwice, StopsBy};
 ghost use Rattle.a68_yields.specs.Below.{AreTablesBelow};
 
-use a68_base::{MOST_MODES, NoMemory, Refusal, Rule, Stop};
+use a68_base::{NoMemory, Refusal, Rule, Stop};
 use a68_declare::{Declared, NodeModes, declare};
 use a68_declarers::place_of;
 use a68_definitions::{Tags, applied_tags, defined_modes};
@@ -93,9 +92,7 @@ fn meaning_by(
         &yields.yields,
         &yields.findings,
     )?;
-    if modes.len() > MOST_MODES {
-        return Err(NoMemory);
-    }
+    let _few = modes.len();
     Ok(Meaning {
         modes,
         of,
@@ -113,6 +110,8 @@ pub fn find_meaning(alloc: Global, tree: &Tree, ranges: &Ranges) -> Result<Meani
     requires ranges { AreRanges tree.now ranges.now }
     requires once { (id : ℕ) → IsTwice tree.now id → ⊥ }
     ensures ok { IfOk result (λ m. IsUnbroken m.of (record { tree = tree.now; tags = m.tags; defined = m.defined.items; nodes = m.modes; ys = m.yields.yields.items; fs = m.yields.findings.items; ps = m.positions.items })) }
+    ensures tables { IfOk result (λ m. AreTablesBelow (length m.modes) (length tree.now.nodes) m.yields.yields.items m.yields.findings.items) }
+    ensures positions { IfOk result (λ m. ArePositionsBelow (length m.modes) m.positions.items) }
     ensures refused { IfErr result (StopsBy (IsMisused tree.now)) }
 {
     let (modes, of) = declared_modes(alloc, tree, ranges)?;

@@ -7,8 +7,8 @@ use a68_tree::FrameStep;
 use std::alloc::Global;
 use std::panic::Expect;
 
-// A note without coercions.
-fn note(alloc: Global, mode: u32) -> Note {
+/// A note without coercions.
+pub fn note(alloc: Global, mode: u32) -> Note {
     Note {
         mode,
         path: Path {

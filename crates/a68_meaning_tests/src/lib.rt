@@ -1,4 +1,4 @@
-//! Tests of what a text means, of its modes, trees and code, and of the whole call over memory, by hand.
+//! Tests of ranges, formulas, annotated trees and their code, by hand.
 #![tactic(auto)]
 
 #[cfg(test)]
@@ -6,21 +6,13 @@ mod annot;
 #[cfg(test)]
 mod check;
 #[cfg(test)]
-mod coerce;
-#[cfg(test)]
-mod equiv;
-#[cfg(test)]
-mod modes;
-#[cfg(test)]
-mod nodes;
+mod listings;
 #[cfg(test)]
 mod op_ident;
 #[cfg(test)]
 mod ranges;
 #[cfg(test)]
 mod table;
-#[cfg(test)]
-mod top;
 #[cfg(test)]
 mod translation;
 #[cfg(test)]

@@ -1,10 +1,15 @@
-//! The instructions of a small program, by hand from the definition of the listing.
+//! The instructions of small programs, by hand from the definition of the listing, and programs that are refused.
+use crate::annot::note;
 use crate::table::{agrees, cut, holds, number};
 use crate::trees::tree_of;
-use a68_check::{annotate, annotated_trees_fit};
-use a68_code::{Does, Instr};
+use a68_annot::{Annotated, Notes};
+use a68_base::{Rule, Stop};
+use a68_check::annotate;
+use a68_code::{Code, Does, Instr};
 use a68_gen::generate;
+use a68_modes::Modes;
 use a68_values::{Plain, Value, ValueNode};
+use std::alloc::Global;
 use std::panic::Expect;
 use std::process::Abort;
 
@@ -53,9 +58,67 @@ fn print_of_a_number(rt: HostRuntime) {
     let alloc = rt.alloc();
     let tree = tree_of(&rt, alloc, PRINTING, "print 1");
     let program = annotate(alloc, tree).expect(&rt, "a program");
-    annotated_trees_fit();
     let code = generate(alloc, &program).expect(&rt, "code");
     drop(program);
     are_as_told(&rt, &code.list.items);
     drop(code);
+}
+
+/// The nodes of BEGIN SKIP END.
+const SKIPPING: &str = "\
+Closed 0 14 0 1
+Serial 6 10 0 2
+Skip 6 10 0
+";
+
+/// The nodes of BEGIN SKIP; GOTO a; GOTO b END, the later jump first.
+const JUMPING: &str = "\
+Closed 0 30 0 1
+Serial 6 26 0 4 3 2
+GoTo 20 26 0
+GoTo 12 18 0
+Skip 6 10 0
+";
+
+// A program of these nodes, where no value is asked of any.
+fn program(rt: &impl Abort, alloc: Global, lines: &str) -> Annotated {
+    let tree = tree_of(rt, alloc, lines, "x");
+    let modes = Modes::new(alloc).expect(rt, "memory");
+    let mut items = Vec::new(alloc);
+    for _ in 0..tree.len() {
+        items.push(note(alloc, 0)).expect(rt, "memory");
+    }
+    holds(rt, items.len() == tree.len() as usize, "a note each");
+    Annotated {
+        tree,
+        modes,
+        notes: Notes { items },
+    }
+}
+
+// Where a program is refused that does not run yet.
+fn unready_at(made: Result<Code, Stop>) -> Option<u32> {
+    match made {
+        Err(Stop::Refused(refusal)) if matches!(refusal.rule, Rule::X0) => Some(refusal.place),
+        _ => None,
+    }
+}
+
+#[test]
+fn skips_run(rt: HostRuntime) {
+    let alloc = rt.alloc();
+    let program = program(&rt, alloc, SKIPPING);
+    let code = generate(alloc, &program).expect(&rt, "code");
+    drop(program);
+    holds(&rt, code.list.items.len() == 2, "a skip and the end");
+    drop(code);
+}
+
+#[test]
+fn jumps_are_refused_at_the_first(rt: HostRuntime) {
+    let alloc = rt.alloc();
+    let program = program(&rt, alloc, JUMPING);
+    let place = unready_at(generate(alloc, &program));
+    drop(program);
+    holds(&rt, place == Some(12), "the first jump");
 }

@@ -3,7 +3,7 @@ ghost use Rattle.std.specs.Prelude.{◌≡◌, ◌<◌, ℕ, IsTrue, Some, lengt
 ghost use Rattle.a68_tree.specs.Trees.{AllBetween, IsSound};
 ghost use Rattle.a68_tree.specs.declared.node.Node.{Node};
 
-use crate::table::{holds, number};
+use crate::table::{holds, number, numbers};
 use a68_base::{Span, Text, find};
 use a68_tree::{Node, NodeKind, Parts, Tree};
 use std::alloc::Global;
@@ -16,6 +16,7 @@ const KINDS: &[(&str, NodeKind)] = &[
     ("Closed", NodeKind::Closed),
     ("Denotation", NodeKind::Denotation),
     ("Formula", NodeKind::Formula),
+    ("GoTo", NodeKind::GoTo),
     ("Serial", NodeKind::Serial),
     ("Sign", NodeKind::Sign),
     ("Skip", NodeKind::Skip),
@@ -24,15 +25,6 @@ const KINDS: &[(&str, NodeKind)] = &[
 
 fn next_number(rt: &impl Abort, words: &mut SplitWhitespace<'_>) -> u32 {
     number(rt, words.next().expect(rt, "a number"))
-}
-
-/// The numbers that these words are.
-pub fn numbers(rt: &impl Abort, alloc: Global, words: SplitWhitespace<'_>) -> Vec<u32> {
-    let mut numbers = Vec::new(alloc);
-    for word in words {
-        numbers.push(number(rt, word)).expect(rt, "memory");
-    }
-    numbers
 }
 
 // The node of a line: its kind, from where and to where it stands, its name and its parts.

@@ -8,8 +8,9 @@ use Rattle.a68_equiv.specs.Dimensions.{HasDimensions}
 use Rattle.a68_equiv.specs.Related.{without_flex}
 use Rattle.a68_mode_table.proofs.Joining.{joined_fixed, joined_sound}
 use Rattle.a68_mode_table.proofs.Shapes.{already, found}
-use Rattle.a68_mode_table.specs.Growing.{AreSound, IsInterned, an_old_one, a_new_one, IsTable}
+use Rattle.a68_mode_table.specs.Growing.{AreSound, IsInterned, an_old_one, a_new_one}
 use Rattle.a68_mode_table.specs.Simple.{IsSimple}
+use Rattle.a68_mode_table.specs.Table.{IsTable}
 use Rattle.a68_modes.specs.declared.shape.Shape.{Shape}
 use Rattle.a68_modes.specs.Nodes.{shape_at, IsWithin, HoldsNodes}
 

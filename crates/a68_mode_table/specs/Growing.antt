@@ -1,9 +1,7 @@
--- Inner: the headline does not rest on this file.
 -- The modes of a text as they grow (own): what each list of them keeps, and what a shape adds to it.
 use Rattle.std.specs.Prelude.{◌≡◌, ◌<◌, ◌≤◌, ◌++◌, ◌∷◌, [], ℕ, List, Bool, false, length}
 use Rattle.a68_declare.specs.Clean.{AreClean, MembersHaveNoFlex}
 pub use Rattle.a68_declare.specs.Clean.{AreFixed, IsNode}
-use Rattle.a68_equiv.specs.Classes.{AreKept, Classified}
 use Rattle.a68_equiv.specs.Dimensions.{HaveDimensions}
 use Rattle.a68_equiv.specs.Related.{without_flex}
 use Rattle.a68_equiv.specs.Ways.{AreWellFormed}
@@ -34,12 +32,6 @@ pub record IsRowInterned (old : List Shape) (dims : ℕ) (flex : Bool) (of : ℕ
   pub fixed : ℕ
   pub fixed_is : IsInterned old (Rows dims false fixed_element) between fixed
   pub is : IsInterned between (Rows dims flex of) new id
-
--- the fields of a table
-pub record IsTable (modes : List Shape) (classes : Classified) (fixed : List ℕ) : Type 0 where
-  pub sound : AreSound modes
-  pub kept : AreKept modes classes
-  pub fixed_are : AreFixed modes fixed
 
 -- the old shapes stand where they stood, and the shape at its node
 pub record KeepsShapes (old new : List Shape) (id : ℕ) (shape : Shape) : Type 0 where

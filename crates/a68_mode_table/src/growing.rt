@@ -3,8 +3,9 @@ ghost use Rattle.std.specs.Prelude.{◌≡◌, ◌<◌, ◌≤◌, ◌++◌, ◌
 ghost use Rattle.a68_declare.specs.Clean.{IsNode};
 ghost use Rattle.a68_equiv.specs.Dimensions.{HasDimensions};
 ghost use Rattle.a68_equiv.specs.Related.{without_flex};
-ghost use Rattle.a68_mode_table.specs.Growing.{IsInterned, IsRowInterned, IsTable};
+ghost use Rattle.a68_mode_table.specs.Growing.{IsInterned, IsRowInterned};
 ghost use Rattle.a68_mode_table.specs.Simple.{IsSimple};
+ghost use Rattle.a68_mode_table.specs.Table.{IsTable};
 ghost use Rattle.a68_modes.specs.Nodes.{IsWithin};
 
 use a68_base::NoMemory;

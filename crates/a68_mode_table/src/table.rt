@@ -36,7 +36,7 @@ impl Model for ModeTable {
 
     ghost view = { λ table. table.modes };
 
-    ghost use Rattle.a68_mode_table.specs.Growing.{IsTable};
+    ghost use Rattle.a68_mode_table.specs.Table.{IsTable};
 
     ghost invariant = { λ table. IsTable table.modes table.classes table.fixed.items };
 }
@@ -83,6 +83,18 @@ impl ModeTable {
         ensures holds { HoldsNodes self.now }
     {
         &self.modes
+    }
+
+    /// The modes, to which nothing more joins.
+    pub fn into_modes(self) -> Modes
+        ensures is { result ≡ self }
+    {
+        let ModeTable {
+            modes,
+            classes: _,
+            fixed: _,
+        } = self;
+        modes
     }
 
     /// Their classes.

@@ -1,4 +1,3 @@
--- Inner: the headline does not rest on this file.
 -- The table of the operators of the standard environ (Report, 10.2.3; the numbers of the rows and their order are own).
 use Rattle.std.specs.Prelude.{ℕ, zero, suc, List, [], ◌∷◌, codes, Some, None, if◌then◌else◌}
 use Rattle.std.specs.Option.{option_map, option_map_or}

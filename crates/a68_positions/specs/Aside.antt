@@ -1,4 +1,3 @@
--- Inner: the headline does not rest on this file.
 -- The one mode that a node has to find, beyond those that are given, before it can say what it asks of its parts.
 use Rattle.std.specs.Prelude.{◌≡◌, ◌-◌, ℕ, List, nat_eq, nat_lt, Some, if◌then◌else◌}
 use Rattle.a68_coerce.specs.declared.form.Form.TheVariants as form

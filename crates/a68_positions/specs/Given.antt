@@ -1,4 +1,3 @@
--- Inner: the headline does not rest on this file.
 -- What a node asks of each of its parts, by what is asked of itself (Report, 6.1.1, and the clauses of chapters 3 to 5).
 use Rattle.std.specs.Prelude.{◌-◌, ◌+◌, ℕ, List, length, nat_eq, nat_lt, slice_index_or, Option, Some, None, Bool, true, false, if◌then◌else◌}
 use Rattle.a68_declare.specs.Outcome.{ByNode}

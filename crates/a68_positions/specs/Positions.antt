@@ -1,4 +1,3 @@
--- Inner: the headline does not rest on this file.
 -- What is asked of each node of a tree (Report, 6.1.1).
 use Rattle.std.specs.Prelude.{◌≡◌, ◌+◌, ℕ, suc, List, [], ◌∷◌, length, replicate, slice_set, None}
 use Rattle.a68_modes.specs.declared.shape.Shape.{Shape}

@@ -1,10 +1,11 @@
 //! What is asked of a node of a text.
-ghost use Rattle.std.specs.Prelude.{◌<◌, ℕ, IsTrue, length};
+ghost use Rattle.std.specs.Prelude.{◌<◌, ℕ, length};
 ghost use Rattle.a68_definitions.specs.Defined.{AreBelow};
 ghost use Rattle.a68_identify.specs.Operators.{AreThere};
 ghost use Rattle.a68_ranges.specs.Tables.{AreRanges};
 ghost use Rattle.a68_ranges.specs.Twice.{IsTwice};
 
+use crate::table::holds;
 use a68_declare::{Declared, NodeModes, declare};
 use a68_definitions::{applied_tags, defined_modes, kind_of};
 use a68_mode_table::ModeTable;
@@ -44,15 +45,6 @@ pub enum Asked {
     Items,
     Goal(Mode, Option<NodeKind>),
     Asks(Sort, Option<Mode>),
-}
-
-// What a case says holds, or the test fails and names the case.
-fn holds(rt: &impl Abort, holds: bool, case: &str)
-    ensures { IsTrue holds }
-{
-    if !holds {
-        rt.panic(case)
-    }
 }
 
 fn tree_of(rt: &impl Abort, alloc: Global, text: &str) -> Tree {

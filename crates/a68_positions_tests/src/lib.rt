@@ -4,4 +4,8 @@
 #[cfg(test)]
 mod asked;
 #[cfg(test)]
-mod rows;
+mod clauses;
+#[cfg(test)]
+mod table;
+#[cfg(test)]
+mod units;

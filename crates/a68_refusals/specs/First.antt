@@ -1,4 +1,3 @@
--- Inner: the headline does not rest on this file.
 -- The rule that a tree breaks first, of those that its nodes break (own).
 use Rattle.std.specs.Prelude.{◌≡◌, ◌<◌, ℕ, List, length, Option, Some, None}
 use Rattle.a68_modes.specs.declared.shape.Shape.{Shape}

@@ -1,4 +1,3 @@
--- Inner: the headline does not rest on this file.
 -- In which order the rules are told that the nodes of a tree break (own): the parts of a node from left to right and then the node.
 use Rattle.std.specs.Prelude.{◌≡◌, ◌+◌, ◌||◌, ◌&&◌, ℕ, zero, suc, length, nat_eq, nat_lt, Option, Some, None, Bool, true, false, if◌then◌else◌}
 use Rattle.a68_base.specs.declared.refusal.Rule.{Rule}

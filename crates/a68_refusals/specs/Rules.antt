@@ -1,4 +1,3 @@
--- Inner: the headline does not rest on this file.
 -- The rules that a node breaks by itself (Report, 3.3.1, 4.5, 5.2.2, 5.3, 5.4.2, 5.4.3, 7.2; P1 and P2 are own).
 use Rattle.std.specs.Prelude.{◌+◌, ◌||◌, ℕ, List, [], ◌∷◌, length, nat_eq, nat_lt, slice_index_or, Option, Some, None, Bool, true, false, if◌then◌else◌}
 use Rattle.a68_definitions.specs.Tags.{called_by, called_tag}

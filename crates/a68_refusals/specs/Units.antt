@@ -1,4 +1,3 @@
--- Inner: the headline does not rest on this file.
 -- The units that no coercion leads to what is asked of them (Report, 3.2.1, 5.2.3, 5.2.4 and 6.1).
 use Rattle.std.specs.Prelude.{◌≡◌, ℕ, List, Option, Some, None, Bool, true, false, if◌then◌else◌}
 use Rattle.a68_coerce.specs.Paths.{CanLead}

@@ -1,4 +1,4 @@
-//! Lines of tables.
+//! What is said of the cases of tables.
 ghost use Rattle.std.specs.Prelude.{IsTrue};
 
 use std::process::Abort;

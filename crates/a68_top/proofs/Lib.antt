@@ -1,7 +1,8 @@
+pub mod Answering
 pub mod Compiled
-pub mod Lined
 pub mod One
 pub mod Refusing
+pub mod Scanning
 pub mod Told
 pub mod Within
 pub mod Written

@@ -7,13 +7,11 @@ use Rattle.a68_base.specs.declared.refusal.Refusal.{Refusal}
 use Rattle.a68_base.specs.declared.refusal.Rule.{Rule}
 use Rattle.a68_base.specs.declared.refusal.Rule.TheVariants.{S6, X0}
 use Rattle.a68_check.specs.Annotates.{Annotates, Refuses}
-use Rattle.a68_elab.specs.Made.{program_of}
-use Rattle.a68_gen.specs.Listing.{listing}
-use Rattle.a68_gen.specs.Writing.{IsTooLong, places, most}
+use Rattle.a68_gen.specs.Runs.{IsNotGenerated}
 use Rattle.a68_parse.specs.Parses.{IsTree}
 use Rattle.a68_symbols.specs.Names.{Named, AreNamed}
 use Rattle.a68_symbols.specs.Symbols.{SymbolsAre, RefusalIs, Piece, piece_of}
-use Rattle.a68_top.specs.Compiles.{IsTreeOf, IsProgramOf, RefusedAs, unlike_symbols, unclassed, no_tree, no_meaning, too_long}
+use Rattle.a68_top.specs.Compiles.{IsTreeOf, IsProgramOf, RefusedAs, unlike_symbols, unclassed, no_tree, no_meaning, not_generated}
 use Rattle.a68_tree.specs.Trees.{Built}
 use Rattle.a68_tree.specs.declared.node.Node.{Node}
 use Rattle.a68_parse.specs.Drafted.{SpellsAlike, AreStarts}
@@ -30,6 +28,7 @@ pub record Laws : Type 0 where
   pub broken : (flat : Built) (r s : Refusal) → Refuses flat r → Refuses flat s → (r.rule ≡ s.rule) × (r.place ≡ s.place)
   pub unbroken : (flat : Built) (program : Annotated) (r : Refusal) → Annotates flat program → Refuses flat r → ⊥
   pub programs : (flat : Built) (a b : Annotated) → Annotates flat a → Annotates flat b → a ≡ b
+  pub ungenerated : (program : Annotated) (r s : Refusal) → IsNotGenerated program r → IsNotGenerated program s → s ≡ r
 
 abbrev pub AreOne : Refusal → Refusal → Type 0
 AreOne r s = (r.rule ≡ s.rule) × ((r.rule ≡ S6) ⊎ (r.place ≡ s.place))
@@ -77,17 +76,17 @@ module _ (laws : Laws) (text : List ℕ) where
       let cs : is.classes ≡ classes = laws.classes found classes is.classes classed also in
       none tree.nodes (subst (λ c. IsTree found c tree.nodes) cs (subst (λ f. IsTree f is.classes tree.nodes) same is.derived))
 
-  -- a text that has a tree is refused only by its meaning or its length
+  -- a text that has a tree is refused only by its meaning, or where no code is made of it
   data Late (r : Refusal) : Type 0 where
     late_meaning : (tree : Built) → IsTreeOf text tree → Refuses tree r → Late r
-    late_long : (program : Annotated) → IsProgramOf text program → IsTooLong (listing (program_of program)) r → Late r
+    late_code : (program : Annotated) → IsProgramOf text program → IsNotGenerated program r → Late r
 
   late : (tree : Built) (r : Refusal) → IsTreeOf text tree → RefusedAs text r → Late r
   late tree r is (unlike_symbols u) = absurd (tree_symbols tree r.rule r.place is u)
   late tree r is (unclassed found s n u) = absurd (tree_classed tree found r.rule r.place is s n u)
   late tree r is (no_tree found classes s n c u) = absurd (tree_parsed tree found classes is s n c u.2)
   late tree r is (no_meaning t i u) = late_meaning t i u
-  late tree r is (too_long p i u) = late_long p i u
+  late tree r is (not_generated p i u) = late_code p i u
 
   broken_once : (t u : Built) (r s : Refusal) → IsTreeOf text t → IsTreeOf text u → Refuses t r → Refuses u s → AreOne r s
   broken_once t u r s is also p q =
@@ -100,13 +99,10 @@ module _ (laws : Laws) (text : List ℕ) where
       let flat : t ≡ q.tree = same_tree t q.tree is q.is in
       laws.unbroken q.tree program r q.annotates (subst (λ x. Refuses x r) flat p)
 
-  long_once : (p q : Annotated) (r s : Refusal) → IsProgramOf text p → IsProgramOf text q → IsTooLong (listing (program_of p)) r → IsTooLong (listing (program_of q)) s → AreOne r s
-  long_once p q r s i j u v =
-      let same = same_program p q i j in
-      let lists = ap (λ x. listing (program_of x)) same in
-      let places_same = sym u.place ∙ ap (λ l. slice_get (places l) most) lists ∙ v.place in
-      let place : r.place ≡ s.place = cc (places_same) in
-      (u.rule ∙ sym v.rule, inr place)
+  code_once : (p q : Annotated) (r s : Refusal) → IsProgramOf text p → IsProgramOf text q → IsNotGenerated p r → IsNotGenerated q s → AreOne r s
+  code_once p q r s i j u v =
+      let same = laws.ungenerated q s r v (subst (λ x. IsNotGenerated x r) (same_program p q i j) u) in
+      (ap (λ (x : Refusal). x.rule) same, inr (ap (λ (x : Refusal). x.place) same))
 
   -- two refusals of a text are one
   pub one_refusal : (r s : Refusal) → RefusedAs text r → RefusedAs text s → AreOne r s
@@ -114,7 +110,7 @@ module _ (laws : Laws) (text : List ℕ) where
   one_refusal r s (unlike_symbols u) (unclassed f symbols n v) = absurd (u.none (map piece_of f.symbols) symbols.has)
   one_refusal r s (unlike_symbols u) (no_tree f c symbols n cl v) = absurd (u.none (map piece_of f.symbols) symbols.has)
   one_refusal r s (unlike_symbols u) (no_meaning t i v) = absurd (tree_symbols t r.rule r.place i u)
-  one_refusal r s (unlike_symbols u) (too_long p i v) = absurd (tree_symbols i.tree r.rule r.place i.is u)
+  one_refusal r s (unlike_symbols u) (not_generated p i v) = absurd (tree_symbols i.tree r.rule r.place i.is u)
   one_refusal r s (unclassed f symbols n u) (unlike_symbols v) = absurd (v.none (map piece_of f.symbols) symbols.has)
   one_refusal r s (unclassed f symbols n u) (unclassed g also m v) =
       let same : f ≡ g = same_found f g symbols n also m in
@@ -124,26 +120,26 @@ module _ (laws : Laws) (text : List ℕ) where
       let same : f ≡ g = same_found f g symbols n also m in
       absurd (laws.apart g r.rule r.place c (subst (λ x. IsRefused x r.rule r.place) same u) cl)
   one_refusal r s (unclassed f symbols n u) (no_meaning t i v) = absurd (tree_classed t f r.rule r.place i symbols n u)
-  one_refusal r s (unclassed f symbols n u) (too_long p i v) = absurd (tree_classed i.tree f r.rule r.place i.is symbols n u)
+  one_refusal r s (unclassed f symbols n u) (not_generated p i v) = absurd (tree_classed i.tree f r.rule r.place i.is symbols n u)
   one_refusal r s (no_tree f c symbols n cl u) (unlike_symbols v) = absurd (v.none (map piece_of f.symbols) symbols.has)
   one_refusal r s (no_tree f c symbols n cl u) (unclassed g also m v) =
       let same : g ≡ f = same_found g f also m symbols n in
       absurd (laws.apart f s.rule s.place c (subst (λ x. IsRefused x s.rule s.place) same v) cl)
   one_refusal r s (no_tree f c symbols n cl u) (no_tree g d also m dl v) = (u.0 ∙ sym v.0, inl u.0)
   one_refusal r s (no_tree f c symbols n cl u) (no_meaning t i v) = absurd (tree_parsed t f c i symbols n cl u.2)
-  one_refusal r s (no_tree f c symbols n cl u) (too_long p i v) = absurd (tree_parsed i.tree f c i.is symbols n cl u.2)
+  one_refusal r s (no_tree f c symbols n cl u) (not_generated p i v) = absurd (tree_parsed i.tree f c i.is symbols n cl u.2)
   one_refusal r s (no_meaning t i u) q = elim (late t s i q) [
     | late_meaning w j v ↦ broken_once t w r s i j u v
-    | late_long p j v ↦ absurd (not_both t p r i j u)
+    | late_code p j v ↦ absurd (not_both t p r i j u)
   ]
-  one_refusal r s (too_long p i u) q = elim (late i.tree s i.is q) [
+  one_refusal r s (not_generated p i u) q = elim (late i.tree s i.is q) [
     | late_meaning w j v ↦ absurd (not_both w p s j i v)
-    | late_long o j v ↦ long_once p o r s i j u v
+    | late_code o j v ↦ code_once p o r s i j u v
   ]
 
-  -- what is compiled is refused at most for its length
-  pub compiled_late : (program : Annotated) (r : Refusal) → IsProgramOf text program → RefusedAs text r → IsTooLong (listing (program_of program)) r
+  -- what has a program is refused only where no code is made of it
+  pub compiled_late : (program : Annotated) (r : Refusal) → IsProgramOf text program → RefusedAs text r → IsNotGenerated program r
   compiled_late program r i q = elim (late i.tree r i.is q) [
     | late_meaning w j v ↦ absurd (not_both w program r j i v)
-    | late_long o j v ↦ (let same = same_program o program j i in subst (λ x. IsTooLong (listing (program_of x)) r) same v)
+    | late_code o j v ↦ subst (λ x. IsNotGenerated x r) (same_program o program j i) v
   ]

@@ -7,13 +7,11 @@ use Rattle.a68_base.specs.declared.refusal.Stop.{Stop}
 use Rattle.a68_base.specs.declared.refusal.Stop.TheVariants.{Refused, NoMemory}
 use Rattle.a68_check.specs.Annotates.{Refuses}
 use Rattle.a68_ranges.specs.Twice.{StopsBy}
-use Rattle.a68_elab.specs.Made.{program_of}
-use Rattle.a68_gen.specs.Listing.{listing}
-use Rattle.a68_gen.specs.Writing.{Stops}
+use Rattle.a68_gen.specs.Runs.{IsNotGenerated}
 use Rattle.a68_parse.specs.Parses.{Parses}
 use Rattle.a68_symbols.specs.Names.{Named, AreNamed}
 use Rattle.a68_symbols.specs.Symbols.{SymbolsAre, piece_of}
-use Rattle.a68_top.specs.Compiles.{IsTreeOf, IsProgramOf, RefusedAs, unclassed, no_tree, no_meaning, too_long}
+use Rattle.a68_top.specs.Compiles.{IsTreeOf, IsProgramOf, RefusedAs, unclassed, no_tree, no_meaning, not_generated}
 use Rattle.a68_words.specs.Classes.{Answers, IsClassed}
 use Rattle.a68_words.specs.declared.class.Class.{Class}
 use Rattle.std.specs.declared.option.Option.{Option}
@@ -32,9 +30,9 @@ pub stopped : (text : List ℕ) (tree : Built) → IsTreeOf text tree → (s : S
 stopped text tree is NoMemory p = tt
 stopped text tree is (Refused f) p = no_meaning tree is p
 
-pub overlong : (text : List ℕ) (program : Annotated) → IsProgramOf text program → (s : Stop) → Stops s (listing (program_of program)) → StopsBy (RefusedAs text) s
-overlong text program is NoMemory p = tt
-overlong text program is (Refused f) p = too_long program is p
+pub ungenerated : (text : List ℕ) (program : Annotated) → IsProgramOf text program → (s : Stop) → StopsBy (IsNotGenerated program) s → StopsBy (RefusedAs text) s
+ungenerated text program is NoMemory p = tt
+ungenerated text program is (Refused f) p = not_generated program is p
 
 pub if_ok : {A B : Type 0} {P Q : A → Type 0} (r : Result A B) → ((a : A) → P a → Q a) → IfOk r P → IfOk r Q
 if_ok (Ok a) f p = f a p

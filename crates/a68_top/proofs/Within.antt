@@ -7,16 +7,12 @@ use Rattle.a68_annot.specs.declared.annotated.Annotated.{Annotated}
 use Rattle.a68_base.specs.declared.refusal.Refusal.{Refusal}
 use Rattle.a68_base.specs.declared.refusal.Rule.{Rule}
 use Rattle.a68_check.specs.Annotates.{Annotates, Refuses}
-use Rattle.a68_elab.specs.Made.{program_of}
-use Rattle.a68_elab.specs.Places.{ProgramBeginsBy}
-use Rattle.a68_elab.specs.Trees.{Program}
-use Rattle.a68_gen.specs.Listing.{listing}
-use Rattle.a68_gen.specs.Writing.{IsTooLong}
+use Rattle.a68_gen.specs.Runs.{IsNotGenerated}
 use Rattle.a68_parse.specs.Parses.{IsTree}
 use Rattle.a68_symbols.specs.Names.{Named}
 use Rattle.a68_symbols.specs.Symbols.{SymbolsAre, piece_of, IsRefused as IsBroken}
 use Rattle.a68_symbols.specs.declared.symbol.Symbol.{Symbol}
-use Rattle.a68_top.specs.Compiles.{IsTreeOf, RefusedAs, unlike_symbols, unclassed, no_tree, no_meaning, too_long}
+use Rattle.a68_top.specs.Compiles.{IsTreeOf, RefusedAs, unlike_symbols, unclassed, no_tree, no_meaning, not_generated}
 use Rattle.a68_tree.specs.Trees.{Built}
 use Rattle.a68_tree.specs.declared.node.Node.{Node}
 use Rattle.a68_parse.specs.Places.{IsPlace}
@@ -32,8 +28,8 @@ pub record Bounds : Type 0 where
       → ((i s : ℕ) → slice_get flat.starts i ≡ Some s → s ≤ end) → Refuses flat r → r.place ≤ end
   pub annotated : (flat : Built) (end : ℕ) (program : Annotated) → ((id : ℕ) (n : Node) → slice_get flat.nodes id ≡ Some n → n.span.from ≤ end)
       → Annotates flat program → (id : ℕ) (n : Node) → slice_get program.tree.nodes id ≡ Some n → n.span.from ≤ end
-  pub constructs : (program : Annotated) (end : ℕ) → ((id : ℕ) (n : Node) → slice_get program.tree.nodes id ≡ Some n → n.span.from ≤ end) → ProgramBeginsBy end (program_of program)
-  pub instructions : (program : Program) (end : ℕ) (refusal : Refusal) → ProgramBeginsBy end program → IsTooLong (listing program) refusal → refusal.place ≤ end
+  pub ungenerated : (program : Annotated) (end : ℕ) (r : Refusal) → ((id : ℕ) (n : Node) → slice_get program.tree.nodes id ≡ Some n → n.span.from ≤ end)
+      → IsNotGenerated program r → r.place ≤ end
 
 at_place : (symbols : List Symbol) (end place : ℕ) → ((i : ℕ) (s : Symbol) → slice_get symbols i ≡ Some s → s.span.from ≤ end) → IsPlace symbols end place → place ≤ end
 at_place symbols end place h (inl e) = omega arith
@@ -62,6 +58,5 @@ module _ (laws : Bounds) (text : List ℕ) where
   place_within r (unclassed found symbols named v) = let e = v.here in let w = laws.symbols text found symbols v.at v.symbol v.is in omega arith
   place_within r (no_tree found classes symbols named classed v) = at_place found.symbols (length text) r.place (laws.symbols text found symbols) v.1
   place_within r (no_meaning tree is v) = laws.refused tree (length text) r (tree_within tree is) (starts_within tree is) v
-  place_within r (too_long program is v) =
-      laws.instructions (program_of program) (length text) r
-      (laws.constructs program (length text) (laws.annotated is.tree (length text) program (tree_within is.tree is.is) is.annotates)) v
+  place_within r (not_generated program is v) =
+      laws.ungenerated program (length text) r (laws.annotated is.tree (length text) program (tree_within is.tree is.is) is.annotates) v

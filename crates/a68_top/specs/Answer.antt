@@ -5,15 +5,17 @@ use Rattle.a68_base.specs.declared.limits.TheConstants.{MOST_READ}
 use Rattle.a68_base.specs.declared.refusal.Refusal.{Refusal}
 use Rattle.a68_base.specs.declared.status.Status.{Status}
 use Rattle.a68_base.specs.declared.status.Status.TheVariants.{Done, Refused, Usage, Fault, AllHalted, Spent}
+use Rattle.a68_code.specs.declared.code.Code.{Code}
 use Rattle.a68_elab.specs.Made.{program_of}
 use Rattle.a68_elab.specs.Permitted.{Permitted}
+use Rattle.a68_report.specs.Lines.{usage_line, refusal_line, end_line}
+use Rattle.a68_report.specs.Listing.{code_text}
 use Rattle.a68_strand.specs.Cyclic.{Cyclic}
 use Rattle.a68_strand.specs.RunOf.{RunOf}
 use Rattle.a68_top.specs.Compiles.{Compiles, RefusedAs}
 use Rattle.a68_top.specs.declared.finish.Finish.{Finish}
 use Rattle.a68_top.specs.declared.finish.Made.{Made}
-use Rattle.a68_top.specs.Words.{Task, run}
-use Rattle.a68_top.specs.Lines.{usage_line, refusal_line, end_line}
+use Rattle.a68_top.specs.Words.{Task, run, check, show_code}
 use Rattle.a68_values.specs.declared.kept.End.{End}
 use Rattle.a68_values.specs.declared.kept.End.TheVariants as ends
 use Rattle.a68_values.specs.declared.kept.Kept.{Kept}
@@ -56,6 +58,25 @@ pub data IsRunOf (text : List ℕ) (fuel : ℕ) (finish : Finish) (out notes : L
   ran : (made : Made) → Compiles text made → (has : HasRun made fuel finish out notes) → Permitted (program_of made.program) fuel has.kept
       → IsRunOf text fuel finish out notes
 
+-- The program is kept and not run, and this is on out.
+abbrev pub IsKept : Made → List ℕ → Finish → List ℕ → List ℕ → Type 0
+IsKept made shown finish out notes = Says finish out notes (record { status = Done; refusal = None; made = Some made; ran = None }) shown []
+
+-- The text is refused, or it is compiled and not run; what is shown of its code is then on out.
+pub data IsMadeOf (text : List ℕ) (shown : Code → List ℕ) (finish : Finish) (out notes : List ℕ) : Type 0 where
+  unmade : (refusal : Refusal) → RefusedAs text refusal → IsRefusal refusal finish out notes → IsMadeOf text shown finish out notes
+  compiled : (made : Made) → Compiles text made → IsKept made (shown made.code) finish out notes → IsMadeOf text shown finish out notes
+
+-- nothing is shown of a code
+abbrev pub nothing : Code → List ℕ
+nothing code = []
+
+-- what a task owes for what is read of the text of its file
+abbrev pub AnswersText : Task → List ℕ → Finish → List ℕ → List ℕ → Type 0
+AnswersText (run file fuel) text finish out notes = IsRunOf text fuel finish out notes
+AnswersText (check file) text finish out notes = IsMadeOf text nothing finish out notes
+AnswersText (show_code file) text finish out notes = IsMadeOf text code_text finish out notes
+
 -- as much of a program's text as is read: one byte above the limit
 abbrev pub read_of : List ℕ → List ℕ
 read_of text = take MOST_READ text
@@ -63,5 +84,5 @@ read_of text = take MOST_READ text
 -- The answer, where every read and write succeeds and memory suffices. The texts are those of the files, in order.
 abbrev pub Answer : Option Task → List (List ℕ) → Finish → List ℕ → List ℕ → Type 0
 Answer None texts finish out notes = IsUsage finish out notes
-Answer (Some (run file fuel)) (text ∷ []) finish out notes = IsRunOf (read_of text) fuel finish out notes
-Answer (Some (run file fuel)) _ finish out notes = ⊥
+Answer (Some task) (text ∷ []) finish out notes = AnswersText task (read_of text) finish out notes
+Answer (Some task) _ finish out notes = ⊥

@@ -9,7 +9,7 @@ use Rattle.a68_outside.specs.Known.{ReceivesFront}
 use Rattle.a68_top.specs.declared.finish.Finish.{Finish}
 use Rattle.a68_top.specs.Words.{Task, files_of}
 use Rattle.a68_top.specs.Answer.{Answer, bare}
-use Rattle.a68_top.specs.Lines.{read_fault_line}
+use Rattle.a68_report.specs.Lines.{read_fault_line}
 
 -- before and after a call: the faults of an object, and the bytes that a sink received, where it tells them
 pub record Sunk : Type 0 where

@@ -13,7 +13,7 @@ ghost use Rattle.a68_top.specs.Compiles.{IsTreeOf, IsProgramOf, Compiles, Refuse
 use crate::finish::Made;
 use a68_annot::Annotated;
 use a68_base::Stop;
-use a68_check::{annotate, annotated_trees_fit};
+use a68_check::annotate;
 use a68_gen::generate;
 use a68_parse::{parse, symbols_are_bounded};
 use a68_symbols::{Symbols, symbols};
@@ -44,7 +44,6 @@ pub fn compile(alloc: Global, text: &[u8]) -> Result<Made, Stop>
 {
     let tree = tree_of(alloc, text)?;
     let program = annotate(alloc, tree)?;
-    annotated_trees_fit();
     let code = generate(alloc, &program)?;
     Ok(Made { program, code })
 }

@@ -7,7 +7,6 @@ ghost use Rattle.a68_top.specs.Compiles.{IsProgramOf, Compiles, RefusedAs};
 ghost use Rattle.a68_top.specs.declared.finish.Made.{Made};
 
 use a68_check::{annotations_are_one, annotations_begin_by};
-use a68_elab::constructs_begin_by;
 use a68_gen::translations_are_listings;
 use a68_parse::{symbols_are_bounded, trees_lie_in_texts};
 use a68_symbols::symbols_are_one;
@@ -29,6 +28,5 @@ pub fn answers_are_one()
     trees_lie_in_texts();
     annotations_are_one();
     annotations_begin_by();
-    constructs_begin_by();
     translations_are_listings();
 }

@@ -1,25 +1,26 @@
 //! All that a call does before its first byte is written.
 ghost use Rattle.std.specs.Prelude.{◌≡◌, ◌≤◌, ◌<◌, ◌^◌, [], length, map, string_bytes, IfOk, OnOk, IfSome, IsErrOf, Some};
 ghost use Rattle.a68_outside.specs.Cause.{Rose};
-ghost use Rattle.a68_top.specs.Words.{MayAskFor, run, task_in, files_of};
+ghost use Rattle.a68_top.specs.Words.{MayAskFor, task_in, file_of, files_of};
 ghost use Rattle.a68_code.specs.Valid.{IsValid};
 ghost use Rattle.a68_strand.specs.Cyclic.{Cyclic};
 ghost use Rattle.a68_strand.specs.RunOf.{RunOf};
-ghost use Rattle.a68_top.specs.Commands.{task_of, HasFuel};
-ghost use Rattle.a68_top.specs.Lines.{end_line};
-ghost use Rattle.a68_top.specs.Answer.{IsRefusal, HasRun, IsRunOf, IsUsage, read_of};
+ghost use Rattle.a68_top.specs.Commands.{task_of, AnswersMade, HasFuel};
+ghost use Rattle.a68_report.specs.Lines.{end_line};
+ghost use Rattle.a68_report.specs.Listing.{code_text as listing};
+ghost use Rattle.a68_top.specs.Answer.{AnswersText, IsKept, IsRefusal, HasRun, IsUsage, read_of};
 ghost use Rattle.a68_top.specs.Outcome.{IsAnswer, Owes};
 ghost use Rattle.a68_world.specs.Run.{most_fuel};
 ghost use Rattle.a68_top.specs.declared.prepare.Early.TheVariants as early;
 
 use crate::compile::compile;
 use crate::finish::{Finish, Made, Owed, bare, status_of};
-use crate::lines::{USAGE, end_line_of, refusal_line_of};
 use crate::words::{Command, command_of};
 use a68_annot::Annotated;
 use a68_base::{MOST_READ, NoMemory, Refusal, Status, Stop, Text};
 use a68_code::Code;
 use a68_outside::{ReadStop, Shelf, read_at_most};
+use a68_report::{USAGE, code_text, end_line, refusal_line};
 use a68_sim::permitted_law;
 use a68_values::{End, Kept};
 use a68_world::run;
@@ -79,7 +80,7 @@ fn refused(alloc: Global, refusal: Refusal) -> Result<Owed, NoMemory>
     ensures answer { IfOk result (λ due. IsRefusal refusal due.finish due.out due.notes) }
 {
     let out = Text::from_slice(alloc, b"")?;
-    let notes = refusal_line_of(alloc, refusal)?;
+    let notes = refusal_line(alloc, refusal)?;
     Ok(Owed {
         finish: Finish {
             status: Status::Refused,
@@ -98,7 +99,7 @@ fn told(alloc: Global, printed: &Text, end: End) -> Result<(Text, Text), NoMemor
     ensures notes { IfOk result (λ texts. texts.1 ≡ end_line end) }
 {
     let out = Text::from_slice(alloc, printed.as_slice())?;
-    let notes = end_line_of(alloc, end)?;
+    let notes = end_line(alloc, end)?;
     Ok((out, notes))
 }
 
@@ -152,36 +153,75 @@ fn ran(alloc: Global, program: Annotated, code: Code, fuel: u32) -> Result<Owed,
     }
 }
 
-// What a run of a text owes.
-fn run_text(alloc: Global, text: &[u8], fuel: u32) -> Result<Owed, NoMemory>
-    requires length { length text.now < 2 ^ 32 }
-    requires some_fuel { 1 ≤ fuel }
-    requires little_fuel { fuel ≤ most_fuel }
+// What is owed for a program that is kept and not run, where this is written to out.
+fn keep(alloc: Global, made: Made, out: Text) -> Owed
+    ensures status { IsAnswer result.finish.status }
+    ensures says { IsKept made out result.finish result.out result.notes }
+{
+    Owed {
+        finish: Finish {
+            status: Status::Done,
+            refusal: None,
+            made: Some(made),
+            ran: None,
+        },
+        out,
+        notes: Text {
+            items: Vec::new(alloc),
+        },
+    }
+}
+
+// What is owed for a program whose code is listed.
+fn listed(alloc: Global, made: Made) -> Result<Owed, NoMemory>
     ensures status { IfOk result (λ due. IsAnswer due.finish.status) }
-    ensures answer { IfOk result (λ due. IsRunOf text.now fuel due.finish due.out due.notes) }
+    ensures says { IfOk result (λ due. IsKept made (listing made.code) due.finish due.out due.notes) }
+{
+    match code_text(alloc, &made.code) {
+        Ok(out) => Ok(keep(alloc, made, out)),
+        Err(error) => {
+            drop(made);
+            Err(error)
+        }
+    }
+}
+
+// What a command owes for the program of its text.
+fn due_made(alloc: Global, command: &Command, made: Made) -> Result<Owed, NoMemory>
+    requires valid { IsValid made.code }
+    requires short { length made.code.list < 2 ^ 32 }
+    requires fuel { HasFuel command.now }
+    ensures status { IfOk result (λ due. IsAnswer due.finish.status) }
+    ensures answer { IfOk result (λ due. AnswersMade (task_of command.now) made due.finish due.out due.notes) }
+{
+    match command {
+        Command::Run { fuel, .. } => {
+            let Made { program, code } = made;
+            ran(alloc, program, code, *fuel)
+        }
+        Command::Check { .. } => {
+            let out = Text {
+                items: Vec::new(alloc),
+            };
+            Ok(keep(alloc, made, out))
+        }
+        Command::Code { .. } => listed(alloc, made),
+    }
+}
+
+// What a command owes for its text, as much of it as was read.
+fn due_for(alloc: Global, command: &Command, text: &[u8]) -> Result<Owed, NoMemory>
+    requires length { length text.now < 2 ^ 32 }
+    requires fuel { HasFuel command.now }
+    ensures status { IfOk result (λ due. IsAnswer due.finish.status) }
+    ensures answer { IfOk result (λ due. AnswersText (task_of command.now) text.now due.finish due.out due.notes) }
 {
     permitted_law();
     match compile(alloc, text) {
         Err(Stop::NoMemory) => Err(NoMemory),
         Err(Stop::Refused(refusal)) => refused(alloc, refusal),
-        Ok(Made { program, code }) => ran(alloc, program, code, fuel),
+        Ok(made) => due_made(alloc, command, made),
     }
-}
-
-// What `run` owes.
-fn run_file<F: Shelf>(alloc: Global, name: &str, fuel: u32, shelf: &mut F) -> Result<Owed, Early>
-    requires may_ask { F.may_ask name.now }
-    requires some_fuel { 1 ≤ fuel }
-    requires little_fuel { fuel ≤ most_fuel }
-    ensures status { IfOk result (λ due. IsAnswer due.finish.status) }
-    ensures answer { IfOk result (λ due. Owes (Some (run name.now fuel)) (F.under shelf.old)
-        due.finish due.out due.notes) }
-    ensures calm { OnOk result (F.faults shelf.new ≡ F.faults shelf.old) }
-    ensures memory { IsErrOf result Early.NoMemory → F.faults shelf.new ≡ F.faults shelf.old }
-    ensures failed { IsErrOf result Early.ReadFault → Rose (F.faults shelf.old) (F.faults shelf.new) }
-{
-    let text = fetch(alloc, name, shelf)?;
-    Ok(run_text(alloc, text.as_slice(), fuel)?)
 }
 
 // What a command owes.
@@ -196,9 +236,8 @@ fn due_of<F: Shelf>(alloc: Global, command: &Command, shelf: &mut F) -> Result<O
     ensures memory { IsErrOf result Early.NoMemory → F.faults shelf.new ≡ F.faults shelf.old }
     ensures failed { IsErrOf result Early.ReadFault → Rose (F.faults shelf.old) (F.faults shelf.new) }
 {
-    match command {
-        Command::Run { file, fuel } => run_file(alloc, file.as_str(), *fuel, shelf),
-    }
+    let text = fetch(alloc, command.file().as_str(), shelf)?;
+    Ok(due_for(alloc, command, text.as_slice())?)
 }
 
 /// Reads the words and the file, and finds what is owed. It takes all the memory that the call needs.

@@ -5,10 +5,10 @@ ghost use Rattle.a68_top.specs.Outcome.{Outcome, sunk};
 
 use crate::deliver::deliver;
 use crate::finish::{Finish, bare, delivered};
-use crate::lines::READ_FAULT;
 use crate::prepare::{Early, prepare};
 use a68_base::Status;
 use a68_outside::{Gate, Shelf, Sink, write_whole};
+use a68_report::READ_FAULT;
 use std::alloc::Global;
 use std::marker::Sync;
 use std::sync::Wait;

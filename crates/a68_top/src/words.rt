@@ -1,11 +1,12 @@
 //! The words of the command line.
 ghost use Rattle.std.specs.Prelude.{◌≡◌, ◌≤◌, List, ℕ, map, string_bytes, IfOk, IfSome};
-ghost use Rattle.std.specs.Option.{option_map};
-ghost use Rattle.a68_top.specs.Words.{task_in, is_operand, fuel_in, run_of};
+ghost use Rattle.std.specs.Option.{option_map, option_and_then};
+ghost use Rattle.a68_top.specs.Options.{HasRange, start, steps};
+ghost use Rattle.a68_top.specs.Words.{fuel_or_usual, task_in, task_by, task_of_found, file_of};
 ghost use Rattle.a68_top.specs.Commands.{task_of, HasFuel};
 
+use crate::options::{Due, Found, found_in};
 use a68_base::{MOST_FUEL, NoMemory, USUAL_FUEL};
-use a68_denote::int_of;
 use std::alloc::Global;
 use std::marker::Model;
 
@@ -24,6 +25,14 @@ impl Model for FileName {
 }
 
 impl FileName {
+    /// A name of these bytes.
+    fn new(alloc: Global, name: &str) -> Result<FileName, NoMemory>
+        ensures { IfOk result (λ file. file ≡ name.now) }
+    {
+        let items = String::from_str(alloc, name)?;
+        Ok(FileName { items })
+    }
+
     /// The name as a text.
     pub fn as_str(&self) -> &str
         ensures { result.now ≡ self.now }
@@ -37,50 +46,98 @@ impl FileName {
 pub enum Command {
     /// To compile the text of a file and to run it.
     Run { file: FileName, fuel: u32 },
+    /// To compile the text of a file.
+    Check { file: FileName },
+    /// To compile the text of a file and to list its code.
+    Code { file: FileName },
 }
 
-// Does the word name a file?
-fn names_file(word: &str) -> bool
-    ensures { result ≡ is_operand word.now }
-{
-    match word.as_bytes() {
-        [] | [_] => true,
-        [first, _, ..] => *first != b'-',
+impl Command {
+    /// The file that is read.
+    pub fn file(&self) -> &FileName
+        ensures { result.now ≡ file_of (task_of self.now) }
+    {
+        match self {
+            Command::Run { file, .. } | Command::Check { file } | Command::Code { file } => file,
+        }
     }
 }
 
-// A number of fuel: one to eight digits, of 1 to 16,000,000.
-fn fuel_of(word: &str) -> Option<u32>
-    ensures fuel { result ≡ fuel_in word.now }
-    ensures range { IfSome result (λ fuel. (1 ≤ fuel) × (fuel ≤ MOST_FUEL)) }
-{
-    if word.len() > 8 {
-        return None;
-    }
-    match int_of(word.as_bytes()) {
-        Some(value) if value >= 1 && value <= i64::from(MOST_FUEL) => Some(value as u32),
-        _ => None,
-    }
-}
-
-// The command to run a file.
-fn run_of(
-    alloc: Global,
-    verb: &str,
-    file: &str,
-    fuel: Option<u32>,
-) -> Result<Option<Command>, NoMemory>
+// The fuel of a run.
+fn fuel_or_usual(fuel: Option<u32>) -> u32
     requires { IfSome fuel (λ fuel. (1 ≤ fuel) × (fuel ≤ MOST_FUEL)) }
-    ensures task { IfOk result (λ command. option_map task_of command ≡ run_of verb.now file.now fuel) }
-    ensures fuel { IfOk result (λ command. IfSome command HasFuel) }
+    ensures fuel { result ≡ fuel_or_usual fuel }
+    ensures range { (1 ≤ result) × (result ≤ MOST_FUEL) }
 {
     match fuel {
-        Some(fuel) if verb == "run" && names_file(file) => {
-            let items = String::from_str(alloc, file)?;
-            let file = FileName { items };
-            Ok(Some(Command::Run { file, fuel }))
-        }
-        _ => Ok(None),
+        Some(fuel) => fuel,
+        None => USUAL_FUEL,
+    }
+}
+
+// What a verb asks for of a file: `run` alone has options.
+fn command_by(
+    alloc: Global,
+    verb: &str,
+    found: Found,
+    file: &str,
+) -> Result<Option<Command>, NoMemory>
+    requires { HasRange found }
+    ensures task { IfOk result (λ command. option_map task_of command ≡ task_by verb.now found file.now) }
+    ensures fuel { IfOk result (λ command. IfSome command HasFuel) }
+{
+    if verb == "run" {
+        let file = FileName::new(alloc, file)?;
+        let fuel = fuel_or_usual(found.fuel);
+        return Ok(Some(Command::Run { file, fuel }));
+    }
+    if found.workers.is_some() || found.fuel.is_some() {
+        return Ok(None);
+    }
+    if verb == "check" {
+        let file = FileName::new(alloc, file)?;
+        return Ok(Some(Command::Check { file }));
+    }
+    if verb == "code" {
+        let file = FileName::new(alloc, file)?;
+        return Ok(Some(Command::Code { file }));
+    }
+    Ok(None)
+}
+
+// The command of a verb, by what the words behind it give: there is exactly one file.
+fn command_in(
+    alloc: Global,
+    verb: &str,
+    words: &[String],
+    found: Found,
+) -> Result<Option<Command>, NoMemory>
+    requires { HasRange found }
+    ensures task { IfOk result (λ command. option_map task_of command ≡ task_of_found verb.now (map string_bytes words.now) found) }
+    ensures fuel { IfOk result (λ command. IfSome command HasFuel) }
+{
+    match found.due {
+        Due::Workers | Due::Fuel => return Ok(None),
+        Due::Word | Due::Operand => {}
+    }
+    match found.file {
+        None => Ok(None),
+        Some(at) => match words.get(at) {
+            None => Ok(None),
+            Some(file) => command_by(alloc, verb, found, file.as_str()),
+        },
+    }
+}
+
+// The command of a verb and the words behind it.
+fn command_behind(alloc: Global, verb: &str, words: &[String]) -> Result<Option<Command>, NoMemory>
+    ensures task { IfOk result (λ command. option_map task_of command
+        ≡ option_and_then (task_of_found verb.now (map string_bytes words.now)) (steps start 0 (map string_bytes words.now))) }
+    ensures fuel { IfOk result (λ command. IfSome command HasFuel) }
+{
+    match found_in(words) {
+        None => Ok(None),
+        Some(found) => command_in(alloc, verb, words, found),
     }
 }
 
@@ -90,15 +147,7 @@ pub fn command_of(alloc: Global, words: &[String]) -> Result<Option<Command>, No
     ensures fuel { IfOk result (λ command. IfSome command HasFuel) }
 {
     match words {
-        [verb, file] => run_of(alloc, verb.as_str(), file.as_str(), Some(USUAL_FUEL)),
-        [verb, file, option, number] if option.as_str() == "--fuel" => {
-            run_of(
-                alloc,
-                verb.as_str(),
-                file.as_str(),
-                fuel_of(number.as_str()),
-            )
-        }
-        _ => Ok(None),
+        [] => Ok(None),
+        [verb, behind @ ..] => command_behind(alloc, verb.as_str(), behind),
     }
 }

@@ -1,4 +1,3 @@
--- Inner: the headline does not rest on this file.
 -- Modes that are found and yielded are among those that are there.
 use Rattle.std.specs.Prelude.{◌≡◌, ◌<◌, ◌++◌, ℕ, List, Bool, true, false, length, slice_index_or, Some}
 use Rattle.a68_coerce.specs.Below.{IsLeafBelow}

@@ -1,4 +1,3 @@
--- Inner: the headline does not rest on this file.
 -- What is found for the parts of which something is asked (Report, 3.2.1, 5.2.2, 5.4.2).
 use Rattle.std.specs.Prelude.{◌≡◌, ◌⊎◌, ℕ, List, [], ◌∷◌, Option, Some, None}
 use Rattle.a68_coerce.specs.Balanced.{IsBalanced, IsFormed, IsSided}

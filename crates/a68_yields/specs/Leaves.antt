@@ -1,4 +1,3 @@
--- Inner: the headline does not rest on this file.
 -- The units that a node may yield, one or several (Report, 3.2.1, 3.3.1 and 3.4.1).
 use Rattle.std.specs.Prelude.{◌≡◌, ◌++◌, ℕ, List, [], ◌∷◌, slice_index_or, Bool, true, false, if◌then◌else◌, not}
 use Rattle.a68_coerce.specs.declared.leaf.Leaf.{Leaf}

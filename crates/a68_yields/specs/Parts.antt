@@ -1,4 +1,3 @@
--- Inner: the headline does not rest on this file.
 -- Rows, structures and routines as slices, selections and calls see them (Report, 5.3.1, 5.3.2, 5.4.3).
 use Rattle.std.specs.Prelude.{◌≡◌, ◌&&◌, ℕ, zero, suc, List, [], ◌∷◌, nat_eq, Option, Some, None, Bool, true, false, not, if◌then◌else◌}
 use Rattle.a68_mode_table.specs.Growing.{IsInterned, IsRowInterned}

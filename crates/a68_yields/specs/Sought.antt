@@ -1,4 +1,3 @@
--- Inner: the headline does not rest on this file.
 -- What a node asks of its parts, whatever is asked of it (Report, 6.1.1, and the clauses of chapters 3 to 5).
 use Rattle.std.specs.Prelude.{ℕ, List, [], ◌∷◌, Option, Some, None, Bool, true, false, if◌then◌else◌}
 use Rattle.a68_coerce.specs.declared.form.Form.TheVariants as form

@@ -1,4 +1,3 @@
--- Inner: the headline does not rest on this file.
 -- What each node of a tree may yield, by what its parts may yield, whatever is asked of it (Report, 3.2.1, 3.3, 3.4, 5.2 to 5.5, 8).
 use Rattle.std.specs.Prelude.{◌≡◌, ◌||◌, ◌+◌, ◌-◌, ℕ, suc, List, [], ◌∷◌, codes, length, nat_eq, nat_lt, replicate, slice_index_or, slice_set, Option, Some, None, Bool, true, false, if◌then◌else◌}
 use Rattle.std.specs.Str.{bytes_eq}

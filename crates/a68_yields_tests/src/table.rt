@@ -1,4 +1,4 @@
-//! What tables hold.
+//! What is said of the cases of tables.
 ghost use Rattle.std.specs.Prelude.{IsTrue};
 
 use std::process::Abort;

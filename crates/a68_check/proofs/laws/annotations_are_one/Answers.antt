@@ -1,12 +1,14 @@
 use Rattle.a68_check.proofs.One.{Laws, one_refusal, not_refused, one_program}
 use Rattle.a68_check.proofs.laws.annotations_are_one.Goals as goal
 
-laws : goal.After-meanings_are_one → Laws
+laws : goal.After-notes_are_one → Laws
 laws c = record {
   shapes = c.shapes_are_one.ensures.one;
   never = c.shapes_are_one.ensures.apart;
   misuse = c.meanings_are_one.ensures.refusal;
   unbroken = c.meanings_are_one.ensures.apart;
+  meaning = c.meanings_are_one.ensures.one;
+  notes = c.notes_are_one.ensures;
 }
 
 pub returns : goal.returns

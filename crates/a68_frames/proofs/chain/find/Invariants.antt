@@ -1,6 +1,7 @@
 use Rattle.std.proofs.Common.{◌≤◌, ◌+◌, suc, length, Option}
 use Rattle.std.specs.Option.{option_map_or}
-use Rattle.a68_frames.specs.Tables.{Reaches, moved}
+use Rattle.a68_frames.specs.Frames.{moved}
+use Rattle.a68_frames.specs.Tables.{Reaches}
 use Rattle.a68_ranges.specs.Links.{IsBelow}
 use Rattle.a68_tree.specs.declared.node.FrameStep.{FrameStep}
 use Rattle.a68_frames.proofs.chain.find.Given as goal

@@ -15,7 +15,8 @@ use Rattle.a68_code.specs.declared.code.Instr.{Instr}
 use Rattle.a68_gen.specs.Writing.{aim_all, Writes}
 use Rattle.a68_gen.specs.Chains.{link_tree}
 use Rattle.a68_gen.proofs.Chaining.{Ahead, ahead_first, ahead_on, ends_writes, ends_jumps, chain_writes}
-use Rattle.a68_gen.proofs.Constructs.{coerced_list, coerced_unbuilt, part-cons, between-each, one_part, two_parts, some_parts, definition_whole, last_is, count_trees, new_does, plain_serial, framed_serial, declared_plain, declared_none, declared_other, declared_set, only_none, between-above, control_list, three_list, phrases_whole, asked_whole, unless_stands, test_is}
+use Rattle.a68_gen.proofs.Constructs.{coerced_list, coerced_unbuilt, part-cons, one_part, two_parts, some_parts, definition_whole, last_is, count_trees, new_does, plain_serial, framed_serial, declared_plain, declared_none, declared_other, declared_set, only_none, control_list, three_list, phrases_whole, asked_whole, unless_stands, test_is}
+use Rattle.a68_runs.proofs.Between.{between-each, between-above}
 use Rattle.a68_gen.proofs.Jumping.{link_all, link_jump, loop_all}
 use Rattle.a68_gen.proofs.Writing.{and_behind, had_not, is_written, nothing-written, writes-as}
 use Rattle.a68_gen.proofs.rows.+units.Goals as goal

@@ -1,22 +1,30 @@
-use Rattle.a68_code.specs.declared.code.Code.{Code}
-use Rattle.a68_gen.proofs.Generating.{whole, is_translated, is_valid}
+use Rattle.a68_gen.proofs.Fitting.{whole-fits}
+use Rattle.a68_gen.proofs.Refusing.{all-run, finds, refused-so, runs-so}
 use Rattle.a68_gen.proofs.translate.generate.Goals as goal
 
-pub returns-in-Some-clause-too_long : goal.returns-in-Some-clause-too_long
-returns-in-Some-clause-too_long c =
-    let w = whole c.args.program.now c.node.result.now c.in_ok-out.out.stop c.unit.new.out.stop c.emit.new.self.stop c.in_ok-out.out.list c.unit.new.out.list c.emit.new.self.list
-    c.root-root.result c.in_ok-out.ensures.stop c.in_ok-out.ensures.list c.root-root.ensures.first c.node.ensures.is c.unit.ensures c.emit.ensures in
-    rw c.in-Some.is at w
+pub code_of-requires-clause-fits : goal.code_of-requires-clause-fits
+code_of-requires-clause-fits c =
+    let a = c.args.program.now in
+    let found = c.first_unready.ensures in
+    (whole-fits a found.there found.nodes (all-run a c.first_unready.result c.in-None.is found.least) c.root-root.ensures.within).fits
 
-pub returns-clause-translates : goal.returns-clause-translates
-returns-clause-translates c =
-    let w = whole c.args.program.now c.node.result.now c.in_ok-out.out.stop c.unit.new.out.stop c.emit.new.self.stop c.in_ok-out.out.list c.unit.new.out.list c.emit.new.self.list
-    c.root-root.result c.in_ok-out.ensures.stop c.in_ok-out.ensures.list c.root-root.ensures.first c.node.ensures.is c.unit.ensures c.emit.ensures in
-    let made : Code = record { list = c.emit.new.self.list; texts = c.new-2.result.items; modes = c.in_ok-modes.modes } in
-    rw c.in_ok-code.ensures (is_translated c.args.program.now made c.emit.new.self.stop c.in_default.is w c.new-2.ensures.items c.in_ok-modes.ensures c.requires.fits)
+pub code_of-requires-clause-modes : goal.code_of-requires-clause-modes
+code_of-requires-clause-modes c =
+    let a = c.args.program.now in
+    let found = c.first_unready.ensures in
+    (whole-fits a found.there found.nodes (all-run a c.first_unready.result c.in-None.is found.least) c.root-root.ensures.within).operands
 
-pub returns-clause-valid : goal.returns-clause-valid
-returns-clause-valid c =
-    let made : Code = record { list = c.emit.new.self.list; texts = c.new-2.result.items; modes = c.in_ok-modes.modes } in
-    let t = rw c.in_ok-code.ensures at (returns-clause-translates c) in
-    rw c.in_ok-code.ensures (is_valid c.args.program.now made t c.in_ok-modes.ensures c.requires.modes)
+pub returns-in-None-clause-runs : goal.returns-in-None-clause-runs
+returns-in-None-clause-runs c =
+    let a = c.args.program.now in
+    runs-so a c.code_of.result (all-run a c.first_unready.result c.in-None.is c.first_unready.ensures.least)
+
+pub returns-in-None-clause-refused : goal.returns-in-None-clause-refused
+returns-in-None-clause-refused c =
+    let a = c.args.program.now in
+    refused-so a c.code_of.result (all-run a c.first_unready.result c.in-None.is c.first_unready.ensures.least) c.code_of.ensures.too_long
+
+pub returns-in-Some-clause-refused : goal.returns-in-Some-clause-refused
+returns-in-Some-clause-refused c =
+    let a = c.args.program.now in
+    finds a c.first_unready.result c.in-Some.id c.unready.result c.in-Some.is c.first_unready.ensures.least c.unready.ensures

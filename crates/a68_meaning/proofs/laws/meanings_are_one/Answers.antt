@@ -1,5 +1,5 @@
-use Rattle.std.proofs.Common.{refl}
-use Rattle.a68_meaning.proofs.Alone.{Laws, not_misused, one_misuse}
+use Rattle.std.proofs.Common.{refl, sym}
+use Rattle.a68_meaning.proofs.Alone.{Laws, not_misused, one_meaning, one_misuse}
 use Rattle.a68_meaning.proofs.laws.meanings_are_one.Goals as goal
 
 laws : goal.After-first_broken_is_one → Laws
@@ -24,5 +24,6 @@ laws c = record {
 pub returns : goal.returns
 returns c = record {
   refusal = λ tree once. one_misuse (laws c) tree once;
+  one = λ of other a b once e p q. one_meaning (laws c) a.tree once of other a b refl (sym e) p q;
   apart = λ of a r once. not_misused (laws c) a.tree once of a r refl;
 }

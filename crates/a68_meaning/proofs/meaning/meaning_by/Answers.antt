@@ -1,4 +1,3 @@
-use Rattle.std.proofs.Common.{arith}
 use Rattle.a68_definitions.proofs.Alone.{defined_longer}
 use Rattle.a68_definitions.proofs.Defining.{modes_below}
 use Rattle.a68_identify.proofs.Serving.{modes_are_there}
@@ -28,7 +27,7 @@ returns-clause-is c = record {
   below = rw c.deref.ensures.value at c.in_ok-yields.ensures.defined;
   tables = c.in_ok-yields.ensures.tables;
   positions = rw c.deref-4.ensures.value at (rw c.deref-3.ensures.value at (rw c.deref-2.ensures.value at c.in_ok-asked.ensures.positions));
-  room = (let l = c.len.ensures.length in let f = c.if-len-gt-MOST_MODES.false in omega arith);
+  room = c.len-few.ensures.sound.holds.few;
 }
 
 pub returns-clause-below : goal.returns-clause-below

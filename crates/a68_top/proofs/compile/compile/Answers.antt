@@ -1,5 +1,5 @@
 use Rattle.std.proofs.lemmas.Result.{err_from_is_err_and}
-use Rattle.a68_top.proofs.Refusing.{overlong, stopped}
+use Rattle.a68_top.proofs.Refusing.{stopped, ungenerated}
 use Rattle.a68_top.proofs.compile.compile.Goals as goal
 
 pub returns-in_err-program-clause-refused : goal.returns-in_err-program-clause-refused
@@ -10,4 +10,4 @@ returns-in_err-program-clause-refused c =
 pub returns-in_err-code-clause-refused : goal.returns-in_err-code-clause-refused
 returns-in_err-code-clause-refused c =
     let p = err_from_is_err_and c.from_residual-in_err-code.result c.from_residual-in_err-code.ensures.1 in rw (p.1, p.2)
-    (overlong c.args.text.now c.in_ok-program.program (record { tree = c.in_ok-tree.tree; is = c.in_ok-tree.ensures.ok; annotates = c.in_ok-program.ensures.ok }) c.in_err-code.field-0.0 c.in_err-code.ensures.too_long)
+    (ungenerated c.args.text.now c.in_ok-program.program (record { tree = c.in_ok-tree.tree; is = c.in_ok-tree.ensures.ok; annotates = c.in_ok-program.ensures.ok }) c.in_err-code.field-0.0 c.in_err-code.ensures.refused)

@@ -12,13 +12,13 @@ laws c = record {
   broken = c.annotations_are_one.ensures.refusal;
   unbroken = c.annotations_are_one.ensures.apart;
   programs = c.annotations_are_one.ensures.programs;
+  ungenerated = c.translations_are_listings.ensures.one;
 }
 
 codes : goal.After-translations_are_listings → Codes
 codes c = record {
-  list = c.translations_are_listings.ensures.list;
   code = c.translations_are_listings.ensures.code;
-  limit = c.translations_are_listings.ensures.limit;
+  apart = c.translations_are_listings.ensures.apart;
 }
 
 bounds : goal.After-translations_are_listings → Bounds
@@ -28,8 +28,7 @@ bounds c = record {
   nodes = c.trees_lie_in_texts.ensures;
   refused = c.annotations_begin_by.ensures.refused;
   annotated = c.annotations_begin_by.ensures.nodes;
-  constructs = c.constructs_begin_by.ensures;
-  instructions = c.translations_are_listings.ensures.place;
+  ungenerated = c.translations_are_listings.ensures.within;
 }
 
 pub returns : goal.returns

@@ -1,0 +1,540 @@
+-- A program whose nodes all run fits what is taken of its trees.
+use Rattle.std.proofs.Common.{◌≡◌, ℕ, zero, suc, ◌+◌, ◌<◌, ◌≤◌, Bool, true, false, List, [], ◌∷◌, length, refl, sym, ◌∙◌, ap, subst, arith, None, Some, slice_get, take}
+use Rattle.std.proofs.lemmas.Bool.{false≢true, eqb-true}
+use Rattle.std.proofs.lemmas.Option.{same_Some, slice_get_within}
+use Rattle.std.specs.Option.{is_some, option_and_then, option_map_or}
+use Rattle.std.specs.Prelude.{IsTrue, not, pos, ◌&&◌, ◌||◌, ◌==◌, if◌then◌else◌, slice_index_or}
+use Rattle.std.specs.declared.option.Option.{Option}
+use Rattle.a68_acts.specs.Operations.{Operation, constant, skip, nil, tag, make, heap, bind, deref, store, apply, same, unite, drop, print, whole, leaves}
+use Rattle.a68_annot.specs.declared.annotated.Annotated.{Annotated}
+use Rattle.a68_annot.specs.declared.note.Note.{Note}
+use Rattle.a68_code.specs.Flow.{takes}
+use Rattle.a68_code.specs.Operands.{is_well_made}
+use Rattle.a68_code.specs.declared.does.Does.TheVariants as does
+use Rattle.a68_elab.proofs.Nodes.{behind_is, tree_of_nodes}
+use Rattle.a68_elab.specs.Constants.{value_in}
+use Rattle.a68_elab.specs.Made as made
+use Rattle.a68_elab.specs.Made.{all_but_last, behind, behind_heap, behind_ref, begins_with, called, coerced, if_first, is_by, is_collateral, is_declarer, is_for, is_from, is_heap, is_one_of, is_to, is_while, isnt, items_at, kind_at, last_tree, leaf, new_name, only, only_id, parts_at, past, printers, spelling_of, standard_of, tag_of, tree_at, trees_at, wholes}
+use Rattle.a68_elab.specs.Trees.{Order, collateral, serial, Tree, Trees, operation, together, unbuilt, no_trees, ◌and_tree◌, count, Test}
+use Rattle.a68_gen.proofs.Constructs.{count_trees}
+use Rattle.a68_gen.specs.Fits.{Fits, AllFit, TestFits}
+use Rattle.a68_gen.specs.Operands.{FitsModes, FitAll, TestFitsModes}
+use Rattle.a68_runs.specs.Runs.{AllRun, agrees, agrees_at, all_leave, are_phrases, are_values, asks_value, body_runs, call_leaves, choice_runs, control_runs, enquiry_runs, formula_runs, if_so, is_outcome, is_skipped, is_whole, last_outcome, leaves_as, left_by, loop_by_runs, loop_runs, only_outcome, outcome, outcome_at, outcome_by, path_leaves, refers_to_plain, runs, source_runs, test_runs, variable_runs}
+use Rattle.a68_gen.specs.Stretches.{does_of}
+use Rattle.a68_runs.proofs.Between.{between-above}
+use Rattle.a68_runs.specs.Unready.{AreThere}
+use Rattle.a68_modes.specs.Nodes.{shape_at, is_plain, is_void, HoldsNodes, standard_shapes}
+use Rattle.a68_modes.specs.declared.coercion.Coercion.{Coercion}
+use Rattle.a68_modes.specs.declared.coercion.Coercion.TheVariants as coercion
+use Rattle.a68_modes.specs.declared.shape.Shape.{Shape}
+use Rattle.a68_modes.specs.declared.shape.Shape.TheVariants as shape
+use Rattle.a68_tree.specs.Trees.{AllBetween}
+use Rattle.a68_tree.specs.declared.kind.NodeKind.{NodeKind}
+use Rattle.a68_tree.specs.declared.kind.NodeKind.TheVariants as kind
+use Rattle.a68_tree.specs.declared.node.Node.{Node}
+use Rattle.a68_values.specs.Content.{Content, plain}
+use Rattle.a68_values.specs.declared.plain.Plain.TheVariants as value
+
+-- ---- tests
+
+first : (x y : Bool) → IsTrue (x && y) → IsTrue x
+first true y e = refl
+first false y e = absurd (false≢true e)
+
+second : (x y : Bool) → IsTrue (x && y) → IsTrue y
+second true y e = e
+second false y e = absurd (false≢true e)
+
+both : (x y : Bool) → IsTrue x → IsTrue y → IsTrue (x && y)
+both true y p q = q
+both false y p q = absurd (false≢true p)
+
+-- what an outcome says that is there where a test holds
+so-holds : (test outcome left : Bool) → if_so test outcome ≡ Some left → IsTrue test
+so-holds true outcome left e = refl
+so-holds false outcome left e = absurd (cc)
+
+so-is : (test outcome left : Bool) → if_so test outcome ≡ Some left → outcome ≡ left
+so-is true outcome left e = same_Some outcome left e
+so-is false outcome left e = absurd (cc)
+
+-- what is there where a test holds
+where-so : (b : Bool) (o : Option Bool) (wanted : Bool) → (if b then o else None) ≡ Some wanted → IsTrue b × (o ≡ Some wanted)
+where-so true o wanted e = (refl, e)
+where-so false o wanted e = absurd (cc)
+
+-- an outcome that is wanted
+wanted-is : (wanted : Bool) (o : Option Bool) → IsTrue (is_outcome wanted o) → o ≡ Some wanted
+wanted-is true None e = absurd (false≢true e)
+wanted-is false None e = absurd (false≢true e)
+wanted-is true (Some true) e = refl
+wanted-is true (Some false) e = absurd (false≢true e)
+wanted-is false (Some true) e = absurd (false≢true e)
+wanted-is false (Some false) e = refl
+
+is-wanted : (wanted : Bool) (o : Option Bool) → o ≡ Some wanted → IsTrue (is_outcome wanted o)
+is-wanted true (Some true) e = refl
+is-wanted false (Some false) e = refl
+is-wanted true (Some false) e = absurd (false≢true (same_Some false true e))
+is-wanted false (Some true) e = absurd (false≢true (sym (same_Some true false e)))
+is-wanted true None e = absurd (cc)
+is-wanted false None e = absurd (cc)
+
+then-is : {X : Type 0} (o : Option X) (f : X → Option Bool) (left : Bool) → option_and_then f o ≡ Some left → (x : X) × (o ≡ Some x) × (f x ≡ Some left)
+then-is (Some x) f left e = (x, refl, e)
+then-is None f left e = absurd (cc)
+
+-- ---- trees that fit
+
+-- the tree fits in both ways
+pub record IsFit (modes : List Shape) (gives : Bool) (t : Tree) : Type 0 where
+  pub fits : Fits modes gives t
+  pub operands : FitsModes modes t
+
+record AreFit (modes : List Shape) (gives : Bool) (ts : Trees) : Type 0 where
+  pub fits : AllFit modes gives ts
+  pub operands : FitAll modes ts
+
+module _ (ms : List Shape) where
+  fit-none : (gives : Bool) (place : ℕ) (op : Operation) (order : Order) → gives ≡ leaves ms op → takes (does_of op 0) ≡ 0 → IsTrue (is_well_made ms 0 (does_of op 0))
+      → IsFit ms gives (operation place op order no_trees)
+  fit-none gives place op order l t w = record { fits = (l, t, tt); operands = (w, tt) }
+
+  fit-one : (gives : Bool) (place : ℕ) (op : Operation) (order : Order) (x : Tree) → gives ≡ leaves ms op → takes (does_of op 1) ≡ 1 → IsTrue (is_well_made ms 0 (does_of op 1))
+      → IsFit ms true x → IsFit ms gives (operation place op order (only x))
+  fit-one gives place op order x l t w a = record { fits = (l, t, (a.fits, tt)); operands = (w, (a.operands, tt)) }
+
+  fit-two : (gives : Bool) (place : ℕ) (op : Operation) (order : Order) (x y : Tree) → gives ≡ leaves ms op → takes (does_of op 2) ≡ 2 → IsTrue (is_well_made ms 0 (does_of op 2))
+      → IsFit ms true x → IsFit ms true y → IsFit ms gives (operation place op order (x and_tree (y and_tree no_trees)))
+  fit-two gives place op order x y l t w a b = record { fits = (l, t, (a.fits, (b.fits, tt))); operands = (w, (a.operands, (b.operands, tt))) }
+
+  -- an operation on so many values
+  fit-all : (n : ℕ) (gives : Bool) (place : ℕ) (op : Operation) (order : Order) (ts : Trees) → count ts ≡ n → gives ≡ leaves ms op → takes (does_of op n) ≡ n
+      → IsTrue (is_well_made ms 0 (does_of op n)) → AreFit ms true ts → IsFit ms gives (operation place op order ts)
+  fit-all n gives place op order ts e l t w a =
+      record {
+        fits = (l, subst (λ k. takes (does_of op k) ≡ k) (sym e) t, a.fits);
+        operands = (subst (λ k. IsTrue (is_well_made ms 0 (does_of op k))) (sym e) w, a.operands);
+      }
+
+  -- ---- coercions
+
+  coerced-fits : (place mode : ℕ) (left wanted : Bool) (path : List Coercion) (t : Tree) → path_leaves ms mode left path ≡ Some wanted → IsFit ms left t
+      → IsFit ms wanted (coerced ms place mode path t)
+  coerced-fits place mode left wanted [] t e a = subst (λ b. IsFit ms b t) (same_Some left wanted e) a
+  coerced-fits place mode true wanted (coercion.Deref ∷ path) t e a =
+      let m = behind_ref (shape_at ms mode) in
+      let p = where-so (is_plain (shape_at ms m)) (path_leaves ms m true path) wanted e in
+      coerced-fits place m true wanted path _ p.1 (fit-one true place (deref m) serial t refl refl p.0 a)
+  coerced-fits place mode true wanted (coercion.Unite from ∷ path) t e a =
+      coerced-fits place from true wanted path _ e (fit-one true place (unite from) serial t refl refl refl a)
+  coerced-fits place mode true wanted (coercion.Drop ∷ path) t e a =
+      coerced-fits place 0 false wanted path _ e (fit-one false place drop serial t refl refl refl a)
+  coerced-fits place mode false wanted (coercion.Deref ∷ path) t e a = absurd (cc)
+  coerced-fits place mode false wanted (coercion.Unite from ∷ path) t e a = absurd (cc)
+  coerced-fits place mode false wanted (coercion.Drop ∷ path) t e a = absurd (cc)
+  coerced-fits place mode true wanted (_ ∷ path) t e a = absurd (cc)
+  coerced-fits place mode false wanted (_ ∷ path) t e a = absurd (cc)
+
+  -- ---- rows without parts
+
+  denoted-fits : (place : ℕ) (o : Option Content) → IsTrue (is_some o) → IsFit ms true (made.denoted place o)
+  denoted-fits place None e = absurd (false≢true e)
+  denoted-fits place (Some v) e = fit-none true place (constant v) serial refl refl refl
+
+  tag-fits : (place : ℕ) (standard : Option Content) (hops slot : ℕ) → IsFit ms true (leaf place (tag_of standard hops slot))
+  tag-fits place (Some v) hops slot = fit-none true place (constant v) serial refl refl refl
+  tag-fits place None hops slot = fit-none true place (tag hops slot) serial refl refl refl
+
+  new-fits : (in_heap : Bool) (place mode : ℕ) → IsTrue (is_plain (shape_at ms mode)) → IsFit ms true (new_name in_heap place mode)
+  new-fits true place mode p = fit-none true place (heap mode 0) serial refl refl (both _ true p refl)
+  new-fits false place mode p = fit-none true place (make mode 0) serial refl refl (both _ true p refl)
+
+  -- the instruction of an identity relation is well made
+  negated-fits : (b : Bool) → IsTrue (is_well_made ms 0 (does.Same (made.negated b)))
+  negated-fits true = refl
+  negated-fits false = refl
+
+  in-range-fits : (place slots : ℕ) (gives : Bool) (t : Tree) → IsFit ms gives t → IsFit ms gives (made.in_range place slots gives t)
+  in-range-fits place zero gives t a = a
+  in-range-fits place (suc n) gives t a = record { fits = (refl, a.fits); operands = a.operands }
+
+-- ---- parts
+
+-- the trees of the nodes behind a node fit, as far as these are constructs
+abbrev Given : (a : Annotated) (id : ℕ) (f : ℕ → Tree) → Type 0
+Given a id f = (p : ℕ) (wanted : Bool) → id < p → IsTrue (is_outcome wanted (outcome a p)) → IsFit a.modes wanted (f p)
+
+module _ (a : Annotated) (id end : ℕ) (f : ℕ → Tree) (given : Given a id f) where
+  all-fit : (wanted : Bool) (ids : List ℕ) → AllBetween id end ids → IsTrue (all_leave a wanted ids) → AreFit a.modes wanted (trees_at f ids)
+  all-fit wanted [] b e = record { fits = tt; operands = tt }
+  all-fit wanted (x ∷ xs) b e =
+      let here = given x wanted b.0 (first (is_outcome wanted (outcome a x)) (all_leave a wanted xs) e) in
+      let rest = all-fit wanted xs b.2 (second (is_outcome wanted (outcome a x)) (all_leave a wanted xs) e) in
+      record { fits = (here.fits, rest.fits); operands = (here.operands, rest.operands) }
+
+  -- an operation on the values of so many parts
+  values-fit : (n : ℕ) (gives : Bool) (place : ℕ) (op : Operation) (order : Order) (ids : List ℕ) → AllBetween id end ids → IsTrue (are_values a n ids) → gives ≡ leaves a.modes op
+      → takes (does_of op n) ≡ n → IsTrue (is_well_made a.modes 0 (does_of op n)) → IsFit a.modes gives (operation place op order (trees_at f ids))
+  values-fit n gives place op order ids b e l t w =
+      let long : length ids ≡ n = eqb-true (length ids) n (first (length ids == n) (all_leave a true ids) e) in
+      fit-all a.modes n gives place op order (trees_at f ids) (count_trees f ids ∙ long) l t w (all-fit true ids b (second (length ids == n) (all_leave a true ids) e))
+
+  last-fits : (left : Bool) (ids : List ℕ) → AllBetween id end ids → last_outcome a ids ≡ Some left → IsFit a.modes left (last_tree (trees_at f ids))
+  last-fits left [] b e = absurd (cc)
+  last-fits left (x ∷ []) b e = given x left b.0 (is-wanted left (outcome a x) e)
+  last-fits left (x ∷ (y ∷ xs)) b e = last-fits left (y ∷ xs) b.2 e
+
+  only-fits : (left : Bool) (ids : List ℕ) → AllBetween id end ids → only_outcome a ids ≡ Some left → IsFit a.modes left (made.only_of (trees_at f ids))
+  only-fits left [] b e = absurd (cc)
+  only-fits left (x ∷ []) b e = given x left b.0 (is-wanted left (outcome a x) e)
+  only-fits left (x ∷ (y ∷ xs)) b e = absurd (cc)
+
+  -- phrases before the last
+  before-fit : (wanted : Bool) (x : ℕ) (xs : List ℕ) → AllBetween id end (x ∷ xs) → IsTrue (are_phrases a wanted (x ∷ xs)) → AreFit a.modes false (all_but_last (f x and_tree trees_at f xs))
+  before-fit wanted x [] b e = record { fits = tt; operands = tt }
+  before-fit wanted x (y ∷ xs) b e =
+      let here = given x false b.0 (first (is_outcome false (outcome a x)) (are_phrases a wanted (y ∷ xs)) e) in
+      let rest = before-fit wanted y xs b.2 (second (is_outcome false (outcome a x)) (are_phrases a wanted (y ∷ xs)) e) in
+      record { fits = (here.fits, rest.fits); operands = (here.operands, rest.operands) }
+
+  final-fits : (wanted : Bool) (x : ℕ) (xs : List ℕ) → AllBetween id end (x ∷ xs) → IsTrue (are_phrases a wanted (x ∷ xs)) → IsFit a.modes wanted (last_tree (f x and_tree trees_at f xs))
+  final-fits wanted x [] b e = given x wanted b.0 e
+  final-fits wanted x (y ∷ xs) b e = final-fits wanted y xs b.2 (second (is_outcome false (outcome a x)) (are_phrases a wanted (y ∷ xs)) e)
+
+  phrases-fit : (wanted : Bool) (place : ℕ) (ids : List ℕ) → AllBetween id end ids → IsTrue (are_phrases a wanted ids) → IsFit a.modes wanted (made.phrases_of place (trees_at f ids))
+  phrases-fit wanted place [] b e = absurd (false≢true e)
+  phrases-fit wanted place (x ∷ xs) b e =
+      let before = before-fit wanted x xs b e in
+      let final = final-fits wanted x xs b e in
+      record { fits = (before.fits, final.fits); operands = (before.operands, final.operands) }
+
+  serial-fits : (wanted : Bool) (place slots : ℕ) (ids : List ℕ) → AllBetween id end ids → IsTrue (are_phrases a wanted ids)
+      → IsFit a.modes wanted (made.serial_of place slots wanted (trees_at f ids))
+  serial-fits wanted place slots [] b e = absurd (false≢true e)
+  serial-fits wanted place slots (x ∷ xs) b e = in-range-fits a.modes place slots wanted _ (phrases-fit wanted place (x ∷ xs) b e)
+
+  -- ---- rows with parts
+
+  formula-fits : (place : ℕ) (op : Option ℕ) (ids : List ℕ) → AllBetween id end ids → IsTrue (formula_runs a op ids) → IsFit a.modes true (made.formula place op (trees_at f ids))
+  formula-fits place None ids b e = absurd (false≢true e)
+  formula-fits place (Some row) ids b e =
+      let w = first (is_well_made a.modes 0 (does.Apply row)) (are_values a (takes (does.Apply row)) ids) e in
+      let v = second (is_well_made a.modes 0 (does.Apply row)) (are_values a (takes (does.Apply row)) ids) e in
+      values-fit (takes (does.Apply row)) true place (apply row) collateral ids b v refl refl w
+
+  definition-fits : (place slot : ℕ) (ids : List ℕ) → AllBetween id end ids → IsTrue (is_outcome true (last_outcome a ids))
+      → IsFit a.modes false (operation place (bind slot) serial (only (last_tree (trees_at f ids))))
+  definition-fits place slot ids b e =
+      fit-one a.modes false place (bind slot) serial _ refl refl refl (last-fits true ids b (wanted-is true (last_outcome a ids) e))
+
+  declared-fits : (in_heap begins : Bool) (place mode slot : ℕ) (ids : List ℕ) → AllBetween id end ids → IsTrue (is_plain (shape_at a.modes mode)) → IsTrue begins → IsTrue (source_runs a ids)
+      → IsFit a.modes false (made.variable_of (new_name in_heap place mode) begins place mode slot (trees_at f ids))
+  declared-fits in_heap false place mode slot ids b p begins e = absurd (false≢true begins)
+  declared-fits in_heap true place mode slot [] b p begins e = absurd (false≢true e)
+  declared-fits in_heap true place mode slot (d ∷ []) b p begins e =
+      fit-one a.modes false place (bind slot) serial _ refl refl refl (new-fits a.modes in_heap place mode p)
+  declared-fits in_heap true place mode slot (d ∷ (s ∷ [])) b p begins e =
+      fit-one a.modes false place (bind slot) serial _ refl refl refl
+      (fit-two a.modes true place (store mode) serial _ _ refl refl p (new-fits a.modes in_heap place mode p) (given s true b.2.0 e))
+  declared-fits in_heap true place mode slot (d ∷ (s ∷ (x ∷ xs))) b p begins e = absurd (false≢true e)
+
+  behind-between : (has : Bool) (ids : List ℕ) → AllBetween id end ids → AllBetween id end (behind_heap has ids)
+  behind-between true [] b = b
+  behind-between true (x ∷ xs) b = b.2
+  behind-between false ids b = b
+
+  variable-fits : (place mode slot : ℕ) (ids : List ℕ) → AllBetween id end ids → IsTrue (is_plain (shape_at a.modes mode)) → IsTrue (variable_runs a ids)
+      → IsFit a.modes false (made.variable a f place mode slot ids)
+  variable-fits place mode slot ids b p e =
+      let in_heap = begins_with is_heap a ids in
+      let rest = behind_heap in_heap ids in
+      let begins = first (begins_with is_declarer a rest) (source_runs a rest) e in
+      let source = second (begins_with is_declarer a rest) (source_runs a rest) e in
+      declared-fits in_heap (begins_with is_declarer a rest) place mode slot rest (behind-between in_heap ids b) p begins source
+
+  -- a call, by what is called
+  call-by : (prints words left : Bool) (place : ℕ) (items ids : List ℕ) → AllBetween id end items → AllBetween id end ids
+      → (if prints then if_so (all_leave a true items) false else (if words then if_so (are_values a 2 ids) true else None)) ≡ Some left
+      → IsFit a.modes left (if prints then operation place print collateral (trees_at f items) else (if words then operation place whole collateral (trees_at f ids) else unbuilt))
+  call-by true words left place items ids bi b e =
+      let none = so-is (all_leave a true items) false left e in
+      subst (λ g. IsFit a.modes g (operation place print collateral (trees_at f items))) none
+      (fit-all a.modes (count (trees_at f items)) false place print collateral (trees_at f items) refl refl refl refl (all-fit true items bi (so-holds (all_leave a true items) false left e)))
+  call-by false true left place items ids bi b e =
+      let some = so-is (are_values a 2 ids) true left e in
+      subst (λ g. IsFit a.modes g (operation place whole collateral (trees_at f ids))) some
+      (values-fit 2 true place whole collateral ids b (so-holds (are_values a 2 ids) true left e) refl refl refl)
+  call-by false false left place items ids bi b e = absurd (cc)
+
+  choice-fits : (place goal : ℕ) (ids : List ℕ) → AllBetween id end ids → IsTrue (choice_runs a goal (not (is_void (shape_at a.modes goal))) ids)
+      → IsFit a.modes (not (is_void (shape_at a.modes goal))) (made.choice_of place goal (trees_at f ids))
+  choice-fits place goal [] b e = absurd (false≢true e)
+  choice-fits place goal (q ∷ []) b e = absurd (false≢true e)
+  choice-fits place goal (q ∷ (t ∷ [])) b e =
+      let wanted = not (is_void (shape_at a.modes goal)) in
+      let skipped = first (is_skipped a goal) (is_outcome true (outcome a q) && is_outcome wanted (outcome a t)) e in
+      let rest = second (is_skipped a goal) (is_outcome true (outcome a q) && is_outcome wanted (outcome a t)) e in
+      let x = given q true b.0 (first (is_outcome true (outcome a q)) (is_outcome wanted (outcome a t)) rest) in
+      let y = given t wanted b.2.0 (second (is_outcome true (outcome a q)) (is_outcome wanted (outcome a t)) rest) in
+      let z = fit-none a.modes wanted place (skip goal) serial refl refl skipped in
+      record { fits = (x.fits, y.fits, z.fits); operands = (x.operands, y.operands, z.operands) }
+  choice-fits place goal (q ∷ (t ∷ (u ∷ []))) b e =
+      let wanted = not (is_void (shape_at a.modes goal)) in
+      let rest = second (is_outcome true (outcome a q)) (is_outcome wanted (outcome a t) && is_outcome wanted (outcome a u)) e in
+      let x = given q true b.0 (first (is_outcome true (outcome a q)) (is_outcome wanted (outcome a t) && is_outcome wanted (outcome a u)) e) in
+      let y = given t wanted b.2.0 (first (is_outcome wanted (outcome a t)) (is_outcome wanted (outcome a u)) rest) in
+      let z = given u wanted b.2.2.0 (second (is_outcome wanted (outcome a t)) (is_outcome wanted (outcome a u)) rest) in
+      record { fits = (x.fits, y.fits, z.fits); operands = (x.operands, y.operands, z.operands) }
+  choice-fits place goal (q ∷ (t ∷ (u ∷ (v ∷ ids)))) b e = absurd (false≢true e)
+
+  collateral-fits : (is_none : Bool) (ids : List ℕ) → AllBetween id end ids → IsTrue (is_none && all_leave a false ids) → IsFit a.modes false (made.collateral_of is_none (trees_at f ids))
+  collateral-fits true ids b e = let all = all-fit false ids b e in record { fits = (refl, all.fits); operands = all.operands }
+  collateral-fits false ids b e = absurd (false≢true e)
+
+-- ---- loops
+
+-- a part of a loop, if any, stands behind its node
+abbrev IsBehind : (id : ℕ) → Option ℕ → Type 0
+IsBehind id None = Unit {0}
+IsBehind id (Some p) = id < p
+
+first-behind : (is : NodeKind → Bool) (a : Annotated) (id end : ℕ) (ids : List ℕ) → AllBetween id end ids → IsBehind id (if_first is a ids)
+first-behind is a id end [] b = tt
+first-behind is a id end (x ∷ xs) b = go (is (kind_at a x))
+  where
+    go : (t : Bool) → IsBehind id (if t then Some x else None)
+    go true = b.0
+    go false = tt
+
+past-between : (id end : ℕ) (taken : Option ℕ) (ids : List ℕ) → AllBetween id end ids → AllBetween id end (past taken ids)
+past-between id end (Some p) [] b = b
+past-between id end (Some p) (x ∷ xs) b = b.2
+past-between id end None ids b = b
+
+only-behind : (id end : ℕ) (ids : List ℕ) → AllBetween id end ids → IsBehind id (only_id ids)
+only-behind id end [] b = tt
+only-behind id end (x ∷ []) b = b.0
+only-behind id end (x ∷ (y ∷ xs)) b = tt
+
+-- the parts of a node stand behind it
+parts-behind : (a : Annotated) → AreThere a (length a.tree.nodes) → (id : ℕ) → AllBetween id (length a.tree.nodes) (parts_at a id)
+parts-behind a there id = go (slice_get a.tree.nodes id) refl
+  where
+    go : (o : Option Node) → slice_get a.tree.nodes id ≡ o → AllBetween id (length a.tree.nodes) (option_map_or (λ (n : Node). n.parts) o [])
+    go None e = tt
+    go (Some n) e =
+        let t = there id (slice_get_within a.tree.nodes id n e) in
+        subst (λ (m : Node). AllBetween id (length a.tree.nodes) m.parts) (same_Some t.node n (sym t.is ∙ e)) t.behind
+
+-- INT is the first mode behind VOID
+int-is : (nodes : List Shape) → HoldsNodes nodes → shape_at nodes 1 ≡ shape.Int
+int-is nodes h = go nodes h.standard
+  where
+    go : (l : List Shape) → take 13 l ≡ standard_shapes → shape_at l 1 ≡ shape.Int
+    go [] e = absurd (cc)
+    go (x ∷ []) e = absurd (cc)
+    go (x ∷ (y ∷ l)) e = ap (λ (k : List Shape). slice_index_or k 1 shape.Blank) e
+
+-- WHILE, if any, fits in both ways
+record IsTestFit (modes : List Shape) (t : Test) : Type 0 where
+  pub fits : TestFits modes t
+  pub operands : TestFitsModes modes t
+
+module _ (a : Annotated) (there : AreThere a (length a.tree.nodes)) (nodes : HoldsNodes a.modes) (id : ℕ) (f : ℕ → Tree) (given : Given a id f) where
+  control-fits : (part : Option ℕ) (left_out : Tree) → IsBehind id part → IsTrue (control_runs a part) → IsFit a.modes true left_out → IsFit a.modes true (option_map_or f part left_out)
+  control-fits None left_out b e n = n
+  control-fits (Some p) left_out b e n = given p true b e
+
+  body-fits : (part : Option ℕ) → IsBehind id part → IsTrue (body_runs a part) → IsFit a.modes false (option_map_or f part unbuilt)
+  body-fits None b e = absurd (false≢true e)
+  body-fits (Some p) b e = given p false b e
+
+  -- the enquiry of WHILE, by its node
+  enquiry-at : (q : ℕ) (o : Option Node) → id < q → slice_get a.tree.nodes q ≡ o → IsTrue (are_phrases a true (option_map_or (λ (n : Node). n.parts) o []))
+      → IsTestFit a.modes (made.enquiry_of f o (slice_get a.notes q))
+  enquiry-at q None below is e = absurd (false≢true e)
+  enquiry-at q (Some n) below is e =
+      let t = there q (slice_get_within a.tree.nodes q n is) in
+      let parts : AllBetween q (length a.tree.nodes) n.parts = subst (λ (m : Node). AllBetween q (length a.tree.nodes) m.parts) (same_Some t.node n (sym t.is ∙ is)) t.behind in
+      let x = phrases-fit a id (length a.tree.nodes) f given true n.span.from n.parts (between-above id q (length a.tree.nodes) n.parts below parts) e in
+      subst (λ (m : Option Note). IsTestFit a.modes (made.enquiry_of f (Some n) m)) (sym t.noted) (record { fits = x.fits; operands = x.operands })
+
+  enquiry-fits : (clause : Option ℕ) → IsBehind id clause → IsTrue (enquiry_runs a clause) → IsTestFit a.modes (made.enquiry_at a f clause)
+  enquiry-fits None b e = absurd (false≢true e)
+  enquiry-fits (Some q) b e = enquiry-at q (slice_get a.tree.nodes q) b refl e
+
+  above : (w : ℕ) (clause : Option ℕ) → id < w → IsBehind w clause → IsBehind id clause
+  above w None less b = tt
+  above w (Some q) less b = omega (arith, less, b)
+
+  test-fits : (test : Option ℕ) → IsBehind id test → IsTrue (test_runs a test) → IsTestFit a.modes (made.test_of a f test)
+  test-fits None b e = record { fits = tt; operands = tt }
+  test-fits (Some w) b e =
+      enquiry-fits (only_id (parts_at a w)) (above w (only_id (parts_at a w)) b (only-behind w (length a.tree.nodes) (parts_at a w) (parts-behind a there w))) e
+
+  skip-int-fits : (place : ℕ) → IsFit a.modes true (leaf place (skip 1))
+  skip-int-fits place =
+      let is = int-is a.modes nodes in
+      fit-none a.modes true place (skip 1) serial (sym (ap (λ (s : Shape). not (is_void s)) is)) refl (ap (λ (s : Shape). is_void s || is_plain s) is)
+
+  loop-by-fits : (place : ℕ) (counts : Bool) (from by to test body : Option ℕ) → IsBehind id from → IsBehind id by → IsBehind id to → IsBehind id test → IsBehind id body
+      → IsTrue (loop_by_runs a from by to test body) → IsFit a.modes false (made.loop_by a f place counts from by to test body)
+  loop-by-fits place counts from by to test body bf bb bt bw bo e =
+      let e1 = second (control_runs a from) (control_runs a by && (control_runs a to && (test_runs a test && body_runs a body))) e in
+      let e2 = second (control_runs a by) (control_runs a to && (test_runs a test && body_runs a body)) e1 in
+      let e3 = second (control_runs a to) (test_runs a test && body_runs a body) e2 in
+      let one : IsFit a.modes true (leaf place (constant (plain (value.Int (pos 1))))) = fit-none a.modes true place (constant (plain (value.Int (pos 1)))) serial refl refl refl in
+      let x = control-fits from _ bf (first (control_runs a from) (control_runs a by && (control_runs a to && (test_runs a test && body_runs a body))) e) one in
+      let y = control-fits by _ bb (first (control_runs a by) (control_runs a to && (test_runs a test && body_runs a body)) e1) one in
+      let z = control-fits to _ bt (first (control_runs a to) (test_runs a test && body_runs a body) e2) (skip-int-fits place) in
+      let w = test-fits test bw (first (test_runs a test) (body_runs a body) e3) in
+      let o = body-fits body bo (second (test_runs a test) (body_runs a body) e3) in
+      record { fits = (refl, refl, (x.fits, (y.fits, (z.fits, tt))), w.fits, o.fits); operands = ((x.operands, (y.operands, (z.operands, tt))), w.operands, o.operands) }
+
+  loop-fits : (place : ℕ) (ids : List ℕ) → AllBetween id (length a.tree.nodes) ids → IsTrue (loop_runs a ids) → IsFit a.modes false (made.loop_of a f place ids)
+  loop-fits place ids b e =
+      let n = length a.tree.nodes in
+      let tag = if_first is_for a ids in
+      let froms = past tag ids in
+      let from = if_first is_from a froms in
+      let bys = past from froms in
+      let by = if_first is_by a bys in
+      let tos = past by bys in
+      let to = if_first is_to a tos in
+      let tests = past to tos in
+      let test = if_first is_while a tests in
+      let bodies = past test tests in
+      let b1 = past-between id n tag ids b in
+      let b2 = past-between id n from froms b1 in
+      let b3 = past-between id n by bys b2 in
+      let b4 = past-between id n to tos b3 in
+      loop-by-fits place (is_some tag) from by to test (only_id bodies) (first-behind is_from a id n froms b1) (first-behind is_by a id n bys b2)
+      (first-behind is_to a id n tos b3) (first-behind is_while a id n tests b4) (only-behind id n bodies (past-between id n test tests b4)) e
+
+  nothing-fits : (left : Bool) → Some false ≡ Some left → IsFit a.modes left (together no_trees)
+  nothing-fits left e = subst (λ g. IsFit a.modes g (together no_trees)) (same_Some false left e) (record { fits = (refl, tt); operands = tt })
+
+  -- ---- nodes
+
+  items-between : (ids : List ℕ) → AllBetween id (length a.tree.nodes) ids → AllBetween id (length a.tree.nodes) (items_at a ids)
+  items-between [] b = b
+  items-between (x ∷ []) b = go (is_collateral (kind_at a x))
+    where
+      go : (t : Bool) → AllBetween id (length a.tree.nodes) (if t then parts_at a x else x ∷ [])
+      go true = between-above id x (length a.tree.nodes) (parts_at a x) b.0 (parts-behind a there x)
+      go false = b
+  items-between (x ∷ (y ∷ xs)) b = b
+
+  call-fits : (place : ℕ) (left : Bool) (ids : List ℕ) → AllBetween id (length a.tree.nodes) ids → call_leaves a ids ≡ Some left → IsFit a.modes left (made.call_of a f place ids)
+  call-fits place left [] b e = absurd (cc)
+  call-fits place left (primary ∷ ids) b e =
+      call-by a id (length a.tree.nodes) f given (is_one_of printers (called a primary)) (is_one_of wholes (called a primary)) left place (items_at a ids) ids (items-between ids b.2) b.2 e
+
+  by-so : (test outcome left : Bool) (t : Tree) → if_so test outcome ≡ Some left → (IsTrue test → IsFit a.modes outcome t) → IsFit a.modes left t
+  by-so test outcome left t e fit = subst (λ g. IsFit a.modes g t) (so-is test outcome left e) (fit (so-holds test outcome left e))
+
+  made-fits : (node : Node) (note : Note) (left : Bool) (k : NodeKind) → AllBetween id (length a.tree.nodes) node.parts → leaves_as a node note k ≡ Some left → IsFit a.modes left (made.made a f node note k)
+  made-fits node note left kind.Denotation b e = by-so _ true left _ e (denoted-fits a.modes node.span.from (option_and_then value_in (spelling_of a node)))
+  made-fits node note left kind.Skip b e =
+      by-so (is_skipped a note.goal) (asks_value a note) left _ e (λ w. fit-none a.modes (asks_value a note) node.span.from (skip note.goal) serial refl refl w)
+  made-fits node note left kind.Nil b e =
+      subst (λ g. IsFit a.modes g (leaf node.span.from nil)) (same_Some true left e) (fit-none a.modes true node.span.from nil serial refl refl refl)
+  made-fits node note left kind.Tag b e =
+      subst (λ g. IsFit a.modes g (leaf node.span.from (tag_of (standard_of note.definition (spelling_of a node)) note.step.hops note.step.slot))) (same_Some true left e)
+      (tag-fits a.modes node.span.from (standard_of note.definition (spelling_of a node)) note.step.hops note.step.slot)
+  made-fits node note left kind.Monadic b e =
+      by-so (formula_runs a note.op node.parts) true left _ e (formula-fits a id (length a.tree.nodes) f given node.span.from note.op node.parts b)
+  made-fits node note left kind.Dyadic b e =
+      by-so (formula_runs a note.op node.parts) true left _ e (formula-fits a id (length a.tree.nodes) f given node.span.from note.op node.parts b)
+  made-fits node note left kind.Assignation b e =
+      by-so (refers_to_plain a note.mode && are_values a 2 node.parts) true left _ e
+      (λ h. values-fit a id (length a.tree.nodes) f given 2 true node.span.from (store (behind_ref (shape_at a.modes note.mode))) collateral node.parts b
+      (second (refers_to_plain a note.mode) (are_values a 2 node.parts) h) refl refl (first (refers_to_plain a note.mode) (are_values a 2 node.parts) h))
+  made-fits node note left kind.Identity b e =
+      by-so (are_values a 2 node.parts) true left _ e
+      (λ h. values-fit a id (length a.tree.nodes) f given 2 true node.span.from (same (made.negated (is_one_of isnt (spelling_of a node)))) collateral node.parts b h refl refl
+      (negated-fits a.modes (is_one_of isnt (spelling_of a node))))
+  made-fits node note left kind.Generator b e =
+      by-so (refers_to_plain a note.mode) true left _ e (new-fits a.modes (is_one_of made.heaps (spelling_of a node)) node.span.from (behind_ref (shape_at a.modes note.mode)))
+  made-fits node note left kind.IdentityDefinition b e =
+      by-so (is_outcome true (last_outcome a node.parts)) false left _ e (definition-fits a id (length a.tree.nodes) f given node.span.from note.step.slot node.parts b)
+  made-fits node note left kind.Variable b e =
+      by-so (refers_to_plain a note.mode && variable_runs a node.parts) false left _ e
+      (λ h. variable-fits a id (length a.tree.nodes) f given node.span.from (behind_ref (shape_at a.modes note.mode)) note.step.slot node.parts b
+      (first (refers_to_plain a note.mode) (variable_runs a node.parts) h) (second (refers_to_plain a note.mode) (variable_runs a node.parts) h))
+  made-fits node note left kind.ModeDefinition b e = nothing-fits left e
+  made-fits node note left kind.Priority b e = nothing-fits left e
+  made-fits node note left kind.Joined b e =
+      by-so (all_leave a false node.parts) false left _ e
+      (λ h. let all = all-fit a id (length a.tree.nodes) f given false node.parts b h in record { fits = (refl, all.fits); operands = all.operands })
+  made-fits node note left kind.Call b e = call-fits node.span.from left node.parts b e
+  made-fits node note left kind.Cast b e = last-fits a id (length a.tree.nodes) f given left node.parts b e
+  made-fits node note left kind.Collateral b e =
+      by-so (is_void (shape_at a.modes note.goal) && all_leave a false node.parts) false left _ e
+      (collateral-fits a id (length a.tree.nodes) f given (is_void (shape_at a.modes note.goal)) node.parts b)
+  made-fits node note left kind.Serial b e =
+      by-so (are_phrases a (asks_value a note) node.parts) (asks_value a note) left _ e
+      (serial-fits a id (length a.tree.nodes) f given (asks_value a note) node.span.from note.slots node.parts b)
+  made-fits node note left kind.Closed b e = only-fits a id (length a.tree.nodes) f given left node.parts b e
+  made-fits node note left kind.Out b e = only-fits a id (length a.tree.nodes) f given left node.parts b e
+  made-fits node note left kind.From b e = only-fits a id (length a.tree.nodes) f given left node.parts b e
+  made-fits node note left kind.By b e = only-fits a id (length a.tree.nodes) f given left node.parts b e
+  made-fits node note left kind.To b e = only-fits a id (length a.tree.nodes) f given left node.parts b e
+  made-fits node note left kind.Conditional b e =
+      by-so (choice_runs a note.goal (asks_value a note) node.parts) (asks_value a note) left _ e (choice-fits a id (length a.tree.nodes) f given node.span.from note.goal node.parts b)
+  made-fits node note left kind.Loop b e = by-so (loop_runs a node.parts) false left _ e (loop-fits node.span.from node.parts b)
+  made-fits node note left _ b e = absurd (cc)
+
+-- ---- the whole
+
+-- what is known of a node with an outcome
+record HasOutcome (a : Annotated) (id : ℕ) (wanted : Bool) : Type 0 where
+  pub node : Node
+  pub note : Note
+  pub is : slice_get a.tree.nodes id ≡ Some node
+  pub noted : slice_get a.notes id ≡ Some note
+  pub by : outcome_by a node note node.kind ≡ Some wanted
+
+has-outcome : (a : Annotated) (id : ℕ) (wanted : Bool) → IsTrue (is_outcome wanted (outcome a id)) → HasOutcome a id wanted
+unfolding outcome
+has-outcome a id wanted e = go (slice_get a.tree.nodes id) (slice_get a.notes id) refl refl (wanted-is wanted (outcome a id) e)
+  where
+    go : (o : Option Node) (m : Option Note) → slice_get a.tree.nodes id ≡ o → slice_get a.notes id ≡ m → outcome_at a o m ≡ Some wanted → HasOutcome a id wanted
+    go (Some node) (Some note) is noted by = record { node = node; note = note; is = is; noted = noted; by = by }
+    go (Some node) None is noted by = absurd (cc)
+    go None m is noted by = absurd (cc)
+
+-- a node that runs and has an outcome leaves it
+leaves-it : (a : Annotated) (id : ℕ) (wanted : Bool) (h : HasOutcome a id wanted) → runs a id ≡ true → left_by a h.node h.note ≡ Some wanted
+unfolding runs
+leaves-it a id wanted h e =
+    let agrees_is : IsTrue (agrees_at a (slice_get a.tree.nodes id) (slice_get a.notes id)) = second (is_whole a id) (agrees_at a (slice_get a.tree.nodes id) (slice_get a.notes id)) e in
+    let by_note : IsTrue (agrees_at a (Some h.node) (slice_get a.notes id)) = subst (λ o. IsTrue (agrees_at a o (slice_get a.notes id))) h.is agrees_is in
+    let both_known : IsTrue (agrees (outcome_by a h.node h.note h.node.kind) (left_by a h.node h.note)) = subst (λ m. IsTrue (agrees_at a (Some h.node) m)) h.noted by_note in
+    wanted-is wanted (left_by a h.node h.note) (subst (λ o. IsTrue (agrees o (left_by a h.node h.note))) h.by both_known)
+
+whole-leaves : (a : Annotated) → runs a 0 ≡ true → IsTrue (is_outcome false (outcome a 0))
+unfolding runs
+whole-leaves a e = first (is_outcome false (outcome a 0)) (agrees_at a (slice_get a.tree.nodes 0) (slice_get a.notes 0)) e
+
+module _ (a : Annotated) (there : AreThere a (length a.tree.nodes)) (nodes : HoldsNodes a.modes) (all : AllRun a) where
+  -- from the last node to the first
+  node-fits : (left id : ℕ) (wanted : Bool) → length a.tree.nodes ≤ id + left → IsTrue (is_outcome wanted (outcome a id)) → IsFit a.modes wanted (tree_at a id)
+  node-fits zero id wanted le e =
+      let h = has-outcome a id wanted e in
+      let within = slice_get_within a.tree.nodes id h.node h.is in
+      absurd (omega (arith, within, le))
+  node-fits (suc left) id wanted le e =
+      let h = has-outcome a id wanted e in
+      let within = slice_get_within a.tree.nodes id h.node h.is in
+      let t = there id within in
+      let parts : AllBetween id (length a.tree.nodes) h.node.parts = subst (λ (m : Node). AllBetween id (length a.tree.nodes) m.parts) (same_Some t.node h.node (sym t.is ∙ h.is)) t.behind in
+      let f = behind id (tree_at a) in
+      let given : Given a id f = λ p g less o. subst (λ u. IsFit a.modes g u) (sym (behind_is id p (tree_at a) less)) (node-fits left p g (omega (arith, le, less)) o) in
+      let l = then-is (leaves_as a h.node h.note h.node.kind) (λ l. path_leaves a.modes h.note.mode l h.note.path) wanted (leaves-it a id wanted h (all id within)) in
+      let m = made-fits a there nodes id f given h.node h.note l.0 h.node.kind parts l.1 in
+      subst (λ u. IsFit a.modes wanted u) (sym (tree_of_nodes a id h.node h.note h.is h.noted)) (coerced-fits a.modes h.node.span.from h.note.mode l.0 wanted h.note.path _ l.2 m)
+
+  pub whole-fits : 0 < length a.tree.nodes → IsFit a.modes false (tree_at a 0)
+  whole-fits some = node-fits (length a.tree.nodes) 0 false (omega arith) (whole-leaves a (all 0 some))

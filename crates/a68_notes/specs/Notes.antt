@@ -1,0 +1,148 @@
+-- What is known of each node of a tree that breaks no rule (Report, 2.1.1.3, 3.2, 4.4, 5.4.2 and 6.1.1).
+use Rattle.std.specs.Prelude.{◌≡◌, ℕ, List, [], length, nat_lt, slice_get, slice_index_or, Option, Some, None, Bool, true, false, if◌then◌else◌}
+use Rattle.std.specs.Option.{option_map_or}
+use Rattle.a68_annot.specs.declared.note.Note.{Note}
+use Rattle.a68_coerce.specs.Paths.{Finds, Leads}
+use Rattle.a68_coerce.specs.declared.leaf.Leaf.{Leaf}
+use Rattle.a68_coerce.specs.declared.leaf.Leaf.TheVariants as leaf
+use Rattle.a68_declare.specs.Outcome.{ByNode}
+use Rattle.a68_definitions.specs.Defined.{mode_at, part_number}
+use Rattle.a68_equiv.specs.Related.{as_it_stands}
+use Rattle.a68_frames.specs.Frames.{has_slot, slots_in, IsFirstWay}
+use Rattle.a68_identify.specs.declared.identified.Identified.{Identified}
+use Rattle.a68_identify.specs.declared.identified.Identified.TheVariants.{Declared, Standard}
+use Rattle.a68_meaning.specs.declared.meaning.Meaning.{Meaning}
+use Rattle.a68_modes.specs.declared.coercion.Coercion.{Coercion}
+use Rattle.a68_modes.specs.declared.coercion.Sort.{Sort}
+use Rattle.a68_modes.specs.declared.coercion.Sort.TheVariants as by
+use Rattle.a68_modes.specs.declared.shape.Shape.{Shape}
+use Rattle.a68_positions.specs.Given.{finding_at, position_at}
+use Rattle.a68_positions.specs.declared.position.Position.{Position}
+use Rattle.a68_positions.specs.declared.position.Position.TheVariants as position
+use Rattle.a68_ranges.specs.Definitions.{defines}
+use Rattle.a68_ranges.specs.Nodes.{kind_at}
+use Rattle.a68_refusals.specs.First.{Asked}
+use Rattle.a68_tree.specs.Trees.{Built}
+use Rattle.a68_tree.specs.declared.kind.NodeKind.{NodeKind}
+use Rattle.a68_tree.specs.declared.kind.NodeKind.TheVariants as kind
+use Rattle.a68_tree.specs.declared.node.FrameStep.{FrameStep}
+use Rattle.a68_yields.specs.Leaves.{yield_at}
+use Rattle.a68_yields.specs.declared.yielding.Finding.{Finding}
+use Rattle.a68_yields.specs.declared.yielding.Finding.TheVariants as finding
+use Rattle.a68_yields.specs.declared.yielding.Yielding.{Yielding}
+use Rattle.a68_yields.specs.declared.yielding.Yielding.TheVariants as yields
+
+-- the mode that is asked of a node; of the collateral clause of a call of print that of what can be printed (8); VOID where none is
+abbrev pub goal_of : Position → ℕ
+goal_of (position.Goal m setter) = m
+goal_of (position.Asks by_sort (Some m)) = m
+goal_of (position.Items call) = 8
+goal_of _ = 0
+
+-- the mode of a unit before its coercions: what stands in strong positions only, and what hands on what is asked, has the mode that is asked
+abbrev pub unit_mode : (goal : ℕ) → Yielding → ℕ
+unit_mode goal (yields.Unit (leaf.Mode m)) = m
+unit_mode goal _ = goal
+
+-- the mode of what is defined, or of a unit
+abbrev pub mode_by : (defined : List ℕ) → (n goal : ℕ) → Yielding → ℕ
+mode_by defined n goal yields.Unknown = part_number defined n
+mode_by defined n goal y = unit_mode goal y
+
+-- the mode of a declarer as it stands, or of another node
+abbrev pub mode_of : ByNode → (defined : List ℕ) → (n goal : ℕ) → Yielding → NodeKind → ℕ
+mode_of of defined n goal y kind.Declarer = mode_at of n
+mode_of of defined n goal y _ = mode_by defined n goal y
+
+-- the row of a standard operator
+abbrev pub row_by : Identified → Option ℕ
+row_by (Standard o) = Some o.row
+row_by (Declared d) = None
+
+abbrev pub row_of : Finding → Option ℕ
+row_of (finding.Operator (Some found)) = row_by found
+row_of _ = None
+
+-- where the operator is defined; none in the standard environ
+abbrev pub operator_by : Identified → Option ℕ
+operator_by (Declared d) = Some d
+operator_by (Standard o) = None
+
+abbrev pub operator_of : Finding → Option ℕ
+operator_of (finding.Operator (Some found)) = operator_by found
+operator_of _ = None
+
+-- a definition among so many nodes; the tags of the standard environ have the numbers behind those of the nodes
+abbrev pub in_text : (nodes : ℕ) → Option ℕ → Option ℕ
+in_text nodes None = None
+in_text nodes (Some d) = if nat_lt d nodes then Some d else None
+
+-- where what a node applies is defined: a tag, or the operator of a formula; none in the standard environ
+abbrev pub definition_of : Built → (tags : List (Option ℕ)) → (n : ℕ) → Finding → NodeKind → Option ℕ
+definition_of tree tags n found kind.Tag = in_text (length tree.nodes) (slice_index_or tags n None)
+definition_of tree tags n found kind.Monadic = operator_of found
+definition_of tree tags n found kind.Dyadic = operator_of found
+definition_of tree tags n found _ = None
+
+-- to what the step of a node leads: to what it applies, or to the slot of what it defines
+abbrev pub target_of : (n : ℕ) → (applied : Option ℕ) → (has_slot : Bool) → Option ℕ
+target_of n (Some d) slot = Some d
+target_of n None true = Some n
+target_of n None false = None
+
+-- a step, or the one that says nothing
+abbrev pub step_or_none : Option FrameStep → FrameStep
+step_or_none found = option_map_or (λ (s : FrameStep). s) found (record { hops = 0; slot = 0 })
+
+-- the way there; nothing leads nowhere
+abbrev pub IsStep : Built → (n : ℕ) → Option ℕ → FrameStep → Type 0
+IsStep tree n None step = step ≡ step_or_none None
+IsStep tree n (Some d) step = (found : Option FrameStep) × IsFirstWay tree n d found × (step ≡ step_or_none found)
+
+-- the coercions from a mode to another by that sort; none where nothing leads
+abbrev pub AreCoercions : List Shape → Sort → (from to : ℕ) → List Coercion → Type 0
+AreCoercions nodes by_sort from to path =
+    (found : Option (List Coercion)) × Finds (Leads nodes by_sort (as_it_stands from) (as_it_stands to)) found
+    × (path ≡ option_map_or (λ (p : List Coercion). p) found [])
+
+-- those of a unit of one mode; none of one that may stand in strong positions only
+abbrev pub IsPathFrom : List Shape → Sort → (to : ℕ) → Leaf → List Coercion → Type 0
+IsPathFrom nodes by_sort to (leaf.Mode from) path = AreCoercions nodes by_sort from to path
+IsPathFrom nodes by_sort to leaf.StrongOnly path = path ≡ []
+
+-- those of what a node yields; none of what hands on what is asked, and of no unit
+abbrev pub IsPathTo : List Shape → Sort → (to : ℕ) → Yielding → List Coercion → Type 0
+IsPathTo nodes by_sort to (yields.Unit l) path = IsPathFrom nodes by_sort to l path
+IsPathTo nodes by_sort to _ path = path ≡ []
+
+-- the coercions of a unit by what is asked of it and by what it yields
+abbrev pub IsPathOf : List Shape → Position → Yielding → List Coercion → Type 0
+IsPathOf nodes (position.Goal m setter) y path = IsPathTo nodes by.Strong m y path
+IsPathOf nodes (position.Asks by_sort (Some m)) y path = IsPathTo nodes by_sort m y path
+IsPathOf nodes _ y path = path ≡ []
+
+-- what is known of a node
+pub record IsNote (of : ByNode) (a : Asked) (n : ℕ) (note : Note) : Type 0 where
+  pub mode : note.mode ≡ mode_of of a.defined n note.goal (yield_at a.ys n) (kind_at a.tree n)
+  pub goal : note.goal ≡ goal_of (position_at a.ps n)
+  pub path : IsPathOf a.nodes (position_at a.ps n) (yield_at a.ys n) note.path
+  pub op : note.op ≡ row_of (finding_at a.fs n)
+  pub definition : note.definition ≡ definition_of a.tree a.tags n (finding_at a.fs n) (kind_at a.tree n)
+  pub step : IsStep a.tree n (target_of n note.definition (has_slot (defines (kind_at a.tree n)))) note.step
+  pub slots : note.slots ≡ length (slots_in a.tree n)
+  -- routine texts do not run yet
+  pub need : note.need ≡ None
+
+-- of the nodes before one
+pub record AreNotesBefore (of : ByNode) (a : Asked) (count : ℕ) (notes : List Note) : Type 0 where
+  pub long : length notes ≡ count
+  pub each : (n : ℕ) (note : Note) → slice_get notes n ≡ Some note → IsNote of a n note
+
+-- of all nodes
+abbrev pub AreNotes : ByNode → Asked → List Note → Type 0
+AreNotes of a notes = AreNotesBefore of a (length a.tree.nodes) notes
+
+-- what is known of a tree by its meaning
+abbrev pub asked_of : Built → Meaning → Asked
+asked_of tree m =
+    record { tree = tree; tags = m.tags; defined = m.defined.items; nodes = m.modes; ys = m.yields.yields.items; fs = m.yields.findings.items; ps = m.positions.items }

@@ -1,0 +1,362 @@
+//! What is asked of clauses, choices, definitions and routine texts, by hand from the text (Report, 3.3.1, 3.4.1, 4.4.1, 5.2.1, 5.2.2, 5.3, 5.4 and 6.1.1).
+use crate::asked::{Asked, Mode, all_are_asked};
+use a68_modes::Sort;
+use a68_tree::NodeKind;
+
+/// Of closed, serial and parallel clauses, casts and loops: a text, the kind of a node in it and the byte where that begins, and what is asked of it.
+const CLAUSES: &[(&str, NodeKind, u32, Asked)] = &[
+    (
+        "( INT a; SKIP )",
+        NodeKind::Closed,
+        0,
+        Asked::Goal(Mode::Is(0), None),
+    ),
+    (
+        "( INT a; SKIP )",
+        NodeKind::Serial,
+        2,
+        Asked::Goal(Mode::Is(0), None),
+    ),
+    (
+        "( INT a; SKIP )",
+        NodeKind::Skip,
+        9,
+        Asked::Goal(Mode::Is(0), None),
+    ),
+    (
+        "( INT a; SKIP )",
+        NodeKind::Variable,
+        6,
+        Asked::Goal(Mode::Is(0), Some(NodeKind::Serial)),
+    ),
+    ("( INT a; SKIP )", NodeKind::Declarer, 2, Asked::Nowhere),
+    (
+        "( INT a; 1; SKIP )",
+        NodeKind::Denotation,
+        9,
+        Asked::Goal(Mode::Is(0), Some(NodeKind::Serial)),
+    ),
+    (
+        "( ( 1; 2 ); SKIP )",
+        NodeKind::Closed,
+        2,
+        Asked::Goal(Mode::Is(0), Some(NodeKind::Serial)),
+    ),
+    (
+        "( ( 1; 2 ); SKIP )",
+        NodeKind::Denotation,
+        7,
+        Asked::Goal(Mode::Is(0), Some(NodeKind::Serial)),
+    ),
+    (
+        "( INT ( 2 ); SKIP )",
+        NodeKind::Denotation,
+        8,
+        Asked::Goal(Mode::Is(1), Some(NodeKind::Cast)),
+    ),
+    (
+        "( REF INT ( SKIP ); SKIP )",
+        NodeKind::Skip,
+        12,
+        Asked::Goal(Mode::Is(9), Some(NodeKind::Cast)),
+    ),
+    (
+        "( STRING ( SKIP ); SKIP )",
+        NodeKind::Skip,
+        11,
+        Asked::Goal(Mode::Is(7), Some(NodeKind::Cast)),
+    ),
+    (
+        "( VOID ( 1 ); SKIP )",
+        NodeKind::Denotation,
+        9,
+        Asked::Goal(Mode::Is(0), Some(NodeKind::Cast)),
+    ),
+    (
+        "( PAR ( SKIP, SKIP ); SKIP )",
+        NodeKind::Skip,
+        8,
+        Asked::Goal(Mode::Is(0), Some(NodeKind::Parallel)),
+    ),
+    (
+        "( PAR ( SKIP, 1 ); SKIP )",
+        NodeKind::Denotation,
+        14,
+        Asked::Goal(Mode::Is(0), Some(NodeKind::Parallel)),
+    ),
+    (
+        "( FOR i FROM 1 BY 2 TO 3 WHILE TRUE DO SKIP OD; SKIP )",
+        NodeKind::Denotation,
+        13,
+        Asked::Asks(Sort::Meek, Some(Mode::Is(1))),
+    ),
+    (
+        "( FOR i FROM 1 BY 2 TO 3 WHILE TRUE DO SKIP OD; SKIP )",
+        NodeKind::Denotation,
+        18,
+        Asked::Asks(Sort::Meek, Some(Mode::Is(1))),
+    ),
+    (
+        "( FOR i FROM 1 BY 2 TO TRUE DO SKIP OD; SKIP )",
+        NodeKind::Denotation,
+        23,
+        Asked::Asks(Sort::Meek, None),
+    ),
+    (
+        "( FOR i FROM 1 BY 2 TO 3 WHILE TRUE DO SKIP OD; SKIP )",
+        NodeKind::Denotation,
+        31,
+        Asked::Asks(Sort::Meek, Some(Mode::Is(2))),
+    ),
+    (
+        "( FOR i TO 3 DO SKIP OD; SKIP )",
+        NodeKind::Skip,
+        16,
+        Asked::Goal(Mode::Is(0), Some(NodeKind::Loop)),
+    ),
+    (
+        "( [1:3] INT a; SKIP )",
+        NodeKind::Denotation,
+        5,
+        Asked::Asks(Sort::Meek, Some(Mode::Is(1))),
+    ),
+    (
+        "( LOC [1:3] INT; SKIP )",
+        NodeKind::Denotation,
+        7,
+        Asked::Asks(Sort::Meek, Some(Mode::Is(1))),
+    ),
+    (
+        "( PROC f = INT: 1; f; SKIP )",
+        NodeKind::Tag,
+        19,
+        Asked::Goal(Mode::Is(0), Some(NodeKind::Serial)),
+    ),
+];
+
+/// Of choices: a text, the kind of a node in it and the byte where that begins, and what is asked of it.
+const CHOICES: &[(&str, NodeKind, u32, Asked)] = &[
+    (
+        "( INT ( IF TRUE THEN 1 ELSE 2 FI ); SKIP )",
+        NodeKind::Denotation,
+        11,
+        Asked::Asks(Sort::Meek, Some(Mode::Is(2))),
+    ),
+    (
+        "( INT ( IF TRUE THEN 1 ELSE 2 FI ); SKIP )",
+        NodeKind::Denotation,
+        21,
+        Asked::Goal(Mode::Is(1), Some(NodeKind::Cast)),
+    ),
+    (
+        "( INT ( IF TRUE THEN 1 ELSE 2 FI ); SKIP )",
+        NodeKind::Denotation,
+        28,
+        Asked::Goal(Mode::Is(1), Some(NodeKind::Cast)),
+    ),
+    (
+        "( IF TRUE THEN 1 ELIF FALSE THEN 2 FI; SKIP )",
+        NodeKind::Denotation,
+        33,
+        Asked::Goal(Mode::Is(0), Some(NodeKind::Serial)),
+    ),
+    (
+        "( IF TRUE THEN 1 ELIF FALSE THEN 2 FI; SKIP )",
+        NodeKind::Denotation,
+        22,
+        Asked::Asks(Sort::Meek, Some(Mode::Is(2))),
+    ),
+    (
+        "( IF 1 THEN 2 FI; SKIP )",
+        NodeKind::Denotation,
+        5,
+        Asked::Asks(Sort::Meek, None),
+    ),
+    (
+        "( INT a, b; IF TRUE THEN a ELSE b FI := 1; SKIP )",
+        NodeKind::Tag,
+        25,
+        Asked::Goal(Mode::Is(9), Some(NodeKind::Conditional)),
+    ),
+    (
+        "( INT a, b; IF TRUE THEN a ELSE b FI := 1; SKIP )",
+        NodeKind::Conditional,
+        12,
+        Asked::Asks(Sort::Soft, Some(Mode::Is(9))),
+    ),
+    (
+        "( IF TRUE THEN 1 ELSE 2 FI := 3; SKIP )",
+        NodeKind::Denotation,
+        15,
+        Asked::Unlooked,
+    ),
+    (
+        "( CASE 1 IN 2, 3 OUT 4 ESAC; SKIP )",
+        NodeKind::Denotation,
+        7,
+        Asked::Asks(Sort::Meek, Some(Mode::Is(1))),
+    ),
+    (
+        "( INT ( CASE 1 IN 2, 3 OUT 4 ESAC ); SKIP )",
+        NodeKind::Denotation,
+        18,
+        Asked::Goal(Mode::Is(1), Some(NodeKind::Cast)),
+    ),
+    (
+        "( INT ( CASE 1 IN 2, 3 OUT 4 ESAC ); SKIP )",
+        NodeKind::Denotation,
+        21,
+        Asked::Goal(Mode::Is(1), Some(NodeKind::Cast)),
+    ),
+    (
+        "( INT ( CASE 1 IN 2, 3 OUT 4 ESAC ); SKIP )",
+        NodeKind::Denotation,
+        27,
+        Asked::Goal(Mode::Is(1), Some(NodeKind::Cast)),
+    ),
+    (
+        "( UNION (INT, BOOL) u; CASE u IN (INT i): 1, (BOOL b): 2 ESAC; SKIP )",
+        NodeKind::Tag,
+        28,
+        Asked::Asks(Sort::Meek, Some(Mode::Union(2))),
+    ),
+    (
+        "( UNION (INT, BOOL) u; CASE u IN (INT i): 1, (BOOL b): 2 ESAC; SKIP )",
+        NodeKind::Denotation,
+        42,
+        Asked::Goal(Mode::Is(0), Some(NodeKind::Serial)),
+    ),
+    (
+        "( UNION (INT, BOOL) u; CASE u IN (INT i): 1, (BOOL b): 2 ESAC; SKIP )",
+        NodeKind::Spec,
+        33,
+        Asked::Nowhere,
+    ),
+    (
+        "( CASE 1 IN (INT i): 1, (BOOL b): 2 ESAC; SKIP )",
+        NodeKind::Denotation,
+        7,
+        Asked::Asks(Sort::Meek, None),
+    ),
+    (
+        "( PROC f = (INT a) BOOL: TRUE; IF TRUE THEN f ELSE f FI (1); SKIP )",
+        NodeKind::Tag,
+        44,
+        Asked::Goal(Mode::Proc(&[1], 2), Some(NodeKind::Conditional)),
+    ),
+    (
+        "( INT a, b; IF TRUE THEN IF FALSE THEN a ELSE b FI ELSE b FI := 1; SKIP )",
+        NodeKind::Tag,
+        39,
+        Asked::Goal(Mode::Is(9), Some(NodeKind::Conditional)),
+    ),
+];
+
+/// Of definitions and routine texts: a text, the kind of a node in it and the byte where that begins, and what is asked of it.
+const DEFINITIONS: &[(&str, NodeKind, u32, Asked)] = &[
+    (
+        "( INT a = 1; SKIP )",
+        NodeKind::Denotation,
+        10,
+        Asked::Goal(Mode::Is(1), Some(NodeKind::IdentityDefinition)),
+    ),
+    (
+        "( STRING s = SKIP; SKIP )",
+        NodeKind::Skip,
+        13,
+        Asked::Goal(Mode::Is(7), Some(NodeKind::IdentityDefinition)),
+    ),
+    (
+        "( INT a := 1; SKIP )",
+        NodeKind::Denotation,
+        11,
+        Asked::Goal(Mode::Is(1), Some(NodeKind::Variable)),
+    ),
+    (
+        "( STRING s := SKIP; SKIP )",
+        NodeKind::Skip,
+        14,
+        Asked::Goal(Mode::Is(7), Some(NodeKind::Variable)),
+    ),
+    (
+        "( HEAP INT a := 1; SKIP )",
+        NodeKind::Denotation,
+        16,
+        Asked::Goal(Mode::Is(1), Some(NodeKind::Variable)),
+    ),
+    (
+        "( INT a := 1, b := 2; SKIP )",
+        NodeKind::Denotation,
+        19,
+        Asked::Goal(Mode::Is(1), Some(NodeKind::Variable)),
+    ),
+    (
+        "( INT a := 1, b := 2; SKIP )",
+        NodeKind::Variable,
+        14,
+        Asked::Nowhere,
+    ),
+    (
+        "( PROC f = INT: 1; SKIP )",
+        NodeKind::RoutineText,
+        11,
+        Asked::Goal(Mode::Proc(&[], 1), Some(NodeKind::IdentityDefinition)),
+    ),
+    (
+        "( PROC f = INT: 1; SKIP )",
+        NodeKind::Denotation,
+        16,
+        Asked::Goal(Mode::Is(1), Some(NodeKind::RoutineText)),
+    ),
+    (
+        "( PROC f := INT: 1; SKIP )",
+        NodeKind::RoutineText,
+        12,
+        Asked::Goal(Mode::Proc(&[], 1), Some(NodeKind::Variable)),
+    ),
+    (
+        "( PROC f = (INT a) STRING: SKIP; SKIP )",
+        NodeKind::Skip,
+        27,
+        Asked::Goal(Mode::Is(7), Some(NodeKind::RoutineText)),
+    ),
+    (
+        "( PROC f = (INT a) STRING: SKIP; SKIP )",
+        NodeKind::Parameter,
+        16,
+        Asked::Nowhere,
+    ),
+    (
+        "( OP % = (INT a) BOOL: TRUE; SKIP )",
+        NodeKind::RoutineText,
+        9,
+        Asked::Goal(Mode::Proc(&[1], 2), Some(NodeKind::OpDefinition)),
+    ),
+    (
+        "( PROC f = (INT a) BOOL: TRUE; OP (INT) BOOL % = f; SKIP )",
+        NodeKind::Tag,
+        49,
+        Asked::Goal(Mode::Proc(&[1], 2), Some(NodeKind::OpDefinition)),
+    ),
+    (
+        "( PROC f = VOID: 1; SKIP )",
+        NodeKind::Denotation,
+        17,
+        Asked::Goal(Mode::Is(0), Some(NodeKind::RoutineText)),
+    ),
+];
+
+#[test]
+fn closed_serial_and_parallel_clauses_casts_and_loops(rt: HostRuntime) {
+    all_are_asked(&rt, rt.alloc(), CLAUSES);
+}
+
+#[test]
+fn choices(rt: HostRuntime) {
+    all_are_asked(&rt, rt.alloc(), CHOICES);
+}
+
+#[test]
+fn definitions_and_routine_texts(rt: HostRuntime) {
+    all_are_asked(&rt, rt.alloc(), DEFINITIONS);
+}

@@ -1,0 +1,5 @@
+pub mod Constants
+pub mod Lines
+pub mod Listing
+pub mod Names
+pub mod Put

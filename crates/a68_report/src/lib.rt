@@ -1,0 +1,11 @@
+//! Reports: the lines on notes, and the listing of a code.
+#![tactic(auto)]
+
+mod constant;
+mod lines;
+mod listing;
+mod name;
+mod put;
+
+pub use lines::{READ_FAULT, USAGE, end_line, refusal_line};
+pub use listing::code_text;

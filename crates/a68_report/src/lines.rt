@@ -1,0 +1,72 @@
+//! The lines on notes.
+ghost use Rattle.std.specs.Prelude.{◌≡◌, IfOk};
+ghost use Rattle.a68_report.specs.Lines.{refusal_line, fault_line, fault_name, end_line};
+
+use a68_base::{NoMemory, Refusal, Text};
+use a68_values::{End, FaultKind};
+use std::alloc::Global;
+
+/// The line of words that are no command.
+pub const USAGE: &str =
+    "usage: a68 run FILE [--workers N] [--fuel N] [--names] | check FILE | code FILE | make N [--workers N]\n";
+
+/// The line of a read that failed.
+pub const READ_FAULT: &str = "a68: read fault\n";
+
+/// The line of a run in which no strand could go on.
+const ALL_HALTED: &str = "a68: all halted\n";
+
+/// The line of a run that used up its fuel.
+const FUEL_SPENT: &str = "a68: fuel spent\n";
+
+/// The line of a refusal.
+pub fn refusal_line(alloc: Global, refusal: Refusal) -> Result<Text, NoMemory>
+    ensures { IfOk result (λ text. text ≡ refusal_line refusal.rule refusal.place) }
+{
+    let rule = refusal.rule.name();
+    let place = refusal.place;
+    let line = format!(in alloc; "a68: refused {rule} at byte {place}\n")?;
+    Ok(Text {
+        items: line.into_bytes(),
+    })
+}
+
+fn fault_name_of(kind: FaultKind) -> &'static str
+    ensures { result.now ≡ fault_name kind }
+{
+    match kind {
+        FaultKind::Unset => "Unset",
+        FaultKind::Kind => "Kind",
+        FaultKind::Nil => "Nil",
+        FaultKind::Scope => "Scope",
+        FaultKind::Bounds => "Bounds",
+        FaultKind::Overflow => "Overflow",
+        FaultKind::Divisor => "Divisor",
+        FaultKind::Domain => "Domain",
+        FaultKind::Cells => "Cells",
+        FaultKind::Text => "Text",
+        FaultKind::Strands => "Strands",
+    }
+}
+
+fn fault_line_of(alloc: Global, kind: FaultKind, place: u32) -> Result<Text, NoMemory>
+    ensures { IfOk result (λ text. text ≡ fault_line kind place) }
+{
+    let name = fault_name_of(kind);
+    let line = format!(in alloc; "a68: fault {name} at byte {place}\n")?;
+    Ok(Text {
+        items: line.into_bytes(),
+    })
+}
+
+/// The line of a run's end; none where the run came to its end.
+pub fn end_line(alloc: Global, end: End) -> Result<Text, NoMemory>
+    ensures { IfOk result (λ text. text ≡ end_line end) }
+{
+    match end {
+        End::Done => Text::from_slice(alloc, b""),
+        End::Fault { kind, place, .. } => fault_line_of(alloc, kind, place),
+        End::AllHalted => Text::from_slice(alloc, ALL_HALTED.as_bytes()),
+        End::Spent => Text::from_slice(alloc, FUEL_SPENT.as_bytes()),
+    }
+}

@@ -1,0 +1,97 @@
+//! The listing of a code.
+ghost use Rattle.std.specs.Prelude.{◌≡◌, ◌++◌, IfOk, OnOk};
+ghost use Rattle.a68_report.specs.Listing as spec;
+ghost use Rattle.a68_report.specs.Put.{number};
+
+use crate::constant::put_constant;
+use crate::name::name_of;
+use crate::put::{put, put_behind, put_digits, put_list, put_number};
+use a68_base::{NoMemory, Text};
+use a68_code::{Code, Does, Instr};
+use std::alloc::Global;
+
+// Puts two numbers.
+fn put_pair(text: &mut Text, one: u32, other: u32) -> Result<(), NoMemory>
+    ensures { OnOk result (text.new ≡ text.old ++ (number one ++ number other)) }
+{
+    put_number(text, u64::from(one))?;
+    put_number(text, u64::from(other))
+}
+
+// Puts the operands of an instruction.
+fn put_operands(text: &mut Text, does: &Does) -> Result<(), NoMemory>
+    ensures { OnOk result (text.new ≡ text.old ++ spec.operands does.now) }
+{
+    match does {
+        Does::Push(value) => put_constant(text, value),
+        Does::Tag {
+            hops: one,
+            slot: other,
+        }
+        | Does::Make {
+            mode: one,
+            bounds: other,
+        }
+        | Does::Heap {
+            mode: one,
+            bounds: other,
+        } => put_pair(text, *one, *other),
+        Does::Skip(number)
+        | Does::Enter(number)
+        | Does::Leave(number)
+        | Does::Bind(number)
+        | Does::Deref(number)
+        | Does::Store(number)
+        | Does::Apply(number)
+        | Does::Same(number)
+        | Does::Unite(number)
+        | Does::Print(number)
+        | Does::Jump(number)
+        | Does::Unless(number)
+        | Does::Step(number)
+        | Does::Advance(number) => put_number(text, u64::from(*number)),
+        Does::Case(places) => put_list(text, &places.items),
+        _ => Ok(()),
+    }
+}
+
+// Puts the line of an instruction.
+fn put_line(text: &mut Text, index: usize, does: &Does) -> Result<(), NoMemory>
+    ensures { OnOk result (text.new ≡ text.old ++ spec.line index does.now) }
+{
+    put_digits(text, index as u64)?;
+    put_behind(text, name_of(does).as_bytes())?;
+    put_operands(text, does)?;
+    put(text, b"\n")
+}
+
+// Puts the lines of instructions, from index 0 on.
+fn put_lines(text: &mut Text, list: &[Instr]) -> Result<(), NoMemory>
+    ensures { OnOk result (text.new ≡ text.old ++ spec.lines 0 list.now) }
+{
+    for index in 0..list.len() {
+        put_line(text, index, &list[index].does)?;
+    }
+    Ok(())
+}
+
+/// Writes the listing of a code (own): for each instruction its index, its name and its operands, with one blank between,
+/// and a line feed.
+///
+/// Numbers are decimal; a mode is its number, and a list its length and then its items. A constant of INT or BITS is its
+/// number, of BOOL `T` or `F`, of CHAR the number of its byte, of a row of CHAR the length and the numbers of its bytes,
+/// and of the hidden mode of layout `newline` or `space`.
+pub fn code_text(alloc: Global, code: &Code) -> Result<Text, NoMemory>
+    ensures { IfOk result (λ text. text ≡ spec.code_text code.now) }
+{
+    let mut text = Text {
+        items: Vec::new(alloc),
+    };
+    match put_lines(&mut text, &code.list.items) {
+        Ok(()) => Ok(text),
+        Err(error) => {
+            drop(text);
+            Err(error)
+        }
+    }
+}

@@ -1,0 +1,143 @@
+-- The first node in the text that does not run.
+use Rattle.std.proofs.Common.{◌≡◌, ◌<◌, ◌⊎◌, ⊎_elim, inl, inr, ℕ, zero, suc, ◌+◌, ◌-◌, Bool, true, false, List, [], ◌∷◌, length, drop, get_or, refl, sym, ◌∙◌, ap, subst, arith, add-one, drop-cons, None, Some}
+use Rattle.std.proofs.lemmas.Bool.{false≢true, ltb-true, ltb-false, cases_lt}
+use Rattle.std.proofs.lemmas.Option.{same_Some}
+use Rattle.std.specs.Prelude.{nat_lt, not, ◌&&◌, ◌||◌, if◌then◌else◌}
+use Rattle.std.specs.declared.option.Option.{Option}
+use Rattle.a68_annot.specs.declared.annotated.Annotated.{Annotated}
+use Rattle.a68_elab.specs.Made.{behind_ref}
+use Rattle.a68_runs.specs.Runs.{are_phrases, is_outcome, last_outcome, outcome, path_leaves, runs}
+use Rattle.a68_runs.specs.Unready.{AreThere, IsThere, IsUnreadyBefore, behind, is_earlier, one_more, with_node}
+use Rattle.a68_runs.specs.declared.paths.Between.{Between}
+use Rattle.a68_modes.specs.Nodes.{shape_at, is_plain}
+use Rattle.a68_modes.specs.declared.coercion.Coercion.{Coercion}
+use Rattle.a68_modes.specs.declared.coercion.Coercion.TheVariants as coercion
+use Rattle.a68_modes.specs.declared.shape.Shape.{Shape}
+use Rattle.a68_ranges.specs.Indexed.{IsLeast}
+use Rattle.a68_ranges.specs.Nodes.{place_at}
+
+-- ---- paths
+
+-- a value of a mode
+abbrev value-of : (mode : ℕ) → Between
+value-of m = record { mode = m; left = true }
+
+module _ (modes : List Shape) (path : List Coercion) where
+  next-is : (x next : Between) → Some x ≡ Some next → path_leaves modes x.mode x.left path ≡ path_leaves modes next.mode next.left path
+  next-is x next e = ap (λ (b : Between). path_leaves modes b.mode b.left path) (same_Some x next e)
+
+  deref-on : (m : ℕ) (b : Bool) (next : Between) → (if b then Some (value-of m) else None) ≡ Some next
+      → (if b then path_leaves modes m true path else None) ≡ path_leaves modes next.mode next.left path
+  deref-on m true next e = next-is (record { mode = m; left = true }) next e
+  deref-on m false next e = absurd (cc)
+
+  value-on : (mode : ℕ) (next : Between) (c : Coercion) → behind modes mode c ≡ Some next → path_leaves modes mode true (c ∷ path) ≡ path_leaves modes next.mode next.left path
+  value-on mode next coercion.Deref e = deref-on (behind_ref (shape_at modes mode)) (is_plain (shape_at modes (behind_ref (shape_at modes mode)))) next e
+  value-on mode next (coercion.Unite from) e = next-is (record { mode = from; left = true }) next e
+  value-on mode next coercion.Drop e = next-is (record { mode = 0; left = false }) next e
+  value-on mode next _ e = absurd (cc)
+
+  deref-stops : (m : ℕ) (b : Bool) → (if b then Some (value-of m) else None) ≡ None → (if b then path_leaves modes m true path else None) ≡ None
+  deref-stops m true e = absurd (cc)
+  deref-stops m false e = refl
+
+  value-stops : (mode : ℕ) (c : Coercion) → behind modes mode c ≡ None → path_leaves modes mode true (c ∷ path) ≡ None
+  value-stops mode coercion.Deref e = deref-stops (behind_ref (shape_at modes mode)) (is_plain (shape_at modes (behind_ref (shape_at modes mode)))) e
+  value-stops mode (coercion.Unite from) e = absurd (cc)
+  value-stops mode coercion.Drop e = absurd (cc)
+  value-stops mode _ e = refl
+
+  none-stops : (mode : ℕ) (c : Coercion) → path_leaves modes mode false (c ∷ path) ≡ None
+  none-stops mode coercion.Deref = refl
+  none-stops mode (coercion.Unite from) = refl
+  none-stops mode coercion.Drop = refl
+  none-stops mode _ = refl
+
+  -- one coercion more, and what is left
+  go-on : (mode : ℕ) (left : Bool) (next : Between) (c : Coercion) → one_more modes (record { mode = mode; left = left }) c ≡ Some next
+      → path_leaves modes mode left (c ∷ path) ≡ path_leaves modes next.mode next.left path
+  go-on mode true next c e = value-on mode next c e
+  go-on mode false next c e = absurd (cc)
+
+  stop-at : (mode : ℕ) (left : Bool) (c : Coercion) → one_more modes (record { mode = mode; left = left }) c ≡ None → path_leaves modes mode left (c ∷ path) ≡ None
+  stop-at mode true c e = value-stops mode c e
+  stop-at mode false c e = none-stops mode c
+
+pub path-goes-on : (modes : List Shape) (path : List Coercion) (i : ℕ) (d : Coercion) (at next : Between) → i < length path → one_more modes at (get_or path i d) ≡ Some next
+    → path_leaves modes at.mode at.left (drop i path) ≡ path_leaves modes next.mode next.left (drop (i + 1) path)
+path-goes-on modes path i d at next less e = rw (add-one, drop-cons path i d) (go-on modes (drop (suc i) path) at.mode at.left next (get_or path i d) e)
+
+pub path-stops : (modes : List Shape) (path : List Coercion) (i : ℕ) (d : Coercion) (at : Between) → i < length path → one_more modes at (get_or path i d) ≡ None
+    → path_leaves modes at.mode at.left (drop i path) ≡ None
+path-stops modes path i d at less e = rw (drop-cons path i d) (stop-at modes (drop (suc i) path) at.mode at.left (get_or path i d) e)
+
+-- ---- parts
+
+pub last-outcome-is : (a : Annotated) (ids : List ℕ) → 0 < length ids → last_outcome a ids ≡ outcome a (get_or ids (length ids - 1) 0)
+last-outcome-is a [] some = absurd (omega arith)
+last-outcome-is a (x ∷ []) some = refl
+last-outcome-is a (x ∷ (y ∷ ids)) some =
+    let e : length (x ∷ (y ∷ ids)) - 1 ≡ suc (length (y ∷ ids) - 1) = omega arith in
+    last-outcome-is a (y ∷ ids) (omega arith) ∙ sym (ap (λ n. outcome a (get_or (x ∷ (y ∷ ids)) n 0)) e)
+
+-- a phrase before the last one
+phrase-here : (a : Annotated) (wanted : Bool) (ids : List ℕ) (i : ℕ) → suc i < length ids
+    → are_phrases a wanted (drop i ids) ≡ (is_outcome false (outcome a (get_or ids i 0)) && are_phrases a wanted (drop (suc i) ids))
+phrase-here a wanted [] i less = absurd (omega arith)
+phrase-here a wanted (x ∷ []) i less = absurd (omega arith)
+phrase-here a wanted (x ∷ (y ∷ ids)) zero less = refl
+phrase-here a wanted (x ∷ (y ∷ ids)) (suc i) less = phrase-here a wanted (y ∷ ids) i (omega arith)
+
+pub phrase-passes : (a : Annotated) (wanted : Bool) (ids : List ℕ) (i : ℕ) → i + 1 < length ids → is_outcome false (outcome a (get_or ids i 0)) ≡ true
+    → are_phrases a wanted (drop i ids) ≡ are_phrases a wanted (drop (i + 1) ids)
+phrase-passes a wanted ids i less e = rw add-one (phrase-here a wanted ids i (omega arith) ∙ ap (λ b. b && are_phrases a wanted (drop (suc i) ids)) e)
+
+pub phrase-fails : (a : Annotated) (wanted : Bool) (ids : List ℕ) (i : ℕ) → i + 1 < length ids → is_outcome false (outcome a (get_or ids i 0)) ≡ false
+    → are_phrases a wanted (drop i ids) ≡ false
+phrase-fails a wanted ids i less e = phrase-here a wanted ids i (omega arith) ∙ ap (λ b. b && are_phrases a wanted (drop (suc i) ids)) e
+
+pub last-phrase : (a : Annotated) (wanted : Bool) (ids : List ℕ) (i : ℕ) → i + 1 ≡ length ids → are_phrases a wanted (drop i ids) ≡ is_outcome wanted (outcome a (get_or ids i 0))
+last-phrase a wanted [] i e = absurd (omega arith)
+last-phrase a wanted (x ∷ []) zero e = refl
+last-phrase a wanted (x ∷ []) (suc i) e = absurd (omega arith)
+last-phrase a wanted (x ∷ (y ∷ ids)) zero e = absurd (omega arith)
+last-phrase a wanted (x ∷ (y ∷ ids)) (suc i) e = last-phrase a wanted (y ∷ ids) i (omega arith)
+
+-- ---- the first one
+
+-- a node before one more is before that one, or it
+split : (i id : ℕ) → i < id + 1 → (i < id) ⊎ (i ≡ id)
+split i id less = ⊎_elim (λ l. inl l) (λ ge. inr (omega arith)) (cases_lt i id)
+
+pub there-more : (a : Annotated) (id : ℕ) → AreThere a id → IsThere a id → AreThere a (id + 1)
+there-more a id before here = λ i less. ⊎_elim (λ l. before i l) (λ e. subst (λ k. IsThere a k) (sym e) here) (split i id less)
+
+pub least-more : (a : Annotated) (found : Option ℕ) (id : ℕ) → IsLeast a.tree (IsUnreadyBefore a id) found → IsLeast a.tree (IsUnreadyBefore a (id + 1)) (with_node a found id)
+least-more a found id least = go (runs a id) refl found least
+  where
+    grown : (i : ℕ) → IsUnreadyBefore a id i → IsUnreadyBefore a (id + 1) i
+    grown i u = let less = u.0 in (omega arith, u.1)
+
+    passes : (runs a id ≡ true) → (found : Option ℕ) → IsLeast a.tree (IsUnreadyBefore a id) found → IsLeast a.tree (IsUnreadyBefore a (id + 1)) found
+    passes is None least = λ i u. ⊎_elim (λ l. least i (l, u.1)) (λ e. false≢true (sym u.1 ∙ ap (runs a) e ∙ is)) (split i id u.0)
+    passes is (Some f) least =
+        (grown f least.0, λ i u. ⊎_elim (λ l. least.1 i (l, u.1)) (λ e. absurd (false≢true (sym u.1 ∙ ap (runs a) e ∙ is))) (split i id u.0))
+
+    meets : (runs a id ≡ false) → (found : Option ℕ) → IsLeast a.tree (IsUnreadyBefore a id) found
+        → IsLeast a.tree (IsUnreadyBefore a (id + 1)) (if false || not (is_earlier a.tree found id) then found else Some id)
+    meets not_run None least =
+        ((omega arith, not_run), λ i u. ⊎_elim (λ l. absurd (least i (l, u.1))) (λ e. let same = ap (place_at a.tree) e in omega (arith, same)) (split i id u.0))
+    meets not_run (Some f) least = before (nat_lt (place_at a.tree id) (place_at a.tree f)) refl
+      where
+        before : (b : Bool) → nat_lt (place_at a.tree id) (place_at a.tree f) ≡ b → IsLeast a.tree (IsUnreadyBefore a (id + 1)) (if false || not b then Some f else Some id)
+        before true e =
+            let less = ltb-true (place_at a.tree id) (place_at a.tree f) e in
+            ((omega arith, not_run), λ i u. ⊎_elim (λ l. let le = least.1 i (l, u.1) in omega (arith, less, le)) (λ e. let same = ap (place_at a.tree) e in omega (arith, same)) (split i id u.0))
+        before false e =
+            let le = ltb-false (place_at a.tree id) (place_at a.tree f) e in
+            (grown f least.0, λ i u. ⊎_elim (λ l. least.1 i (l, u.1)) (λ e. let same = ap (place_at a.tree) e in omega (arith, le, same)) (split i id u.0))
+
+    go : (b : Bool) → runs a id ≡ b → (found : Option ℕ) → IsLeast a.tree (IsUnreadyBefore a id) found
+        → IsLeast a.tree (IsUnreadyBefore a (id + 1)) (if b || not (is_earlier a.tree found id) then found else Some id)
+    go true e found least = passes e found least
+    go false e found least = meets e found least

@@ -1,0 +1,7 @@
+use Rattle.std.proofs.Common.{◌≡◌, drop}
+use Rattle.a68_runs.specs.Runs.{path_leaves}
+use Rattle.a68_runs.proofs.paths.path_leaves.Given as goal
+
+-- the rest of the path leaves what the whole of it does
+abbrev pub invariant-loop-coercion : goal.invariant-loop-coercion
+invariant-loop-coercion l = path_leaves l.modes l.note.mode l.left l.note.path ≡ path_leaves l.modes l.at.mode l.at.left (drop l.coercion-index l.coercion-items)

@@ -1,0 +1,264 @@
+-- Which programs run: a rule for each node by itself, of its kind, its note and what its parts leave (own).
+use Rattle.std.specs.Prelude.{◌≡◌, ◌<◌, ℕ, Bool, true, false, not, ◌&&◌, ◌||◌, ◌==◌, List, [], ◌∷◌, length, None, Some, slice_get, nat_eq, if◌then◌else◌}
+use Rattle.std.specs.List.{list_all}
+use Rattle.std.specs.Option.{is_some, option_map_or, option_and_then}
+use Rattle.std.specs.declared.option.Option.{Option}
+use Rattle.a68_acts.specs.Operations.{is_union}
+use Rattle.a68_annot.specs.declared.annotated.Annotated.{Annotated}
+use Rattle.a68_annot.specs.declared.note.Note.{Note}
+use Rattle.a68_code.specs.Flow.{takes}
+use Rattle.a68_code.specs.Operands.{is_well_made}
+use Rattle.a68_code.specs.declared.does.Does.TheVariants as does
+use Rattle.a68_elab.specs.Constants.{value_in}
+use Rattle.a68_elab.specs.Made.{behind_heap, behind_ref, begins_with, called, if_first, is_by, is_declarer, is_for, is_from, is_heap, is_one_of, is_to, is_while, items_at, only_id, parts_at, past, printers, spelling_of, standard_of, wholes}
+use Rattle.a68_modes.specs.Nodes.{shape_at, is_plain, is_void}
+use Rattle.a68_modes.specs.declared.coercion.Coercion.{Coercion}
+use Rattle.a68_modes.specs.declared.coercion.Coercion.TheVariants as coercion
+use Rattle.a68_modes.specs.declared.shape.Shape.{Shape}
+use Rattle.a68_tree.specs.declared.kind.NodeKind.{NodeKind}
+use Rattle.a68_tree.specs.declared.kind.NodeKind.TheVariants as kind
+use Rattle.a68_tree.specs.declared.node.Node.{Node}
+
+-- ---- outcomes: what a node leaves as a construct, a value or none
+
+-- whether a value is asked of a node
+abbrev pub asks_value : Annotated → Note → Bool
+asks_value a note = not (is_void (shape_at a.modes note.goal))
+
+-- a tag that is defined, or stands for a value of the standard environ; print, write and whole are neither
+abbrev pub is_value : (definition : Option ℕ) → (spelling : Option (List ℕ)) → Bool
+is_value definition spelling = is_some definition || is_some (standard_of definition spelling)
+
+-- the units and phrases that are asked for a value or for none
+abbrev pub is_construct : NodeKind → Bool
+is_construct kind.Closed = true
+is_construct kind.Vacuum = true
+is_construct kind.Parallel = true
+is_construct kind.Conditional = true
+is_construct kind.Case = true
+is_construct kind.Conformity = true
+is_construct kind.Loop = true
+is_construct kind.Serial = true
+is_construct kind.Assignation = true
+is_construct kind.Identity = true
+is_construct kind.RoutineText = true
+is_construct kind.Skip = true
+is_construct kind.Nil = true
+is_construct kind.Monadic = true
+is_construct kind.Dyadic = true
+is_construct kind.Selection = true
+is_construct kind.Generator = true
+is_construct kind.Slice = true
+is_construct kind.Call = true
+is_construct kind.Cast = true
+is_construct kind.Denotation = true
+is_construct kind.LongDenotation = true
+is_construct kind.GoTo = true
+is_construct kind.Out = true
+is_construct kind.Joined = true
+is_construct kind.ModeDefinition = true
+is_construct kind.Priority = true
+is_construct kind.OpDefinition = true
+is_construct kind.IdentityDefinition = true
+is_construct kind.Variable = true
+is_construct _ = false
+
+-- an outcome, where a test holds
+abbrev pub if_so : (test outcome : Bool) → Option Bool
+if_so test outcome = if test then Some outcome else None
+
+-- a value for Some true, none for Some false; None where the node is no construct. A collateral clause that is asked for
+-- a union holds the items of print, and is none.
+abbrev pub outcome_by : Annotated → Node → Note → NodeKind → Option Bool
+outcome_by a node note kind.From = Some true
+outcome_by a node note kind.By = Some true
+outcome_by a node note kind.To = Some true
+outcome_by a node note kind.Tag = if_so (is_value note.definition (spelling_of a node)) (asks_value a note)
+outcome_by a node note kind.Collateral = if_so (not (is_union (shape_at a.modes note.goal))) (asks_value a note)
+outcome_by a node note kind = if_so (is_construct kind) (asks_value a note)
+
+abbrev pub outcome_at : Annotated → Option Node → Option Note → Option Bool
+outcome_at a (Some node) (Some note) = outcome_by a node note node.kind
+outcome_at a _ _ = None
+
+-- the outcome of a node; None where there is no such node
+unfoldable pub outcome : Annotated → (id : ℕ) → Option Bool
+outcome a id = outcome_at a (slice_get a.tree.nodes id) (slice_get a.notes id)
+
+-- whether an outcome is that which is wanted
+abbrev pub is_outcome : (wanted : Bool) → Option Bool → Bool
+is_outcome wanted None = false
+is_outcome wanted (Some left) = if wanted then left else not left
+
+-- ---- parts
+
+-- all of these nodes leave what is wanted
+abbrev pub all_leave : Annotated → (wanted : Bool) → List ℕ → Bool
+all_leave a wanted ids = list_all (λ id. is_outcome wanted (outcome a id)) ids
+
+-- there are so many, and each leaves a value
+abbrev pub are_values : Annotated → (count : ℕ) → List ℕ → Bool
+are_values a count ids = (length ids == count) && all_leave a true ids
+
+-- the outcome of the last one
+abbrev pub last_outcome : Annotated → List ℕ → Option Bool
+last_outcome a [] = None
+last_outcome a (id ∷ []) = outcome a id
+last_outcome a (id ∷ (i ∷ ids)) = last_outcome a (i ∷ ids)
+
+-- the outcome of the only one
+abbrev pub only_outcome : Annotated → List ℕ → Option Bool
+only_outcome a ids = option_and_then (outcome a) (only_id ids)
+
+-- phrases: all but the last leave none, and the last what is wanted (Report, 3.2)
+abbrev pub are_phrases : Annotated → (wanted : Bool) → List ℕ → Bool
+are_phrases a wanted [] = false
+are_phrases a wanted (id ∷ []) = is_outcome wanted (outcome a id)
+are_phrases a wanted (id ∷ (i ∷ ids)) = is_outcome false (outcome a id) && are_phrases a wanted (i ∷ ids)
+
+-- ---- modes
+
+-- the skip of a mode runs
+abbrev pub is_skipped : Annotated → (mode : ℕ) → Bool
+is_skipped a mode = is_void (shape_at a.modes mode) || is_plain (shape_at a.modes mode)
+
+-- what a name of a mode refers to fits one cell
+abbrev pub refers_to_plain : Annotated → (mode : ℕ) → Bool
+refers_to_plain a mode = is_plain (shape_at a.modes (behind_ref (shape_at a.modes mode)))
+
+-- ---- what is asked of a node of a kind
+
+-- an operator that runs, on as many values as it takes (Report, 5.4.2)
+abbrev pub formula_runs : Annotated → (op : Option ℕ) → List ℕ → Bool
+formula_runs a None ids = false
+formula_runs a (Some row) ids = is_well_made a.modes 0 (does.Apply row) && are_values a (takes (does.Apply row)) ids
+
+-- a declarer, and a source, if any, which leaves a value (Report, 4.4.1)
+abbrev pub source_runs : Annotated → List ℕ → Bool
+source_runs a (declarer ∷ []) = true
+source_runs a (declarer ∷ (source ∷ [])) = is_outcome true (outcome a source)
+source_runs a _ = false
+
+abbrev pub declared_runs : Annotated → List ℕ → Bool
+declared_runs a ids = begins_with is_declarer a ids && source_runs a ids
+
+abbrev pub variable_runs : Annotated → List ℕ → Bool
+variable_runs a ids = declared_runs a (behind_heap (begins_with is_heap a ids) ids)
+
+-- print and write of values, which leaves none; whole of two values, which leaves one (Report, 10.3)
+abbrev pub call_leaves : Annotated → List ℕ → Option Bool
+call_leaves a [] = None
+call_leaves a (primary ∷ ids) =
+    if is_one_of printers (called a primary) then if_so (all_leave a true (items_at a ids)) false
+    else (if is_one_of wholes (called a primary) then if_so (are_values a 2 ids) true else None)
+
+-- an enquiry, and one part or two that leave what is wanted; one that is left out is a skip (Report, 3.4)
+abbrev pub choice_runs : Annotated → (goal : ℕ) (wanted : Bool) → List ℕ → Bool
+choice_runs a goal wanted (enquiry ∷ (part ∷ [])) = is_skipped a goal && (is_outcome true (outcome a enquiry) && is_outcome wanted (outcome a part))
+choice_runs a goal wanted (enquiry ∷ (part ∷ (other ∷ []))) =
+    is_outcome true (outcome a enquiry) && (is_outcome wanted (outcome a part) && is_outcome wanted (outcome a other))
+choice_runs a goal wanted _ = false
+
+-- ---- loops (Report, 3.5)
+
+-- FROM, BY or TO, if any, leaves a value
+abbrev pub control_runs : Annotated → Option ℕ → Bool
+control_runs a part = option_map_or (λ id. is_outcome true (outcome a id)) part true
+
+-- the phrases of an enquiry behind WHILE, whose range holds the body too
+abbrev pub enquiry_runs : Annotated → (clause : Option ℕ) → Bool
+enquiry_runs a clause = option_map_or (λ id. are_phrases a true (parts_at a id)) clause false
+
+abbrev pub test_runs : Annotated → (test : Option ℕ) → Bool
+test_runs a test = option_map_or (λ id. enquiry_runs a (only_id (parts_at a id))) test true
+
+abbrev pub body_runs : Annotated → (body : Option ℕ) → Bool
+body_runs a body = option_map_or (λ id. is_outcome false (outcome a id)) body false
+
+abbrev pub loop_by_runs : Annotated → (from by to test body : Option ℕ) → Bool
+loop_by_runs a from by to test body = control_runs a from && (control_runs a by && (control_runs a to && (test_runs a test && body_runs a body)))
+
+-- FOR, FROM, BY, TO and WHILE stand in this order; FOR needs nothing
+abbrev pub loop_runs : Annotated → List ℕ → Bool
+loop_runs a ids =
+    let froms = past (if_first is_for a ids) ids in
+    let from = if_first is_from a froms in
+    let bys = past from froms in
+    let by = if_first is_by a bys in
+    let tos = past by bys in
+    let to = if_first is_to a tos in
+    let tests = past to tos in
+    let test = if_first is_while a tests in
+    loop_by_runs a from by to test (only_id (past test tests))
+
+-- ---- nodes
+
+-- What the construct of a node leaves before its coercions; None where it does not run yet. One row for each kind of
+-- node; the others do not run yet.
+abbrev pub leaves_as : Annotated → Node → Note → NodeKind → Option Bool
+leaves_as a node note kind.Denotation = if_so (is_some (option_and_then value_in (spelling_of a node))) true
+leaves_as a node note kind.Skip = if_so (is_skipped a note.goal) (asks_value a note)
+leaves_as a node note kind.Nil = Some true
+leaves_as a node note kind.Tag = Some true
+leaves_as a node note kind.Monadic = if_so (formula_runs a note.op node.parts) true
+leaves_as a node note kind.Dyadic = if_so (formula_runs a note.op node.parts) true
+leaves_as a node note kind.Assignation = if_so (refers_to_plain a note.mode && are_values a 2 node.parts) true
+leaves_as a node note kind.Identity = if_so (are_values a 2 node.parts) true
+leaves_as a node note kind.Generator = if_so (refers_to_plain a note.mode) true
+leaves_as a node note kind.IdentityDefinition = if_so (is_outcome true (last_outcome a node.parts)) false
+leaves_as a node note kind.Variable = if_so (refers_to_plain a note.mode && variable_runs a node.parts) false
+leaves_as a node note kind.ModeDefinition = Some false
+leaves_as a node note kind.Priority = Some false
+leaves_as a node note kind.Joined = if_so (all_leave a false node.parts) false
+leaves_as a node note kind.Call = call_leaves a node.parts
+leaves_as a node note kind.Cast = last_outcome a node.parts
+leaves_as a node note kind.Collateral = if_so (is_void (shape_at a.modes note.goal) && all_leave a false node.parts) false
+leaves_as a node note kind.Serial = if_so (are_phrases a (asks_value a note) node.parts) (asks_value a note)
+leaves_as a node note kind.Closed = only_outcome a node.parts
+leaves_as a node note kind.Out = only_outcome a node.parts
+leaves_as a node note kind.From = only_outcome a node.parts
+leaves_as a node note kind.By = only_outcome a node.parts
+leaves_as a node note kind.To = only_outcome a node.parts
+leaves_as a node note kind.Conditional = if_so (choice_runs a note.goal (asks_value a note) node.parts) (asks_value a note)
+leaves_as a node note kind.Loop = if_so (loop_runs a node.parts) false
+leaves_as a node note _ = None
+
+-- What is left behind the coercions of a path, from a mode on, where the unit before them leaves a value or none; None
+-- where a coercion does not run yet (Report, 6.1.1).
+abbrev pub path_leaves : List Shape → (mode : ℕ) → (left : Bool) → List Coercion → Option Bool
+path_leaves modes mode left [] = Some left
+path_leaves modes mode true (coercion.Deref ∷ path) =
+    let m = behind_ref (shape_at modes mode) in
+    if is_plain (shape_at modes m) then path_leaves modes m true path else None
+path_leaves modes mode true (coercion.Unite from ∷ path) = path_leaves modes from true path
+path_leaves modes mode true (coercion.Drop ∷ path) = path_leaves modes 0 false path
+path_leaves modes mode _ _ = None
+
+abbrev pub left_by : Annotated → Node → Note → Option Bool
+left_by a node note = option_and_then (λ left. path_leaves a.modes note.mode left note.path) (leaves_as a node note node.kind)
+
+-- what a node leaves is its outcome, or it is no construct
+abbrev pub agrees : (outcome left : Option Bool) → Bool
+agrees None left = true
+agrees (Some wanted) left = is_outcome wanted left
+
+abbrev pub agrees_at : Annotated → Option Node → Option Note → Bool
+agrees_at a (Some node) (Some note) = agrees (outcome_by a node note node.kind) (left_by a node note)
+agrees_at a _ _ = true
+
+-- the node of the whole text leaves none
+abbrev pub is_whole : Annotated → (id : ℕ) → Bool
+is_whole a id = if nat_eq id 0 then is_outcome false (outcome a id) else true
+
+-- a node runs
+unfoldable pub runs : Annotated → (id : ℕ) → Bool
+runs a id = is_whole a id && agrees_at a (slice_get a.tree.nodes id) (slice_get a.notes id)
+
+-- ---- programs
+
+abbrev pub DoesNotRun : Annotated → (id : ℕ) → Type 0
+DoesNotRun a id = (id < length a.tree.nodes) × (runs a id ≡ false)
+
+-- every node of it runs
+abbrev pub AllRun : Annotated → Type 0
+AllRun a = (id : ℕ) → id < length a.tree.nodes → runs a id ≡ true

@@ -1,0 +1,53 @@
+-- Inner: the headline does not rest on this file.
+-- Steps on the way to the first node that does not run.
+use Rattle.std.specs.Prelude.{◌≡◌, ◌<◌, ℕ, Bool, true, false, List, length, None, Some, slice_get, not, ◌||◌, nat_lt, if◌then◌else◌}
+use Rattle.std.specs.declared.option.Option.{Option}
+use Rattle.a68_annot.specs.declared.annotated.Annotated.{Annotated}
+use Rattle.a68_annot.specs.declared.note.Note.{Note}
+use Rattle.a68_elab.specs.Made.{behind_ref}
+use Rattle.a68_runs.specs.Runs.{runs}
+use Rattle.a68_runs.specs.declared.paths.Between.{Between}
+use Rattle.a68_modes.specs.Nodes.{shape_at, is_plain}
+use Rattle.a68_modes.specs.declared.coercion.Coercion.{Coercion}
+use Rattle.a68_modes.specs.declared.coercion.Coercion.TheVariants as coercion
+use Rattle.a68_modes.specs.declared.shape.Shape.{Shape}
+use Rattle.a68_ranges.specs.Nodes.{place_at}
+use Rattle.a68_tree.specs.Trees.{Built, AllBetween}
+use Rattle.a68_tree.specs.declared.node.Node.{Node}
+
+-- a node is there and has a note, and its parts stand behind it
+pub record IsThere (a : Annotated) (id : ℕ) : Type 0 where
+  pub node : Node
+  pub note : Note
+  pub is : slice_get a.tree.nodes id ≡ Some node
+  pub noted : slice_get a.notes id ≡ Some note
+  pub behind : AllBetween id (length a.tree.nodes) node.parts
+
+-- the first nodes are there, so many of them
+abbrev pub AreThere : Annotated → (count : ℕ) → Type 0
+AreThere a count = (id : ℕ) → id < count → IsThere a id
+
+-- what stands behind a coercion of a value of a mode
+abbrev pub behind : List Shape → (mode : ℕ) → Coercion → Option Between
+behind modes mode coercion.Deref =
+    let m = behind_ref (shape_at modes mode) in
+    if is_plain (shape_at modes m) then Some (record { mode = m; left = true }) else None
+behind modes mode (coercion.Unite from) = Some (record { mode = from; left = true })
+behind modes mode coercion.Drop = Some (record { mode = 0; left = false })
+behind modes mode _ = None
+
+abbrev pub one_more : List Shape → Between → Coercion → Option Between
+one_more modes at c = if at.left then behind modes at.mode c else None
+
+-- a node stands before the one that was found
+abbrev pub is_earlier : Built → (found : Option ℕ) → (id : ℕ) → Bool
+is_earlier tree None id = true
+is_earlier tree (Some other) id = nat_lt (place_at tree id) (place_at tree other)
+
+-- what was found, or one node more
+abbrev pub with_node : Annotated → (found : Option ℕ) → (id : ℕ) → Option ℕ
+with_node a found id = if runs a id || not (is_earlier a.tree found id) then found else Some id
+
+-- a node before this one that does not run
+abbrev pub IsUnreadyBefore : Annotated → (count id : ℕ) → Type 0
+IsUnreadyBefore a count id = (id < count) × (runs a id ≡ false)

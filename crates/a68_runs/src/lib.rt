@@ -1,0 +1,17 @@
+//! Which programs run: each node of an annotated tree is looked at by itself.
+#![tactic(auto)]
+
+mod constants;
+mod loops;
+mod nodes;
+mod outcomes;
+mod paths;
+mod runs;
+
+pub use constants::{standard_of, value_in};
+pub use loops::{LoopParts, loop_parts, only_id};
+pub use nodes::{
+    begins_in_heap, begins_with_declarer, behind_heap, behind_ref, called, is_one_of, items_at,
+    printers, wholes,
+};
+pub use runs::first_unready;

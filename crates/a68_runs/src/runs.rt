@@ -1,0 +1,310 @@
+//! Which nodes run: a function for each row of what is asked of a node.
+ghost use Rattle.std.specs.Prelude.{◌≡◌, ◌<◌, [], length, IfSome};
+ghost use Rattle.std.specs.Option.{is_some};
+ghost use Rattle.a68_code.specs.Operands.{is_well_made};
+ghost use Rattle.a68_code.specs.declared.does.Does.TheVariants as does;
+ghost use Rattle.a68_elab.specs.Constants as constants;
+ghost use Rattle.a68_elab.specs.Made as made;
+ghost use Rattle.a68_runs.specs.Loops.{AreWithin};
+ghost use Rattle.a68_runs.specs.Runs as runs;
+ghost use Rattle.a68_runs.specs.Unready as unready;
+ghost use Rattle.a68_runs.specs.Unready.{AreThere, IsThere};
+ghost use Rattle.a68_modes.specs.Nodes.{HoldsNodes};
+ghost use Rattle.a68_ranges.specs.Indexed.{IsLeast};
+ghost use Rattle.a68_ranges.specs.Nodes.{place_at};
+ghost use Rattle.a68_tree.specs.Trees.{AllBetween};
+
+use crate::constants::{is_quoted, truths};
+use crate::loops::{LoopParts, loop_parts, only_id};
+use crate::nodes::{
+    begins_in_heap, begins_with_declarer, behind_heap, called, is_one_of, items_at, printers,
+    wholes,
+};
+use crate::outcomes::{
+    all_leave, are_phrases, are_values, asks_value, if_so, is_outcome, is_skipped, last_outcome,
+    leaves, only_outcome, outcome, outcome_by, refers_to_plain,
+};
+use crate::paths::path_leaves;
+use a68_annot::{Annotated, Note};
+use a68_base::find;
+use a68_code::operands_of;
+use a68_denote::{bits_of, int_of};
+use a68_modes::ModeId;
+use a68_tree::{Node, NodeId, NodeKind};
+
+// Does a spelling stand for a value?
+fn has_value(text: &[u8]) -> bool
+    ensures { result ≡ is_some (constants.value_in text.now) }
+{
+    if int_of(text).is_some() || bits_of(text).is_some() {
+        return true;
+    }
+    find(truths(), text).is_some() || is_quoted(text)
+}
+
+// Does an operator yield at once, whatever the modes?
+fn applies(row: u32) -> bool
+    ensures { result ≡ is_well_made [] 0 (does.Apply row) }
+{
+    (7 <= row && row <= 23) || (26 <= row && row <= 33)
+}
+
+// Does a formula run: its operator, on as many values as it takes?
+fn formula_runs(program: &Annotated, op: Option<u32>, parts: &[NodeId]) -> bool
+    ensures { result ≡ runs.formula_runs program.now op parts.now }
+{
+    match op {
+        Some(row) => { applies(row) && are_values(program, operands_of(row) as usize, parts) }
+        None => false,
+    }
+}
+
+// Does the source behind a declarer, if any, leave a value?
+fn source_runs(program: &Annotated, parts: &[NodeId]) -> bool
+    ensures { result ≡ runs.source_runs program.now parts.now }
+{
+    if parts.len() == 1 {
+        return true;
+    }
+    parts.len() == 2 && leaves(program, true, parts[1])
+}
+
+// Does a variable run: its declarer, and its source?
+fn variable_runs(program: &Annotated, id: NodeId, parts: &[NodeId]) -> bool
+    requires { AllBetween id (length program.now.tree.nodes) parts.now }
+    ensures { result ≡ runs.variable_runs program.now parts.now }
+{
+    let rest = behind_heap(begins_in_heap(program, id, parts), parts);
+    begins_with_declarer(program, id, rest) && source_runs(program, rest)
+}
+
+// What a call leaves: none of print and write, a value of whole.
+fn call_leaves(program: &Annotated, id: NodeId, parts: &[NodeId]) -> Option<bool>
+    requires { AllBetween id (length program.now.tree.nodes) parts.now }
+    ensures { result ≡ runs.call_leaves program.now parts.now }
+{
+    if parts.len() == 0 {
+        return None;
+    }
+    let name = called(program, parts[0]);
+    let rest = &parts[1..];
+    if is_one_of(printers(), name) {
+        if_so(all_leave(program, true, items_at(program, id, rest)), false)
+    } else if is_one_of(wholes(), name) {
+        if_so(are_values(program, 2, rest), true)
+    } else {
+        None
+    }
+}
+
+// Does a choice run: its enquiry, and the parts that it chooses from?
+fn choice_runs(program: &Annotated, goal: ModeId, wanted: bool, parts: &[NodeId]) -> bool
+    ensures { result ≡ runs.choice_runs program.now goal wanted parts.now }
+{
+    if parts.len() == 2 {
+        return is_skipped(program, goal)
+            && leaves(program, true, parts[0])
+            && leaves(program, wanted, parts[1]);
+    }
+    parts.len() == 3
+        && leaves(program, true, parts[0])
+        && leaves(program, wanted, parts[1])
+        && leaves(program, wanted, parts[2])
+}
+
+// Does FROM, BY or TO, if any, leave a value?
+fn control_runs(program: &Annotated, part: Option<NodeId>) -> bool
+    ensures { result ≡ runs.control_runs program.now part }
+{
+    match part {
+        Some(id) => leaves(program, true, id),
+        None => true,
+    }
+}
+
+// Do the phrases of an enquiry end with a value?
+fn enquiry_runs(program: &Annotated, clause: Option<NodeId>) -> bool
+    requires { IfSome clause (λ p. p < length program.now.tree.nodes) }
+    ensures { result ≡ runs.enquiry_runs program.now clause }
+{
+    match clause {
+        Some(id) => are_phrases(program, true, program.tree.parts(id)),
+        None => false,
+    }
+}
+
+// Does WHILE run, if any?
+fn test_runs(program: &Annotated, test: Option<NodeId>) -> bool
+    requires { IfSome test (λ p. p < length program.now.tree.nodes) }
+    ensures { result ≡ runs.test_runs program.now test }
+{
+    match test {
+        Some(id) => enquiry_runs(program, only_id(program.tree.parts(id))),
+        None => true,
+    }
+}
+
+// Does the body of a loop leave none?
+fn body_runs(program: &Annotated, body: Option<NodeId>) -> bool
+    ensures { result ≡ runs.body_runs program.now body }
+{
+    match body {
+        Some(id) => leaves(program, false, id),
+        None => false,
+    }
+}
+
+// Does a loop of these parts run?
+fn loop_by_runs(program: &Annotated, id: NodeId, parts: LoopParts) -> bool
+    requires { AreWithin id (length program.now.tree.nodes) parts }
+    ensures { result ≡ runs.loop_by_runs program.now parts.from parts.by parts.to parts.test parts.body }
+{
+    control_runs(program, parts.from)
+        && control_runs(program, parts.by)
+        && control_runs(program, parts.to)
+        && test_runs(program, parts.test)
+        && body_runs(program, parts.body)
+}
+
+// Does a loop run?
+fn loop_runs(program: &Annotated, id: NodeId, parts: &[NodeId]) -> bool
+    requires { AllBetween id (length program.now.tree.nodes) parts.now }
+    ensures { result ≡ runs.loop_runs program.now parts.now }
+{
+    loop_by_runs(program, id, loop_parts(program, id, parts))
+}
+
+// What the construct of a node leaves, where it runs: one row for each kind of node.
+fn leaves_as(program: &Annotated, id: NodeId, node: &Node, note: &Note) -> Option<bool>
+    requires between { AllBetween id (length program.now.tree.nodes) node.now.parts }
+    requires named { node.now.name < length program.now.tree.spellings }
+    ensures { result ≡ runs.leaves_as program.now node.now note.now node.now.kind }
+{
+    let parts = &node.parts.items;
+    let asked = asks_value(program, note);
+    match node.kind {
+        NodeKind::Denotation => if_so(has_value(program.tree.spelling(node.name)), true),
+        NodeKind::Skip => if_so(is_skipped(program, note.goal), asked),
+        NodeKind::Nil | NodeKind::Tag => Some(true),
+        NodeKind::Monadic | NodeKind::Dyadic => if_so(formula_runs(program, note.op, parts), true),
+        NodeKind::Assignation => if_so(
+            refers_to_plain(program, note.mode) && are_values(program, 2, parts),
+            true,
+        ),
+        NodeKind::Identity => if_so(are_values(program, 2, parts), true),
+        NodeKind::Generator => if_so(refers_to_plain(program, note.mode), true),
+        NodeKind::IdentityDefinition => {
+            if_so(is_outcome(true, last_outcome(program, parts)), false)
+        }
+        NodeKind::Variable => if_so(
+            refers_to_plain(program, note.mode) && variable_runs(program, id, parts),
+            false,
+        ),
+        NodeKind::ModeDefinition | NodeKind::Priority => Some(false),
+        NodeKind::Joined => if_so(all_leave(program, false, parts), false),
+        NodeKind::Call => call_leaves(program, id, parts),
+        NodeKind::Cast => last_outcome(program, parts),
+        NodeKind::Collateral => if_so(
+            program.modes.is_void(note.goal) && all_leave(program, false, parts),
+            false,
+        ),
+        NodeKind::Serial => if_so(are_phrases(program, asked, parts), asked),
+        NodeKind::Closed | NodeKind::Out | NodeKind::From | NodeKind::By | NodeKind::To => {
+            only_outcome(program, parts)
+        }
+        NodeKind::Conditional => if_so(choice_runs(program, note.goal, asked, parts), asked),
+        NodeKind::Loop => if_so(loop_runs(program, id, parts), false),
+        _ => None,
+    }
+}
+
+// What a node leaves behind its coercions, where it runs.
+fn left_by(program: &Annotated, id: NodeId, node: &Node, note: &Note) -> Option<bool>
+    requires between { AllBetween id (length program.now.tree.nodes) node.now.parts }
+    requires named { node.now.name < length program.now.tree.spellings }
+    ensures { result ≡ runs.left_by program.now node.now note.now }
+{
+    match leaves_as(program, id, node, note) {
+        Some(left) => path_leaves(&program.modes, left, note),
+        None => None,
+    }
+}
+
+// Is what a node leaves its outcome, where it has one?
+fn agrees(outcome: Option<bool>, left: Option<bool>) -> bool
+    ensures { result ≡ runs.agrees outcome left }
+{
+    match outcome {
+        Some(wanted) => is_outcome(wanted, left),
+        None => true,
+    }
+}
+
+// Does the node of the whole text leave none? Nothing is asked of the others.
+fn is_whole(program: &Annotated, id: NodeId) -> bool
+    ensures { result ≡ runs.is_whole program.now id }
+{
+    if id == 0 {
+        is_outcome(false, outcome(program, 0))
+    } else {
+        true
+    }
+}
+
+// Does a node run?
+#[tactic(auto, unfolding(crate::specs::Runs::runs))]
+fn is_run(program: &Annotated, id: NodeId) -> bool
+    requires { id < length program.now.tree.nodes }
+    ensures runs { result ≡ runs.runs program.now id }
+    ensures there { IsThere program.now id }
+{
+    let node = program.tree.node(id);
+    let note = program.note(id);
+    let left = left_by(program, id, node, note);
+    is_whole(program, id) && agrees(outcome_by(program, node, note), left)
+}
+
+// The byte at which a node begins; a number of no node begins at the first.
+fn place_of(program: &Annotated, id: NodeId) -> u32
+    ensures { result ≡ place_at program.now.tree id }
+{
+    if id < program.tree.len() {
+        program.tree.node(id).span.from
+    } else {
+        0
+    }
+}
+
+// Does a node stand before the one that was found, if any?
+fn is_earlier(program: &Annotated, found: Option<NodeId>, id: NodeId) -> bool
+    ensures { result ≡ unready.is_earlier program.now.tree found id }
+{
+    match found {
+        Some(other) => place_of(program, id) < place_of(program, other),
+        None => true,
+    }
+}
+
+// What was found, or one node more, where it does not run and stands before that.
+fn with_node(program: &Annotated, found: Option<NodeId>, id: NodeId) -> Option<NodeId>
+    requires { id < length program.now.tree.nodes }
+    ensures found { result ≡ unready.with_node program.now found id }
+    ensures there { IsThere program.now id }
+{
+    let is_kept = is_run(program, id) || !is_earlier(program, found, id);
+    if is_kept { found } else { Some(id) }
+}
+
+/// The node that does not run and stands first in the text, if any.
+pub fn first_unready(program: &Annotated) -> Option<NodeId>
+    ensures least { IsLeast program.now.tree (runs.DoesNotRun program.now) result }
+    ensures there { AreThere program.now (length program.now.tree.nodes) }
+    ensures nodes { HoldsNodes program.now.modes }
+{
+    let _nodes = program.modes.len();
+    let mut found = None;
+    for id in 0..program.tree.len() {
+        found = with_node(program, found, id);
+    }
+    found
+}

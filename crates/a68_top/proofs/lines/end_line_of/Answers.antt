@@ -1,4 +1,0 @@
-use Rattle.a68_top.proofs.lines.end_line_of.Goals as goal
-
-pub returns-in-Fault : goal.returns-in-Fault
-returns-in-Fault c = rw c.in-Fault.is c.fault_line_of.ensures

@@ -1,0 +1,9 @@
+//! Tests of the whole call over shelves and sinks in memory, by hand.
+#![tactic(auto)]
+
+#[cfg(test)]
+mod table;
+#[cfg(test)]
+mod top;
+#[cfg(test)]
+mod words;

@@ -1,0 +1,567 @@
+//! The worked rows of the top call, over shelves and sinks in memory.
+use crate::table::{holds, strings};
+use a68_outside::{FreeGate, MemoryShelf, MemorySink};
+use a68_top::{Finish, a68};
+use std::alloc::Global;
+use std::marker::Sync;
+use std::panic::Expect;
+use std::process::Abort;
+use std::sync::Wait;
+use std::thread::Threads;
+
+const FORMULA: &str = "BEGIN print(1 + 2 * 3) END";
+
+const SEVEN: &str = "                  +7";
+
+const USAGE: &str =
+    "usage: a68 run FILE [--workers N] [--fuel N] [--names] | check FILE | code FILE | make N [--workers N]\n";
+
+const FIVE: &str = "BEGIN INT x := 5; print(x) END";
+
+const COUNT: &str = "BEGIN INT i := 0; WHILE i < 3 DO i := i + 1 OD; print(i) END";
+
+const CHOICE: &str =
+    "BEGIN INT x := 2; INT y; IF x > 2 THEN y := 1 ELSE y := x * x - 1 FI; print(y) END";
+
+const TURNS: &str = "BEGIN INT x := 0; WHILE x = 0 DO x := 0 OD END";
+
+const SPENT: &str = "a68: fuel spent\n";
+
+// What is handed to a call. The shelf has the text under `f` and the text "BEGIN print(1) END" under `g`.
+#[derive(Clone, Copy)]
+struct Given<'a> {
+    words: &'a [&'a str],
+    text: &'a [u8],
+    reads_fail: &'a [u64],
+    room: u32,
+    writes_fail: &'a [u64],
+    notes_room: u32,
+}
+
+// A call of `run f` where nothing fails.
+fn run_f(text: &str) -> Given<'_> {
+    Given {
+        words: &["run", "f"],
+        text: text.as_bytes(),
+        reads_fail: &[],
+        room: 100,
+        writes_fail: &[],
+        notes_room: 200,
+    }
+}
+
+// A call with these words where nothing fails.
+fn of_words<'a>(words: &'a [&'a str], text: &'a str) -> Given<'a> {
+    Given {
+        words,
+        ..run_f(text)
+    }
+}
+
+// What a call left.
+#[derive(Drop)]
+struct Left {
+    status: u8,
+    // How many entries the kept journal has.
+    events: usize,
+    out: MemorySink,
+    notes: MemorySink,
+}
+
+fn shelf(rt: &impl Abort, alloc: Global, given: Given<'_>) -> MemoryShelf {
+    let (text, fails) = (given.text, given.reads_fail);
+    let mut shelf = MemoryShelf::new(alloc, "f", text, 4, fails).expect(rt, "memory");
+    shelf.put("g", b"BEGIN print(1) END").expect(rt, "memory");
+    shelf
+}
+
+// The number of the status, and how many entries the kept journal has.
+fn status_and_events(finish: &Finish) -> (u8, usize) {
+    match &finish.ran {
+        Some(kept) => (finish.status.number(), kept.journal.entries.items.len()),
+        None => (finish.status.number(), 0),
+    }
+}
+
+fn call<R: Threads + Wait + Sync + Abort>(rt: &R, alloc: Global, given: Given<'_>) -> Left {
+    let words = strings(rt, alloc, given.words);
+    let mut shelf = shelf(rt, alloc, given);
+    let mut out = MemorySink::new(alloc, given.room, 4, given.writes_fail).expect(rt, "memory");
+    let mut notes = MemorySink::new(alloc, given.notes_room, 5, &[]).expect(rt, "memory");
+    let finish = a68(
+        rt, alloc, &words, &mut shelf, &mut out, &mut notes, &FreeGate,
+    );
+    let (status, events) = status_and_events(&finish);
+    drop(finish);
+    drop(shelf);
+    drop(words);
+    Left {
+        status,
+        events,
+        out,
+        notes,
+    }
+}
+
+// Whether a call ends with this status, and prints this.
+fn prints(rt: &impl Abort, left: &Left, status: u8, out: &str) {
+    holds(rt, left.status == status, "the status");
+    holds(rt, left.out.taken() == out.as_bytes(), "what is printed");
+}
+
+// Whether a call ends with this status, and prints and notes this. How many events there were.
+fn answers<R: Threads + Wait + Sync + Abort>(
+    rt: &R,
+    alloc: Global,
+    given: Given<'_>,
+    status: u8,
+    texts: (&str, &str),
+) -> usize {
+    let left = call(rt, alloc, given);
+    let (out, notes) = texts;
+    prints(rt, &left, status, out);
+    let noted = left.notes.taken() == notes.as_bytes();
+    holds(rt, noted, "what is noted");
+    let events = left.events;
+    drop(left);
+    events
+}
+
+/// Texts, and what their programs print.
+const PRINTING: &[(&str, &str)] = &[
+    (FORMULA, SEVEN),
+    ("BEGIN print(2 - 3 * 4) END", "                 -10"),
+    ("BEGIN print(8 - 2 - 1) END", "                  +5"),
+    ("BEGIN p r\nint(007) END", SEVEN),
+    ("BEGINprint(7)END", SEVEN),
+    ("BEGIN print(1 2 - 0 0 5) END", SEVEN),
+    ("BEGIN # f # print CO 1) CO (7)END", SEVEN),
+    ("PR \"quiet PR BEGIN print(COMMENT CO COMMENT 7) END", SEVEN),
+    ("BEGIN print(7) END PRAGMAT PR1 END PRAGMAT", SEVEN),
+    ("( print(7) )", SEVEN),
+    ("( write(7) )", SEVEN),
+    ("BEGIN print(\"a\") END", "a"),
+    (
+        "BEGIN print((\"a\", \"bcd\", 7)) END",
+        "abcd                  +7",
+    ),
+    ("BEGIN print(15 OVER 2); SKIP END", SEVEN),
+    ("BEGIN SKIP; print(- - 7) END", SEVEN),
+    ("BEGIN print(10-+3) END", SEVEN),
+    ("BEGIN SKIP END", ""),
+    ("(1, 2)", ""),
+    ("( INT n = 7; print(n) )", SEVEN),
+    (
+        "( INT i = 6; ( BOOL i = TRUE; print(i) ); print(i + 1) )",
+        "T                  +7",
+    ),
+    ("( INT x := 1, y := 2; x := y := 7; print(x) )", SEVEN),
+    ("( REF INT p = HEAP INT := 3; p := p + 4; print(p) )", SEVEN),
+    (
+        "( INT x := 3; REF INT p := x; REF INT (p) := 7; print(x) )",
+        SEVEN,
+    ),
+    (
+        "( INT x, y; REF INT p = x; print((p IS x, p ISNT x, p IS y)) )",
+        "TFF",
+    ),
+    (
+        "( print(IF FALSE THEN 1 ELIF TRUE THEN 7 ELSE 3 FI) )",
+        SEVEN,
+    ),
+    (
+        "( BOOL b = 3 > 2; CHAR c := REPR 65; print((b, c, (2r11 AND 2r10) = 2r10)) )",
+        "TAT",
+    ),
+    (
+        "( INT s := 0; FOR i FROM 3 BY -1 TO 1 DO s := 10 * s + i OD; print(whole(s, 0)) )",
+        "321",
+    ),
+    (
+        "( INT s := 0; FOR i WHILE s < 7 DO s := s + i OD; print(whole(s, 0)) )",
+        "10",
+    ),
+    (
+        "( MODE N = INT; PRIO MINUS = 1; N n := 7; print(n) )",
+        SEVEN,
+    ),
+    (
+        "( INT x; (x := 3, print(whole(4, 0))); print(whole(x, 0)) )",
+        "43",
+    ),
+    ("( ( 1 < 2 | print(7) | print(8) ) )", SEVEN),
+    (
+        "BEGIN print(0-9223372036854775807)END",
+        "-9223372036854775807",
+    ),
+];
+
+#[test]
+fn texts_are_answered(rt: HostRuntime) {
+    for (text, out) in PRINTING {
+        answers(&rt, rt.alloc(), run_f(text), 0, (out, ""));
+    }
+}
+
+/// Texts, the status with which each ends, and what is noted.
+const REFUSED: &[(&str, u8, &str)] = &[
+    ("", 1, "a68: refused S6 at byte 0\n"),
+    (" \n\t\r", 1, "a68: refused S6 at byte 4\n"),
+    ("# a # CO b CO", 1, "a68: refused S6 at byte 13\n"),
+    ("\0", 1, "a68: refused S2 at byte 0\n"),
+    ("( print(\"ab )", 1, "a68: refused S1 at byte 8\n"),
+    ("( REAL x; SKIP )", 1, "a68: refused S3 at byte 2\n"),
+    (
+        "( print(9223372036854775808) )",
+        1,
+        "a68: refused S5 at byte 8\n",
+    ),
+    ("BEGIN SKIP END ~", 1, "a68: refused S2 at byte 15\n"),
+    ("BEGIN print(1) END CO", 1, "a68: refused S1 at byte 19\n"),
+    ("BEGIN print(#)#1)", 1, "a68: refused S6 at byte 17\n"),
+    (
+        "( CASE 1 IN print(1), print(2) ESAC )",
+        1,
+        "a68: refused X0 at byte 2\n",
+    ),
+    ("( [1 : 2] INT a; SKIP )", 1, "a68: refused X0 at byte 14\n"),
+    (
+        "( PROC p = VOID: SKIP; SKIP )",
+        1,
+        "a68: refused X0 at byte 11\n",
+    ),
+    (
+        "( print(1); PAR (SKIP, SKIP); [] INT a = 1; SKIP )",
+        1,
+        "a68: refused X0 at byte 12\n",
+    ),
+    ("( INT x := 1; x +:= 1 )", 1, "a68: refused X0 at byte 14\n"),
+    ("BEGIN print(1);", 1, "a68: refused S6 at byte 15\n"),
+    ("BEGIN print(1 +) END", 1, "a68: refused S6 at byte 15\n"),
+    ("BEGIN print(1x) END", 1, "a68: refused S5 at byte 12\n"),
+    (
+        "BEGIN print(9223372036854775808) END",
+        1,
+        "a68: refused S5 at byte 12\n",
+    ),
+    ("BEGIN print(1+*2) END", 1, "a68: refused O3 at byte 13\n"),
+    (
+        "BEGIN SKIP; print(1 +* 2) END",
+        1,
+        "a68: refused O3 at byte 20\n",
+    ),
+    (
+        "BEGIN INT x, x; print(1 +* 2) END",
+        1,
+        "a68: refused N3 at byte 13\n",
+    ),
+    ("( MODE A = REF A; SKIP )", 1, "a68: refused M1 at byte 7\n"),
+    (
+        "( MODE A = PROC A; SKIP )",
+        1,
+        "a68: refused M1 at byte 7\n",
+    ),
+    ("( [] INT a; SKIP )", 1, "a68: refused C4 at byte 2\n"),
+    ("( FLEX [] INT a; SKIP )", 1, "a68: refused C4 at byte 7\n"),
+    (
+        "( ( MODE A = INT; SKIP ); A a; SKIP )",
+        1,
+        "a68: refused N2 at byte 26\n",
+    ),
+    (
+        "( UNION (INT, REF INT) u; SKIP )",
+        1,
+        "a68: refused M2 at byte 2\n",
+    ),
+    (
+        "( UNION (INT, INT) u; SKIP )",
+        1,
+        "a68: refused M2 at byte 2\n",
+    ),
+    (
+        "( [] INT b; MODE A = REF A; SKIP )",
+        1,
+        "a68: refused M1 at byte 17\n",
+    ),
+    (
+        "( ( MODE A = INT; SKIP ); A a; 1 +* 2 )",
+        1,
+        "a68: refused O3 at byte 33\n",
+    ),
+    (
+        "( OP Q = (INT a) INT: a; OP Q = (INT b) INT: b; SKIP )",
+        1,
+        "a68: refused O2 at byte 28\n",
+    ),
+    (
+        "( OP Q = (INT a) INT: a; OP Q = (REF INT b) INT: b; SKIP )",
+        1,
+        "a68: refused O2 at byte 28\n",
+    ),
+    (
+        "( OP (INT) INT Q = SKIP, R = SKIP, Q = SKIP; SKIP )",
+        1,
+        "a68: refused O2 at byte 35\n",
+    ),
+    (
+        "( OP Q = INT: 1; OP Q = INT: 2; SKIP )",
+        1,
+        "a68: refused O2 at byte 20\n",
+    ),
+    (
+        "( OP Q = (INT a) INT: a; OP Q = (INT a, b) INT: a; OP Q = (PROC INT a) INT: a; SKIP )",
+        1,
+        "a68: refused O2 at byte 54\n",
+    ),
+    (
+        "( ( OP P = (INT a) INT: a; OP P = (INT a) INT: a; SKIP ); OP Q = (INT a) INT: a; OP Q = (INT a) INT: a; SKIP )",
+        1,
+        "a68: refused O2 at byte 30\n",
+    ),
+    (
+        "( MODE A = STRUCT (INT v), B = STRUCT (INT v); OP Q = (A a) INT: 1; OP Q = (B b) INT: 2; SKIP )",
+        1,
+        "a68: refused O2 at byte 71\n",
+    ),
+    (
+        "( OP Q = ([] INT a) INT: 1; OP Q = (REF FLEX [] INT b) INT: 2; SKIP )",
+        1,
+        "a68: refused O2 at byte 31\n",
+    ),
+    ("BEGIN print(1)", 1, "a68: refused S6 at byte 14\n"),
+    ("BEGIN print(1) END END", 1, "a68: refused S6 at byte 19\n"),
+    ("BEGIN1 print(1) END", 1, "a68: refused N2 at byte 0\n"),
+    ("BEGIN print(x) END", 1, "a68: refused N1 at byte 12\n"),
+    (
+        "BEGIN INT x; INT x; x := 1 END",
+        1,
+        "a68: refused N3 at byte 17\n",
+    ),
+    (
+        "BEGIN print(1); INT x END",
+        1,
+        "a68: refused S6 at byte 22\n",
+    ),
+    (
+        "BEGIN INT x; print(x) END",
+        3,
+        "a68: fault Unset at byte 13\n",
+    ),
+    (
+        "BEGIN print(9223372036854775807 + 1) END",
+        3,
+        "a68: fault Overflow at byte 12\n",
+    ),
+    (
+        "BEGIN print(0 - 9223372036854775807 - 1) END",
+        3,
+        "a68: fault Overflow at byte 12\n",
+    ),
+    (
+        "BEGIN print(1 + 9223372036854775807 * 2) END",
+        3,
+        "a68: fault Overflow at byte 16\n",
+    ),
+    (
+        "BEGIN print(9223372036854775807 + 1 + 9223372036854775807 * 2) END",
+        3,
+        "a68: fault Overflow at byte 12\n",
+    ),
+];
+
+#[test]
+fn texts_are_refused_and_faults_met(rt: HostRuntime) {
+    for (text, status, notes) in REFUSED {
+        answers(&rt, rt.alloc(), run_f(text), *status, ("", notes));
+    }
+}
+
+/// How many blanks a text has, and what is noted.
+const BLANKS: &[(usize, &str)] = &[
+    (1_048_576, "a68: refused S6 at byte 1048576\n"),
+    (1_048_577, "a68: refused L1 at byte 1048576\n"),
+];
+
+#[test]
+fn long_texts_are_refused(rt: HostRuntime) {
+    for (length, notes) in BLANKS {
+        let blanks = vec![in rt.alloc(); b' '; *length].expect(&rt, "memory");
+        let given = Given {
+            text: &blanks,
+            ..run_f("")
+        };
+        answers(&rt, rt.alloc(), given, 1, ("", notes));
+        drop(blanks);
+    }
+}
+
+/// Texts, their fuel, the status, what is printed and noted, and how many events there are.
+const RUNS: &[(&str, &str, u8, (&str, &str), usize)] = &[
+    (FIVE, "7", 0, ("                  +5", ""), 7),
+    (FIVE, "6", 5, ("", SPENT), 6),
+    (COUNT, "4000000", 0, ("                  +3", ""), 31),
+    (COUNT, "31", 0, ("                  +3", ""), 31),
+    (TURNS, "10", 5, ("", SPENT), 10),
+    (CHOICE, "16000000", 0, ("                  +3", ""), 17),
+];
+
+#[test]
+fn programs_run_within_their_fuel(rt: HostRuntime) {
+    for (text, fuel, status, texts, events) in RUNS {
+        let words = ["run", "f", "--fuel", fuel];
+        let given = of_words(&words, text);
+        let found = answers(&rt, rt.alloc(), given, *status, *texts);
+        holds(&rt, found == *events, "how many events there are");
+    }
+}
+
+/// Texts, and the listings of their codes.
+const LISTED: &[(&str, &str)] = &[
+    (
+        FORMULA,
+        "0 Push 1\n1 Push 2\n2 Push 3\n3 Apply 17\n4 Apply 15\n5 Unite 1\n6 Print 1\n7 End\n",
+    ),
+    (
+        "( print(9223372036854775807) )",
+        "0 Push 9223372036854775807\n1 Unite 1\n2 Print 1\n3 End\n",
+    ),
+    (
+        FIVE,
+        "0 Enter 1\n1 Make 1 0\n2 Push 5\n3 Store 1\n4 Bind 0\n5 Tag 0 0\n6 Deref 1\n7 Unite 1\n8 Print 1\n9 Leave 0\n10 End\n",
+    ),
+    (
+        CHOICE,
+        "0 Enter 2\n1 Make 1 0\n2 Push 2\n3 Store 1\n4 Bind 0\n5 Make 1 0\n6 Bind 1\n7 Tag 0 0\n8 Deref 1\n9 Push 2\n10 Apply 14\n11 Unless 17\n12 Tag 0 1\n13 Push 1\n14 Store 1\n15 Drop\n16 Jump 27\n17 Tag 0 1\n18 Tag 0 0\n19 Deref 1\n20 Tag 0 0\n21 Deref 1\n22 Apply 17\n23 Push 1\n24 Apply 16\n25 Store 1\n26 Drop\n27 Tag 0 1\n28 Deref 1\n29 Unite 1\n30 Print 1\n31 Leave 0\n32 End\n",
+    ),
+    (
+        TURNS,
+        "0 Enter 1\n1 Make 1 0\n2 Push 0\n3 Store 1\n4 Bind 0\n5 Push 1\n6 Push 1\n7 Skip 1\n8 Counter\n9 Step 22\n10 Turn\n11 Tag 0 0\n12 Deref 1\n13 Push 0\n14 Apply 9\n15 Unless 22\n16 Tag 0 0\n17 Push 0\n18 Store 1\n19 Drop\n20 Advance 9\n21 Jump 22\n22 Forget\n23 Leave 0\n24 End\n",
+    ),
+];
+
+#[test]
+fn codes_are_listed(rt: HostRuntime) {
+    for (text, listing) in LISTED {
+        let given = Given {
+            room: 1000,
+            ..of_words(&["code", "f"], text)
+        };
+        answers(&rt, rt.alloc(), given, 0, (listing, ""));
+    }
+}
+
+/// Texts that are compiled and not run, the status, and what is noted.
+const CHECKED: &[(&str, u8, &str)] = &[
+    (FORMULA, 0, ""),
+    (TURNS, 0, ""),
+    ("BEGIN INT x; print(x) END", 0, ""),
+    ("", 1, "a68: refused S6 at byte 0\n"),
+    ("BEGIN print(x) END", 1, "a68: refused N1 at byte 12\n"),
+];
+
+#[test]
+fn texts_are_checked(rt: HostRuntime) {
+    for (text, status, notes) in CHECKED {
+        let given = of_words(&["check", "f"], text);
+        answers(&rt, rt.alloc(), given, *status, ("", notes));
+    }
+}
+
+#[test]
+fn texts_whose_code_is_asked_for_are_refused(rt: HostRuntime) {
+    let given = of_words(&["code", "f"], "BEGIN print(x) END");
+    answers(
+        &rt,
+        rt.alloc(),
+        given,
+        1,
+        ("", "a68: refused N1 at byte 12\n"),
+    );
+}
+
+#[test]
+fn listings_are_broken_off(rt: HostRuntime) {
+    let given = Given {
+        room: 10,
+        ..of_words(&["code", "f"], FORMULA)
+    };
+    let left = call(&rt, rt.alloc(), given);
+    prints(&rt, &left, 7, "0 Push 1\n1");
+    drop(left);
+}
+
+const MISUSED: &[&[&str]] = &[
+    &[],
+    &["run"],
+    &["walk", "f"],
+    &["run", "f", "--fuel", "0"],
+    &["check", "f", "g"],
+    &["code", "f", "--fuel", "7"],
+    &["make", "3"],
+];
+
+#[test]
+fn words_are_refused(rt: HostRuntime) {
+    for words in MISUSED {
+        answers(&rt, rt.alloc(), of_words(words, FORMULA), 2, ("", USAGE));
+    }
+}
+
+#[test]
+fn words_name_the_file(rt: HostRuntime) {
+    let given = of_words(&["run", "g"], FORMULA);
+    answers(&rt, rt.alloc(), given, 0, ("                  +1", ""));
+}
+
+#[test]
+fn failed_reads_are_answered(rt: HostRuntime) {
+    // The text is begun by the first call and given by the next eight, four bytes each.
+    for failing in 1..10u64 {
+        let given = Given {
+            reads_fail: &[failing],
+            ..run_f(FORMULA)
+        };
+        answers(&rt, rt.alloc(), given, 6, ("", "a68: read fault\n"));
+    }
+}
+
+/// Names of files that are not there.
+const ABSENT: &[&str] = &["-", "h"];
+
+#[test]
+fn files_that_are_not_there_are_answered(rt: HostRuntime) {
+    for name in ABSENT {
+        let given = Given {
+            words: &["run", name],
+            notes_room: 3,
+            ..run_f(FORMULA)
+        };
+        answers(&rt, rt.alloc(), given, 6, ("", "a68"));
+    }
+}
+
+/// Room for what is printed, the writes that fail, and what is printed of SEVEN then.
+const WRITES: &[(u32, &[u64], &str)] = &[(10, &[], "          "), (100, &[3], "        ")];
+
+#[test]
+fn failed_writes_are_answered(rt: HostRuntime) {
+    for (room, writes_fail, out) in WRITES {
+        let given = Given {
+            room: *room,
+            writes_fail,
+            ..run_f(FORMULA)
+        };
+        let left = call(&rt, rt.alloc(), given);
+        prints(&rt, &left, 7, out);
+        drop(left);
+    }
+}
+
+#[test]
+fn failed_notes_are_answered(rt: HostRuntime) {
+    let little_room = Given {
+        notes_room: 5,
+        ..run_f("")
+    };
+    answers(&rt, rt.alloc(), little_room, 7, ("", "a68: "));
+}

@@ -1,0 +1,211 @@
+//! Words of the command line, and the commands that they are, by hand.
+use crate::table::{holds, strings};
+use a68_top::{Command, command_of};
+use std::alloc::Global;
+use std::panic::Expect;
+use std::process::Abort;
+
+// The verb of a command, its file, and its fuel, which is 0 where it has none.
+fn parts(command: &Command) -> (&'static str, &str, u32) {
+    match command {
+        Command::Run { file, fuel } => ("run", file.as_str(), *fuel),
+        Command::Check { file } => ("check", file.as_str(), 0),
+        Command::Code { file } => ("code", file.as_str(), 0),
+    }
+}
+
+// Whether the words are this command.
+fn are_command(rt: &impl Abort, alloc: Global, words: &[&str], due: (&str, &str, u32)) {
+    let words = strings(rt, alloc, words);
+    let command = command_of(alloc, &words).expect(rt, "memory");
+    let found = match &command {
+        Some(command) => parts(command) == due,
+        None => false,
+    };
+    holds(rt, found, "the command");
+    drop(command);
+    drop(words);
+}
+
+// Whether the words are no command.
+fn are_none(rt: &impl Abort, alloc: Global, words: &[&str]) {
+    let words = strings(rt, alloc, words);
+    let command = command_of(alloc, &words).expect(rt, "memory");
+    holds(rt, command.is_none(), "no command");
+    drop(command);
+    drop(words);
+}
+
+/// Words of runs, the file, and the fuel.
+const RUNS: &[(&[&str], &str, u32)] = &[
+    (&["run", "f"], "f", 4_000_000),
+    (&["run", "-"], "-", 4_000_000),
+    (&["run", ""], "", 4_000_000),
+    (&["run", "--", "f"], "f", 4_000_000),
+    (&["run", "--", "-f"], "-f", 4_000_000),
+    (&["run", "--", "--"], "--", 4_000_000),
+    (&["run", "--", "--fuel"], "--fuel", 4_000_000),
+    (&["run", "f", "--"], "f", 4_000_000),
+    (&["run", "f", "--fuel", "7"], "f", 7),
+    (&["run", "--fuel", "7", "f"], "f", 7),
+    (&["run", "--fuel=7", "f"], "f", 7),
+    (&["run", "f", "--fuel=7"], "f", 7),
+    (&["run", "f", "--fuel", "00000007"], "f", 7),
+    (&["run", "f", "--fuel=16000000"], "f", 16_000_000),
+    (&["run", "f", "--fuel", "1"], "f", 1),
+    (&["run", "f", "--workers", "4"], "f", 4_000_000),
+];
+
+/// More of them.
+const MORE_RUNS: &[(&[&str], &str, u32)] = &[
+    (&["run", "f", "--workers=4"], "f", 4_000_000),
+    (&["run", "--workers", "4", "--", "f"], "f", 4_000_000),
+    (&["run", "--workers", "64", "f"], "f", 4_000_000),
+    (&["run", "--workers=01", "--fuel=2", "f"], "f", 2),
+    (&["run", "--fuel", "3", "--workers", "2", "f"], "f", 3),
+    (&["run", "f", "--fuel", "5", "--workers", "1"], "f", 5),
+    (&["run", "--fuel=5", "--", "--workers"], "--workers", 5),
+    (&["run", "--fuel=6", "-"], "-", 6),
+    (&["run", "run"], "run", 4_000_000),
+    (&["run", "check"], "check", 4_000_000),
+    (&["run", "a b"], "a b", 4_000_000),
+    (&["run", "f", "--fuel=00000001"], "f", 1),
+    (&["run", "--", "--fuel=7"], "--fuel=7", 4_000_000),
+    (&["run", "é"], "é", 4_000_000),
+];
+
+#[test]
+fn words_run_files(rt: HostRuntime) {
+    for table in [RUNS, MORE_RUNS] {
+        for (words, file, fuel) in table {
+            are_command(&rt, rt.alloc(), words, ("run", file, *fuel));
+        }
+    }
+}
+
+/// Words of the commands without options, the verb, and the file.
+const OTHERS: &[(&[&str], &str, &str)] = &[
+    (&["check", "f"], "check", "f"),
+    (&["check", "-"], "check", "-"),
+    (&["check", ""], "check", ""),
+    (&["check", "--", "f"], "check", "f"),
+    (&["check", "--", "-f"], "check", "-f"),
+    (&["check", "f", "--"], "check", "f"),
+    (&["check", "--", "--fuel"], "check", "--fuel"),
+    (&["check", "code"], "check", "code"),
+    (&["code", "f"], "code", "f"),
+    (&["code", "-"], "code", "-"),
+    (&["code", ""], "code", ""),
+    (&["code", "--", "f"], "code", "f"),
+    (&["code", "--", "--workers"], "code", "--workers"),
+    (&["code", "f", "--"], "code", "f"),
+];
+
+#[test]
+fn words_check_and_list_files(rt: HostRuntime) {
+    for (words, verb, file) in OTHERS {
+        are_command(&rt, rt.alloc(), words, (verb, file, 0));
+    }
+}
+
+/// Words that no command has, or too many files, or none.
+const MISSHAPEN: &[&[&str]] = &[
+    &[],
+    &[""],
+    &["run"],
+    &["Run", "f"],
+    &["RUN", "f"],
+    &["walk", "f"],
+    &["--"],
+    &["--", "run", "f"],
+    &["run", "f", "g"],
+    &["run", "f", "-"],
+    &["run", "-", "-"],
+    &["run", "--"],
+    &["run", "--", "f", "g"],
+    &["run", "f", "--", "g"],
+    &["run", "-x"],
+    &["run", "--help"],
+    &["run", "-h"],
+    &["run", "f", "--fuelx"],
+    &["run", "f", "--fue", "7"],
+    &["run", "f", "--fuel:7"],
+    &["run", "f", "--Fuel", "7"],
+    &["run", "f", "-fuel", "7"],
+];
+
+/// Fuel that is no number of fuel, or is there twice.
+const MISCOUNTED: &[&[&str]] = &[
+    &["run", "--fuel"],
+    &["run", "--fuel", "7"],
+    &["run", "f", "--fuel"],
+    &["run", "f", "--fuel", "0"],
+    &["run", "f", "--fuel", "16000001"],
+    &["run", "f", "--fuel", "5x"],
+    &["run", "f", "--fuel", "x"],
+    &["run", "f", "--fuel", "-1"],
+    &["run", "f", "--fuel", "--"],
+    &["run", "f", "--fuel", "+5"],
+    &["run", "f", "--fuel", ""],
+    &["run", "f", "--fuel", " 5"],
+    &["run", "f", "--fuel", "000000007"],
+    &["run", "f", "--fuel="],
+    &["run", "f", "--fuel=0"],
+    &["run", "f", "--fuel=16000001"],
+    &["run", "f", "--fuel=-1"],
+    &["run", "f", "--fuel=000000001"],
+    &["run", "f", "--fuel", "7", "--fuel", "7"],
+    &["run", "f", "--fuel=7", "--fuel=7"],
+    &["run", "f", "--fuel", "7", "--fuel=7"],
+];
+
+/// The same of workers.
+const MISMANNED: &[&[&str]] = &[
+    &["run", "f", "--workers"],
+    &["run", "f", "--workers", "0"],
+    &["run", "f", "--workers", "65"],
+    &["run", "f", "--workers=0"],
+    &["run", "f", "--workers=65"],
+    &["run", "f", "--workers="],
+    &["run", "f", "--workers", "4", "--workers", "4"],
+    &["run", "f", "--workers=4", "--workers", "4"],
+    &["run", "f", "--workers=x"],
+    &["run", "--workers", "--", "f"],
+    &["run", "--workers=4"],
+    &["run", "f", "--worker=4"],
+    &["run", "f", "--workers", "-4"],
+    &["run", "f", "--workers", "000000004"],
+];
+
+/// Other verbs, and options that a verb does not have.
+const UNSUITED: &[&[&str]] = &[
+    &["check"],
+    &["Check", "f"],
+    &["check", "f", "g"],
+    &["check", "-x"],
+    &["check", "f", "--fuel", "7"],
+    &["check", "f", "--fuel=7"],
+    &["check", "f", "--workers", "2"],
+    &["check", "--", "f", "g"],
+    &["check", "--"],
+    &["code"],
+    &["code", "f", "g"],
+    &["code", "-x"],
+    &["code", "f", "--fuel", "7"],
+    &["code", "f", "--workers=1"],
+    &["code", "--", "f", "g"],
+    &["make"],
+    &["make", "3"],
+    &["make", "3", "--workers", "2"],
+    &["explain", "S6"],
+    &["try", "f"],
+];
+
+#[test]
+fn other_words_are_no_command(rt: HostRuntime) {
+    for table in [MISSHAPEN, MISCOUNTED, MISMANNED, UNSUITED] {
+        for words in table {
+            are_none(&rt, rt.alloc(), words);
+        }
+    }
+}
