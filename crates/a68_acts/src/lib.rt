@@ -8,7 +8,7 @@ mod want;
 
 pub use operation::{Counter, Doing, Next};
 pub use operations::{
-    advanced, applied, assigned, case_of, counter_of, has_turn, made, made_in_heap, print_next,
-    related, resumed, skipped, united, whole_of,
+    advanced, applied, assigned, case_of, counter_of, has_turn, is_update, made, made_in_heap,
+    print_next, related, resumed, skipped, united, updating, whole_of,
 };
 pub use want::{Reply, Want};

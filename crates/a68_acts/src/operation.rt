@@ -24,6 +24,9 @@ pub enum Next {
     Void,
     /// It yields this name.
     Name(Name),
+    /// It applies the operator that this row combines with assignation to what the cell holds and to this operand, and
+    /// gives that to the name.
+    Update { row: u32, name: Name, operand: i64 },
     /// It yields the name of the new cells, of this scope.
     Made { scope: u32 },
     /// It prints these items, the next one last, and yields nothing.

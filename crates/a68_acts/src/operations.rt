@@ -1,9 +1,9 @@
 //! Operations on the values of their parts.
-ghost use Rattle.std.specs.Prelude.{◌≡◌, ◌<◌, [], ◌∷◌, length, reverse, IfOk};
+ghost use Rattle.std.specs.Prelude.{◌≡◌, ◌<◌, [], ◌∷◌, length, reverse, IfOk, Ok};
 ghost use Rattle.a68_acts.specs.Operations as operations;
 ghost use Rattle.a68_acts.specs.Operations.{make, yielding};
 ghost use Rattle.a68_modes.specs.Nodes.{shape_at};
-ghost use Rattle.a68_ops.specs.Applied.{applied};
+ghost use Rattle.a68_ops.specs.Applied.{applied, updated};
 ghost use Rattle.a68_ops.specs.Printed.{item_text, whole as whole_number};
 ghost use Rattle.a68_values.specs.Content.{plain};
 ghost use Rattle.a68_values.specs.declared.plain.Plain.TheVariants as value_of;
@@ -12,7 +12,7 @@ use crate::{Counter, Doing, Next, Reply, Want};
 use a68_base::{NoMemory, Text};
 use a68_layout::{LayoutStop, plan};
 use a68_modes::{ModeId, Modes, Shape};
-use a68_ops::{OpStop, apply, is_unset, item_text, text_value, whole};
+use a68_ops::{OpStop, apply, is_unset, item_text, text_value, updated, whole};
 use a68_values::{Chain, FaultKind, Held, Name, Plain, Value, ValueNode, Values};
 use std::alloc::Global;
 
@@ -191,6 +191,62 @@ pub fn whole_of(alloc: Global, value: &Value, width: &Value) -> Result<Doing, No
     }
 }
 
+/// Is the operator of a row combined with assignation, and does it run?
+#[inline(always)]
+pub fn is_update(row: u32) -> bool
+    ensures { result ≡ operations.is_update row }
+{
+    0 < row && row < 6
+}
+
+/// An operator that is combined with assignation, on a name and another operand.
+pub fn updating(row: u32, name: &Value, operand: &Value) -> Doing
+    ensures { result ≡ operations.updating row name.now operand.now }
+{
+    match (&name.node, &operand.node) {
+        (ValueNode::Plain(Plain::Name(name)), ValueNode::Plain(Plain::Int(operand))) => {
+            let (name, operand) = (*name, *operand);
+            Doing::Asks(
+                Want::Fetch { cell: name.cell },
+                Next::Update { row, name, operand },
+            )
+        }
+        (ValueNode::Plain(Plain::Nil), ValueNode::Plain(Plain::Int(_))) => {
+            Doing::Meets(FaultKind::Nil)
+        }
+        _ if is_unset(name) || is_unset(operand) => Doing::Meets(FaultKind::Unset),
+        _ => Doing::Meets(FaultKind::Kind),
+    }
+}
+
+// A value that an operator made given to a name.
+fn put_value(name: Name, made: &Value) -> Doing
+    ensures { result ≡ operations.put name (Ok made.now) }
+{
+    match &made.node {
+        ValueNode::Plain(held) => {
+            let cell = name.cell;
+            let assign = Want::Assign {
+                cell,
+                held: Held::Plain(*held),
+            };
+            Doing::Asks(assign, Next::Name(name))
+        }
+        _ => Doing::Meets(FaultKind::Kind),
+    }
+}
+
+// A name given what an operator makes of the old value and the other operand.
+fn put(alloc: Global, row: u32, name: Name, old: Plain, operand: i64) -> Result<Doing, NoMemory>
+    ensures { IfOk result (λ doing. doing ≡ operations.put name (updated row (plain old) (plain (value_of.Int operand)))) }
+{
+    match updated(alloc, row, &Value::of(old), &Value::of(Plain::Int(operand))) {
+        Ok(made) => Ok(put_value(name, &made)),
+        Err(OpStop::Fault(kind)) => Ok(Doing::Meets(kind)),
+        Err(OpStop::NoMemory) => Err(NoMemory),
+    }
+}
+
 /// How an operation goes on with the reply to its act.
 #[tactic(auto, unfolding(crate::specs::Operations::resumed))]
 pub fn resumed(alloc: Global, modes: &Modes, next: Next, reply: Reply) -> Result<Doing, NoMemory>
@@ -203,6 +259,9 @@ pub fn resumed(alloc: Global, modes: &Modes, next: Next, reply: Reply) -> Result
             node: ValueNode::Void,
         }),
         (Next::Name(name), Reply::Go) => Doing::Yields(Value::of(Plain::Name(name))),
+        (Next::Update { row, name, operand }, Reply::Held(Held::Plain(old))) => {
+            put(alloc, row, name, old, operand)?
+        }
         (Next::Made { scope }, Reply::Base(cell)) => {
             Doing::Yields(Value::of(Plain::Name(Name { cell, scope })))
         }

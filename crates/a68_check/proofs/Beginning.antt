@@ -4,7 +4,7 @@ use Rattle.std.specs.Option.{option_map_or}
 use Rattle.std.specs.declared.option.Option.{Option}
 use Rattle.a68_annot.specs.declared.annotated.Annotated.{Annotated}
 use Rattle.a68_base.specs.declared.refusal.Refusal.{Refusal}
-use Rattle.a68_check.specs.Annotates.{Annotates, IsMeantWrong, Refuses, declared_twice, meant_wrong, misused, twice, unshaped}
+use Rattle.a68_check.specs.Annotates.{Annotates, Refuses, declared_twice, misused, unshaped}
 use Rattle.a68_meaning.specs.Meaning.{IsMisused}
 use Rattle.a68_op_ident.specs.Shapes.{Shaped, IsBegun}
 use Rattle.a68_ranges.specs.Nodes.{place_at}
@@ -34,15 +34,11 @@ module _ (misuse : (tree : Built) (end : ℕ) (r : Refusal) → BeginBy tree.nod
       let w = by b.id b.node b.there in
       omega arith
 
-  wrong_by : (tree : Built) (end : ℕ) (r : Refusal) → BeginBy tree.nodes end → StartBy tree.starts end → IsMeantWrong tree r → r.place ≤ end
-  wrong_by tree end r by starts (twice t) = let e = t.place_is in let w = place_by tree end by t.id in omega arith
-  wrong_by tree end r by starts (misused once b) = misuse tree end r by starts b
-
   pub refused_by : (flat : Built) (end : ℕ) (r : Refusal) → BeginBy flat.nodes end → StartBy flat.starts end → Refuses flat r → r.place ≤ end
   refused_by flat end r by starts (declared_twice t) = let e = t.place_is in let w = place_by flat end by t.id in omega arith
   refused_by flat end r by starts (unshaped once t) = let e = t.place_is in let w = place_by flat end by t.id in omega arith
-  refused_by flat end r by starts (meant_wrong shaped once is b) =
-      wrong_by shaped end r (shaped_by flat shaped end by is) (subst (λ x. StartBy x end) (sym is.starts) starts) b
+  refused_by flat end r by starts (misused shaped once is b) =
+      misuse shaped end r (shaped_by flat shaped end by is) (subst (λ x. StartBy x end) (sym is.starts) starts) b
 
   pub annotated_by : (flat : Built) (end : ℕ) (program : Annotated) → BeginBy flat.nodes end → Annotates flat program → BeginBy program.tree.nodes end
   annotated_by flat end program by a = shaped_by flat program.tree end by a.shaped

@@ -4,7 +4,8 @@ use Rattle.std.proofs.Math.Nat.{ℕ_set}
 use Rattle.a68_annot.specs.declared.annotated.Annotated.{Annotated}
 use Rattle.a68_annot.specs.declared.note.Note.{Note}
 use Rattle.a68_base.specs.declared.refusal.Refusal.{Refusal}
-use Rattle.a68_check.specs.Annotates.{AreKnown, Annotates, Refuses, DeclaresOnce, IsMeantWrong, declared_twice, meant_wrong, misused, twice, unshaped}
+use Rattle.a68_check.specs.Annotates.{AreKnown, Annotates, Refuses, DeclaresOnce, declared_twice, misused, unshaped}
+use Rattle.a68_check.proofs.Keeping.{declares_once}
 use Rattle.a68_declare.specs.Outcome.{ByNode}
 use Rattle.a68_meaning.specs.Meaning.{IsMeaning, IsMisused, IsUnbroken}
 use Rattle.a68_modes.specs.declared.shape.Shape.{Shape}
@@ -54,16 +55,9 @@ pub record Laws : Type 0 where
 module _ (laws : Laws) where
   -- ---- of shaped trees
 
-  one_wrong : (tree : Built) (r s : Refusal) → IsMeantWrong tree r → IsMeantWrong tree s → AreOne r s
-  one_wrong tree r s (twice t) (twice u) = (t.rule_is ∙ sym u.rule_is, t.place_is ∙ one_first tree (IsTwice tree) t.id u.id t.first u.first ∙ sym u.place_is)
-  one_wrong tree r s (twice t) (misused once u) = absurd (once t.id t.first.broken)
-  one_wrong tree r s (misused once t) (twice u) = absurd (once u.id u.first.broken)
-  one_wrong tree r s (misused once t) (misused so u) = laws.misuse tree once r s t u
-
-  not_wrong : (tree : Built) (modes : List Shape) (notes : List Note) (r : Refusal) → AreKnown tree modes notes → IsMeantWrong tree r → ⊥
-  not_wrong tree modes notes r known (twice t) = known.once t.id t.first.broken
-  not_wrong tree modes notes r known (misused once t) =
-      laws.unbroken known.of known.asked r (subst DeclaresOnce (sym known.tree_is) once) known.fine (subst (λ t. IsMisused t r) (sym known.tree_is) t)
+  not_wrong : (tree : Built) (modes : List Shape) (notes : List Note) (r : Refusal) → AreKnown tree modes notes → IsMisused tree r → ⊥
+  not_wrong tree modes notes r known t =
+      laws.unbroken known.of known.asked r (subst DeclaresOnce (sym known.tree_is) known.once) known.fine (subst (λ t. IsMisused t r) (sym known.tree_is) t)
 
   -- its modes and what is known of its nodes are one
   module _ (tree : Built) (modes others : List Shape) (notes more : List Note) (p : AreKnown tree modes notes) (q : AreKnown tree others more) where
@@ -83,22 +77,23 @@ module _ (laws : Laws) where
   twice_alone : (flat : Built) (r s : Refusal) → IsRefused flat r → Refuses flat s → AreOne r s
   twice_alone flat r s t (declared_twice u) = (t.rule_is ∙ sym u.rule_is, t.place_is ∙ one_first flat (IsTwice flat) t.id u.id t.first u.first ∙ sym u.place_is)
   twice_alone flat r s t (unshaped once u) = absurd (once t.id t.first.broken)
-  twice_alone flat r s t (meant_wrong shaped once is b) = absurd (once t.id t.first.broken)
+  twice_alone flat r s t (misused shaped once is b) = absurd (once t.id t.first.broken)
 
   pub one_refusal : (flat : Built) (r s : Refusal) → Refuses flat r → Refuses flat s → AreOne r s
   one_refusal flat r s (declared_twice t) q = twice_alone flat r s t q
   one_refusal flat r s (unshaped once u) (declared_twice t) = absurd (once t.id t.first.broken)
   one_refusal flat r s (unshaped once t) (unshaped so u) = (t.rule_is ∙ sym u.rule_is, t.place_is ∙ one_first flat (LacksPriority flat) t.id u.id t.first u.first ∙ sym u.place_is)
-  one_refusal flat r s (unshaped once u) (meant_wrong shaped so is b) = absurd (laws.never flat shaped r once u is)
-  one_refusal flat r s (meant_wrong shaped once is b) (declared_twice t) = absurd (once t.id t.first.broken)
-  one_refusal flat r s (meant_wrong shaped once is b) (unshaped so u) = absurd (laws.never flat shaped s once u is)
-  one_refusal flat r s (meant_wrong shaped once is b) (meant_wrong another so also c) = one_wrong shaped r s b (subst (λ x. IsMeantWrong x s) (laws.shapes flat shaped another once is also) c)
+  one_refusal flat r s (unshaped once u) (misused shaped so is b) = absurd (laws.never flat shaped r once u is)
+  one_refusal flat r s (misused shaped once is b) (declared_twice t) = absurd (once t.id t.first.broken)
+  one_refusal flat r s (misused shaped once is b) (unshaped so u) = absurd (laws.never flat shaped s once u is)
+  one_refusal flat r s (misused shaped once is b) (misused another so also c) =
+      laws.misuse shaped (declares_once flat shaped is once) r s b (subst (λ x. IsMisused x s) (laws.shapes flat shaped another once is also) c)
 
   pub not_refused : (flat : Built) (program : Annotated) (r : Refusal) → Annotates flat program → Refuses flat r → ⊥
   not_refused flat program r a (declared_twice t) = a.once t.id t.first.broken
   not_refused flat program r a (unshaped once u) = laws.never flat program.tree r once u a.shaped
-  not_refused flat program r a (meant_wrong shaped once is b) =
-      not_wrong program.tree program.modes program.notes r a.known (subst (λ x. IsMeantWrong x r) (laws.shapes flat program.tree shaped once a.shaped is) b)
+  not_refused flat program r a (misused shaped once is b) =
+      not_wrong program.tree program.modes program.notes r a.known (subst (λ x. IsMisused x r) (laws.shapes flat program.tree shaped once a.shaped is) b)
 
   pub one_program : (flat : Built) (a b : Annotated) → Annotates flat a → Annotates flat b → a ≡ b
   one_program flat a b p q =

@@ -27,20 +27,15 @@ pub record AreKnown (shaped : Built) (modes : List Shape) (notes : List Note) : 
   pub modes_are : modes ≡ asked.nodes
   pub notes_are : AreNotes of asked notes
 
--- a word of it is declared twice, or it breaks a rule of declarers, operators, tags, coercions or counts
-pub data IsMeantWrong (shaped : Built) (refusal : Refusal) : Type 0 where
-  twice : IsRefused shaped refusal → IsMeantWrong shaped refusal
-  misused : DeclaresOnce shaped → IsMisused shaped refusal → IsMeantWrong shaped refusal
-
 -- The annotated tree of a flat one: its formulas are shaped, and its nodes are known.
 pub record Annotates (flat : Built) (program : Annotated) : Type 0 where
   pub once : DeclaresOnce flat
   pub shaped : Shaped flat program.tree
   pub known : AreKnown program.tree program.modes program.notes
 
--- The rule that a flat tree breaks: a word is declared twice; else a sign between two operands has no priority; else what it
--- breaks once its formulas are shaped.
+-- The rule that a flat tree breaks: a word is declared twice; else a sign between two operands has no priority; else, once its
+-- formulas are shaped, a rule of declarers, operators, tags, coercions or counts.
 pub data Refuses (flat : Built) (refusal : Refusal) : Type 0 where
   declared_twice : IsRefused flat refusal → Refuses flat refusal
   unshaped : DeclaresOnce flat → IsUnshaped flat refusal → Refuses flat refusal
-  meant_wrong : (shaped : Built) → DeclaresOnce flat → Shaped flat shaped → IsMeantWrong shaped refusal → Refuses flat refusal
+  misused : (shaped : Built) → DeclaresOnce flat → Shaped flat shaped → IsMisused shaped refusal → Refuses flat refusal

@@ -1,6 +1,7 @@
 //! Trees with what is known of each node.
 ghost use Rattle.std.specs.Prelude.{◌≡◌, IfOk, IfErr};
-ghost use Rattle.a68_check.specs.Annotates.{Annotates, AreKnown, DeclaresOnce, IsMeantWrong, Refuses};
+ghost use Rattle.a68_check.specs.Annotates.{Annotates, AreKnown, DeclaresOnce, Refuses};
+ghost use Rattle.a68_meaning.specs.Meaning.{IsMisused};
 ghost use Rattle.a68_ranges.specs.Tables.{AreRanges};
 ghost use Rattle.a68_ranges.specs.Twice.{StopsBy};
 
@@ -16,8 +17,9 @@ use std::alloc::Global;
 
 // Finds all modes of a tree whose formulas are shaped, and what is known of its nodes.
 fn known(alloc: Global, tree: &Tree) -> Result<(Modes, Notes), Stop>
+    requires once { DeclaresOnce tree.now }
     ensures known { IfOk result (λ found. AreKnown tree.now found.0 found.1) }
-    ensures wrong { IfErr result (StopsBy (IsMeantWrong tree.now)) }
+    ensures wrong { IfErr result (StopsBy (IsMisused tree.now)) }
 {
     let ranges = ranges(alloc, tree)?;
     let meaning = find_meaning(alloc, tree, &ranges)?;
@@ -42,9 +44,10 @@ fn modes_of(meaning: Meaning) -> Modes
 
 // Annotates a tree whose formulas are shaped.
 fn annotate_shaped(alloc: Global, tree: Tree) -> Result<Annotated, Stop>
+    requires once { DeclaresOnce tree }
     ensures tree { IfOk result (λ program. program.tree ≡ tree) }
     ensures known { IfOk result (λ program. AreKnown program.tree program.modes program.notes) }
-    ensures wrong { IfErr result (StopsBy (IsMeantWrong tree)) }
+    ensures wrong { IfErr result (StopsBy (IsMisused tree)) }
 {
     match known(alloc, &tree) {
         Ok((modes, notes)) => Ok(Annotated { tree, modes, notes }),

@@ -1,4 +1,3 @@
--- Inner: the headline does not rest on this file.
 -- Which operands an instruction may have.
 use Rattle.std.specs.Prelude.{ℕ, Bool, true, length, ◌&&◌, ◌||◌, ◌==◌, nat_lt, nat_le, List}
 use Rattle.std.specs.List.{list_all}
@@ -8,8 +7,8 @@ use Rattle.a68_code.specs.declared.does.Does.{Does}
 use Rattle.a68_code.specs.declared.does.Does.TheVariants.{Skip, Leave, Make, Heap, Same, Deref, Store, Apply, Jump, Unless, Case, Step, Advance}
 
 -- The operands are such as an instruction may have, among so many instructions: a place is that of an instruction, a
--- list of places has one at least, the row of an Apply is that of an operator that yields at once, and a mode is plain,
--- with no bounds, since values of other modes do not run yet.
+-- list of places has one at least, the row of an Apply is that of an operator that yields at once or is combined
+-- with assignation to a name of INT, and a mode is plain, with no bounds, since values of other modes do not run yet.
 abbrev pub is_well_made : List Shape → ℕ → Does → Bool
 is_well_made modes count (Skip mode) = is_void (shape_at modes mode) || is_plain (shape_at modes mode)
 is_well_made modes count (Leave kept) = nat_le kept 1
@@ -17,7 +16,7 @@ is_well_made modes count (Make mode bounds) = is_plain (shape_at modes mode) && 
 is_well_made modes count (Heap mode bounds) = is_plain (shape_at modes mode) && (bounds == 0)
 is_well_made modes count (Deref mode) = is_plain (shape_at modes mode)
 is_well_made modes count (Store mode) = is_plain (shape_at modes mode)
-is_well_made modes count (Apply row) = (nat_le 7 row && nat_le row 23) || (nat_le 26 row && nat_le row 33)
+is_well_made modes count (Apply row) = (nat_le 1 row && nat_le row 5) || ((nat_le 7 row && nat_le row 23) || (nat_le 26 row && nat_le row 33))
 is_well_made modes count (Same negated) = nat_le negated 1
 is_well_made modes count (Jump to) = nat_lt to count
 is_well_made modes count (Unless to) = nat_lt to count

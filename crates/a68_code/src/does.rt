@@ -23,7 +23,7 @@ use std::alloc::Global;
 /// | Heap | mode, bounds | the bounds | name | Make | new cells, of scope 0 |
 /// | Deref | mode | name | value | Fetch | |
 /// | Store | mode | name, value | name | Assign | |
-/// | Apply | row | operands | value | | a row of the table of operators |
+/// | Apply | row | operands | value | Fetch, then Assign, for rows 1 to 5 | a row of the table of operators |
 /// | Same | 0 or 1 | name, name | truth value | | whether the names refer to the same; the other way round for 1 |
 /// | Unite | mode | value | value | | a value of the mode united; one that is united already stays |
 /// | Drop | | value | | | |

@@ -26,7 +26,9 @@ impl Does {
                 modes.is_plain(*mode) && *bounds == 0
             }
             Does::Deref(mode) | Does::Store(mode) => modes.is_plain(*mode),
-            Does::Apply(row) => (7 <= *row && *row <= 23) || (26 <= *row && *row <= 33),
+            Does::Apply(row) => {
+                (1 <= *row && *row <= 5) || (7 <= *row && *row <= 23) || (26 <= *row && *row <= 33)
+            }
             Does::Jump(to) | Does::Unless(to) | Does::Step(to) | Does::Advance(to) => (*to as usize)
                 < count,
             Does::Case(places) => places.are_inside(count),

@@ -66,22 +66,17 @@ module _ (end : ℕ) where
   collateral_begins true ts b = b
   collateral_begins false ts b = tt
 
-  in_range_begins : (place slots : ℕ) (yields : Bool) (t : Tree) → place ≤ end → BeginsBy end t → BeginsBy end (made.in_range place slots yields t)
-  in_range_begins place zero yields t p b = b
-  in_range_begins place (suc n) yields t p b = (p, p, b)
+  framed_begins : (place out slots : ℕ) (yields : Bool) (t : Tree) → place ≤ end → out ≤ end → BeginsBy end t → BeginsBy end (made.framed place out slots yields t)
+  framed_begins place out zero yields t p q b = b
+  framed_begins place out (suc n) yields t p q b = (p, q, b)
 
   serial_begins : (place slots : ℕ) (yields : Bool) (ts : Trees) → place ≤ end → AllBeginBy end ts → BeginsBy end (made.serial_of place slots yields ts)
   serial_begins place slots yields no_trees p b = tt
-  serial_begins place slots yields (t and_tree ts) p b = in_range_begins place slots yields _ p (p, all_but_last_begin (t and_tree ts) b, last_begins (t and_tree ts) b)
+  serial_begins place slots yields (t and_tree ts) p b = framed_begins place place slots yields _ p p (p, all_but_last_begin (t and_tree ts) b, last_begins (t and_tree ts) b)
 
   only_begins : (ts : Trees) → AllBeginBy end ts → BeginsBy end (made.only_of ts)
   only_begins (t and_tree no_trees) b = b.0
   only_begins _ b = tt
-
-  choice_begins : (place goal : ℕ) (ts : Trees) → place ≤ end → AllBeginBy end ts → BeginsBy end (made.choice_of place goal ts)
-  choice_begins place goal (enquiry and_tree (t and_tree no_trees)) p b = (p, b.0, b.1.0, (p, tt))
-  choice_begins place goal (enquiry and_tree (t and_tree (e and_tree no_trees))) p b = (p, b.0, b.1.0, b.1.1.0)
-  choice_begins place goal _ p b = tt
 
   part_begins : (f : ℕ → Tree) (part : Option ℕ) (left_out : Tree) → BeginsBy end left_out → ((id : ℕ) → BeginsBy end (f id)) → BeginsBy end (option_map_or f part left_out)
   part_begins f (Some id) left_out b h = h id
@@ -90,6 +85,31 @@ module _ (end : ℕ) where
   phrases_begin : (place : ℕ) (ts : Trees) → place ≤ end → AllBeginBy end ts → BeginsBy end (made.phrases_of place ts)
   phrases_begin place no_trees p b = tt
   phrases_begin place (t and_tree ts) p b = (p, all_but_last_begin (t and_tree ts) b, last_begins (t and_tree ts) b)
+
+  begun_begins : (f : ℕ → Tree) (out : ℕ) (yields : Bool) (node : Option Node) (noted : Option Note) (go : Tree → Tree) → out ≤ end → ((n : Node) → node ≡ Some n → n.span.from ≤ end)
+      → ((id : ℕ) → BeginsBy end (f id)) → ((t : Tree) → BeginsBy end t → BeginsBy end (go t)) → BeginsBy end (made.begun_by f out yields node noted go)
+  begun_begins f out yields (Some node) (Some note) go q p h g =
+      let at = p node refl in
+      framed_begins node.span.from out note.slots yields _ at q (g _ (phrases_begin node.span.from (trees_at f node.parts) at (trees_begin f node.parts h)))
+  begun_begins f out yields (Some node) None go q p h g = tt
+  begun_begins f out yields None noted go q p h g = tt
+
+  choice_begins : (a : Annotated) (f : ℕ → Tree) (place goal : ℕ) (yields : Bool) (ids : List ℕ) → place ≤ end → ((k : ℕ) (n : Node) → slice_get a.tree.nodes k ≡ Some n → n.span.from ≤ end)
+      → ((id : ℕ) → BeginsBy end (f id)) → BeginsBy end (made.choice_of a f place goal yields ids)
+  choice_begins a f place goal yields (e ∷ (t ∷ [])) p all h =
+      begun_begins f place yields (slice_get a.tree.nodes e) (slice_get a.notes e) _ p (λ n is. all e n is) h (λ u b. (p, b, h t, (p, tt)))
+  choice_begins a f place goal yields (e ∷ (t ∷ (o ∷ []))) p all h =
+      begun_begins f place yields (slice_get a.tree.nodes e) (slice_get a.notes e) _ p (λ n is. all e n is) h (λ u b. (p, b, h t, h o))
+  choice_begins a f place goal yields [] p all h = tt
+  choice_begins a f place goal yields (e ∷ []) p all h = tt
+  choice_begins a f place goal yields (e ∷ (t ∷ (o ∷ (i ∷ ids)))) p all h = tt
+
+  case_begins : (a : Annotated) (f : ℕ → Tree) (place goal : ℕ) (yields : Bool) (ids : List ℕ) → place ≤ end → ((k : ℕ) (n : Node) → slice_get a.tree.nodes k ≡ Some n → n.span.from ≤ end)
+      → ((id : ℕ) → BeginsBy end (f id)) → BeginsBy end (made.case_of a f place goal yields ids)
+  case_begins a f place goal yields [] p all h = tt
+  case_begins a f place goal yields (e ∷ ids) p all h =
+      begun_begins f place yields (slice_get a.tree.nodes e) (slice_get a.notes e) _ p (λ n is. all e n is) h
+      (λ u b. (p, b, trees_begin f (made.before_out a ids) h, part_begins f (made.out_of a ids) _ (p, tt) h))
 
   enquiry_begins : (f : ℕ → Tree) (node : Option Node) (noted : Option Note) → ((n : Node) → node ≡ Some n → n.span.from ≤ end) → ((id : ℕ) → BeginsBy end (f id))
       → TestBeginsBy end (made.enquiry_of f node noted)
@@ -152,7 +172,8 @@ module _ (end : ℕ) where
   construct_begins a f node note kind.By p h all = only_begins (trees_at f node.parts) (trees_begin f node.parts h)
   construct_begins a f node note kind.To p h all = only_begins (trees_at f node.parts) (trees_begin f node.parts h)
   construct_begins a f node note kind.While p h all = only_begins (trees_at f node.parts) (trees_begin f node.parts h)
-  construct_begins a f node note kind.Conditional p h all = choice_begins node.span.from note.goal (trees_at f node.parts) p (trees_begin f node.parts h)
+  construct_begins a f node note kind.Conditional p h all = choice_begins a f node.span.from note.goal (not (is_void (shape_at a.modes note.goal))) node.parts p all h
+  construct_begins a f node note kind.Case p h all = case_begins a f node.span.from note.goal (not (is_void (shape_at a.modes note.goal))) node.parts p all h
   construct_begins a f node note kind.Loop p h all = loop_begins a f node.span.from (is_some (made.if_first made.is_for a node.parts)) _ _ _ _ _ p all h
   construct_begins a f node note _ p h all = tt
 

@@ -7,7 +7,7 @@ use Rattle.a68_annot.specs.declared.annotated.Annotated.{Annotated}
 use Rattle.a68_annot.specs.declared.note.Note.{Note}
 use Rattle.a68_base.specs.Tables.{is_listed}
 use Rattle.a68_elab.specs.Constants.{value_in, standard_in}
-use Rattle.a68_elab.specs.Trees.{collateral, serial, Tree, Trees, operation, together, phrases, range, choice, loop, unbuilt, Test, no_test, while_in, no_trees, ◌and_tree◌, Program}
+use Rattle.a68_elab.specs.Trees.{collateral, serial, Tree, Trees, operation, together, phrases, range, choice, cases, loop, unbuilt, Test, no_test, while_in, no_trees, ◌and_tree◌, Program}
 use Rattle.a68_modes.specs.Nodes.{shape_at, is_void}
 use Rattle.a68_modes.specs.declared.coercion.Coercion.{Coercion}
 use Rattle.a68_modes.specs.declared.coercion.Coercion.TheVariants as coercion
@@ -172,26 +172,65 @@ call_of a f place (primary ∷ ids) =
     if is_one_of printers (called a primary) then operation place print collateral (trees_at f (items_at a ids))
     else (if is_one_of wholes (called a primary) then operation place whole collateral (trees_at f ids) else unbuilt)
 
--- a construct in a range, which makes a frame where it has slots
-abbrev pub in_range : (place slots : ℕ) (yields : Bool) → Tree → Tree
-in_range place zero yields t = t
-in_range place (suc n) yields t = range place place (suc n) yields t
+-- a construct in a range, which makes a frame where it has slots: it is entered at one place and left at another (own)
+abbrev pub framed : (place out slots : ℕ) (yields : Bool) → Tree → Tree
+framed place out zero yields t = t
+framed place out (suc n) yields t = range place out (suc n) yields t
 
 -- a serial clause, which makes a frame where it has slots (Report, 3.2)
 abbrev pub serial_of : (place slots : ℕ) (yields : Bool) → Trees → Tree
 serial_of place slots yields no_trees = unbuilt
-serial_of place slots yields (t and_tree ts) = in_range place slots yields (phrases place (all_but_last (t and_tree ts)) (last_tree (t and_tree ts)))
+serial_of place slots yields (t and_tree ts) = framed place place slots yields (phrases place (all_but_last (t and_tree ts)) (last_tree (t and_tree ts)))
 
 -- what is its only part
 abbrev pub only_of : Trees → Tree
 only_of (t and_tree no_trees) = t
 only_of _ = unbuilt
 
--- a choice by an enquiry (Report, 3.4)
-abbrev pub choice_of : (place goal : ℕ) → Trees → Tree
-choice_of place goal (enquiry and_tree (t and_tree no_trees)) = choice place enquiry t (left_out place goal)
-choice_of place goal (enquiry and_tree (t and_tree (e and_tree no_trees))) = choice place enquiry t e
-choice_of place goal _ = unbuilt
+-- the phrases of a serial clause in a range that is not its own
+abbrev pub phrases_of : (place : ℕ) → Trees → Tree
+phrases_of place no_trees = unbuilt
+phrases_of place (t and_tree ts) = phrases place (all_but_last (t and_tree ts)) (last_tree (t and_tree ts))
+
+-- ---- choices
+
+-- by the node and the note of the enquiry
+abbrev pub begun_by : (f : ℕ → Tree) (out : ℕ) (yields : Bool) → Option Node → Option Note → (go : Tree → Tree) → Tree
+begun_by f out yields (Some node) (Some note) go = framed node.span.from out note.slots yields (go (phrases_of node.span.from (trees_at f node.parts)))
+begun_by f out yields _ _ go = unbuilt
+
+-- A construct that an enquiry begins. What the enquiry declares holds in all of it: the range is entered where the
+-- enquiry begins, and left at the construct (Report, 3.4.1).
+abbrev pub with_enquiry : Annotated → (f : ℕ → Tree) (out : ℕ) (yields : Bool) (enquiry : ℕ) (go : Tree → Tree) → Tree
+with_enquiry a f out yields enquiry go = begun_by f out yields (slice_get a.tree.nodes enquiry) (slice_get a.notes enquiry) go
+
+-- a choice by a truth value (Report, 3.4)
+abbrev pub choice_of : Annotated → (f : ℕ → Tree) (place goal : ℕ) (yields : Bool) → List ℕ → Tree
+choice_of a f place goal yields (enquiry ∷ (t ∷ [])) = with_enquiry a f place yields enquiry (λ e. choice place e (f t) (left_out place goal))
+choice_of a f place goal yields (enquiry ∷ (t ∷ (o ∷ []))) = with_enquiry a f place yields enquiry (λ e. choice place e (f t) (f o))
+choice_of a f place goal yields _ = unbuilt
+
+abbrev pub is_out : NodeKind → Bool
+is_out kind.Out = true
+is_out _ = false
+
+-- the last of these nodes, where it is Out
+abbrev pub out_of : Annotated → List ℕ → Option ℕ
+out_of a [] = None
+out_of a (id ∷ []) = if is_out (kind_at a id) then Some id else None
+out_of a (id ∷ (i ∷ ids)) = out_of a (i ∷ ids)
+
+-- the others
+abbrev pub before_out : Annotated → List ℕ → List ℕ
+before_out a [] = []
+before_out a (id ∷ []) = if is_out (kind_at a id) then [] else id ∷ []
+before_out a (id ∷ (i ∷ ids)) = id ∷ before_out a (i ∷ ids)
+
+-- a choice by a number: the enquiry, two or more units, and an Out, if any (Report, 3.4)
+abbrev pub case_of : Annotated → (f : ℕ → Tree) (place goal : ℕ) (yields : Bool) → List ℕ → Tree
+case_of a f place goal yields [] = unbuilt
+case_of a f place goal yields (enquiry ∷ ids) =
+    with_enquiry a f place yields enquiry (λ e. cases place e (trees_at f (before_out a ids)) (option_map_or f (out_of a ids) (left_out place goal)))
 
 -- ---- loops
 
@@ -234,11 +273,6 @@ abbrev pub controls_of : (f : ℕ → Tree) (place : ℕ) (from by to : Option �
 controls_of f place from by to =
     let one = leaf place (constant (plain (value.Int (pos 1)))) in
     option_map_or f from one and_tree (option_map_or f by one and_tree only (option_map_or f to (leaf place (skip 1))))
-
--- the phrases of a serial clause in a range that is not its own
-abbrev pub phrases_of : (place : ℕ) → Trees → Tree
-phrases_of place no_trees = unbuilt
-phrases_of place (t and_tree ts) = phrases place (all_but_last (t and_tree ts)) (last_tree (t and_tree ts))
 
 abbrev pub enquiry_of : (f : ℕ → Tree) → Option Node → Option Note → Test
 enquiry_of f (Some node) (Some note) = while_in node.span.from note.slots (phrases_of node.span.from (trees_at f node.parts))
@@ -320,7 +354,8 @@ made a f node note kind.From = only_of (trees_at f node.parts)
 made a f node note kind.By = only_of (trees_at f node.parts)
 made a f node note kind.To = only_of (trees_at f node.parts)
 made a f node note kind.While = only_of (trees_at f node.parts)
-made a f node note kind.Conditional = choice_of node.span.from note.goal (trees_at f node.parts)
+made a f node note kind.Conditional = choice_of a f node.span.from note.goal (not (is_void (shape_at a.modes note.goal))) node.parts
+made a f node note kind.Case = case_of a f node.span.from note.goal (not (is_void (shape_at a.modes note.goal))) node.parts
 made a f node note kind.Loop = loop_of a f node.span.from node.parts
 made a f node note _ = unbuilt
 

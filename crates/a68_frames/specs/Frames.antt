@@ -1,4 +1,3 @@
--- Inner: the headline does not rest on this file.
 -- Frames, their slots and the way to them (own; Report, 2.1.1.3 has environs in their place).
 use Rattle.std.specs.Prelude.{◌≡◌, ◌+◌, ℕ, List, [], ◌∷◌, ◌++◌, length, slice_get, Option, Some, None, Bool, true, false, nat_eq, nat_lt, if◌then◌else◌}
 use Rattle.a68_ranges.specs.Nodes.{kind_at}

@@ -1,4 +1,3 @@
--- Inner: the headline does not rest on this file.
 -- The frames that a routine text uses from outside (own; the scope of a routine, Report 7.2.2).
 use Rattle.std.specs.Prelude.{◌≡◌, ◌≤◌, ◌+◌, ℕ, List, [], ◌∷◌, slice_get, Option, Some, None}
 use Rattle.a68_frames.specs.Frames.{frames_of, slots_in}

@@ -1,182 +1,134 @@
--- Chains of choices, link by link, and their jumps once they are patched.
-use Rattle.std.proofs.Common.{◌≡◌, ℕ, zero, suc, ◌+◌, List, [], ◌∷◌, ◌++◌, length, refl, sym, ◌∙◌, ap, subst, arith, append_assoc, append-nil, length-append, None, Some, ◌⊎◌, inl, inr}
+-- Chains of choices, link by link, and their ends.
+use Rattle.std.proofs.Common.{◌≡◌, ◌⊎◌, inl, inr, ℕ, zero, suc, ◌+◌, Bool, List, [], ◌∷◌, ◌++◌, length, refl, sym, ◌∙◌, ap, subst, arith, append_assoc, append-nil, length-append, None, Some}
 use Rattle.std.specs.declared.option.Option.{Option}
 use Rattle.a68_base.specs.declared.refusal.Stop.{Stop}
 use Rattle.a68_builder.specs.Aiming.{aimed_at}
 use Rattle.a68_code.specs.declared.code.Instr.{Instr}
 use Rattle.a68_code.specs.declared.does.Does.TheVariants as does
-use Rattle.a68_elab.specs.Trees.{Tree, operation, together, phrases, range, choice, cases, loop, unbuilt}
-use Rattle.a68_gen.specs.Chains.{holes, link_list, link_size, pending}
-use Rattle.a68_gen.specs.Listing.{instr, size, stretch}
-use Rattle.a68_gen.specs.Writing.{aim_all, places, ran_out, Writes}
+use Rattle.a68_elab.specs.Made.{framed}
+use Rattle.a68_elab.specs.Trees.{Tree, choice}
+use Rattle.a68_gen.specs.Chains.{Closes, Finishes, IsOpen, jump_of, link_list, shuts}
+use Rattle.a68_gen.specs.Listing.{instr, opens, size, stretch}
+use Rattle.a68_gen.specs.Writing.{ran_out, Writes}
+use Rattle.a68_gen.specs.declared.ends.Opened.{Opened}
+use Rattle.a68_gen.proofs.Patching.{patched}
 use Rattle.a68_gen.proofs.Sizes.{size_stretch}
-use Rattle.a68_gen.proofs.Writing.{aim-middle, and_behind, had_not, is_written, places-append, stops-places}
+use Rattle.a68_gen.proofs.Writing.{aim-middle, and_behind, had_not, is_written, places-append, writes-as}
 
-pub size_link : (place : ℕ) (e a : Tree) (at : ℕ) → length (link_list place e a at) ≡ link_size e a
-size_link place e a at =
-    let m = at + size e + 1 in
-    let u = instr place (does.Unless (m + size a + 1)) in
-    let j = instr place (does.Jump 0) in
-    let s1 = size_stretch e at in let s2 = size_stretch a m in
-    omega (arith, length-append (stretch e at) (u ∷ (stretch a m ++ j ∷ [])), length-append (stretch a m) (j ∷ []))
+-- ---- a writer that finds no memory, and so has stopped
 
--- ---- the loop that writes the links
-
--- The links of a chain before this tree are written: with the tree's own first links all of them are, and so it is
--- with the numbers of their jumps.
-pub record Ahead (whole t : Tree) (jumps : List ℕ) (s0 s1 : Option Stop) (l0 l1 : List Instr) : Type 0 where
-  pub count : ℕ
-  pub writes : (n : ℕ) (s : Option Stop) (l : List Instr) → Writes s1 s l1 l (holes n t (length l1)) → Writes s0 s l0 l (holes (count + n) whole (length l0))
-  pub jumps_are : s1 ≡ None → (n : ℕ) → jumps ++ pending n t (length l1) ≡ pending (count + n) whole (length l0)
-
-pub ahead_first : (t : Tree) (jumps : List ℕ) (s : Option Stop) (l : List Instr) → jumps ≡ [] → Ahead t t jumps s s l l
-ahead_first t jumps s l none = record {
-  count = 0;
-  writes = λ n s1 l1 w. let e : n ≡ 0 + n = omega arith in subst (λ (k : ℕ). Writes s s1 l l1 (holes k t (length l))) e w;
-  jumps_are = λ is n. let e : n ≡ 0 + n = omega arith in ap (λ (j : List ℕ). j ++ pending n t (length l)) none ∙ ap (λ (k : ℕ). pending k t (length l)) e;
-}
-
--- a writer that finds no memory for a number, and so has stopped
-kept_writes : (s0 s1 s2 : Option Stop) (l0 l1 a : List Instr) → (s2 ≡ s1) ⊎ (s2 ≡ ran_out s1) → Writes s0 s1 l0 l1 a → Writes s0 s2 l0 l1 a
+pub kept_writes : (s0 s1 s2 : Option Stop) (l0 l1 a : List Instr) → (s2 ≡ s1) ⊎ (s2 ≡ ran_out s1) → Writes s0 s1 l0 l1 a → Writes s0 s2 l0 l1 a
 kept_writes s0 s1 s2 l0 l1 a (inl e) w = subst (λ (s : Option Stop). Writes s0 s l0 l1 a) (sym e) w
 kept_writes (Some s) s1 s2 l0 l1 a (inr e) w = e ∙ ap ran_out w
 kept_writes None (Some s) s2 l0 l1 a (inr e) w = subst (λ (z : Option Stop). Writes None z l0 l1 a) (sym e) w
 kept_writes None None s2 l0 l1 a (inr e) w = subst (λ (z : Option Stop). Writes None z l0 l1 a) (sym e) tt
 
--- one link more
-pub ahead_on : (whole b e a : Tree) (place jump : ℕ) (jumps jumps' : List ℕ) (s0 s1 s2 s3 : Option Stop) (l0 l1 l2 : List Instr) → Ahead whole (choice place e a b) jumps s0 s1 l0 l1
-    → Writes s1 s2 l1 l2 (link_list place e a (length l1)) → (s2 ≡ None → jump ≡ length l1 + size e + 1 + size a) → (s3 ≡ s2) ⊎ (s3 ≡ ran_out s2) → (s3 ≡ None → jumps' ≡ jumps ++ jump ∷ [])
-    → Ahead whole b jumps' s0 s3 l0 l2
-ahead_on whole b e a place jump jumps jumps' s0 s1 s2 s3 l0 l1 l2 before w at kept more = record {
-  count = before.count + 1;
-  writes = λ n s l v. on_writes n s l v;
-  jumps_are = λ is n. on_jumps is n;
-}
-  where
-    links : List Instr
-    links = link_list place e a (length l1)
+pub was_none : (s2 s3 : Option Stop) → (s3 ≡ s2) ⊎ (s3 ≡ ran_out s2) → s3 ≡ None → s2 ≡ None
+was_none s2 s3 (inl e) is = sym e ∙ is
+was_none None s3 (inr e) is = refl
+was_none (Some s) s3 (inr e) is = let z : Some s ≡ None = sym e ∙ is in absurd (cc)
 
-    w' : Writes s1 s3 l1 l2 (link_list place e a (length l1))
-    w' = kept_writes s1 s2 s3 l1 l2 (link_list place e a (length l1)) kept w
+-- it writes nothing more
+stays : (s s' : Option Stop) (l l' m m' a b : List Instr) → (s ≡ None → ⊥) → Writes s s' l l' a → Writes s' s' m m' b
+stays None s' l l' m m' a b some w = absurd (some refl)
+stays (Some x) s' l l' m m' a b some w = subst (λ (z : Option Stop). Writes z z m m' b) (sym w) refl
 
-    on_writes : (n : ℕ) (s : Option Stop) (l : List Instr) → Writes s3 s l2 l (holes n b (length l2)) → Writes s0 s l0 l (holes (before.count + 1 + n) whole (length l0))
-    on_writes n s l v =
-        let both = and_behind s1 s3 s l1 l2 l links (λ m. holes n b m) w' v in
-        let both' : Writes s1 s l1 l (holes (suc n) (choice place e a b) (length l1)) = subst (λ (k : ℕ). Writes s1 s l1 l (links ++ holes n b (length l1 + k))) (size_link place e a (length l1)) both in
-        let same : before.count + suc n ≡ before.count + 1 + n = omega arith in
-        subst (λ (k : ℕ). Writes s0 s l0 l (holes k whole (length l0))) same (before.writes (suc n) s l both')
+pub never_none : (s2 s3 : Option Stop) → s3 ≡ ran_out s2 → s3 ≡ None → ⊥
+never_none None s3 e is = let z : ran_out None ≡ None = sym e ∙ is in absurd (cc)
+never_none (Some s) s3 e is = let z : Some s ≡ None = sym e ∙ is in absurd (cc)
 
-    on_jumps : s3 ≡ None → (n : ℕ) → jumps' ++ pending n b (length l2) ≡ pending (before.count + 1 + n) whole (length l0)
-    on_jumps is n =
-        let none2 : s2 ≡ None = was_none s2 s3 kept is in
-        let none1 = had_not s1 s2 l1 l2 links w none2 in
-        let long : length l2 ≡ length l1 + link_size e a =
-        ap (λ (l : List Instr). length l) (is_written s1 s2 l1 l2 links w none2) ∙ length-append l1 links ∙ ap (λ (k : ℕ). length l1 + k) (size_link place e a (length l1)) in
-        let same : before.count + suc n ≡ before.count + 1 + n = omega arith in
-        ap (λ (j : List ℕ). j ++ pending n b (length l2)) (more is) ∙ append_assoc jumps (jump ∷ []) (pending n b (length l2))
-        ∙ ap (λ (k : ℕ). jumps ++ (k ∷ pending n b (length l2))) (at none2) ∙ ap (λ (k : ℕ). jumps ++ ((length l1 + size e + 1 + size a) ∷ pending n b k)) long
-        ∙ before.jumps_are none1 (suc n) ∙ ap (λ (k : ℕ). pending k whole (length l0)) same
-      where
-        was_none : (s2 s3 : Option Stop) → (s3 ≡ s2) ⊎ (s3 ≡ ran_out s2) → s3 ≡ None → s2 ≡ None
-        was_none s2 s3 (inl e) is = sym e ∙ is
-        was_none None s3 (inr e) is = refl
-        was_none (Some s) s3 (inr e) is = let z : Some s ≡ None = sym e ∙ is in absurd (cc)
+-- ---- frames
 
--- behind the last link
-pub ends_writes : (whole b : Tree) (jumps : List ℕ) (s0 s1 : Option Stop) (l0 l1 : List Instr) (a : Ahead whole b jumps s0 s1 l0 l1) (s : Option Stop) (l : List Instr)
-    → Writes s1 s l1 l (stretch b (length l1)) → Writes s0 s l0 l (holes a.count whole (length l0))
-ends_writes whole b jumps s0 s1 l0 l1 a s l w =
-    let e : a.count + 0 ≡ a.count = omega arith in subst (λ (k : ℕ). Writes s0 s l0 l (holes k whole (length l0))) e (a.writes 0 s l w)
+-- the instructions of a construct in a range
+pub framed_list : (begin out slots : ℕ) (yields : Bool) (t : Tree) (at : ℕ)
+    → opens slots begin ++ (stretch t (at + length (opens slots begin)) ++ shuts slots yields out) ≡ stretch (framed begin out slots yields t) at
+framed_list begin out zero yields t at = append-nil (stretch t (at + 0)) ∙ ap (λ (n : ℕ). stretch t n) (omega arith)
+framed_list begin out (suc n) yields t at = refl
 
-pub ends_jumps : (whole b : Tree) (jumps : List ℕ) (s0 s1 : Option Stop) (l0 l1 : List Instr) (a : Ahead whole b jumps s0 s1 l0 l1) → s1 ≡ None → jumps ≡ pending a.count whole (length l0)
-ends_jumps whole b jumps s0 s1 l0 l1 a is =
-    let e : a.count + 0 ≡ a.count = omega arith in sym (append-nil jumps) ∙ a.jumps_are is 0 ∙ ap (λ (k : ℕ). pending k whole (length l0)) e
+-- ---- one link
 
--- ---- the jumps patched
+-- a jump at the end of what precedes it
+pub in_front : (o q p ys : List Instr) (u : Instr) → o ++ (q ++ (u ∷ (p ++ ys))) ≡ (o ++ (q ++ (u ∷ p))) ++ ys
+in_front o q p ys u = ap (λ (l : List Instr). o ++ l) (sym (append_assoc q (u ∷ p) ys)) ∙ sym (append_assoc o (q ++ (u ∷ p)) ys)
 
-places_link : (place : ℕ) (e a b : Tree) (at : ℕ) (end : ℕ) (rest : List Instr)
-    → places (link_list place e a at ++ rest) ≡ places (stretch e at ++ (instr place (does.Unless (at + size e + 1 + size a + 1)) ∷ (stretch a (at + size e + 1) ++ (instr place (does.Jump end) ∷ rest))))
-places_link place e a b at end rest =
-    let m = at + size e + 1 in
-    let u = instr place (does.Unless (m + size a + 1)) in
-    let j = instr place (does.Jump 0) in
-    let k = instr place (does.Jump end) in
-    ap places (append_assoc (stretch e at) (u ∷ (stretch a m ++ j ∷ [])) rest ∙ ap (λ (l : List Instr). stretch e at ++ (u ∷ l)) (append_assoc (stretch a m) (j ∷ []) rest))
-    ∙ places-append (stretch e at) (u ∷ (stretch a m ++ j ∷ rest)) ∙ ap (λ (l : List ℕ). places (stretch e at) ++ (place ∷ l)) (places-append (stretch a m) (j ∷ rest))
-    ∙ sym (places-append (stretch e at) (u ∷ (stretch a m ++ k ∷ rest)) ∙ ap (λ (l : List ℕ). places (stretch e at) ++ (place ∷ l)) (places-append (stretch a m) (k ∷ rest)))
+-- a choice is written, once its jump is patched
+choice_patched : (s0 s2 : Option Stop) (l0 l2 o q p ys : List Instr) (u : Instr) (place jump end to : ℕ)
+    → Writes s0 s2 l0 l2 ((o ++ (q ++ (u ∷ (p ++ instr place (does.Jump 0) ∷ [])))) ++ ys)
+    → (s2 ≡ None → jump ≡ length l0 + length (o ++ (q ++ (u ∷ p)))) → (s2 ≡ None → to ≡ end)
+    → Writes s0 s2 l0 (aimed_at l2 jump 0 to) (o ++ (q ++ (u ∷ (p ++ (instr place (does.Jump end) ∷ ys)))))
+choice_patched s0 s2 l0 l2 o q p ys u place jump end to w ej et =
+    let front = o ++ (q ++ (u ∷ p)) in
+    let j0 = instr place (does.Jump 0) in
+    let je = instr place (does.Jump end) in
+    let before : (o ++ (q ++ (u ∷ (p ++ j0 ∷ [])))) ++ ys ≡ front ++ (j0 ∷ ys) = ap (λ (l : List Instr). l ++ ys) (in_front o q p (j0 ∷ []) u) ∙ append_assoc front (j0 ∷ []) ys in
+    let after : o ++ (q ++ (u ∷ (p ++ (je ∷ ys)))) ≡ front ++ (je ∷ ys) = in_front o q p (je ∷ ys) u in
+    let w' = writes-as s0 s2 l0 l2 _ _ before w in
+    let all = patched s0 s2 l0 l2 (aimed_at l2 jump 0 to) (front ++ (j0 ∷ ys)) (front ++ (je ∷ ys)) w' (places-append front (j0 ∷ ys) ∙ sym (places-append front (je ∷ ys)))
+    (λ none is. ap (λ (l : List Instr). aimed_at l jump 0 to) (is ∙ sym (append_assoc l0 front (j0 ∷ ys)))
+    ∙ aim-middle (l0 ++ front) ys j0 jump 0 to (ej none ∙ sym (length-append l0 front))
+    ∙ ap (λ (k : ℕ). (l0 ++ front) ++ (instr place (does.Jump k) ∷ ys)) (et none) ∙ append_assoc l0 front (je ∷ ys)) in
+    writes-as s0 s2 l0 (aimed_at l2 jump 0 to) _ _ (sym after) all
 
--- the places do not depend on the jumps
-pub places_holes : (n : ℕ) (t : Tree) (at : ℕ) → places (holes n t at) ≡ places (stretch t at)
-places_holes zero t at = refl
-places_holes (suc n) (choice place e a b) at =
-    let x = at + size e + 1 + size a + 1 in
-    let same : at + link_size e a ≡ x = omega arith in
-    places-append (link_list place e a at) (holes n b (at + link_size e a)) ∙ ap (λ (l : List ℕ). places (link_list place e a at) ++ l) (places_holes n b (at + link_size e a))
-    ∙ sym (places-append (link_list place e a at) (stretch b (at + link_size e a))) ∙ ap (λ (k : ℕ). places (link_list place e a at ++ stretch b k)) same
-    ∙ places_link place e a b at (x + size b) (stretch b x)
-places_holes (suc n) (operation place op order parts) at = refl
-places_holes (suc n) (together parts) at = refl
-places_holes (suc n) (phrases place before final) at = refl
-places_holes (suc n) (range place out slots yields within) at = refl
-places_holes (suc n) (cases place enquiry arms out) at = refl
-places_holes (suc n) (loop place controls limited counts test body) at = refl
-places_holes (suc n) unbuilt at = refl
-
--- a chain whose jumps are patched is the nested choice
-pub aim_holes : (n : ℕ) (t : Tree) (l0 : List Instr) (end : ℕ) → end ≡ length l0 + size t
-    → aim_all (l0 ++ holes n t (length l0)) (pending n t (length l0)) end ≡ l0 ++ stretch t (length l0)
-aim_holes zero t l0 end is = refl
-aim_holes (suc n) (choice place e a b) l0 end is =
-    let at = length l0 in
-    let m = at + size e + 1 in
+-- a link is the whole choice, once its other part is written and its end has come
+pub close_one : (s0 s1 s2 s3 : Option Stop) (l0 l1 l2 l3 : List Instr) (begin slots place jump : ℕ) (yields : Bool) (e a t : Tree)
+    → Writes s0 s1 l0 l1 (link_list begin slots place e a (length l0)) → (s1 ≡ None → jump ≡ jump_of begin slots e a (length l0))
+    → Writes s1 s2 l1 l2 (stretch t (length l1)) → Writes s2 s3 (aimed_at l2 jump 0 (length l2)) l3 (shuts slots yields place)
+    → Writes s0 s3 l0 l3 (stretch (framed begin place slots yields (choice place e a t)) (length l0))
+close_one s0 s1 s2 s3 l0 l1 l2 l3 begin slots place jump yields e a t w1 ej w2 w3 =
+    let o = opens slots begin in
+    let k = length l0 + length o in
+    let m = k + size e + 1 in
     let x = m + size a + 1 in
-    let q = stretch e at in
+    let q = stretch e k in
     let p = stretch a m in
     let u = instr place (does.Unless x) in
     let j0 = instr place (does.Jump 0) in
-    let je = instr place (does.Jump end) in
-    let k = at + link_size e a in
-    let h = holes n b k in
-    let front = l0 ++ (q ++ u ∷ p) in
-    let s1 = size_stretch e at in
-    let s2 = size_stretch a m in
-    let where_jump : m + size a ≡ length front = omega (arith, length-append l0 (q ++ u ∷ p), length-append q (u ∷ p)) in
-    let as_front : l0 ++ (link_list place e a at ++ h) ≡ front ++ j0 ∷ h =
-    ap (λ (l : List Instr). l0 ++ l) (append_assoc q (u ∷ (p ++ j0 ∷ [])) h ∙ ap (λ (l : List Instr). q ++ (u ∷ l)) (append_assoc p (j0 ∷ []) h) ∙ sym (append_assoc q (u ∷ p) (j0 ∷ h)))
-    ∙ sym (append_assoc l0 (q ++ u ∷ p) (j0 ∷ h)) in
-    let front2 = front ++ je ∷ [] in
-    let long : length front2 ≡ k = omega (arith, length-append front (je ∷ []), where_jump) in
-    let aimed : aimed_at (l0 ++ (link_list place e a at ++ h)) (m + size a) 0 end ≡ front2 ++ h =
-    ap (λ (l : List Instr). aimed_at l (m + size a) 0 end) as_front ∙ aim-middle front h j0 (m + size a) 0 end where_jump ∙ sym (append_assoc front (je ∷ []) h) in
-    let rest = aim_holes n b front2 end (omega arith) in
-    let rest' : aim_all (front2 ++ h) (pending n b k) end ≡ front2 ++ stretch b k = subst (λ (z : ℕ). aim_all (front2 ++ holes n b z) (pending n b z) end ≡ front2 ++ stretch b z) long rest in
-    let same : k ≡ x = omega arith in
-    let last : end ≡ x + size b = omega arith in
-    ap (λ (l : List Instr). aim_all l (pending n b k) end) aimed ∙ rest' ∙ ap (λ (z : ℕ). front2 ++ stretch b z) same
-    ∙ append_assoc front (je ∷ []) (stretch b x) ∙ append_assoc l0 (q ++ u ∷ p) (je ∷ stretch b x)
-    ∙ ap (λ (l : List Instr). l0 ++ l) (append_assoc q (u ∷ p) (je ∷ stretch b x))
-    ∙ ap (λ (z : ℕ). l0 ++ (q ++ (u ∷ (p ++ (instr place (does.Jump z) ∷ stretch b x))))) last
-aim_holes (suc n) (operation place op order parts) l0 end is = refl
-aim_holes (suc n) (together parts) l0 end is = refl
-aim_holes (suc n) (phrases place before final) l0 end is = refl
-aim_holes (suc n) (range place out slots yields within) l0 end is = refl
-aim_holes (suc n) (cases place enquiry arms out) l0 end is = refl
-aim_holes (suc n) (loop place controls limited counts test body) l0 end is = refl
-aim_holes (suc n) unbuilt l0 end is = refl
+    let link = link_list begin slots place e a (length l0) in
+    let se = size_stretch e k in
+    let sa = size_stretch a m in
+    let st = size_stretch t x in
+    let long_up : length (q ++ (u ∷ p)) ≡ size e + 1 + size a = omega (arith, length-append q (u ∷ p), se, sa) in
+    let long_front : length (o ++ (q ++ (u ∷ p))) ≡ length o + (size e + 1 + size a) = length-append o (q ++ (u ∷ p)) ∙ ap (λ (n : ℕ). length o + n) long_up in
+    let long_link : length link ≡ length o + (size e + 1 + size a) + 1 =
+    ap (λ (l : List Instr). length l) (in_front o q p (j0 ∷ []) u) ∙ length-append (o ++ (q ++ (u ∷ p))) (j0 ∷ []) ∙ ap (λ (n : ℕ). n + 1) long_front in
+    let same : length l0 + length link ≡ x = omega (arith, long_link) in
+    let w02 : Writes s0 s2 l0 l2 (link ++ stretch t x) =
+    subst (λ (n : ℕ). Writes s0 s2 l0 l2 (link ++ stretch t n)) same (and_behind s0 s1 s2 l0 l1 l2 link (λ n. stretch t n) w1 w2) in
+    let end_is : s2 ≡ None → length l2 ≡ x + size t =
+    λ none. let is = is_written s0 s2 l0 l2 (link ++ stretch t x) w02 none in
+    omega (arith, ap (λ (l : List Instr). length l) is, length-append l0 (link ++ stretch t x), length-append link (stretch t x), st, long_link) in
+    let jump_is : s2 ≡ None → jump ≡ length l0 + length (o ++ (q ++ (u ∷ p))) = λ none. let j = ej (had_not s1 s2 l1 l2 (stretch t (length l1)) w2 none) in omega (arith, j, long_front) in
+    let closed = choice_patched s0 s2 l0 l2 o q p (stretch t x) u place jump (x + size t) (length l2) w02 jump_is end_is in
+    writes-as s0 s3 l0 l3 _ _ (append_assoc o (stretch (choice place e a t) k) (shuts slots yields place) ∙ framed_list begin place slots yields (choice place e a t) (length l0))
+    (and_behind s0 s2 s3 l0 (aimed_at l2 jump 0 (length l2)) l3 (o ++ stretch (choice place e a t) k) (λ n. shuts slots yields place) closed w3)
 
--- a chain is written, once its jumps are patched
-pub chain_writes : (n : ℕ) (t : Tree) (s0 s1 : Option Stop) (l0 l1 l2 : List Instr) (jumps : List ℕ) (end : ℕ) → Writes s0 s1 l0 l1 (holes n t (length l0)) → (s1 ≡ None → jumps ≡ pending n t (length l0))
-    → end ≡ length l1 → l2 ≡ aim_all l1 jumps end → Writes s0 s1 l0 l2 (stretch t (length l0))
-chain_writes n t (Some s) s1 l0 l1 l2 jumps end w js e e2 = w
-chain_writes n t None (Some s) l0 l1 l2 jumps end w js e e2 =
-    stops-places s (l0 ++ holes n t (length l0)) (l0 ++ stretch t (length l0)) [] w
-    (append-nil _ ∙ places-append l0 (holes n t (length l0)) ∙ ap (λ (l : List ℕ). places l0 ++ l) (places_holes n t (length l0)) ∙ sym (places-append l0 (stretch t (length l0))))
-chain_writes n t None None l0 l1 l2 jumps end w js e e2 =
-    let same = places_holes n t (length l0) in
-    let long : length (holes n t (length l0)) ≡ size t = sym (length_places _) ∙ ap (λ (l : List ℕ). length l) same ∙ length_places _ ∙ size_stretch t (length l0) in
-    let at_end : end ≡ length l0 + size t = e ∙ ap (λ (l : List Instr). length l) w ∙ length-append l0 (holes n t (length l0)) ∙ ap (λ (k : ℕ). length l0 + k) long in
-    e2 ∙ ap (λ (l : List Instr). aim_all l jumps end) w ∙ ap (λ (j : List ℕ). aim_all (l0 ++ holes n t (length l0)) j end) (js refl) ∙ aim_holes n t l0 end at_end
-  where
-    length_places : (l : List Instr) → length (places l) ≡ length l
-    length_places [] = refl
-    length_places (i ∷ l) = ap (λ n. suc n) (length_places l)
+-- ---- all links
+
+-- one choice more is ended
+pub finishes_more : (Wanted : Option Stop → List Instr → Type 0) (os : List Opened) (o : Opened) (s : Option Stop) (l : List Instr)
+    → ((s' : Option Stop) (l' : List Instr) → Closes o s l s' l' → Finishes os Wanted s' l') → Finishes (os ++ o ∷ []) Wanted s l
+finishes_more Wanted [] o s l h = h
+finishes_more Wanted (x ∷ os) o s l h = finishes_more (λ s l. (s' : Option Stop) (l' : List Instr) → Closes x s l s' l' → Wanted s' l') os o s l h
+
+pub finishes_last : (Wanted : Option Stop → List Instr → Type 0) (os : List Opened) (o : Opened) (s s' : Option Stop) (l l' : List Instr) → Finishes (os ++ o ∷ []) Wanted s l
+    → Closes o s l s' l' → Finishes os Wanted s' l'
+finishes_last Wanted [] o s s' l l' h c = h s' l' c
+finishes_last Wanted (x ∷ os) o s s' l l' h c = finishes_last (λ s l. (s' : Option Stop) (l' : List Instr) → Closes x s l s' l' → Wanted s' l') os o s s' l l' h c
+
+-- one link more is written
+pub open_more : (Wanted : Option Stop → List Instr → Type 0) (os os' : List Opened) (begin slots place jump : ℕ) (yields : Bool) (e a t : Tree) (s1 s2 s3 : Option Stop) (l1 l2 : List Instr)
+    → IsOpen Wanted os (framed begin place slots yields (choice place e a t)) s1 l1
+    → Writes s1 s2 l1 l2 (link_list begin slots place e a (length l1)) → (s2 ≡ None → jump ≡ jump_of begin slots e a (length l1))
+    → ((os' ≡ os ++ (record { jump = jump; place = place; slots = slots; yields = yields }) ∷ []) × (s3 ≡ s2)) ⊎ ((os' ≡ os) × (s3 ≡ ran_out s2))
+    → IsOpen Wanted os' t s3 l2
+open_more Wanted os os' begin slots place jump yields e a t s1 s2 s3 l1 l2 before w ej (inl k) =
+    let o : Opened = record { jump = jump; place = place; slots = slots; yields = yields } in
+    let w' = subst (λ (z : Option Stop). Writes s1 z l1 l2 (link_list begin slots place e a (length l1))) (sym k.1) w in
+    λ s l v. subst (λ (z : List Opened). Finishes z Wanted s l) (sym k.0)
+    (finishes_more Wanted os o s l (λ s' l' c. before s' l' (close_one s1 s3 s s' l1 l2 l l' begin slots place jump yields e a t w' (λ none. ej (sym k.1 ∙ none)) v c)))
+open_more Wanted os os' begin slots place jump yields e a t s1 s2 s3 l1 l2 before w ej (inr k) =
+    let stopped = never_none s2 s3 k.1 in
+    let w' = kept_writes s1 s2 s3 l1 l2 (link_list begin slots place e a (length l1)) (inr k.1) w in
+    λ s l v. subst (λ (z : List Opened). Finishes z Wanted s l) (sym k.0)
+    (before s l (close_one s1 s3 s s l1 l2 l l begin slots place jump yields e a t w' (λ none. absurd (stopped none)) v
+    (stays s3 s l2 l (aimed_at l jump 0 (length l)) l (stretch t (length l2)) (shuts slots yields place) stopped v)))

@@ -1,6 +1,7 @@
 -- What each function that writes a construct has written, and what is refused midway.
-use Rattle.std.proofs.Common.{◌≡◌, ◌≢◌, ℕ, zero, suc, ◌+◌, ◌-◌, ◌<◌, Bool, true, false, List, [], ◌∷◌, ◌++◌, length, drop, get_or, refl, sym, ◌∙◌, ap, arith, append_assoc, append-nil, drop-cons, add-one, length-append, None, Some, slice_get}
+use Rattle.std.proofs.Common.{◌≡◌, ◌≢◌, ℕ, zero, suc, ◌+◌, ◌-◌, ◌<◌, Bool, true, false, List, [], ◌∷◌, ◌++◌, length, drop, take, get_or, refl, sym, ◌∙◌, ap, arith, append_assoc, append-nil, drop-cons, add-one, length-append, None, Some, slice_get}
 use Rattle.std.proofs.lemmas.Bool.{false≢true}
+use Rattle.std.proofs.lemmas.List.{take_all}
 use Rattle.std.proofs.lemmas.Option.{same_Some}
 use Rattle.std.specs.Option.{option_map, option_map_or}
 use Rattle.std.specs.Prelude.{if◌then◌else◌}
@@ -161,12 +162,12 @@ only_none f [] n = refl
 only_none f (a ∷ []) n = absurd (n refl)
 only_none f (a ∷ b ∷ ids) n = refl
 
-pub choice_none : (f : ℕ → Tree) (place goal : ℕ) (ids : List ℕ) → length ids ≢ 2 → length ids ≢ 3 → unbuilt ≡ made.choice_of place goal (trees_at f ids)
-choice_none f place goal [] n m = refl
-choice_none f place goal (a ∷ []) n m = refl
-choice_none f place goal (a ∷ b ∷ []) n m = absurd (n refl)
-choice_none f place goal (a ∷ b ∷ c ∷ []) n m = absurd (m refl)
-choice_none f place goal (a ∷ b ∷ c ∷ d ∷ ids) n m = refl
+pub choice_none : (a : Annotated) (f : ℕ → Tree) (place goal : ℕ) (yields : Bool) (ids : List ℕ) → length ids ≢ 2 → length ids ≢ 3 → unbuilt ≡ made.choice_of a f place goal yields ids
+choice_none a f place goal yields [] n m = refl
+choice_none a f place goal yields (x ∷ []) n m = refl
+choice_none a f place goal yields (x ∷ y ∷ []) n m = absurd (n refl)
+choice_none a f place goal yields (x ∷ y ∷ z ∷ []) n m = absurd (m refl)
+choice_none a f place goal yields (x ∷ y ∷ z ∷ u ∷ ids) n m = refl
 
 pub one_part : (ids : List ℕ) → length ids ≡ 1 → ids ≡ get_or ids 0 0 ∷ []
 one_part [] e = absurd (omega arith)
@@ -180,24 +181,31 @@ three_parts (a ∷ b ∷ []) e = absurd (omega arith)
 three_parts (a ∷ b ∷ c ∷ []) e = refl
 three_parts (a ∷ b ∷ c ∷ d ∷ ids) e = absurd (omega arith)
 
+-- those behind the first
+pub rest_parts : (ids : List ℕ) → 0 < length ids → ids ≡ get_or ids 0 0 ∷ take (length ids - 1) (drop 1 ids)
+rest_parts [] some = absurd (omega arith)
+rest_parts (a ∷ ids) some = ap (λ (l : List ℕ). a ∷ l) (sym (take_all (length (a ∷ ids) - 1) ids (omega arith)))
+
 pub some_parts : (ids : List ℕ) → 0 < length ids → ids ≡ get_or ids 0 0 ∷ drop 1 ids
 some_parts [] e = absurd (omega arith)
 some_parts (a ∷ ids) e = refl
 
 -- ---- links of chains
 
-pub choice_two : (f : ℕ → Tree) (place goal : ℕ) (ids : List ℕ) → length ids ≡ 2 → made.choice_of place goal (trees_at f ids) ≡ choice place (f (get_or ids 0 0)) (f (get_or ids 1 0)) (made.left_out place goal)
-choice_two f place goal [] e = absurd (omega arith)
-choice_two f place goal (a ∷ []) e = absurd (omega arith)
-choice_two f place goal (a ∷ b ∷ []) e = refl
-choice_two f place goal (a ∷ b ∷ c ∷ ids) e = absurd (omega arith)
+pub choice_two : (a : Annotated) (f : ℕ → Tree) (place goal : ℕ) (yields : Bool) (ids : List ℕ) → length ids ≡ 2
+    → made.choice_of a f place goal yields ids ≡ made.with_enquiry a f place yields (get_or ids 0 0) (λ e. choice place e (f (get_or ids 1 0)) (made.left_out place goal))
+choice_two a f place goal yields [] e = absurd (omega arith)
+choice_two a f place goal yields (x ∷ []) e = absurd (omega arith)
+choice_two a f place goal yields (x ∷ y ∷ []) e = refl
+choice_two a f place goal yields (x ∷ y ∷ z ∷ ids) e = absurd (omega arith)
 
-pub choice_three : (f : ℕ → Tree) (place goal : ℕ) (ids : List ℕ) → length ids ≡ 3 → made.choice_of place goal (trees_at f ids) ≡ choice place (f (get_or ids 0 0)) (f (get_or ids 1 0)) (f (get_or ids 2 0))
-choice_three f place goal [] e = absurd (omega arith)
-choice_three f place goal (a ∷ []) e = absurd (omega arith)
-choice_three f place goal (a ∷ b ∷ []) e = absurd (omega arith)
-choice_three f place goal (a ∷ b ∷ c ∷ []) e = refl
-choice_three f place goal (a ∷ b ∷ c ∷ d ∷ ids) e = absurd (omega arith)
+pub choice_three : (a : Annotated) (f : ℕ → Tree) (place goal : ℕ) (yields : Bool) (ids : List ℕ) → length ids ≡ 3
+    → made.choice_of a f place goal yields ids ≡ made.with_enquiry a f place yields (get_or ids 0 0) (λ e. choice place e (f (get_or ids 1 0)) (f (get_or ids 2 0)))
+choice_three a f place goal yields [] e = absurd (omega arith)
+choice_three a f place goal yields (x ∷ []) e = absurd (omega arith)
+choice_three a f place goal yields (x ∷ y ∷ []) e = absurd (omega arith)
+choice_three a f place goal yields (x ∷ y ∷ z ∷ []) e = refl
+choice_three a f place goal yields (x ∷ y ∷ z ∷ u ∷ ids) e = absurd (omega arith)
 
 -- ---- loops
 
@@ -252,13 +260,14 @@ pub unless_stands : (a : Annotated) (f : ℕ → Tree) (at : ℕ) (clause : Opti
 unless_stands a f at (Some clause) = asked_end f at (slice_get a.tree.nodes clause) (slice_get a.notes clause)
 unless_stands a f at None = ap (λ n. Some n) (omega arith)
 
+-- the parts of a node that is there
+pub parts_are : (o : Option Node) (ids : List ℕ) → option_map (λ (n : Node). n.parts) o ≡ Some ids → option_map_or (λ (n : Node). n.parts) o [] ≡ ids
+parts_are None ids w = absurd (cc)
+parts_are (Some n) ids w = same_Some n.parts ids w
+
 -- the test of a loop with WHILE
 pub test_is : (a : Annotated) (f : ℕ → Tree) (test : Option ℕ) (part : ℕ) (ids : List ℕ) → test ≡ Some part → option_map (λ (n : Node). n.parts) (slice_get a.tree.nodes part) ≡ Some ids
     → made.test_of a f test ≡ made.enquiry_at a f (made.only_id ids)
 test_is a f test part ids e there =
-    let parts : made.parts_at a part ≡ ids = parts_of (slice_get a.tree.nodes part) there in
+    let parts : made.parts_at a part ≡ ids = parts_are (slice_get a.tree.nodes part) ids there in
     ap (λ (o : Option ℕ). made.test_of a f o) e ∙ ap (λ (l : List ℕ). made.enquiry_at a f (made.only_id l)) parts
-  where
-    parts_of : (o : Option Node) → option_map (λ (n : Node). n.parts) o ≡ Some ids → option_map_or (λ (n : Node). n.parts) o [] ≡ ids
-    parts_of None w = absurd (cc)
-    parts_of (Some n) w = same_Some n.parts ids w

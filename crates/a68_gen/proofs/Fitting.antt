@@ -14,12 +14,12 @@ use Rattle.a68_code.specs.declared.does.Does.TheVariants as does
 use Rattle.a68_elab.proofs.Nodes.{behind_is, tree_of_nodes}
 use Rattle.a68_elab.specs.Constants.{value_in}
 use Rattle.a68_elab.specs.Made as made
-use Rattle.a68_elab.specs.Made.{all_but_last, behind, behind_heap, behind_ref, begins_with, called, coerced, if_first, is_by, is_collateral, is_declarer, is_for, is_from, is_heap, is_one_of, is_to, is_while, isnt, items_at, kind_at, last_tree, leaf, new_name, only, only_id, parts_at, past, printers, spelling_of, standard_of, tag_of, tree_at, trees_at, wholes}
+use Rattle.a68_elab.specs.Made.{all_but_last, before_out, behind, behind_heap, behind_ref, begins_with, called, coerced, if_first, is_by, is_collateral, is_declarer, is_for, is_from, is_heap, is_one_of, is_out, is_to, is_while, isnt, items_at, kind_at, last_tree, leaf, new_name, only, only_id, out_of, parts_at, past, printers, spelling_of, standard_of, tag_of, tree_at, trees_at, wholes}
 use Rattle.a68_elab.specs.Trees.{Order, collateral, serial, Tree, Trees, operation, together, unbuilt, no_trees, ◌and_tree◌, count, Test}
 use Rattle.a68_gen.proofs.Constructs.{count_trees}
 use Rattle.a68_gen.specs.Fits.{Fits, AllFit, TestFits}
 use Rattle.a68_gen.specs.Operands.{FitsModes, FitAll, TestFitsModes}
-use Rattle.a68_runs.specs.Runs.{AllRun, agrees, agrees_at, all_leave, are_phrases, are_values, asks_value, body_runs, call_leaves, choice_runs, control_runs, enquiry_runs, formula_runs, if_so, is_outcome, is_skipped, is_whole, last_outcome, leaves_as, left_by, loop_by_runs, loop_runs, only_outcome, outcome, outcome_at, outcome_by, path_leaves, refers_to_plain, runs, source_runs, test_runs, variable_runs}
+use Rattle.a68_runs.specs.Runs.{AllRun, agrees, agrees_at, all_leave, are_phrases, are_values, asks, asks_value, body_runs, call_leaves, case_runs, choice_runs, control_runs, enquiry_runs, formula_runs, if_so, is_outcome, is_skipped, is_whole, last_outcome, leaves_as, left_by, loop_by_runs, loop_runs, only_outcome, out_runs, outcome, outcome_at, outcome_by, path_leaves, refers_to_plain, runs, source_runs, suits, test_runs, variable_runs}
 use Rattle.a68_gen.specs.Stretches.{does_of}
 use Rattle.a68_runs.proofs.Between.{between-above}
 use Rattle.a68_runs.specs.Unready.{AreThere}
@@ -155,9 +155,9 @@ module _ (ms : List Shape) where
   negated-fits true = refl
   negated-fits false = refl
 
-  in-range-fits : (place slots : ℕ) (gives : Bool) (t : Tree) → IsFit ms gives t → IsFit ms gives (made.in_range place slots gives t)
-  in-range-fits place zero gives t a = a
-  in-range-fits place (suc n) gives t a = record { fits = (refl, a.fits); operands = a.operands }
+  framed-fits : (place out slots : ℕ) (gives : Bool) (t : Tree) → IsFit ms gives t → IsFit ms gives (made.framed place out slots gives t)
+  framed-fits place out zero gives t a = a
+  framed-fits place out (suc n) gives t a = record { fits = (refl, a.fits); operands = a.operands }
 
 -- ---- parts
 
@@ -212,15 +212,16 @@ module _ (a : Annotated) (id end : ℕ) (f : ℕ → Tree) (given : Given a id f
   serial-fits : (wanted : Bool) (place slots : ℕ) (ids : List ℕ) → AllBetween id end ids → IsTrue (are_phrases a wanted ids)
       → IsFit a.modes wanted (made.serial_of place slots wanted (trees_at f ids))
   serial-fits wanted place slots [] b e = absurd (false≢true e)
-  serial-fits wanted place slots (x ∷ xs) b e = in-range-fits a.modes place slots wanted _ (phrases-fit wanted place (x ∷ xs) b e)
+  serial-fits wanted place slots (x ∷ xs) b e = framed-fits a.modes place place slots wanted _ (phrases-fit wanted place (x ∷ xs) b e)
 
   -- ---- rows with parts
 
   formula-fits : (place : ℕ) (op : Option ℕ) (ids : List ℕ) → AllBetween id end ids → IsTrue (formula_runs a op ids) → IsFit a.modes true (made.formula place op (trees_at f ids))
   formula-fits place None ids b e = absurd (false≢true e)
   formula-fits place (Some row) ids b e =
-      let w = first (is_well_made a.modes 0 (does.Apply row)) (are_values a (takes (does.Apply row)) ids) e in
-      let v = second (is_well_made a.modes 0 (does.Apply row)) (are_values a (takes (does.Apply row)) ids) e in
+      let w = first (is_well_made a.modes 0 (does.Apply row)) (are_values a (takes (does.Apply row)) ids && suits a row ids) e in
+      let both = second (is_well_made a.modes 0 (does.Apply row)) (are_values a (takes (does.Apply row)) ids && suits a row ids) e in
+      let v = first (are_values a (takes (does.Apply row)) ids) (suits a row ids) both in
       values-fit (takes (does.Apply row)) true place (apply row) collateral ids b v refl refl w
 
   definition-fits : (place slot : ℕ) (ids : List ℕ) → AllBetween id end ids → IsTrue (is_outcome true (last_outcome a ids))
@@ -267,26 +268,29 @@ module _ (a : Annotated) (id end : ℕ) (f : ℕ → Tree) (given : Given a id f
       (values-fit 2 true place whole collateral ids b (so-holds (are_values a 2 ids) true left e) refl refl refl)
   call-by false false left place items ids bi b e = absurd (cc)
 
-  choice-fits : (place goal : ℕ) (ids : List ℕ) → AllBetween id end ids → IsTrue (choice_runs a goal (not (is_void (shape_at a.modes goal))) ids)
-      → IsFit a.modes (not (is_void (shape_at a.modes goal))) (made.choice_of place goal (trees_at f ids))
-  choice-fits place goal [] b e = absurd (false≢true e)
-  choice-fits place goal (q ∷ []) b e = absurd (false≢true e)
-  choice-fits place goal (q ∷ (t ∷ [])) b e =
-      let wanted = not (is_void (shape_at a.modes goal)) in
-      let skipped = first (is_skipped a goal) (is_outcome true (outcome a q) && is_outcome wanted (outcome a t)) e in
-      let rest = second (is_skipped a goal) (is_outcome true (outcome a q) && is_outcome wanted (outcome a t)) e in
-      let x = given q true b.0 (first (is_outcome true (outcome a q)) (is_outcome wanted (outcome a t)) rest) in
-      let y = given t wanted b.2.0 (second (is_outcome true (outcome a q)) (is_outcome wanted (outcome a t)) rest) in
-      let z = fit-none a.modes wanted place (skip goal) serial refl refl skipped in
-      record { fits = (x.fits, y.fits, z.fits); operands = (x.operands, y.operands, z.operands) }
-  choice-fits place goal (q ∷ (t ∷ (u ∷ []))) b e =
-      let wanted = not (is_void (shape_at a.modes goal)) in
-      let rest = second (is_outcome true (outcome a q)) (is_outcome wanted (outcome a t) && is_outcome wanted (outcome a u)) e in
-      let x = given q true b.0 (first (is_outcome true (outcome a q)) (is_outcome wanted (outcome a t) && is_outcome wanted (outcome a u)) e) in
-      let y = given t wanted b.2.0 (first (is_outcome wanted (outcome a t)) (is_outcome wanted (outcome a u)) rest) in
-      let z = given u wanted b.2.2.0 (second (is_outcome wanted (outcome a t)) (is_outcome wanted (outcome a u)) rest) in
-      record { fits = (x.fits, y.fits, z.fits); operands = (x.operands, y.operands, z.operands) }
-  choice-fits place goal (q ∷ (t ∷ (u ∷ (v ∷ ids)))) b e = absurd (false≢true e)
+  before-fits : (wanted : Bool) (ids : List ℕ) → AllBetween id end ids → IsTrue (all_leave a wanted (before_out a ids)) → AreFit a.modes wanted (trees_at f (before_out a ids))
+  before-fits wanted ids b e = all-fit wanted (before_out a ids) (before-between ids b) e
+    where
+      one-between : (t : Bool) (x : ℕ) → AllBetween id end (x ∷ []) → AllBetween id end (if t then [] else x ∷ [])
+      one-between true x b = tt
+      one-between false x b = b
+
+      before-between : (ids : List ℕ) → AllBetween id end ids → AllBetween id end (before_out a ids)
+      before-between [] b = b
+      before-between (x ∷ []) b = one-between (is_out (kind_at a x)) x b
+      before-between (x ∷ (y ∷ ids)) b = (b.0, b.1, before-between (y ∷ ids) b.2)
+
+  -- the part for no number, or the skip in its place
+  out-fits : (place goal : ℕ) (ids : List ℕ) → AllBetween id end ids → IsTrue (out_runs a goal (not (is_void (shape_at a.modes goal))) (out_of a ids))
+      → IsFit a.modes (not (is_void (shape_at a.modes goal))) (option_map_or f (out_of a ids) (made.left_out place goal))
+  out-fits place goal [] b e = fit-none a.modes (not (is_void (shape_at a.modes goal))) place (skip goal) serial refl refl e
+  out-fits place goal (x ∷ []) b e = go (is_out (kind_at a x)) e
+    where
+      go : (t : Bool) → IsTrue (out_runs a goal (not (is_void (shape_at a.modes goal))) (if t then Some x else None))
+          → IsFit a.modes (not (is_void (shape_at a.modes goal))) (option_map_or f (if t then Some x else None) (made.left_out place goal))
+      go true e = given x (not (is_void (shape_at a.modes goal))) b.0 e
+      go false e = fit-none a.modes (not (is_void (shape_at a.modes goal))) place (skip goal) serial refl refl e
+  out-fits place goal (x ∷ (y ∷ ids)) b e = out-fits place goal (y ∷ ids) b.2 e
 
   collateral-fits : (is_none : Bool) (ids : List ℕ) → AllBetween id end ids → IsTrue (is_none && all_leave a false ids) → IsFit a.modes false (made.collateral_of is_none (trees_at f ids))
   collateral-fits true ids b e = let all = all-fit false ids b e in record { fits = (refl, all.fits); operands = all.operands }
@@ -415,6 +419,57 @@ module _ (a : Annotated) (there : AreThere a (length a.tree.nodes)) (nodes : Hol
   nothing-fits : (left : Bool) → Some false ≡ Some left → IsFit a.modes left (together no_trees)
   nothing-fits left e = subst (λ g. IsFit a.modes g (together no_trees)) (same_Some false left e) (record { fits = (refl, tt); operands = tt })
 
+  -- ---- choices
+
+  -- what an enquiry begins fits, where it does for each enquiry that fits
+  begun-by : (q out : ℕ) (wanted : Bool) (o : Option Node) (go : Tree → Tree) → id < q → slice_get a.tree.nodes q ≡ o → IsTrue (are_phrases a true (option_map_or (λ (n : Node). n.parts) o []))
+      → ((t : Tree) → IsFit a.modes true t → IsFit a.modes wanted (go t)) → IsFit a.modes wanted (made.begun_by f out wanted o (slice_get a.notes q) go)
+  begun-by q out wanted None go below is e fit = absurd (false≢true e)
+  begun-by q out wanted (Some n) go below is e fit =
+      let t = there q (slice_get_within a.tree.nodes q n is) in
+      let parts : AllBetween q (length a.tree.nodes) n.parts = subst (λ (m : Node). AllBetween q (length a.tree.nodes) m.parts) (same_Some t.node n (sym t.is ∙ is)) t.behind in
+      let x = phrases-fit a id (length a.tree.nodes) f given true n.span.from n.parts (between-above id q (length a.tree.nodes) n.parts below parts) e in
+      subst (λ (m : Option Note). IsFit a.modes wanted (made.begun_by f out wanted (Some n) m go)) (sym t.noted)
+      (framed-fits a.modes n.span.from out t.note.slots wanted (go (made.phrases_of n.span.from (trees_at f n.parts))) (fit _ x))
+
+  with-enquiry-fits : (q out : ℕ) (wanted : Bool) (go : Tree → Tree) → id < q → IsTrue (asks a q) → ((t : Tree) → IsFit a.modes true t → IsFit a.modes wanted (go t))
+      → IsFit a.modes wanted (made.with_enquiry a f out wanted q go)
+  with-enquiry-fits q out wanted go below e fit = begun-by q out wanted (slice_get a.tree.nodes q) go below refl e fit
+
+  choice-fits : (place goal : ℕ) (ids : List ℕ) → AllBetween id (length a.tree.nodes) ids → IsTrue (choice_runs a goal (not (is_void (shape_at a.modes goal))) ids)
+      → IsFit a.modes (not (is_void (shape_at a.modes goal))) (made.choice_of a f place goal (not (is_void (shape_at a.modes goal))) ids)
+  choice-fits place goal [] b e = absurd (false≢true e)
+  choice-fits place goal (q ∷ []) b e = absurd (false≢true e)
+  choice-fits place goal (q ∷ (t ∷ [])) b e =
+      let wanted = not (is_void (shape_at a.modes goal)) in
+      let skipped = first (is_skipped a goal) (asks a q && is_outcome wanted (outcome a t)) e in
+      let rest = second (is_skipped a goal) (asks a q && is_outcome wanted (outcome a t)) e in
+      let y = given t wanted b.2.0 (second (asks a q) (is_outcome wanted (outcome a t)) rest) in
+      let z = fit-none a.modes wanted place (skip goal) serial refl refl skipped in
+      with-enquiry-fits q place wanted _ b.0 (first (asks a q) (is_outcome wanted (outcome a t)) rest)
+      (λ u x. record { fits = (x.fits, y.fits, z.fits); operands = (x.operands, y.operands, z.operands) })
+  choice-fits place goal (q ∷ (t ∷ (o ∷ []))) b e =
+      let wanted = not (is_void (shape_at a.modes goal)) in
+      let rest = second (asks a q) (is_outcome wanted (outcome a t) && is_outcome wanted (outcome a o)) e in
+      let y = given t wanted b.2.0 (first (is_outcome wanted (outcome a t)) (is_outcome wanted (outcome a o)) rest) in
+      let z = given o wanted b.2.2.0 (second (is_outcome wanted (outcome a t)) (is_outcome wanted (outcome a o)) rest) in
+      with-enquiry-fits q place wanted _ b.0 (first (asks a q) (is_outcome wanted (outcome a t) && is_outcome wanted (outcome a o)) e)
+      (λ u x. record { fits = (x.fits, y.fits, z.fits); operands = (x.operands, y.operands, z.operands) })
+  choice-fits place goal (q ∷ (t ∷ (u ∷ (v ∷ ids)))) b e = absurd (false≢true e)
+
+  case-fits : (place goal : ℕ) (ids : List ℕ) → AllBetween id (length a.tree.nodes) ids → IsTrue (case_runs a goal (not (is_void (shape_at a.modes goal))) ids)
+      → IsFit a.modes (not (is_void (shape_at a.modes goal))) (made.case_of a f place goal (not (is_void (shape_at a.modes goal))) ids)
+  case-fits place goal [] b e = absurd (false≢true e)
+  case-fits place goal (q ∷ ids) b e =
+      let wanted = not (is_void (shape_at a.modes goal)) in
+      let units = all_leave a wanted (before_out a ids) in
+      let out = out_runs a goal wanted (out_of a ids) in
+      let rest = second (asks a q) (units && out) e in
+      let y = before-fits a id (length a.tree.nodes) f given wanted ids b.2 (first units out rest) in
+      let z = out-fits a id (length a.tree.nodes) f given place goal ids b.2 (second units out rest) in
+      with-enquiry-fits q place wanted _ b.0 (first (asks a q) (units && out) e)
+      (λ u x. record { fits = (x.fits, y.fits, z.fits); operands = (x.operands, y.operands, z.operands) })
+
   -- ---- nodes
 
   items-between : (ids : List ℕ) → AllBetween id (length a.tree.nodes) ids → AllBetween id (length a.tree.nodes) (items_at a ids)
@@ -482,7 +537,9 @@ module _ (a : Annotated) (there : AreThere a (length a.tree.nodes)) (nodes : Hol
   made-fits node note left kind.By b e = only-fits a id (length a.tree.nodes) f given left node.parts b e
   made-fits node note left kind.To b e = only-fits a id (length a.tree.nodes) f given left node.parts b e
   made-fits node note left kind.Conditional b e =
-      by-so (choice_runs a note.goal (asks_value a note) node.parts) (asks_value a note) left _ e (choice-fits a id (length a.tree.nodes) f given node.span.from note.goal node.parts b)
+      by-so (choice_runs a note.goal (asks_value a note) node.parts) (asks_value a note) left _ e (choice-fits node.span.from note.goal node.parts b)
+  made-fits node note left kind.Case b e =
+      by-so (case_runs a note.goal (asks_value a note) node.parts) (asks_value a note) left _ e (case-fits node.span.from note.goal node.parts b)
   made-fits node note left kind.Loop b e = by-so (loop_runs a node.parts) false left _ e (loop-fits node.span.from node.parts b)
   made-fits node note left _ b e = absurd (cc)
 

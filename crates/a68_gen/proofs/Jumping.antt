@@ -1,5 +1,5 @@
 -- Choices and loops, step by step.
-use Rattle.std.proofs.Common.{Bool, ◌≡◌, ℕ, ◌+◌, List, [], ◌∷◌, ◌++◌, length, refl, sym, ◌∙◌, ap, subst, arith, length-append, None, Some}
+use Rattle.std.proofs.Common.{Bool, ◌≡◌, ℕ, ◌+◌, List, [], ◌∷◌, ◌++◌, length, refl, sym, ◌∙◌, ap, subst, arith, append_assoc, length-append, None, Some}
 use Rattle.std.specs.Option.{is_some}
 use Rattle.std.specs.declared.option.Option.{Option}
 use Rattle.a68_base.specs.declared.refusal.Stop.{Stop}
@@ -7,11 +7,11 @@ use Rattle.a68_code.specs.declared.code.Instr.{Instr}
 use Rattle.a68_code.specs.declared.does.Does.TheVariants as does
 use Rattle.a68_elab.specs.Made.{controls_of}
 use Rattle.a68_elab.specs.Trees as trees
-use Rattle.a68_elab.specs.Trees.{Tree, Trees, Test, depth_of}
+use Rattle.a68_elab.specs.Trees.{Tree, Trees, Test, while_in, depth_of}
 use Rattle.a68_builder.specs.Aiming.{aimed_at}
-use Rattle.a68_gen.specs.Chains.{link_list}
-use Rattle.a68_gen.specs.Listing.{instr, indexes, leaves, limits, size, sizes, stretch, stretches, test_size, test_stretch}
-use Rattle.a68_gen.specs.Loops.{counted, unless_at}
+use Rattle.a68_gen.specs.Chains.{jump_of, link_list}
+use Rattle.a68_gen.specs.Listing.{instr, indexes, leaves, limits, opens, size, sizes, stretch, stretches, test_size, test_stretch}
+use Rattle.a68_gen.specs.Loops.{asked, counted, unless_at}
 use Rattle.a68_gen.proofs.Sizes.{size_leaves, size_stretch, size_stretches, size_test}
 use Rattle.a68_gen.specs.Writing.{Writes}
 use Rattle.a68_gen.proofs.Patching.{link_writes, aimed_some, front, front_writes, in_order, tail_of}
@@ -26,39 +26,47 @@ long : (l0 l1 a : List Instr) → l1 ≡ l0 ++ a → length l1 ≡ length l0 + l
 long l0 l1 a e = ap (λ (l : List Instr). length l) e ∙ length-append l0 a
 
 -- a link of a chain, step by step
-pub link_all : (s0 s1 s2 s3 s4 s5 : Option Stop) (l0 l1 l2 l3 l4 l5 : List Instr) (place u x : ℕ) (e a : Tree)
-    → Writes s0 s1 l0 l1 (stretch e (length l0)) → u ≡ length l1 → Writes s1 s2 l1 l2 (instr place (does.Unless 0) ∷ []) → Writes s2 s3 l2 l3 (stretch a (length l2))
+pub link_all : (s0 s1 s2 s3 s4 s5 : Option Stop) (l0 l1 l2 l3 l4 l5 : List Instr) (begin slots place u x : ℕ) (e a : Tree)
+    → Writes s0 s1 l0 l1 (asked (while_in begin slots e) (length l0)) → u ≡ length l1 → Writes s1 s2 l1 l2 (instr place (does.Unless 0) ∷ []) → Writes s2 s3 l2 l3 (stretch a (length l2))
     → Writes s3 s4 l3 l4 (instr place (does.Jump 0) ∷ []) → x ≡ length l4 → l5 ≡ aimed_at l4 u 0 x → s5 ≡ s4
-    → Writes s0 s5 l0 l5 (link_list place e a (length l0))
-link_all s0 s1 s2 s3 s4 s5 l0 l1 l2 l3 l4 l5 place u x e a w1 eu w2 w3 w4 ex e5 t5 =
-    let at = length l0 in
-    let q = stretch e at in
+    → Writes s0 s5 l0 l5 (link_list begin slots place e a (length l0))
+link_all s0 s1 s2 s3 s4 s5 l0 l1 l2 l3 l4 l5 begin slots place u x e a w1 eu w2 w3 w4 ex e5 t5 =
+    let o = opens slots begin in
+    let at = length l0 + length o in
+    let q = o ++ stretch e at in
     let m = at + size e + 1 in
     let t = stretch a m in
     let xs = m + size a + 1 in
     let u0 = instr place (does.Unless 0) in
+    let ux = instr place (does.Unless xs) in
     let j0 = instr place (does.Jump 0) in
+    let long_q : length q ≡ length o + size e = length-append o (stretch e at) ∙ ap (λ (n : ℕ). length o + n) (size_stretch e at) in
+    let long_t = size_stretch a m in
     let w24 = and_behind s2 s3 s4 l2 l3 l4 (stretch a (length l2)) (λ n. j0 ∷ []) w3 w4 in
     let w14 = and_behind s1 s2 s4 l1 l2 l4 (u0 ∷ []) (λ n. stretch a n ++ j0 ∷ []) w2 w24 in
     let w04' = and_behind s0 s1 s4 l0 l1 l4 q (λ n. u0 ∷ (stretch a (n + 1) ++ j0 ∷ [])) w1 w14 in
-    let w04 : Writes s0 s4 l0 l4 (q ++ u0 ∷ (t ++ j0 ∷ [])) = subst (λ (k : ℕ). Writes s0 s4 l0 l4 (q ++ u0 ∷ (stretch a (at + k + 1) ++ j0 ∷ []))) (size_stretch e at) w04' in
-    let n1 : s4 ≡ None → u ≡ at + length q = λ n. eu ∙ long l0 l1 q (is_written s0 s1 l0 l1 q w1 (had_not s1 s4 l1 l4 _ w14 n)) in
+    let same : length l0 + length q + 1 ≡ m = omega (arith, long_q) in
+    let w04 : Writes s0 s4 l0 l4 (q ++ u0 ∷ (t ++ j0 ∷ [])) = subst (λ (k : ℕ). Writes s0 s4 l0 l4 (q ++ u0 ∷ (stretch a k ++ j0 ∷ []))) same w04' in
+    let n1 : s4 ≡ None → u ≡ length l0 + length q = λ n. eu ∙ long l0 l1 q (is_written s0 s1 l0 l1 q w1 (had_not s1 s4 l1 l4 _ w14 n)) in
     let n4 : s4 ≡ None → length l4 ≡ xs =
-    λ n. let k = long l0 l4 (q ++ u0 ∷ (t ++ j0 ∷ [])) (is_written s0 s4 l0 l4 (q ++ u0 ∷ (t ++ j0 ∷ [])) w04 n) in let s1 = size_stretch e at in let s2 = size_stretch a m in
-    omega (arith, k, length-append q (u0 ∷ (t ++ j0 ∷ [])), length-append t (j0 ∷ [])) in
-    subst (λ (s : Option Stop). Writes s0 s l0 l5 (link_list place e a at)) (sym t5) (link_writes s0 s4 l0 l4 l5 q t place u x xs w04 n1 (λ n. ex ∙ n4 n) e5)
+    λ n. let k = long l0 l4 (q ++ u0 ∷ (t ++ j0 ∷ [])) (is_written s0 s4 l0 l4 (q ++ u0 ∷ (t ++ j0 ∷ [])) w04 n) in
+    omega (arith, k, length-append q (u0 ∷ (t ++ j0 ∷ [])), length-append t (j0 ∷ []), long_q, long_t) in
+    let w05 = link_writes s0 s4 l0 l4 l5 q t place u x xs w04 n1 (λ n. ex ∙ n4 n) e5 in
+    writes-as s0 s5 l0 l5 _ _ (append_assoc o (stretch e at) (ux ∷ (t ++ j0 ∷ [])))
+    (subst (λ (s : Option Stop). Writes s0 s l0 l5 (q ++ ux ∷ (t ++ j0 ∷ []))) (sym t5) w05)
 
 -- where its jump to the end stands
-pub link_jump : (s0 s1 s2 s3 : Option Stop) (l0 l1 l2 l3 : List Instr) (place j : ℕ) (e a : Tree) → Writes s0 s1 l0 l1 (stretch e (length l0)) → Writes s1 s2 l1 l2 (instr place (does.Unless 0) ∷ [])
-    → Writes s2 s3 l2 l3 (stretch a (length l2)) → j ≡ length l3 → s3 ≡ None → j ≡ length l0 + size e + 1 + size a
-link_jump s0 s1 s2 s3 l0 l1 l2 l3 place j e a w1 w2 w3 ej n =
+pub link_jump : (s0 s1 s2 s3 : Option Stop) (l0 l1 l2 l3 : List Instr) (begin slots place j : ℕ) (e a : Tree) → Writes s0 s1 l0 l1 (asked (while_in begin slots e) (length l0))
+    → Writes s1 s2 l1 l2 (instr place (does.Unless 0) ∷ []) → Writes s2 s3 l2 l3 (stretch a (length l2)) → j ≡ length l3 → s3 ≡ None → j ≡ jump_of begin slots e a (length l0)
+link_jump s0 s1 s2 s3 l0 l1 l2 l3 begin slots place j e a w1 w2 w3 ej n =
     let n2 = had_not s2 s3 l2 l3 _ w3 n in
     let n1 = had_not s1 s2 l1 l2 _ w2 n2 in
-    let k1 = long l0 l1 (stretch e (length l0)) (is_written s0 s1 l0 l1 _ w1 n1) in
+    let o = opens slots begin in
+    let k1 = long l0 l1 (asked (while_in begin slots e) (length l0)) (is_written s0 s1 l0 l1 _ w1 n1) in
     let k2 = long l1 l2 (instr place (does.Unless 0) ∷ []) (is_written s1 s2 l1 l2 _ w2 n2) in
     let k3 = long l2 l3 (stretch a (length l2)) (is_written s2 s3 l2 l3 _ w3 n) in
-    let s1 = size_stretch e (length l0) in let s2 = size_stretch a (length l2) in
-    omega arith
+    let se = size_stretch e (length l0 + length o) in let sa = size_stretch a (length l2) in
+    omega (arith, ej, k1, k2, k3, se, sa, length-append o (stretch e (length l0 + length o)))
 
 -- a loop in one piece
 loop_form : (at place : ℕ) (controls : Trees) (limited counts : Bool) (test : Test) (body : Tree) (frames : ℕ) → frames ≡ depth_of counts test → (

@@ -8,6 +8,7 @@ pub mod Heights
 pub mod Jumping
 pub mod Linking
 pub mod Listed
+pub mod Numbering
 pub mod Patching
 pub mod Places
 pub mod Refusing

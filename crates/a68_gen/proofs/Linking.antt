@@ -1,46 +1,85 @@
 -- The next choice of a chain.
-use Rattle.std.proofs.Common.{◌≡◌, ◌<◌, ℕ, List, [], sym, ◌∙◌, ap, subst, None, Some, slice_get, refl}
-use Rattle.std.specs.Option.{option_map_or}
-use Rattle.std.specs.Prelude.{IfSome, MatchOption}
+use Rattle.std.proofs.Common.{◌≡◌, ◌<◌, Bool, ℕ, List, [], ◌∷◌, length, sym, ◌∙◌, ap, subst, None, Some, slice_get, refl}
+use Rattle.std.specs.Option.{option_map, option_map_or}
+use Rattle.std.specs.Prelude.{IfSome, MatchOption, not}
 use Rattle.std.specs.declared.option.Option.{Option}
 use Rattle.a68_annot.specs.declared.annotated.Annotated.{Annotated}
 use Rattle.a68_annot.specs.declared.note.Note.{Note}
 use Rattle.a68_elab.proofs.Nodes.{tree_of_nodes, behind_is, behind_all}
-use Rattle.a68_elab.specs.Made.{behind, choice_of, coerced, left_out, made, tree_at, trees_at}
-use Rattle.a68_elab.specs.Trees.{Tree, Trees, choice, unbuilt}
-use Rattle.a68_gen.specs.Chains.{IsWithin, link_tree}
+use Rattle.a68_elab.specs.Made.{before_out, begun_by, behind, case_of, choice_of, coerced, framed, left_out, made, out_of, parts_at, phrases_of, tree_at, trees_at}
+use Rattle.a68_elab.specs.Trees.{Tree, Trees, cases, choice, unbuilt}
+use Rattle.a68_gen.specs.Chains.{enquiry_tree, IsWithin, link_tree, other_tree}
 use Rattle.a68_gen.specs.declared.chains.Link.{Link}
+use Rattle.a68_modes.specs.Nodes.{shape_at, is_void}
 use Rattle.a68_modes.specs.declared.coercion.Coercion.{Coercion}
+use Rattle.a68_gen.proofs.Constructs.{parts_are}
+use Rattle.a68_runs.proofs.Between.{between-above}
 use Rattle.a68_tree.specs.Trees.{AllBetween}
 use Rattle.a68_tree.specs.declared.kind.NodeKind.{NodeKind}
 use Rattle.a68_tree.specs.declared.kind.NodeKind.TheVariants as kind
 use Rattle.a68_tree.specs.declared.node.Node.{Node}
 
 -- the choice of a node is made of the trees behind it
-other_behind : (id count place goal : ℕ) (f : ℕ → Tree) (o : Option ℕ) → IfSome o (λ p. (id < p) × (p < count)) → option_map_or (behind id f) o (left_out place goal) ≡ option_map_or f o (left_out place goal)
+pub other_behind : (id count place goal : ℕ) (f : ℕ → Tree) (o : Option ℕ) → IfSome o (λ p. (id < p) × (p < count)) → option_map_or (behind id f) o (left_out place goal) ≡ option_map_or f o (left_out place goal)
 other_behind id count place goal f None h = refl
 other_behind id count place goal f (Some p) h = behind_is id p f h.0
 
-pub link_behind : (id count : ℕ) (f : ℕ → Tree) (l : Link) → IsWithin count l → l.id ≡ id → link_tree (behind id f) l ≡ link_tree f l
-link_behind id count f l within same =
-    let e : id < l.enquiry = subst (λ (n : ℕ). n < l.enquiry) same within.enquiry.0 in
-    let p : id < l.part = subst (λ (n : ℕ). n < l.part) same within.part.0 in
-    let o : IfSome l.other (λ p. (id < p) × (p < count)) = subst (λ (n : ℕ). IfSome l.other (λ p. (n < p) × (p < count))) same within.other in
-    ap (λ (t : Tree). choice l.place t (behind id f l.part) (option_map_or (behind id f) l.other (left_out l.place l.goal))) (behind_is id l.enquiry f e)
-    ∙ ap (λ (t : Tree). choice l.place (f l.enquiry) t (option_map_or (behind id f) l.other (left_out l.place l.goal))) (behind_is id l.part f p)
-    ∙ ap (λ (t : Tree). choice l.place (f l.enquiry) (f l.part) t) (other_behind id count l.place l.goal f l.other o)
+pub link_behind : (a : Annotated) (id : ℕ) (f : ℕ → Tree) (l : Link) → IsWithin a l → l.id ≡ id → link_tree a (behind id f) l ≡ link_tree a f l
+link_behind a id f l within same =
+    let n = length a.tree.nodes in
+    let e : id < l.enquiry = subst (λ (k : ℕ). k < l.enquiry) same within.enquiry.0 in
+    let p : id < l.part = subst (λ (k : ℕ). k < l.part) same within.part.0 in
+    let o : IfSome l.other (λ p. (id < p) × (p < n)) = subst (λ (k : ℕ). IfSome l.other (λ p. (k < p) × (p < n))) same within.other in
+    let ids = parts_at a l.enquiry in
+    let g = behind id f in
+    let whole : Tree → Tree → Tree → Tree = λ x y z. framed l.at l.place l.slots l.yields (choice l.place x y z) in
+    ap (λ (ts : Trees). whole (phrases_of l.at ts) (g l.part) (other_tree g l)) (behind_all id n f ids (between-above id l.enquiry n ids e within.phrases))
+    ∙ ap (λ (t : Tree). whole (enquiry_tree a f l) t (other_tree g l)) (behind_is id l.part f p)
+    ∙ ap (λ (t : Tree). whole (enquiry_tree a f l) (f l.part) t) (other_behind id n l.place l.goal f l.other o)
 
 -- the tree of a node that is a choice without coercions
-pub next_tree : (program : Annotated) (id count : ℕ) (node : Node) (note : Note) (o : Option Link) (place goal : ℕ) (ids : List ℕ) → slice_get program.tree.nodes id ≡ Some node → slice_get program.notes id ≡ Some note
-    → AllBetween id count node.parts → node.kind ≡ kind.Conditional → note.path ≡ [] → place ≡ node.span.from → goal ≡ note.goal → ids ≡ node.parts
-    → MatchOption o (choice_of place goal (trees_at (tree_at program) ids) ≡ unbuilt) (λ l. choice_of place goal (trees_at (tree_at program) ids) ≡ link_tree (tree_at program) l)
-    → IfSome o (λ l. l.id ≡ id) → IfSome o (λ l. tree_at program l.id ≡ link_tree (tree_at program) l)
-next_tree program id count node note None place goal ids e f between is_choice bare at asked these m same = tt
-next_tree program id count node note (Some l) place goal ids e f between is_choice bare at asked these m same =
-    let ts = trees_at (tree_at program) node.parts in
+pub next_tree : (program : Annotated) (id : ℕ) (node : Node) (note : Note) (o : Option Link) (place goal : ℕ) (ids : List ℕ) → slice_get program.tree.nodes id ≡ Some node
+    → slice_get program.notes id ≡ Some note → node.kind ≡ kind.Conditional → note.path ≡ [] → place ≡ node.span.from → goal ≡ note.goal → ids ≡ node.parts
+    → ((f : ℕ → Tree) → MatchOption o (choice_of program f place goal (not (is_void (shape_at program.modes goal))) ids ≡ unbuilt)
+    (λ l. choice_of program f place goal (not (is_void (shape_at program.modes goal))) ids ≡ link_tree program f l))
+    → IfSome o (IsWithin program) → IfSome o (λ l. l.id ≡ id) → IfSome o (λ l. tree_at program l.id ≡ link_tree program (tree_at program) l)
+next_tree program id node note None place goal ids e f is_choice bare at asked these m within same = tt
+next_tree program id node note (Some l) place goal ids e f is_choice bare at asked these m within same =
     let g = behind id (tree_at program) in
+    let of : ℕ → ℕ → List ℕ → Tree = λ p q is. choice_of program g p q (not (is_void (shape_at program.modes q))) is in
     ap (tree_at program) same ∙ tree_of_nodes program id node note e f
     ∙ ap (λ (path : List Coercion). coerced program.modes node.span.from note.mode path (made program g node note node.kind)) bare
     ∙ ap (λ (k : NodeKind). made program g node note k) is_choice
-    ∙ ap (λ (us : Trees). choice_of node.span.from note.goal us) (behind_all id count (tree_at program) node.parts between)
-    ∙ ap (λ (p : ℕ). choice_of p note.goal ts) (sym at) ∙ ap (λ (g : ℕ). choice_of place g ts) (sym asked) ∙ ap (λ (p : List ℕ). choice_of place goal (trees_at (tree_at program) p)) (sym these) ∙ m
+    ∙ ap (λ (p : ℕ). of p note.goal node.parts) (sym at) ∙ ap (λ (q : ℕ). of place q node.parts) (sym asked) ∙ ap (λ (is : List ℕ). of place goal is) (sym these) ∙ m g
+    ∙ link_behind program id (tree_at program) l within same
+
+-- the enquiry of a node with these phrases is made of the trees behind it
+pub enquiry_is : (a : Annotated) (enquiry at : ℕ) (ids : List ℕ) → option_map (λ (n : Node). n.parts) (slice_get a.tree.nodes enquiry) ≡ Some ids → AllBetween enquiry (length a.tree.nodes) ids
+    → phrases_of at (trees_at (behind enquiry (tree_at a)) ids) ≡ phrases_of at (trees_at (tree_at a) (parts_at a enquiry))
+enquiry_is a enquiry at ids is all =
+    ap (λ (ts : Trees). phrases_of at ts) (behind_all enquiry (length a.tree.nodes) (tree_at a) ids all)
+    ∙ ap (λ (l : List ℕ). phrases_of at (trees_at (tree_at a) l)) (sym (parts_are (slice_get a.tree.nodes enquiry) ids is))
+
+-- a choice by a number is made of the trees behind its node
+pub case_is : (a : Annotated) (id place goal : ℕ) (yields : Bool) (e : ℕ) (rest ids units : List ℕ) (other : Option ℕ) (node : Node) (note : Note) → slice_get a.tree.nodes e ≡ Some node
+    → slice_get a.notes e ≡ Some note → option_map (λ (n : Node). n.parts) (slice_get a.tree.nodes e) ≡ Some ids → AllBetween e (length a.tree.nodes) ids → id < e
+    → units ≡ before_out a rest → other ≡ out_of a rest → IfSome other (λ p. (id < p) × (p < length a.tree.nodes))
+    → framed node.span.from place note.slots yields (cases place (phrases_of node.span.from (trees_at (behind e (tree_at a)) ids)) (trees_at (behind id (tree_at a)) units)
+    (option_map_or (tree_at a) other (left_out place goal)))
+    ≡ case_of a (behind id (tree_at a)) place goal yields (e ∷ rest)
+case_is a id place goal yields e rest ids units other node note is noted parts all below eu eo within =
+    let n = length a.tree.nodes in
+    let f = tree_at a in
+    let g = behind id f in
+    let at = node.span.from in
+    let whole : Trees → Trees → Tree → Tree = λ ph us o. framed at place note.slots yields (cases place (phrases_of at ph) us o) in
+    let same : node.parts ≡ ids = ap (λ (o : Option Node). option_map_or (λ (n : Node). n.parts) o []) (sym is) ∙ parts_are (slice_get a.tree.nodes e) ids parts in
+    let phrases : trees_at (behind e f) ids ≡ trees_at g node.parts =
+    behind_all e n f ids all ∙ sym (behind_all id n f ids (between-above id e n ids below all)) ∙ ap (λ (l : List ℕ). trees_at g l) (sym same) in
+    let out : option_map_or f other (left_out place goal) ≡ option_map_or g (out_of a rest) (left_out place goal) =
+    sym (other_behind id n place goal f other within) ∙ ap (λ (o : Option ℕ). option_map_or g o (left_out place goal)) eo in
+    let go : Tree → Tree = λ q. cases place q (trees_at g (before_out a rest)) (option_map_or g (out_of a rest) (left_out place goal)) in
+    ap (λ (ph : Trees). whole ph (trees_at g units) (option_map_or f other (left_out place goal))) phrases
+    ∙ ap (λ (us : List ℕ). whole (trees_at g node.parts) (trees_at g us) (option_map_or f other (left_out place goal))) eu
+    ∙ ap (λ (o : Tree). whole (trees_at g node.parts) (trees_at g (before_out a rest)) o) out
+    ∙ sym (ap (λ (o : Option Node). begun_by g place yields o (slice_get a.notes e) go) is ∙ ap (λ (m : Option Note). begun_by g place yields (Some node) m go) noted)

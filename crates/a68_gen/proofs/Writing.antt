@@ -10,6 +10,7 @@ use Rattle.a68_code.specs.declared.code.Instr.{Instr}
 use Rattle.a68_code.specs.declared.does.Does.{Does}
 use Rattle.a68_code.specs.declared.does.Does.TheVariants as does
 use Rattle.a68_gen.specs.Coercing.{behind, coercion_of, coercions}
+use Rattle.a68_gen.specs.Numbers.{put_all, put_at}
 use Rattle.a68_gen.specs.Writing.{aim_all, most, places, Stops, Writes}
 use Rattle.a68_gen.proofs.Standing.{get-front}
 use Rattle.a68_modes.specs.declared.coercion.Coercion.{Coercion}
@@ -74,7 +75,7 @@ set-middle [] ys y z (suc i) e = absurd (omega arith)
 set-middle (x ∷ xs) ys y z zero e = absurd (omega arith)
 set-middle (x ∷ xs) ys y z (suc i) e = ap (λ l. x ∷ l) (set-middle xs ys y z i (omega arith))
 
-get-middle : (xs ys : List Instr) (y : Instr) (i : ℕ) → i ≡ length xs → slice_get (xs ++ y ∷ ys) i ≡ Some y
+pub get-middle : (xs ys : List Instr) (y : Instr) (i : ℕ) → i ≡ length xs → slice_get (xs ++ y ∷ ys) i ≡ Some y
 get-middle [] ys y zero e = refl
 get-middle [] ys y (suc i) e = absurd (omega arith)
 get-middle (x ∷ xs) ys y zero e = absurd (omega arith)
@@ -109,3 +110,10 @@ aimed_none (x ∷ xs) (suc at) which to e = on_tail (slice_get xs at) ∙ ap (λ
 -- one place more of those that are patched
 pub aim_more : (list : List Instr) (places : List ℕ) (i to : ℕ) → i < length places → aim_all list (drop i places) to ≡ aim_all (aimed_at list (get_or places i 0) 0 to) (drop (i + 1) places) to
 aim_more list places i to p = rw (add-one, drop-cons places i 0) refl
+
+pub drop_next : (ps : List ℕ) (i : ℕ) → i < length ps → drop i ps ≡ get_or ps i 0 ∷ drop (i + 1) ps
+drop_next ps i p = rw (add-one, drop-cons ps i 0) refl
+
+-- one place more of those that an instruction names
+pub put_more : (list : List Instr) (at i : ℕ) (ps : List ℕ) → i < length ps → put_all list at i (drop i ps) ≡ put_all (put_at list at i (get_or ps i 0)) at (i + 1) (drop (i + 1) ps)
+put_more list at i ps p = ap (λ (l : List ℕ). put_all list at i l) (drop_next ps i p)

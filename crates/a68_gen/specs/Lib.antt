@@ -3,6 +3,7 @@ pub mod Coercing
 pub mod Fits
 pub mod Listing
 pub mod Loops
+pub mod Numbers
 pub mod Operands
 pub mod Runs
 pub mod Stretches

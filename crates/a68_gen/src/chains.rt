@@ -1,16 +1,19 @@
 //! Chains of choices: each but the first is the other part of the one before it.
-ghost use Rattle.std.specs.Prelude.{◌≡◌, ◌<◌, ℕ, [], length, IfSome, IsTrue, MatchOption};
-ghost use Rattle.a68_elab.specs.Made.{choice_of, tree_at, trees_at};
-ghost use Rattle.a68_elab.specs.Trees.{Tree};
+ghost use Rattle.std.specs.Option.{option_map_or};
+ghost use Rattle.std.specs.Prelude.{◌≡◌, ◌<◌, ℕ, [], length, not, IfSome, IsTrue, MatchOption};
+ghost use Rattle.a68_elab.specs.Made.{choice_of, left_out, tree_at, with_enquiry};
 ghost use Rattle.a68_elab.specs.Trees as trees;
+ghost use Rattle.a68_elab.specs.Trees.{Tree};
 ghost use Rattle.a68_gen.specs.Chains.{IsWithin, link_tree};
+ghost use Rattle.a68_modes.specs.Nodes.{shape_at, is_void};
 ghost use Rattle.a68_tree.specs.Trees.{AllBetween};
 
 use a68_annot::{Annotated, Note};
 use a68_modes::ModeId;
 use a68_tree::{Node, NodeId, NodeKind};
 
-/// A choice: its node, the parts of it, the byte at which it begins, and the mode that is asked of it.
+/// A choice: its node, the parts of it, the byte at which it begins, the mode that is asked of it and whether that is a
+/// value, and the range that its enquiry begins: the byte, and the slots of its frame.
 #[derive(Clone, Copy)]
 pub struct Link {
     pub id: NodeId,
@@ -19,33 +22,64 @@ pub struct Link {
     pub other: Option<NodeId>,
     pub place: u32,
     pub goal: ModeId,
+    pub yields: bool,
+    pub at: u32,
+    pub slots: u32,
+}
+
+// The choice of these parts, with what its enquiry begins.
+fn link_with(
+    program: &Annotated,
+    id: NodeId,
+    enquiry: NodeId,
+    part: NodeId,
+    other: Option<NodeId>,
+    place: u32,
+    goal: ModeId,
+) -> Link
+    requires enquiry { (id < enquiry) × (enquiry < length program.now.tree.nodes) }
+    requires part { (id < part) × (part < length program.now.tree.nodes) }
+    requires other { IfSome other (λ p. (id < p) × (p < length program.now.tree.nodes)) }
+    ensures tree { (f : ℕ → Tree) → with_enquiry program.now f place (not (is_void (shape_at program.now.modes goal))) enquiry
+        (λ e. trees.choice place e (f part) (option_map_or f other (left_out place goal))) ≡ link_tree program.now f result }
+    ensures within { IsWithin program.now result }
+    ensures node { result.id ≡ id }
+{
+    let node = program.tree.node(enquiry);
+    let _parts = program.tree.parts(enquiry);
+    let slots = program.note(enquiry).slots;
+    Link {
+        id,
+        enquiry,
+        part,
+        other,
+        place,
+        goal,
+        yields: !program.modes.is_void(goal),
+        at: node.span.from,
+        slots,
+    }
 }
 
 /// The choice of a node with these parts, where there are two or three.
-pub fn link_of(id: NodeId, parts: &[NodeId], place: u32, goal: ModeId) -> Option<Link>
-    ensures tree { (f : ℕ → Tree) → MatchOption result (choice_of place goal (trees_at f parts.now) ≡ trees.unbuilt) (λ link. choice_of place goal (trees_at f parts.now) ≡ link_tree f link) }
-    ensures within { (count : ℕ) → AllBetween id count parts.now → IfSome result (IsWithin count) }
+pub fn link_of(
+    program: &Annotated,
+    id: NodeId,
+    parts: &[NodeId],
+    place: u32,
+    goal: ModeId,
+) -> Option<Link>
+    requires { AllBetween id (length program.now.tree.nodes) parts.now }
+    ensures tree { (f : ℕ → Tree) → MatchOption result (choice_of program.now f place goal (not (is_void (shape_at program.now.modes goal))) parts.now ≡ trees.unbuilt)
+        (λ link. choice_of program.now f place goal (not (is_void (shape_at program.now.modes goal))) parts.now ≡ link_tree program.now f link) }
+    ensures within { IfSome result (IsWithin program.now) }
     ensures node { IfSome result (λ link. link.id ≡ id) }
 {
     if parts.len() == 2 {
-        return Some(Link {
-            id,
-            enquiry: parts[0],
-            part: parts[1],
-            other: None,
-            place,
-            goal,
-        });
+        return Some(link_with(program, id, parts[0], parts[1], None, place, goal));
     }
     if parts.len() == 3 {
-        return Some(Link {
-            id,
-            enquiry: parts[0],
-            part: parts[1],
-            other: Some(parts[2]),
-            place,
-            goal,
-        });
+        return Some(link_with(program, id, parts[0], parts[1], Some(parts[2]), place, goal));
     }
     None
 }
@@ -60,9 +94,9 @@ fn is_link(node: &Node, note: &Note) -> bool
 
 /// The next choice of a chain, where there is one.
 pub fn next_link(program: &Annotated, link: &Link) -> Option<Link>
-    requires { IsWithin (length program.now.tree.nodes) link.now }
-    ensures tree { IfSome result (λ next. tree_at program.now next.id ≡ link_tree (tree_at program.now) next) }
-    ensures within { IfSome result (IsWithin (length program.now.tree.nodes)) }
+    requires { IsWithin program.now link.now }
+    ensures tree { IfSome result (λ next. tree_at program.now next.id ≡ link_tree program.now (tree_at program.now) next) }
+    ensures within { IfSome result (IsWithin program.now) }
     ensures there { IfSome result (λ next. (link.now.other ≡ Some next.id) × (link.now.id < next.id)) }
 {
     let Some(id) = link.other else {
@@ -75,6 +109,6 @@ pub fn next_link(program: &Annotated, link: &Link) -> Option<Link>
     }
     let place = node.span.from;
     let parts = &node.parts.items;
-    let next = link_of(id, parts, place, note.goal);
+    let next = link_of(program, id, parts, place, note.goal);
     next
 }

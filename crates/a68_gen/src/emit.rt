@@ -1,8 +1,9 @@
 //! Writing instructions.
 ghost use Rattle.std.specs.Option.{option_map_or};
-ghost use Rattle.std.specs.Prelude.{◌≡◌, ◌≤◌, ◌∷◌, [], length, IfOk};
+ghost use Rattle.std.specs.Prelude.{◌≡◌, ◌≤◌, ◌⊎◌, ◌∷◌, [], length, IfOk};
 ghost use Rattle.a68_builder.specs.Aiming.{aimed_at};
 ghost use Rattle.a68_gen.specs.Listing.{instr};
+ghost use Rattle.a68_gen.specs.Numbers.{put_all, put_at};
 ghost use Rattle.a68_gen.specs.Writers.{Wrote};
 ghost use Rattle.a68_gen.specs.Writing.{aim_all, most, ran_out};
 ghost use Rattle.a68_values.specs.Content.{plain};
@@ -84,6 +85,37 @@ impl Writer {
         }
     }
 
+    // Puts a place into the instruction of this number, where it names so many.
+    fn patch_one(&mut self, at: u32, which: u32, to: u32)
+        ensures list { self.new.list ≡ put_at self.old.list at which to }
+        ensures stop { self.new.stop ≡ self.old.stop }
+    {
+        if (which as usize) < self.list.names(at) {
+            self.list.patch(at, which, to);
+        }
+    }
+
+    // Puts so many places into the instruction of this number.
+    fn patch_so_many(&mut self, at: u32, places: &[u32], count: u32)
+        requires { count ≡ length places.now }
+        ensures list { self.new.list ≡ put_all self.old.list at 0 places.now }
+        ensures stop { self.new.stop ≡ self.old.stop }
+    {
+        for which in 0..count {
+            self.patch_one(at, which, places[which as usize]);
+        }
+    }
+
+    /// Puts these places into the instruction of this number. There is no memory for more than it can tell.
+    pub fn patch_each(&mut self, at: u32, places: &[u32])
+        ensures { ((self.new.list ≡ put_all self.old.list at 0 places.now) × (self.new.stop ≡ self.old.stop)) ⊎ (self.new.stop ≡ ran_out self.old.stop) }
+    {
+        match u32::try_from(places.len()) {
+            Ok(count) => self.patch_so_many(at, places, count),
+            Err(_) => self.run_out(),
+        }
+    }
+
     /// Stops for want of memory, where it has not stopped before.
     pub fn run_out(&mut self)
         ensures list { self.new.list ≡ self.old.list }
@@ -93,6 +125,14 @@ impl Writer {
             self.stop = Some(Stop::NoMemory);
         }
     }
+}
+
+/// So many zeros.
+pub fn zeros(alloc: Global, count: usize) -> Result<Vec<u32>, NoMemory>
+    ensures { IfOk result (λ v. length v.items ≡ count) }
+{
+    let zeros = vec![in alloc; 0; count]?;
+    Ok(zeros)
 }
 
 /// An INT that is pushed.

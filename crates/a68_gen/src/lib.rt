@@ -4,8 +4,10 @@
 mod chains;
 mod coerce;
 mod emit;
+mod ends;
 mod loops;
 mod rows;
+mod single;
 mod translate;
 mod writer;
 

@@ -6,11 +6,12 @@ ghost use Rattle.a68_elab.specs.Constants.{value_in};
 ghost use Rattle.a68_elab.specs.Made as made;
 ghost use Rattle.a68_elab.specs.Made.{behind, tree_at, trees_at};
 ghost use Rattle.a68_elab.specs.Trees as trees;
-ghost use Rattle.a68_gen.specs.Chains.{IsWithin, link_list, link_tree};
-ghost use Rattle.a68_gen.specs.Listing.{instr, size, stretch, stretches, test_stretch};
+ghost use Rattle.a68_gen.specs.Chains.{IsOpen, IsWhole, IsWithin, enquiry_tree, jump_of, link_list, link_tree, other_tree};
+ghost use Rattle.a68_gen.specs.Listing.{arm_places, arm_stretches, instr, size, stretch, stretches, test_stretch};
 ghost use Rattle.a68_gen.specs.Loops.{asked, counted, unless_at};
+ghost use Rattle.a68_gen.specs.Numbers.{arm_jumps, case_list};
 ghost use Rattle.a68_gen.specs.Stretches.{does_of};
-ghost use Rattle.a68_gen.specs.Writers.{IsChain, Wrote};
+ghost use Rattle.a68_gen.specs.Writers.{Wrote};
 ghost use Rattle.a68_gen.specs.Writing.{ran_out};
 ghost use Rattle.a68_modes.specs.Nodes.{shape_at, is_void};
 ghost use Rattle.a68_runs.specs.Loops.{AreWithin};
@@ -18,127 +19,20 @@ ghost use Rattle.a68_tree.specs.Trees.{AllBetween};
 
 use crate::chains::{Link, link_of, next_link};
 use crate::coerce::{are_built, coerce};
-use crate::emit::push_int;
+use crate::emit::{push_int, zeros};
+use crate::ends::{Opened, close_all, keep, keep_open, shut};
 use crate::loops::{depth, leave_frames, limit, open, turn};
+use crate::single::{denotation, generator, leave, new_name, nothing, same, store, tag, unbuilt};
 use crate::writer::Writer;
 use a68_annot::{Annotated, Note};
-use a68_code::Does;
+use a68_code::{Does, Places};
 use a68_modes::ModeId;
 use a68_runs::{
-    LoopParts, begins_in_heap, begins_with_declarer, behind_heap, behind_ref, called, is_one_of,
-    items_at, loop_parts, only_id, printers, standard_of, value_in, wholes,
+    LoopParts, before_out, begins_in_heap, begins_with_declarer, behind_heap, behind_ref, called,
+    is_one_of, items_at, loop_parts, only_id, out_of, printers, standard_of, value_in, wholes,
 };
 use a68_tree::{Node, NodeId, NodeKind};
-use a68_values::Value;
 use std::alloc::Global;
-
-// Writes nothing for a construct that is not built. No annotated tree has one.
-fn unbuilt(_out: &mut Writer)
-    ensures { Wrote _out.old _out.new (stretch trees.unbuilt (length _out.old.list)) }
-{}
-
-// Writes nothing for what is not elaborated.
-fn nothing(_out: &mut Writer)
-    ensures { Wrote _out.old _out.new (stretch (trees.together trees.no_trees) (length _out.old.list)) }
-{}
-
-// Push the value, where the denotation has one.
-fn denoted(place: u32, value: Option<Value>, out: &mut Writer)
-    ensures { Wrote out.old out.new (stretch (made.denoted place value) (length out.old.list)) }
-{
-    match value {
-        Some(value) => out.emit(place, Does::Push(value)),
-        None => unbuilt(out),
-    }
-}
-
-// Push the value of a denotation.
-fn denotation(alloc: Global, program: &Annotated, node: &Node, out: &mut Writer)
-    requires { node.now.name < length program.now.tree.spellings }
-    ensures { Wrote out.old out.new (stretch (made.denoted node.now.span.from (option_and_then value_in (made.spelling_of program.now node.now))) (length out.old.list)) }
-{
-    match value_in(alloc, program.tree.spelling(node.name)) {
-        Ok(value) => denoted(node.span.from, value, out),
-        Err(_) => out.run_out(),
-    }
-}
-
-// Push the value of a tag of the standard environ, or Tag: hops and slot.
-fn tag(program: &Annotated, node: &Node, note: &Note) -> Does
-    requires { node.now.name < length program.now.tree.spellings }
-    ensures { result ≡ does_of (made.tag_of (made.standard_of note.now.definition (made.spelling_of program.now node.now)) note.now.step.hops note.now.step.slot) 0 }
-{
-    match standard_of(program, node, note) {
-        Some(value) => Does::Push(value),
-        None => Does::Tag {
-            hops: note.step.hops,
-            slot: note.step.slot,
-        },
-    }
-}
-
-// Store: the mode behind that of the name.
-fn store(program: &Annotated, note: &Note) -> Does
-    ensures { result ≡ Does.Store (made.behind_ref (shape_at program.now.modes note.now.mode)) }
-{
-    Does::Store(behind_ref(&program.modes, note.mode))
-}
-
-// Leave 1 where a value is yielded, else Leave 0.
-fn leave(program: &Annotated, note: &Note) -> Does
-    ensures { result ≡ Does.Leave (if not (is_void (shape_at program.now.modes note.now.goal)) then 1 else 0) }
-{
-    if program.modes.is_void(note.goal) {
-        Does::Leave(0)
-    } else {
-        Does::Leave(1)
-    }
-}
-
-// The words and marks that negate an identity relation.
-fn isnt() -> &'static [&'static str]
-    ensures { map (λ word. word.now) result.now ≡ made.isnt }
-{
-    &["ISNT", ":/=:"]
-}
-
-// Same: 1 where the relation is negated.
-fn same(program: &Annotated, node: &Node) -> Does
-    requires { node.now.name < length program.now.tree.spellings }
-    ensures { result ≡ Does.Same (made.negated (made.is_one_of made.isnt (made.spelling_of program.now node.now))) }
-{
-    let is_negated = is_one_of(isnt(), Some(program.tree.spelling(node.name)));
-    Does::Same(u32::from(is_negated))
-}
-
-// The word before a generator whose name stays.
-fn heaps() -> &'static [&'static str]
-    ensures { map (λ word. word.now) result.now ≡ made.heaps }
-{
-    &["HEAP"]
-}
-
-// Heap or Make: a new name.
-fn new_name(in_heap: bool, mode: ModeId) -> Does
-    ensures { result ≡ (if in_heap then Does.Heap mode 0 else Does.Make mode 0) }
-{
-    if in_heap {
-        Does::Heap { mode, bounds: 0 }
-    } else {
-        Does::Make { mode, bounds: 0 }
-    }
-}
-
-// A new name, in the heap where the generator says so.
-fn generator(program: &Annotated, node: &Node, note: &Note, out: &mut Writer)
-    requires { node.now.name < length program.now.tree.spellings }
-    ensures { Wrote out.old out.new (stretch (made.new_name (made.is_one_of made.heaps (made.spelling_of program.now node.now)) node.now.span.from
-        (made.behind_ref (shape_at program.now.modes note.now.mode))) (length out.old.list)) }
-{
-    let in_heap = is_one_of(heaps(), Some(program.tree.spelling(node.name)));
-    let mode = behind_ref(&program.modes, note.mode);
-    out.emit(node.span.from, new_name(in_heap, mode));
-}
 
 /// Writes a unit and its coercions: [construct] coercions.
 #[cycle(units)]
@@ -214,6 +108,7 @@ fn construct(
         | NodeKind::To
         | NodeKind::While => only(alloc, program, id, parts, out),
         NodeKind::Conditional => conditional(alloc, program, id, parts, place, note.goal, out),
+        NodeKind::Case => case(alloc, program, id, parts, place, note.goal, out),
         NodeKind::Loop => repeat(alloc, program, id, parts, place, out),
         _ => unbuilt(out),
     }
@@ -487,15 +382,26 @@ fn otherwise(
     }
 }
 
-// [enquiry] Unless x [part] Jump 0 x: and gives the number of the Jump.
+// [enquiry] Unless x [part] Jump 0 x: and gives the number of the Jump. With slots Enter stands before it.
 #[cycle(units)]
 fn write_link(alloc: Global, program: &Annotated, link: &Link, out: &mut Writer) -> u32
-    requires { IsWithin (length program.now.tree.nodes) link.now }
-    ensures writes { Wrote out.old out.new (link_list link.now.place (tree_at program.now link.now.enquiry) (tree_at program.now link.now.part) (length out.old.list)) }
-    ensures jump { out.new.stop ≡ None → result ≡ length out.old.list + size (tree_at program.now link.now.enquiry) + 1 + size (tree_at program.now link.now.part) }
+    requires { IsWithin program.now link.now }
+    ensures writes { Wrote out.old out.new (link_list link.now.at link.now.slots link.now.place (enquiry_tree program.now (tree_at program.now) link.now)
+        (tree_at program.now link.now.part) (length out.old.list)) }
+    ensures jump { out.new.stop ≡ None → result ≡ jump_of link.now.at link.now.slots (enquiry_tree program.now (tree_at program.now) link.now)
+        (tree_at program.now link.now.part) (length out.old.list) }
 {
     let place = link.place;
-    unit(alloc, program, link.enquiry, out);
+    let phrases = program.tree.parts(link.enquiry);
+    enquire(
+        alloc,
+        program,
+        link.enquiry,
+        phrases,
+        link.at,
+        link.slots,
+        out,
+    );
     let unless = out.len();
     out.emit(place, Does::Unless(0));
     unit(alloc, program, link.part, out);
@@ -506,37 +412,27 @@ fn write_link(alloc: Global, program: &Annotated, link: &Link, out: &mut Writer)
     jump
 }
 
-// Keeps the number of a jump that is yet to be patched.
-fn keep(jumps: &mut Vec<u32>, jump: u32, out: &mut Writer)
-    ensures list { out.new.list ≡ out.old.list }
-    ensures stop { (out.new.stop ≡ out.old.stop) ⊎ (out.new.stop ≡ ran_out out.old.stop) }
-    ensures kept { out.new.stop ≡ None → jumps.new.items ≡ jumps.old.items ++ jump ∷ [] }
-{
-    if jumps.push(jump).is_err() {
-        out.run_out();
-    }
-}
-
-// Writes the choices of a chain one behind the other, where the jumps to its end are yet to be patched, and gives the
-// last one, whose other part is yet to be written.
+// Writes the choices of a chain one behind the other, whose ends are yet to come, and gives the last one, whose other
+// part is yet to be written.
 #[cycle(units)]
 fn write_links(
     alloc: Global,
     program: &Annotated,
     first: Link,
-    jumps: &mut Vec<u32>,
+    opens: &mut Vec<Opened>,
     out: &mut Writer,
 ) -> Link
-    requires within { IsWithin (length program.now.tree.nodes) first }
-    requires empty { jumps.old.items ≡ [] }
-    ensures within { IsWithin (length program.now.tree.nodes) result }
+    requires within { IsWithin program.now first }
+    requires empty { opens.old.items ≡ [] }
+    ensures within { IsWithin program.now result }
     ensures behind { first.id ≤ result.id }
-    ensures chain { IsChain (tree_at program.now) first result jumps.new.items out.old out.new }
+    ensures chain { IsOpen (IsWhole (link_tree program.now (tree_at program.now) first) out.old.stop out.old.list) opens.new.items (other_tree (tree_at program.now) result)
+        out.new.stop out.new.list }
 {
     let mut link = first;
     'links: loop {
         let jump = write_link(alloc, program, &link, out);
-        keep(jumps, jump, out);
+        keep_open(opens, &link, jump, out);
         match next_link(program, &link) {
             Some(next) => link = next,
             None => return link,
@@ -547,16 +443,15 @@ fn write_links(
 // A chain of choices: no more of the stack is needed however long it is.
 #[cycle(units)]
 fn chain(alloc: Global, program: &Annotated, first: Link, out: &mut Writer)
-    requires { IsWithin (length program.now.tree.nodes) first }
-    ensures { Wrote out.old out.new (stretch (link_tree (tree_at program.now) first) (length out.old.list)) }
+    requires { IsWithin program.now first }
+    ensures { Wrote out.old out.new (stretch (link_tree program.now (tree_at program.now) first) (length out.old.list)) }
 {
-    let mut jumps = Vec::new(alloc);
-    let last = write_links(alloc, program, first, &mut jumps, out);
+    let mut opens = Vec::new(alloc);
+    let last = write_links(alloc, program, first, &mut opens, out);
     otherwise(
         alloc, program, last.id, last.other, last.place, last.goal, out,
     );
-    let end = out.len();
-    out.patch_all(&jumps, end);
+    close_all(&opens, out);
 }
 
 // A choice of two parts, or of one.
@@ -571,12 +466,137 @@ fn conditional(
     out: &mut Writer,
 )
     requires { AllBetween id (length program.now.tree.nodes) parts.now }
-    ensures { Wrote out.old out.new (stretch (made.choice_of place goal (trees_at (behind id (tree_at program.now)) parts.now)) (length out.old.list)) }
+    ensures { Wrote out.old out.new (stretch (made.choice_of program.now (behind id (tree_at program.now)) place goal
+        (not (is_void (shape_at program.now.modes goal))) parts.now) (length out.old.list)) }
 {
-    match link_of(id, parts, place, goal) {
+    match link_of(program, id, parts, place, goal) {
         Some(first) => chain(alloc, program, first, out),
         None => unbuilt(out),
     }
+}
+
+// [part] Jump 0: and keeps where the part begins, and the number of the Jump.
+#[cycle(units)]
+fn write_arm(
+    alloc: Global,
+    program: &Annotated,
+    id: NodeId,
+    part: NodeId,
+    place: u32,
+    starts: &mut Vec<u32>,
+    jumps: &mut Vec<u32>,
+    out: &mut Writer,
+)
+    requires { (id < part) × (part < length program.now.tree.nodes) }
+    ensures writes { Wrote out.old out.new (stretch (behind id (tree_at program.now) part) (length out.old.list) ++ instr place (Does.Jump 0) ∷ []) }
+    ensures starts { out.new.stop ≡ None → starts.new.items ≡ starts.old.items ++ length out.old.list ∷ [] }
+    ensures jumps { out.new.stop ≡ None → jumps.new.items ≡ jumps.old.items ++ (length out.old.list + size (behind id (tree_at program.now) part)) ∷ [] }
+{
+    let start = out.len();
+    keep(starts, start, out);
+    write_part(alloc, program, id, part, out);
+    let jump = out.len();
+    keep(jumps, jump, out);
+    out.emit(place, Does::Jump(0));
+}
+
+// Writes the parts that are chosen among by a number, and keeps where each begins and where the other part does, and the
+// numbers of the jumps to the end, which are yet to be patched.
+#[cycle(units)]
+fn write_arms(
+    alloc: Global,
+    program: &Annotated,
+    id: NodeId,
+    parts: &[NodeId],
+    place: u32,
+    starts: &mut Vec<u32>,
+    jumps: &mut Vec<u32>,
+    out: &mut Writer,
+)
+    requires between { AllBetween id (length program.now.tree.nodes) parts.now }
+    requires no_starts { starts.old.items ≡ [] }
+    requires no_jumps { jumps.old.items ≡ [] }
+    ensures writes { Wrote out.old out.new (arm_stretches place 0 (trees_at (behind id (tree_at program.now)) parts.now) (length out.old.list)) }
+    ensures starts { out.new.stop ≡ None → starts.new.items ≡ arm_places (trees_at (behind id (tree_at program.now)) parts.now) (length out.old.list) ++ length out.new.list ∷ [] }
+    ensures jumps { out.new.stop ≡ None → jumps.new.items ≡ arm_jumps (trees_at (behind id (tree_at program.now)) parts.now) (length out.old.list) }
+{
+    for part in parts {
+        write_arm(alloc, program, id, *part, place, starts, jumps, out);
+    }
+    let other = out.len();
+    keep(starts, other, out);
+}
+
+// Case and its places, the [part] of each number and Jump e, the other [part], e:
+#[cycle(units)]
+fn choose(
+    alloc: Global,
+    program: &Annotated,
+    id: NodeId,
+    parts: &[NodeId],
+    other: Option<NodeId>,
+    place: u32,
+    goal: ModeId,
+    out: &mut Writer,
+)
+    requires between { AllBetween id (length program.now.tree.nodes) parts.now }
+    requires other { IfSome other (λ p. (id < p) × (p < length program.now.tree.nodes)) }
+    ensures { Wrote out.old out.new (case_list place (trees_at (behind id (tree_at program.now)) parts.now) (option_map_or (tree_at program.now) other (made.left_out place goal))
+        (length out.old.list)) }
+{
+    let Ok(items) = zeros(alloc, parts.len() + 1) else {
+        out.run_out();
+        return;
+    };
+    let case = out.len();
+    out.emit(place, Does::Case(Places { items }));
+    let mut starts = Vec::new(alloc);
+    let mut jumps = Vec::new(alloc);
+    write_arms(
+        alloc,
+        program,
+        id,
+        parts,
+        place,
+        &mut starts,
+        &mut jumps,
+        out,
+    );
+    otherwise(alloc, program, id, other, place, goal, out);
+    let end = out.len();
+    out.patch_all(&jumps, end);
+    out.patch_each(case, &starts);
+}
+
+// [enquiry] Case .., with slots Enter before it and Leave behind it.
+#[cycle(units)]
+fn case(
+    alloc: Global,
+    program: &Annotated,
+    id: NodeId,
+    parts: &[NodeId],
+    place: u32,
+    goal: ModeId,
+    out: &mut Writer,
+)
+    requires { AllBetween id (length program.now.tree.nodes) parts.now }
+    ensures { Wrote out.old out.new (stretch (made.case_of program.now (behind id (tree_at program.now)) place goal
+        (not (is_void (shape_at program.now.modes goal))) parts.now) (length out.old.list)) }
+{
+    if parts.len() == 0 {
+        unbuilt(out);
+        return;
+    }
+    let enquiry = parts[0];
+    let rest = &parts[1..];
+    let begin = program.tree.node(enquiry).span.from;
+    let slots = program.note(enquiry).slots;
+    let phrases = program.tree.parts(enquiry);
+    enquire(alloc, program, enquiry, phrases, begin, slots, out);
+    let units = before_out(program, id, rest);
+    let other = out_of(program, id, rest);
+    choose(alloc, program, id, units, other, place, goal, out);
+    shut(place, slots, !program.modes.is_void(goal), out);
 }
 
 // FROM, BY or TO: [part], or what is meant where it is left out.

@@ -66,6 +66,10 @@ const CASES: &str = "\
 + a value is kept | Enter 0, Push, Leave 1, Drop, End
 + no value is kept | Enter 0, Push, Drop, Leave 0, End
 - two values are kept | Enter 0, Push, Push, Leave 2, Drop, Drop, End
+- row 0 | Push, Push, Apply 0, Drop, End
++ row 1 | Push, Push, Apply 1, Drop, End
++ row 5 | Push, Push, Apply 5, Drop, End
+- row 5 on one value | Push, Apply 5, Drop, End
 - row 6 | Push, Push, Apply 6, Drop, End
 + row 7 | Push, Push, Apply 7, Drop, End
 + row 23 | Push, Push, Apply 23, Drop, End

@@ -3,7 +3,7 @@ use crate::shown;
 use crate::table::{agrees, holds};
 use a68_acts::{Doing, Next, Reply, *};
 use a68_modes::Modes;
-use a68_values::{Chain, Environ, Plain, Value, ValueNode, Values};
+use a68_values::{Chain, Environ, Held, Name, Plain, Value, ValueNode, Values};
 use std::alloc::Global;
 use std::panic::Expect;
 use std::process::Abort;
@@ -71,6 +71,95 @@ fn monadic_operators(rt: HostRuntime) {
         let outcome = outcome(&rt, rt.alloc(), *row, left, Value::of(*right));
         is_shown(&rt, rt.alloc(), outcome, expected, expected);
     }
+}
+
+/// A name of an INT.
+const NAME: Plain = Plain::Name(Name { cell: 7, scope: 3 });
+
+/// A name and another operand of `+:=`, and what comes of them.
+const TESTED: &[(Plain, Plain, &str)] = &[
+    (NAME, Plain::Int(3), "Fetch 7"),
+    (Plain::Unset, Plain::Int(3), "Unset"),
+    (NAME, Plain::Unset, "Unset"),
+    (Plain::Nil, Plain::Unset, "Unset"),
+    (Plain::Unset, Plain::Bool(true), "Unset"),
+    (Plain::Nil, Plain::Bool(true), "Kind"),
+    (NAME, Plain::Bool(true), "Kind"),
+    (Plain::Int(3), Plain::Int(3), "Kind"),
+    (Plain::Nil, Plain::Int(3), "Nil"),
+];
+
+/// Rows of operators that are combined with assignation, what the cell holds, the other operand, and what comes of them.
+const UPDATES: &[(u32, Plain, i64, &str)] = &[
+    (1, Plain::Int(5), 3, "Assign 7 Int(8)"),
+    (2, Plain::Int(5), 3, "Assign 7 Int(2)"),
+    (3, Plain::Int(5), -3, "Assign 7 Int(-15)"),
+    (4, Plain::Int(-7), 2, "Assign 7 Int(-3)"),
+    (5, Plain::Int(-7), 2, "Assign 7 Int(1)"),
+    (1, Plain::Unset, 3, "Unset"),
+    (5, Plain::Unset, 0, "Unset"),
+    (1, Plain::Bool(true), 3, "Kind"),
+    (1, Plain::Int(9223372036854775807), 1, "Overflow"),
+    (2, Plain::Int(-9223372036854775807), 1, "Overflow"),
+    (3, Plain::Int(4611686018427387904), 2, "Overflow"),
+    (4, Plain::Int(1), 0, "Divisor"),
+    (5, Plain::Int(1), 0, "Divisor"),
+];
+
+// What comes of an operator that is combined with assignation, before its first act.
+fn begun(row: u32, name: Value, operand: Value) -> Doing {
+    let doing = updating(row, &name, &operand);
+    drop(name);
+    drop(operand);
+    doing
+}
+
+// What comes of an operation behind its next act.
+fn behind(rt: &impl Abort, alloc: Global, doing: Doing, reply: Reply) -> Doing {
+    match doing {
+        Doing::Asks(want, next) => {
+            drop(want);
+            let modes = Modes::new(alloc).expect(rt, "memory");
+            let doing = resumed(alloc, &modes, next, reply);
+            drop(modes);
+            doing.expect(rt, "memory")
+        }
+        other => {
+            drop(reply);
+            other
+        }
+    }
+}
+
+// What comes of such an operator once the old value is fetched.
+fn fetched(rt: &impl Abort, alloc: Global, row: u32, old: Plain, operand: i64) -> Doing {
+    let doing = begun(row, Value::of(NAME), Value::of(Plain::Int(operand)));
+    behind(rt, alloc, doing, Reply::Held(Held::Plain(old)))
+}
+
+#[test]
+fn names_are_tested(rt: HostRuntime) {
+    for (name, operand, expected) in TESTED {
+        let doing = begun(1, Value::of(*name), Value::of(*operand));
+        is_shown(&rt, rt.alloc(), doing, expected, expected);
+    }
+}
+
+#[test]
+fn updates(rt: HostRuntime) {
+    for (row, old, operand, expected) in UPDATES {
+        let doing = fetched(&rt, rt.alloc(), *row, *old, *operand);
+        is_shown(&rt, rt.alloc(), doing, expected, expected);
+    }
+}
+
+// The name is the yield.
+#[test]
+fn an_update_yields_its_name(rt: HostRuntime) {
+    let doing = fetched(&rt, rt.alloc(), 1, Plain::Int(5), 3);
+    let named = behind(&rt, rt.alloc(), doing, Reply::Go);
+    let name = "Name(Name { cell: 7, scope: 3 })";
+    is_shown(&rt, rt.alloc(), named, name, "the name");
 }
 
 /// A number, how many parts there are, and which of them it chooses, from 0.

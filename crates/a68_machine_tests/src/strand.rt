@@ -208,3 +208,31 @@ fn meets_the_fault_of_an_operator(rt: HostRuntime) {
         "Divisor at 2",
     );
 }
+
+/// A name of a cell that holds 5 is given 8, and then its 5 less 6.
+const UPDATED: &str = "\
+Make 1 = Base
+Fetch 7 = Held
+Assign 7 Int(8) = Done
+Fetch 7 = Held
+Assign 7 Int(-1) = Go
+";
+
+// An operator that is combined with assignation fetches, and then assigns.
+#[test]
+fn updates(rt: HostRuntime) {
+    let ops = "Make 1 0, Push 3, Apply 1, Push 6, Apply 2, Drop, End";
+    run(&rt, rt.alloc(), ops, UPDATED, "End");
+}
+
+// It meets its fault at its own place.
+#[test]
+fn meets_the_fault_of_an_update(rt: HostRuntime) {
+    run(
+        &rt,
+        rt.alloc(),
+        "Make 1 0, Push 0, Apply 5, Drop, End",
+        "Make 1 = Base\nFetch 7 = Held\n",
+        "Divisor at 2",
+    );
+}

@@ -107,6 +107,18 @@ const RUNS: &[(&str, u32, u64, End)] = &[
     (COUNTING, 19, 10, End::Done),
     ("Skip 1, Case 2 2, End", 9, 0, UNSET_AT_1),
     (
+        "Make 1 0, Push 5, Store 1, Push 3, Apply 1, Deref 1, Print 1, End",
+        9,
+        6,
+        End::Done,
+    ),
+    (
+        "Push 0, Make 1 0, Push 3, Apply 1, Drop, Drop, End",
+        9,
+        2,
+        UNSET_AT_3,
+    ),
+    (
         "Push 0, Case 2 5 8, Skip 1, Print 1, Jump 10, Skip 1, Print 1, Jump 10, Skip 1, Print 1, End",
         9,
         0,

@@ -25,6 +25,11 @@ const LISTINGS: &[(&str, &str)] = &[
         "( INT x := 1; x := x + 2 )",
         "2 Enter 1;6 Make 1;11 Push 1;6 Store 1;6 Bind;14 Tag;19 Tag;19 Deref 1;23 Push 2;19 Apply 15;14 Store 1;14 Drop;2 Leave;0 End",
     ),
+    // An operator that is combined with assignation, on a name that is not dereferenced.
+    (
+        "( INT x := 1; x +:= 2 )",
+        "2 Enter 1;6 Make 1;11 Push 1;6 Store 1;6 Bind;14 Tag;20 Push 2;14 Apply 1;14 Drop;2 Leave;0 End",
+    ),
     // A name in the heap, which is compared with itself.
     (
         "( REF INT p = HEAP INT := 5; print(p IS p) )",
@@ -77,6 +82,46 @@ const LISTINGS: &[(&str, &str)] = &[
     // A cast whose value is dropped; units at any time.
     ("( REF INT (NIL) )", "11 Nil;2 Drop;0 End"),
     ("( (SKIP, SKIP); SKIP )", "3 Skip;9 Skip;16 Skip;0 End"),
+    // What an enquiry declares holds in the parts too: the frame is left behind both.
+    (
+        "( IF INT i = 1; i = 2 THEN print(i) FI )",
+        "5 Enter 1;13 Push 1;9 Bind;16 Tag;20 Push 2;16 Apply 9;2 Unless 11;33 Tag;33 Unite 1;27 Print 1;2 Jump 12;2 Skip;2 Leave;0 End",
+    ),
+    // A frame that is left with the value that was chosen.
+    (
+        "( print((INT i = 1; i > 0 | i | 0)) )",
+        "9 Enter 1;17 Push 1;13 Bind;20 Tag;24 Push;20 Apply 14;8 Unless 10;28 Tag;28 Unite 1;8 Jump 12;32 Push;32 Unite 1;8 Leave 1;2 Print 1;0 End",
+    ),
+    // A chain of choices, whose jumps all come to its end.
+    (
+        "( IF FALSE THEN print(1) ELIF TRUE THEN print(2) ELSE print(3) FI )",
+        "5 Truth;2 Unless 6;22 Push 1;22 Unite 1;16 Print 1;2 Jump 15;30 Truth 1;25 Unless 12;46 Push 2;46 Unite 1;40 Print 1;25 Jump 15;60 Push 3;60 Unite 1;54 Print 1;0 End",
+    ),
+    // In a chain a choice whose enquiry declares is left before the ends of those about it.
+    (
+        "( IF FALSE THEN SKIP ELIF BOOL b = TRUE; b THEN SKIP ELSE print(b) FI )",
+        "5 Truth;2 Unless 4;16 Skip;2 Jump 15;26 Enter 1;35 Truth 1;31 Bind;41 Tag;21 Unless 11;48 Skip;21 Jump 14;64 Tag;64 Unite 2;58 Print 1;21 Leave;0 End",
+    ),
+    // A choice by a number; without a part for no number it does nothing else, by a skip of VOID.
+    (
+        "( CASE 2 IN print(1), print(2) ESAC )",
+        "7 Push 2;2 Case 2 6 10;18 Push 1;18 Unite 1;12 Print 1;2 Jump 11;28 Push 2;28 Unite 1;22 Print 1;2 Jump 11;2 Skip;0 End",
+    ),
+    // The part behind OUT is the last place.
+    (
+        "( print(CASE 3 IN 1, 2 OUT 0 ESAC) )",
+        "13 Push 3;8 Case 2 5 8;18 Push 1;18 Unite 1;8 Jump 10;21 Push 2;21 Unite 1;8 Jump 10;27 Push;27 Unite 1;2 Print 1;0 End",
+    ),
+    // A number that an enquiry declares, in the first part.
+    (
+        "( CASE INT n = 2; n IN print(n), SKIP ESAC )",
+        "7 Enter 1;15 Push 2;11 Bind;18 Tag;2 Case 5 9 11;29 Tag;29 Unite 1;23 Print 1;2 Jump 12;33 Skip;2 Jump 12;2 Skip;2 Leave;0 End",
+    ),
+    // OUSE is a choice within the last place.
+    (
+        "( CASE 1 IN print(1), print(2) OUSE 2 IN print(3), print(4) ESAC )",
+        "7 Push 1;2 Case 2 6 10;18 Push 1;18 Unite 1;12 Print 1;2 Jump 21;28 Push 2;28 Unite 1;22 Print 1;2 Jump 21;36 Push 2;31 Case 12 16 20;47 Push 3;47 Unite 1;41 Print 1;31 Jump 21;57 Push 4;57 Unite 1;51 Print 1;31 Jump 21;31 Skip;0 End",
+    ),
 ];
 
 fn tree_of(rt: &impl Abort, alloc: Global, text: &str) -> Tree {
@@ -139,9 +184,26 @@ fn number_or_0(rt: &impl Abort, word: Option<&str>) -> u32 {
     }
 }
 
+// Compares a Case of these places with what is told of it.
+fn is_case(rt: &impl Abort, places: &[u32], line: &str, text: &str) {
+    let mut words = line.split_whitespace();
+    let name = words.next().expect(rt, "a name");
+    holds(rt, name == "Case", text);
+    for place in places {
+        let word = words.next().expect(rt, text);
+        holds(rt, number(rt, word) == *place, text);
+    }
+    holds(rt, words.next().is_none(), text);
+}
+
 // Compares an instruction with what is told of it.
 fn is_as_told(rt: &impl Abort, instr: &Instr, line: &str, text: &str) {
     let (place, rest) = cut(rt, line, " ");
+    if let Does::Case(places) = &instr.does {
+        holds(rt, instr.place == number(rt, place), text);
+        is_case(rt, &places.items, rest, text);
+        return;
+    }
     let mut parts = rest.split_whitespace();
     let name = parts.next().expect(rt, "a name");
     let first = number_or_0(rt, parts.next());

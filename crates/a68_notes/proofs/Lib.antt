@@ -1,3 +1,4 @@
 pub mod Noting
+pub mod Needing
 pub mod Ones
 pub mod Leading

@@ -19,7 +19,8 @@ use Rattle.a68_modes.specs.declared.coercion.Coercion.{Coercion}
 use Rattle.a68_modes.specs.declared.coercion.Sort.{Sort}
 use Rattle.a68_modes.specs.declared.coercion.Sort.TheVariants as by
 use Rattle.a68_modes.specs.declared.shape.Shape.{Shape}
-use Rattle.a68_notes.specs.Notes.{mode_of, step_or_none, target_of, AreCoercions, AreNotes, IsNote, IsPathOf, IsPathTo, IsStep}
+use Rattle.a68_notes.proofs.Needing.{one_need}
+use Rattle.a68_notes.specs.Notes.{mode_of, step_or_none, target_of, AreCoercions, AreNotes, IsNeedOf, IsNote, IsPathOf, IsPathTo, IsStep, UsesFrame}
 use Rattle.a68_positions.specs.Given.{position_at}
 use Rattle.a68_positions.specs.Positions.{ArePositions}
 use Rattle.a68_positions.specs.declared.position.Position.{Position}
@@ -28,6 +29,8 @@ use Rattle.a68_ranges.specs.Definitions.{defines}
 use Rattle.a68_ranges.specs.Nodes.{kind_at}
 use Rattle.a68_refusals.specs.First.{Asked}
 use Rattle.a68_tree.specs.Trees.{Built}
+use Rattle.a68_tree.specs.declared.kind.NodeKind.{NodeKind}
+use Rattle.a68_tree.specs.declared.kind.NodeKind.TheVariants as kind
 use Rattle.a68_tree.specs.declared.node.FrameStep.{FrameStep}
 use Rattle.a68_yields.proofs.Tabling.{leaf_longer}
 use Rattle.a68_yields.specs.Below.{AreTablesBelow, AreUnitsBelow}
@@ -62,7 +65,7 @@ same_note a b m p g o d s l n =
     ∙ ap (λ x. noted b.mode b.path b.goal b.op b.definition b.step x a.need) l
     ∙ ap (λ x. noted b.mode b.path b.goal b.op b.definition b.step b.slots x) n
 
--- ---- a path, and a step
+-- ---- a path, a step and a need
 
 one_found : (Leading : List Coercion → Type 0) → ((p q : List Coercion) → Leading p → Leading q → p ≡ q) → (f g : Option (List Coercion)) → Finds Leading f → Finds Leading g → f ≡ g
 one_found Leading one None None a b = refl
@@ -93,6 +96,10 @@ one_step : WaysAreOne → (tree : Built) (n : ℕ) (target : Option ℕ) (s t : 
 one_step ways tree n None s t a b = a ∙ sym b
 one_step ways tree n (Some d) s t a b = a.2 ∙ ap step_or_none (ways tree n d a.0 b.0 a.1 b.1) ∙ sym b.2
 
+one_need_of : (a : Asked) (n : ℕ) (form : NodeKind) (x y : Option ℕ) → IsNeedOf a n form x → IsNeedOf a n form y → x ≡ y
+one_need_of a n kind.RoutineText x y p q = one_need (UsesFrame a n) x y p q
+one_need_of a n _ x y p q = p ∙ sym q
+
 -- ---- a note, and all of them
 
 module _ (paths : PathsAreOne) (ways : WaysAreOne) (of : ByNode) (a : Asked) (sound : AreSound a.nodes) (units : AreUnitsBelow (length a.nodes) a.ys) where
@@ -110,7 +117,7 @@ module _ (paths : PathsAreOne) (ways : WaysAreOne) (of : ByNode) (a : Asked) (so
       definition
       (one_step ways a.tree n (target_of n x.definition (has_slot (defines (kind_at a.tree n)))) x.step y.step p.step there)
       (p.slots ∙ sym q.slots)
-      (p.need ∙ sym q.need)
+      (one_need_of a n (kind_at a.tree n) x.need y.need p.need q.need)
 
   one_list : (x y : List Note) → AreNotes of a x → AreNotes of a y → x ≡ y
   one_list x y p q = same_lists x y (p.long ∙ sym q.long) (λ i v w e f. one_note i v w (p.each i v e) (q.each i w f))

@@ -1,4 +1,4 @@
--- What is known of each node of a tree that breaks no rule (Report, 2.1.1.3, 3.2, 4.4, 5.4.2 and 6.1.1).
+-- What is known of each node of a tree that breaks no rule (Report, 2.1.1.3, 3.2, 4.4, 5.4.2, 6.1.1 and 7.2.2).
 use Rattle.std.specs.Prelude.{◌≡◌, ℕ, List, [], length, nat_lt, slice_get, slice_index_or, Option, Some, None, Bool, true, false, if◌then◌else◌}
 use Rattle.std.specs.Option.{option_map_or}
 use Rattle.a68_annot.specs.declared.note.Note.{Note}
@@ -9,6 +9,7 @@ use Rattle.a68_declare.specs.Outcome.{ByNode}
 use Rattle.a68_definitions.specs.Defined.{mode_at, part_number}
 use Rattle.a68_equiv.specs.Related.{as_it_stands}
 use Rattle.a68_frames.specs.Frames.{has_slot, slots_in, IsFirstWay}
+use Rattle.a68_frames.specs.Needs.{IsNeed, UsesSlotAt, UsesTag}
 use Rattle.a68_identify.specs.declared.identified.Identified.{Identified}
 use Rattle.a68_identify.specs.declared.identified.Identified.TheVariants.{Declared, Standard}
 use Rattle.a68_meaning.specs.declared.meaning.Meaning.{Meaning}
@@ -77,12 +78,16 @@ abbrev pub in_text : (nodes : ℕ) → Option ℕ → Option ℕ
 in_text nodes None = None
 in_text nodes (Some d) = if nat_lt d nodes then Some d else None
 
+-- where the operator is defined that a formula applies; no other node applies one
+abbrev pub applied_operator : Finding → NodeKind → Option ℕ
+applied_operator found kind.Monadic = operator_of found
+applied_operator found kind.Dyadic = operator_of found
+applied_operator found _ = None
+
 -- where what a node applies is defined: a tag, or the operator of a formula; none in the standard environ
 abbrev pub definition_of : Built → (tags : List (Option ℕ)) → (n : ℕ) → Finding → NodeKind → Option ℕ
 definition_of tree tags n found kind.Tag = in_text (length tree.nodes) (slice_index_or tags n None)
-definition_of tree tags n found kind.Monadic = operator_of found
-definition_of tree tags n found kind.Dyadic = operator_of found
-definition_of tree tags n found _ = None
+definition_of tree tags n found form = applied_operator found form
 
 -- to what the step of a node leads: to what it applies, or to the slot of what it defines
 abbrev pub target_of : (n : ℕ) → (applied : Option ℕ) → (has_slot : Bool) → Option ℕ
@@ -121,6 +126,17 @@ IsPathOf nodes (position.Goal m setter) y path = IsPathTo nodes by.Strong m y pa
 IsPathOf nodes (position.Asks by_sort (Some m)) y path = IsPathTo nodes by_sort m y path
 IsPathOf nodes _ y path = path ≡ []
 
+-- a routine text uses a frame from outside, so many frames outwards: by a tag that is applied in it, or by the operator of a formula in it
+pub data UsesFrame (a : Asked) (text hops : ℕ) : Type 0 where
+  by_tag : UsesTag a.tree text hops → UsesFrame a text hops
+  by_operator : (at definition : ℕ) → applied_operator (finding_at a.fs at) (kind_at a.tree at) ≡ Some definition → UsesSlotAt a.tree at definition text hops
+      → UsesFrame a text hops
+
+-- of a routine text the newest frame that it uses from outside (own; the scope of a routine, Report 7.2.2); of no other node one
+abbrev pub IsNeedOf : Asked → (n : ℕ) → NodeKind → Option ℕ → Type 0
+IsNeedOf a n kind.RoutineText need = IsNeed (UsesFrame a n) need
+IsNeedOf a n _ need = need ≡ None
+
 -- what is known of a node
 pub record IsNote (of : ByNode) (a : Asked) (n : ℕ) (note : Note) : Type 0 where
   pub mode : note.mode ≡ mode_of of a.defined n note.goal (yield_at a.ys n) (kind_at a.tree n)
@@ -130,8 +146,7 @@ pub record IsNote (of : ByNode) (a : Asked) (n : ℕ) (note : Note) : Type 0 whe
   pub definition : note.definition ≡ definition_of a.tree a.tags n (finding_at a.fs n) (kind_at a.tree n)
   pub step : IsStep a.tree n (target_of n note.definition (has_slot (defines (kind_at a.tree n)))) note.step
   pub slots : note.slots ≡ length (slots_in a.tree n)
-  -- routine texts do not run yet
-  pub need : note.need ≡ None
+  pub need : IsNeedOf a n (kind_at a.tree n) note.need
 
 -- of the nodes before one
 pub record AreNotesBefore (of : ByNode) (a : Asked) (count : ℕ) (notes : List Note) : Type 0 where

@@ -91,6 +91,16 @@ fn operator_of(found: Finding) -> Option<NodeId>
     }
 }
 
+/// Gives the definition of the operator that a formula applies; none of another node.
+pub fn applied_operator(found: Finding, kind: NodeKind) -> Option<NodeId>
+    ensures { result ≡ specs.applied_operator found kind }
+{
+    match kind {
+        NodeKind::Monadic | NodeKind::Dyadic => operator_of(found),
+        _ => None,
+    }
+}
+
 // Gives a definition that stands in the text.
 fn in_text(nodes: u32, found: Option<NodeId>) -> Option<NodeId>
     ensures { result ≡ specs.in_text nodes found }
@@ -113,7 +123,6 @@ pub fn definition_of(
 {
     match kind {
         NodeKind::Tag => in_text(tree.len(), tags.at(node)),
-        NodeKind::Monadic | NodeKind::Dyadic => operator_of(found),
-        _ => None,
+        _ => applied_operator(found, kind),
     }
 }

@@ -1,12 +1,14 @@
 //! What is known of each node of a tree.
 ghost use Rattle.std.specs.Prelude.{◌≡◌, ◌<◌, [], IfOk, OnOk, length};
 ghost use Rattle.a68_frames.specs.Tables.{AreFrames};
-ghost use Rattle.a68_notes.specs.Notes.{asked_of, AreNotes, IsNote};
+ghost use Rattle.a68_notes.specs.Needs.{AreNeeds};
+ghost use Rattle.a68_notes.specs.Notes.{asked_of, AreNotes, IsNote, UsesFrame};
 ghost use Rattle.a68_positions.specs.Below.{ArePositionsBelow};
 ghost use Rattle.a68_ranges.specs.Tables.{AreRanges};
 ghost use Rattle.a68_yields.specs.Below.{AreTablesBelow};
 
 use crate::field::{definition_of, goal_of, mode_of, row_of};
+use crate::needs::{need_of, needs_of};
 use crate::path::path_of;
 use crate::step::{step_of, target_of};
 use a68_annot::{Note, Notes};
@@ -26,9 +28,11 @@ fn note_of(
     tree: &Tree,
     map: &FrameMap,
     meaning: &Meaning,
+    needs: &[Option<u32>],
     node: NodeId,
 ) -> Result<Note, NoMemory>
     requires frames { AreFrames tree.now map.now }
+    requires needs { AreNeeds tree.now (UsesFrame (asked_of tree.now meaning.now)) (length tree.now.nodes) needs.now }
     requires there { node < length tree.now.nodes }
     requires tables { AreTablesBelow (length meaning.now.modes) (length tree.now.nodes) meaning.now.yields.yields.items meaning.now.yields.findings.items }
     requires positions { ArePositionsBelow (length meaning.now.modes) meaning.now.positions.items }
@@ -52,7 +56,7 @@ fn note_of(
         definition,
         step,
         slots,
-        need: None,
+        need: need_of(needs, node, kind),
     })
 }
 
@@ -63,15 +67,17 @@ fn add_notes(
     tree: &Tree,
     map: &FrameMap,
     meaning: &Meaning,
+    needs: &[Option<u32>],
 ) -> Result<(), NoMemory>
     requires none { items.old.items ≡ [] }
     requires frames { AreFrames tree.now map.now }
+    requires needs { AreNeeds tree.now (UsesFrame (asked_of tree.now meaning.now)) (length tree.now.nodes) needs.now }
     requires tables { AreTablesBelow (length meaning.now.modes) (length tree.now.nodes) meaning.now.yields.yields.items meaning.now.yields.findings.items }
     requires positions { ArePositionsBelow (length meaning.now.modes) meaning.now.positions.items }
     ensures { OnOk result (AreNotes meaning.now.of (asked_of tree.now meaning.now) items.new.items) }
 {
     for node in 0..tree.len() {
-        let note = note_of(alloc, tree, map, meaning, node)?;
+        let note = note_of(alloc, tree, map, meaning, needs, node)?;
         items.push(note)?;
     }
     Ok(())
@@ -90,7 +96,8 @@ pub fn find_notes(
     ensures { IfOk result (AreNotes meaning.now.of (asked_of tree.now meaning.now)) }
 {
     let map = frames(alloc, tree, ranges)?;
+    let needs = needs_of(alloc, tree, &map, meaning)?;
     let mut items = Vec::new(alloc);
-    add_notes(&mut items, alloc, tree, &map, meaning)?;
+    add_notes(&mut items, alloc, tree, &map, meaning, &needs)?;
     Ok(Notes { items })
 }

@@ -1,3 +1,4 @@
 pub mod Between
+pub mod Choosing
 pub mod Quoting
 pub mod Unready

@@ -3,14 +3,14 @@ use Rattle.std.specs.Prelude.{◌≡◌, ◌<◌, ℕ, Bool, true, false, not, �
 use Rattle.std.specs.List.{list_all}
 use Rattle.std.specs.Option.{is_some, option_map_or, option_and_then}
 use Rattle.std.specs.declared.option.Option.{Option}
-use Rattle.a68_acts.specs.Operations.{is_union}
+use Rattle.a68_acts.specs.Operations.{is_union, is_update}
 use Rattle.a68_annot.specs.declared.annotated.Annotated.{Annotated}
 use Rattle.a68_annot.specs.declared.note.Note.{Note}
 use Rattle.a68_code.specs.Flow.{takes}
 use Rattle.a68_code.specs.Operands.{is_well_made}
 use Rattle.a68_code.specs.declared.does.Does.TheVariants as does
 use Rattle.a68_elab.specs.Constants.{value_in}
-use Rattle.a68_elab.specs.Made.{behind_heap, behind_ref, begins_with, called, if_first, is_by, is_declarer, is_for, is_from, is_heap, is_one_of, is_to, is_while, items_at, only_id, parts_at, past, printers, spelling_of, standard_of, wholes}
+use Rattle.a68_elab.specs.Made.{before_out, behind_heap, behind_ref, begins_with, called, if_first, is_by, is_declarer, is_for, is_from, is_heap, is_one_of, is_to, is_while, items_at, only_id, out_of, parts_at, past, printers, spelling_of, standard_of, wholes}
 use Rattle.a68_modes.specs.Nodes.{shape_at, is_plain, is_void}
 use Rattle.a68_modes.specs.declared.coercion.Coercion.{Coercion}
 use Rattle.a68_modes.specs.declared.coercion.Coercion.TheVariants as coercion
@@ -128,10 +128,23 @@ refers_to_plain a mode = is_plain (shape_at a.modes (behind_ref (shape_at a.mode
 
 -- ---- what is asked of a node of a kind
 
+-- a node is asked for a name of INT
+abbrev pub is_int_name : Annotated → (id : ℕ) → Bool
+is_int_name a id = option_map_or (λ note. nat_eq (behind_ref (shape_at a.modes note.goal)) 1) (slice_get a.notes id) false
+
+-- the operand in front is
+abbrev pub names_int : Annotated → List ℕ → Bool
+names_int a [] = false
+names_int a (id ∷ ids) = is_int_name a id
+
+-- an operator that is combined with assignation runs for names of INT alone (Report, 10.2.3.11)
+abbrev pub suits : Annotated → (row : ℕ) → List ℕ → Bool
+suits a row ids = not (is_update row) || names_int a ids
+
 -- an operator that runs, on as many values as it takes (Report, 5.4.2)
 abbrev pub formula_runs : Annotated → (op : Option ℕ) → List ℕ → Bool
 formula_runs a None ids = false
-formula_runs a (Some row) ids = is_well_made a.modes 0 (does.Apply row) && are_values a (takes (does.Apply row)) ids
+formula_runs a (Some row) ids = is_well_made a.modes 0 (does.Apply row) && (are_values a (takes (does.Apply row)) ids && suits a row ids)
 
 -- a declarer, and a source, if any, which leaves a value (Report, 4.4.1)
 abbrev pub source_runs : Annotated → List ℕ → Bool
@@ -152,12 +165,27 @@ call_leaves a (primary ∷ ids) =
     if is_one_of printers (called a primary) then if_so (all_leave a true (items_at a ids)) false
     else (if is_one_of wholes (called a primary) then if_so (are_values a 2 ids) true else None)
 
--- an enquiry, and one part or two that leave what is wanted; one that is left out is a skip (Report, 3.4)
+-- ---- choices (Report, 3.4)
+
+-- the phrases of an enquiry, whose range holds the parts that are chosen among too
+abbrev pub asks : Annotated → (enquiry : ℕ) → Bool
+asks a enquiry = are_phrases a true (parts_at a enquiry)
+
+-- an enquiry, and one part or two that leave what is wanted; one that is left out is a skip
 abbrev pub choice_runs : Annotated → (goal : ℕ) (wanted : Bool) → List ℕ → Bool
-choice_runs a goal wanted (enquiry ∷ (part ∷ [])) = is_skipped a goal && (is_outcome true (outcome a enquiry) && is_outcome wanted (outcome a part))
-choice_runs a goal wanted (enquiry ∷ (part ∷ (other ∷ []))) =
-    is_outcome true (outcome a enquiry) && (is_outcome wanted (outcome a part) && is_outcome wanted (outcome a other))
+choice_runs a goal wanted (enquiry ∷ (part ∷ [])) = is_skipped a goal && (asks a enquiry && is_outcome wanted (outcome a part))
+choice_runs a goal wanted (enquiry ∷ (part ∷ (other ∷ []))) = asks a enquiry && (is_outcome wanted (outcome a part) && is_outcome wanted (outcome a other))
 choice_runs a goal wanted _ = false
+
+-- the part for no number; where it is left out a skip
+abbrev pub out_runs : Annotated → (goal : ℕ) (wanted : Bool) → (out : Option ℕ) → Bool
+out_runs a goal wanted None = is_skipped a goal
+out_runs a goal wanted (Some out) = is_outcome wanted (outcome a out)
+
+-- an enquiry, and parts that leave what is wanted
+abbrev pub case_runs : Annotated → (goal : ℕ) (wanted : Bool) → List ℕ → Bool
+case_runs a goal wanted [] = false
+case_runs a goal wanted (enquiry ∷ ids) = asks a enquiry && (all_leave a wanted (before_out a ids) && out_runs a goal wanted (out_of a ids))
 
 -- ---- loops (Report, 3.5)
 
@@ -167,7 +195,7 @@ control_runs a part = option_map_or (λ id. is_outcome true (outcome a id)) part
 
 -- the phrases of an enquiry behind WHILE, whose range holds the body too
 abbrev pub enquiry_runs : Annotated → (clause : Option ℕ) → Bool
-enquiry_runs a clause = option_map_or (λ id. are_phrases a true (parts_at a id)) clause false
+enquiry_runs a clause = option_map_or (asks a) clause false
 
 abbrev pub test_runs : Annotated → (test : Option ℕ) → Bool
 test_runs a test = option_map_or (λ id. enquiry_runs a (only_id (parts_at a id))) test true
@@ -220,6 +248,7 @@ leaves_as a node note kind.From = only_outcome a node.parts
 leaves_as a node note kind.By = only_outcome a node.parts
 leaves_as a node note kind.To = only_outcome a node.parts
 leaves_as a node note kind.Conditional = if_so (choice_runs a note.goal (asks_value a note) node.parts) (asks_value a note)
+leaves_as a node note kind.Case = if_so (case_runs a note.goal (asks_value a note) node.parts) (asks_value a note)
 leaves_as a node note kind.Loop = if_so (loop_runs a node.parts) false
 leaves_as a node note _ = None
 

@@ -1,6 +1,6 @@
 //! What is asked of nodes and of their modes.
 ghost use Rattle.std.specs.Option.{option_map};
-ghost use Rattle.std.specs.Prelude.{◌≡◌, ◌<◌, length, map, ℕ};
+ghost use Rattle.std.specs.Prelude.{◌≡◌, ◌<◌, length, map, ℕ, IfSome};
 ghost use Rattle.a68_elab.specs.Made as made;
 ghost use Rattle.a68_modes.specs.Nodes.{shape_at};
 ghost use Rattle.a68_tree.specs.Trees.{AllBetween};
@@ -53,6 +53,42 @@ pub fn behind_heap(has_heap: bool, parts: &[NodeId]) -> &[NodeId]
         &parts[1..]
     } else {
         parts
+    }
+}
+
+// Does a node of this kind stand for OUT or OUSE?
+fn is_out(kind: NodeKind) -> bool
+    ensures { result ≡ made.is_out kind }
+{
+    matches!(kind, NodeKind::Out)
+}
+
+/// The last of these nodes, where it stands for OUT or OUSE.
+pub fn out_of(program: &Annotated, id: NodeId, parts: &[NodeId]) -> Option<NodeId>
+    requires { AllBetween id (length program.now.tree.nodes) parts.now }
+    ensures out { result ≡ made.out_of program.now parts.now }
+    ensures within { IfSome result (λ p. (id < p) × (p < length program.now.tree.nodes)) }
+{
+    if parts.len() == 0 {
+        return None;
+    }
+    let last = parts[parts.len() - 1];
+    if is_out(kind_at(program, last)) {
+        Some(last)
+    } else {
+        None
+    }
+}
+
+/// The other nodes.
+pub fn before_out<'a>(program: &'a Annotated, id: NodeId, parts: &'a [NodeId]) -> &'a [NodeId]
+    requires { AllBetween id (length program.now.tree.nodes) parts.now }
+    ensures parts { result.now ≡ made.before_out program.now parts.now }
+    ensures between { AllBetween id (length program.now.tree.nodes) result.now }
+{
+    match out_of(program, id, parts) {
+        Some(_) => &parts[..parts.len().saturating_sub(1)],
+        None => parts,
     }
 }
 

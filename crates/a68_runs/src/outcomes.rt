@@ -164,3 +164,17 @@ pub fn refers_to_plain(program: &Annotated, mode: ModeId) -> bool
 {
     program.modes.is_plain(behind_ref(&program.modes, mode))
 }
+
+// Is a node asked for a name of INT?
+fn is_int_name(program: &Annotated, id: NodeId) -> bool
+    ensures { result ≡ runs.is_int_name program.now id }
+{
+    id < program.tree.len() && behind_ref(&program.modes, program.note(id).goal) == 1
+}
+
+/// Is the first of these nodes asked for a name of INT?
+pub fn names_int(program: &Annotated, ids: &[NodeId]) -> bool
+    ensures { result ≡ runs.names_int program.now ids.now }
+{
+    ids.len() > 0 && is_int_name(program, ids[0])
+}

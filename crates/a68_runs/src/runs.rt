@@ -17,14 +17,15 @@ ghost use Rattle.a68_tree.specs.Trees.{AllBetween};
 use crate::constants::{is_quoted, truths};
 use crate::loops::{LoopParts, loop_parts, only_id};
 use crate::nodes::{
-    begins_in_heap, begins_with_declarer, behind_heap, called, is_one_of, items_at, printers,
-    wholes,
+    before_out, begins_in_heap, begins_with_declarer, behind_heap, called, is_one_of, items_at,
+    out_of, printers, wholes,
 };
 use crate::outcomes::{
     all_leave, are_phrases, are_values, asks_value, if_so, is_outcome, is_skipped, last_outcome,
-    leaves, only_outcome, outcome, outcome_by, refers_to_plain,
+    leaves, names_int, only_outcome, outcome, outcome_by, refers_to_plain,
 };
 use crate::paths::path_leaves;
+use a68_acts::is_update;
 use a68_annot::{Annotated, Note};
 use a68_base::find;
 use a68_code::operands_of;
@@ -42,11 +43,18 @@ fn has_value(text: &[u8]) -> bool
     find(truths(), text).is_some() || is_quoted(text)
 }
 
-// Does an operator yield at once, whatever the modes?
+// Does an operator yield at once, or is it combined with assignation to a name of INT, whatever the modes?
 fn applies(row: u32) -> bool
     ensures { result ≡ is_well_made [] 0 (does.Apply row) }
 {
-    (7 <= row && row <= 23) || (26 <= row && row <= 33)
+    (1 <= row && row <= 5) || (7 <= row && row <= 23) || (26 <= row && row <= 33)
+}
+
+// Does an operator suit its operands: one that is combined with assignation a name of INT?
+fn suits(program: &Annotated, row: u32, parts: &[NodeId]) -> bool
+    ensures { result ≡ runs.suits program.now row parts.now }
+{
+    !is_update(row) || names_int(program, parts)
 }
 
 // Does a formula run: its operator, on as many values as it takes?
@@ -54,7 +62,11 @@ fn formula_runs(program: &Annotated, op: Option<u32>, parts: &[NodeId]) -> bool
     ensures { result ≡ runs.formula_runs program.now op parts.now }
 {
     match op {
-        Some(row) => { applies(row) && are_values(program, operands_of(row) as usize, parts) }
+        Some(row) => {
+            applies(row)
+                && are_values(program, operands_of(row) as usize, parts)
+                && suits(program, row, parts)
+        }
         None => false,
     }
 }
@@ -97,19 +109,58 @@ fn call_leaves(program: &Annotated, id: NodeId, parts: &[NodeId]) -> Option<bool
     }
 }
 
+// Do the phrases of an enquiry end with a value?
+fn asks(program: &Annotated, id: NodeId) -> bool
+    requires { id < length program.now.tree.nodes }
+    ensures { result ≡ runs.asks program.now id }
+{
+    are_phrases(program, true, program.tree.parts(id))
+}
+
 // Does a choice run: its enquiry, and the parts that it chooses from?
-fn choice_runs(program: &Annotated, goal: ModeId, wanted: bool, parts: &[NodeId]) -> bool
+fn choice_runs(
+    program: &Annotated,
+    id: NodeId,
+    goal: ModeId,
+    wanted: bool,
+    parts: &[NodeId],
+) -> bool
+    requires { AllBetween id (length program.now.tree.nodes) parts.now }
     ensures { result ≡ runs.choice_runs program.now goal wanted parts.now }
 {
     if parts.len() == 2 {
         return is_skipped(program, goal)
-            && leaves(program, true, parts[0])
+            && asks(program, parts[0])
             && leaves(program, wanted, parts[1]);
     }
     parts.len() == 3
-        && leaves(program, true, parts[0])
+        && asks(program, parts[0])
         && leaves(program, wanted, parts[1])
         && leaves(program, wanted, parts[2])
+}
+
+// Does the part for no number run, or the skip in its place?
+fn out_runs(program: &Annotated, goal: ModeId, wanted: bool, part: Option<NodeId>) -> bool
+    ensures { result ≡ runs.out_runs program.now goal wanted part }
+{
+    match part {
+        Some(id) => leaves(program, wanted, id),
+        None => is_skipped(program, goal),
+    }
+}
+
+// Does a choice by a number run: its enquiry, and the parts that it chooses from?
+fn case_runs(program: &Annotated, id: NodeId, goal: ModeId, wanted: bool, parts: &[NodeId]) -> bool
+    requires { AllBetween id (length program.now.tree.nodes) parts.now }
+    ensures { result ≡ runs.case_runs program.now goal wanted parts.now }
+{
+    if parts.len() == 0 {
+        return false;
+    }
+    let rest = &parts[1..];
+    asks(program, parts[0])
+        && all_leave(program, wanted, before_out(program, id, rest))
+        && out_runs(program, goal, wanted, out_of(program, id, rest))
 }
 
 // Does FROM, BY or TO, if any, leave a value?
@@ -122,13 +173,13 @@ fn control_runs(program: &Annotated, part: Option<NodeId>) -> bool
     }
 }
 
-// Do the phrases of an enquiry end with a value?
+// Does the enquiry of WHILE run, where it is there?
 fn enquiry_runs(program: &Annotated, clause: Option<NodeId>) -> bool
     requires { IfSome clause (λ p. p < length program.now.tree.nodes) }
     ensures { result ≡ runs.enquiry_runs program.now clause }
 {
     match clause {
-        Some(id) => are_phrases(program, true, program.tree.parts(id)),
+        Some(id) => asks(program, id),
         None => false,
     }
 }
@@ -212,7 +263,8 @@ fn leaves_as(program: &Annotated, id: NodeId, node: &Node, note: &Note) -> Optio
         NodeKind::Closed | NodeKind::Out | NodeKind::From | NodeKind::By | NodeKind::To => {
             only_outcome(program, parts)
         }
-        NodeKind::Conditional => if_so(choice_runs(program, note.goal, asked, parts), asked),
+        NodeKind::Conditional => if_so(choice_runs(program, id, note.goal, asked, parts), asked),
+        NodeKind::Case => if_so(case_runs(program, id, note.goal, asked, parts), asked),
         NodeKind::Loop => if_so(loop_runs(program, id, parts), false),
         _ => None,
     }

@@ -185,6 +185,22 @@ const PRINTING: &[(&str, &str)] = &[
         "( MODE N = INT; PRIO MINUS = 1; N n := 7; print(n) )",
         SEVEN,
     ),
+    ("( CASE 2 IN print(3), print(7) ESAC )", SEVEN),
+    ("( CASE 3 IN print(3), print(7) ESAC )", ""),
+    ("( print(CASE 0 IN 1, 2 OUT 7 ESAC) )", SEVEN),
+    ("( print((5 | 1, 2 |: 2 | 3, 7 | 4)) )", SEVEN),
+    (
+        "( INT x := 4; IF INT y = x + 3; y > 6 THEN print(y) ELSE print(x) FI )",
+        SEVEN,
+    ),
+    (
+        "( INT x = 4; print(IF INT x = 1; x > 1 THEN x ELIF INT z = x + 1; z > 4 THEN z ELSE 7 FI) )",
+        SEVEN,
+    ),
+    (
+        "( FOR i TO 3 DO CASE INT k = i; k IN print(\"a\"), print(whole(k, 0)) OUT print(\"z\") ESAC OD )",
+        "a2z",
+    ),
     (
         "( INT x; (x := 3, print(whole(4, 0))); print(whole(x, 0)) )",
         "43",
@@ -219,11 +235,6 @@ const REFUSED: &[(&str, u8, &str)] = &[
     ("BEGIN SKIP END ~", 1, "a68: refused S2 at byte 15\n"),
     ("BEGIN print(1) END CO", 1, "a68: refused S1 at byte 19\n"),
     ("BEGIN print(#)#1)", 1, "a68: refused S6 at byte 17\n"),
-    (
-        "( CASE 1 IN print(1), print(2) ESAC )",
-        1,
-        "a68: refused X0 at byte 2\n",
-    ),
     ("( [1 : 2] INT a; SKIP )", 1, "a68: refused X0 at byte 14\n"),
     (
         "( PROC p = VOID: SKIP; SKIP )",
@@ -235,7 +246,16 @@ const REFUSED: &[(&str, u8, &str)] = &[
         1,
         "a68: refused X0 at byte 12\n",
     ),
-    ("( INT x := 1; x +:= 1 )", 1, "a68: refused X0 at byte 14\n"),
+    (
+        "( SEMA s = LEVEL 1; SKIP )",
+        1,
+        "a68: refused X0 at byte 11\n",
+    ),
+    (
+        "( REF STRING (NIL) +:= \"a\" )",
+        1,
+        "a68: refused X0 at byte 2\n",
+    ),
     ("BEGIN print(1);", 1, "a68: refused S6 at byte 15\n"),
     ("BEGIN print(1 +) END", 1, "a68: refused S6 at byte 15\n"),
     ("BEGIN print(1x) END", 1, "a68: refused S5 at byte 12\n"),
@@ -347,6 +367,17 @@ const REFUSED: &[(&str, u8, &str)] = &[
         3,
         "a68: fault Unset at byte 13\n",
     ),
+    ("( REF INT (NIL) +:= 1 )", 3, "a68: fault Nil at byte 2\n"),
+    (
+        "( INT x; SKIP; x +:= 1 )",
+        3,
+        "a68: fault Unset at byte 15\n",
+    ),
+    (
+        "( INT x := 1; x %:= 0 )",
+        3,
+        "a68: fault Divisor at byte 14\n",
+    ),
     (
         "BEGIN print(9223372036854775807 + 1) END",
         3,
@@ -403,6 +434,13 @@ const RUNS: &[(&str, &str, u8, (&str, &str), usize)] = &[
     (COUNT, "31", 0, ("                  +3", ""), 31),
     (TURNS, "10", 5, ("", SPENT), 10),
     (CHOICE, "16000000", 0, ("                  +3", ""), 17),
+    (
+        "( INT x := 2; x +:= 3; print(x) )",
+        "10",
+        0,
+        ("                  +5", ""),
+        10,
+    ),
 ];
 
 #[test]

@@ -4,7 +4,7 @@ use Rattle.std.specs.Prelude.{None, Some, Ok, Err, slice_get, reverse, nat_lt, �
 use Rattle.std.specs.Option.{option_map_or}
 use Rattle.std.specs.declared.option.Option.{Option}
 use Rattle.std.specs.declared.result.Result.{Result}
-use Rattle.a68_acts.specs.Operations.{Operation, constant, skip, nil, tag, make, heap, bind, deref, store, apply, same, unite, drop, print, whole, start, resumed, skipped, fetched, making, given, assigned, yielding, is_same, related, printing, print_next, worded, whole_of}
+use Rattle.a68_acts.specs.Operations.{Operation, constant, skip, nil, tag, make, heap, bind, deref, store, apply, same, unite, drop, print, whole, start, resumed, skipped, fetched, making, given, assigned, yielding, is_update, updating, put, is_same, related, printing, print_next, worded, whole_of}
 use Rattle.a68_acts.specs.declared.operation.Doing.{Doing}
 use Rattle.a68_acts.specs.declared.operation.Doing.TheVariants.{Yields, Asks, Meets}
 use Rattle.a68_acts.specs.declared.operation.Next.{Next}
@@ -15,7 +15,7 @@ use Rattle.a68_acts.specs.declared.want.Want.TheVariants as want
 use Rattle.a68_layout.specs.Plans.{new_cells}
 use Rattle.a68_modes.specs.Nodes.{shape_at, is_plain, is_void}
 use Rattle.a68_modes.specs.declared.shape.Shape.{Shape}
-use Rattle.a68_ops.specs.Applied.{applied}
+use Rattle.a68_ops.specs.Applied.{applied, updated}
 use Rattle.a68_ops.specs.Printed.{item_text, whole as whole_number}
 use Rattle.a68_ops.specs.Yields.{Yield, is_unset}
 use Rattle.a68_values.specs.Content.{Content, void, plain, scope_of}
@@ -57,6 +57,16 @@ yielding-below : (n : ℕ) (y : Yield) → DoingBelow n (yielding y)
 yielding-below n (Ok v) = tt
 yielding-below n (Err kind) = tt
 
+updating-below : (n row : ℕ) (name v : Content) → DoingBelow n (updating row name v)
+updating-below n row (plain (value.Name m)) (plain (value.Int k)) = tt
+updating-below n row (plain value.Nil) (plain (value.Int k)) = tt
+updating-below n row v w = choose-below n (is_unset v || is_unset w) (Meets fault.Unset) (Meets fault.Kind) tt tt
+
+put-below : (n : ℕ) (m : Name) (y : Yield) → DoingBelow n (put m y)
+put-below n m (Ok (plain p)) = tt
+put-below n m (Ok v) = tt
+put-below n m (Err kind) = tt
+
 printing-below : (n : ℕ) (o : Result (List ℕ) FaultKind) (items : List Content) → DoingBelow n (printing o items)
 printing-below n (Ok text) items = tt
 printing-below n (Err kind) items = tt
@@ -97,7 +107,8 @@ start-below n modes (bind slot) chain (v ∷ []) =
     option-below n (λ (e : Environ). Asks (want.Bind e.frame slot v) next.Void) (slice_get chain 0) (Meets fault.Kind) (λ e. tt) tt
 start-below n modes (deref m) chain (v ∷ []) = fetched-below n modes m v
 start-below n modes (store m) chain (name ∷ v ∷ []) = assigned-below n modes m name v
-start-below n modes (apply row) chain (v ∷ w ∷ []) = yielding-below n (applied row v w)
+start-below n modes (apply row) chain (v ∷ w ∷ []) =
+    choose-below n (is_update row) (updating row v w) (yielding (applied row v w)) (updating-below n row v w) (yielding-below n (applied row v w))
 start-below n modes (apply row) chain (v ∷ []) = yielding-below n (applied row void v)
 start-below n modes (same negated) chain (v ∷ w ∷ []) = related-below n negated (is_same v w)
 start-below n modes (unite m) chain (v ∷ []) = tt
@@ -111,6 +122,7 @@ unfolding resumed
 resumed-below n modes next.Value (reply.Value v) = tt
 resumed-below n modes next.Void reply.Go = tt
 resumed-below n modes (next.Name m) reply.Go = tt
+resumed-below n modes (next.Update row m k) (reply.Held (held.Plain p)) = put-below n m (updated row (plain p) (plain (value.Int k)))
 resumed-below n modes (next.Made scope) (reply.Base cell) = tt
 resumed-below n modes (next.Printing left) reply.Go = print_next-below n (reverse left)
 resumed-below n modes next.Held (reply.Held (held.Plain p)) = tt

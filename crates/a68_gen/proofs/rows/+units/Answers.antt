@@ -1,24 +1,27 @@
-use Rattle.std.proofs.Common.{◌≡◌, ℕ, List, Option, ◌+◌, ◌-◌, ◌++◌, [], ◌∷◌, length, true, refl, sym, ◌∙◌, ap, subst, drop, get_or, arith, ◌<◌, Some, length-append}
+use Rattle.std.proofs.Common.{◌≡◌, ◌⊎◌, ℕ, Bool, List, Option, ◌+◌, ◌-◌, ◌++◌, [], ◌∷◌, length, true, refl, sym, ◌∙◌, ap, subst, drop, take, get_or, arith, ◌<◌, Some, length-append}
 use Rattle.std.specs.Option.{is_some, option_map, option_map_or}
 use Rattle.std.proofs.lemmas.List.{drop_all, nil_from_length}
 use Rattle.std.proofs.lemmas.Option.{same_Some}
 use Rattle.a68_code.specs.declared.does.Does.TheVariants as does
 use Rattle.a68_elab.proofs.Nodes.{tree_of_nodes, behind_is}
-use Rattle.a68_gen.proofs.Linking.{link_behind}
+use Rattle.a68_gen.proofs.Linking.{case_is, enquiry_is, link_behind}
 use Rattle.a68_elab.specs.Made as made
-use Rattle.a68_elab.specs.Trees.{Tree, Test, no_trees, unbuilt, ◌and_tree◌, count}
+use Rattle.a68_elab.specs.Trees.{Tree, Test, while_in, no_trees, unbuilt, ◌and_tree◌, count}
 use Rattle.a68_elab.specs.Made.{behind, tree_at, trees_at, behind_ref}
 use Rattle.a68_gen.specs.Coercing.{coercions}
 use Rattle.a68_gen.specs.Listing.{instr, limits, opens, stretch, stretches, test_stretch}
 use Rattle.a68_gen.specs.Loops.{asked, unless_at}
 use Rattle.a68_code.specs.declared.code.Instr.{Instr}
-use Rattle.a68_gen.specs.Writing.{aim_all, Writes}
-use Rattle.a68_gen.specs.Chains.{link_tree}
-use Rattle.a68_gen.proofs.Chaining.{Ahead, ahead_first, ahead_on, ends_writes, ends_jumps, chain_writes}
-use Rattle.a68_gen.proofs.Constructs.{coerced_list, coerced_unbuilt, part-cons, one_part, two_parts, some_parts, definition_whole, last_is, count_trees, new_does, plain_serial, framed_serial, declared_plain, declared_none, declared_other, declared_set, only_none, control_list, three_list, phrases_whole, asked_whole, unless_stands, test_is}
+use Rattle.a68_gen.specs.Writing.{aim_all, ran_out, Writes}
+use Rattle.a68_gen.specs.Numbers.{put_all}
+use Rattle.a68_gen.specs.Chains.{enquiry_tree, Finishes, IsOpen, IsWhole, link_tree, other_tree, shuts}
+use Rattle.a68_gen.specs.declared.ends.Opened.{Opened}
+use Rattle.a68_gen.proofs.Chaining.{open_more}
+use Rattle.a68_gen.proofs.Constructs.{coerced_list, coerced_unbuilt, part-cons, one_part, two_parts, rest_parts, some_parts, definition_whole, last_is, count_trees, new_does, plain_serial, framed_serial, declared_plain, declared_none, declared_other, declared_set, only_none, control_list, three_list, phrases_whole, asked_whole, unless_stands, test_is}
 use Rattle.a68_runs.proofs.Between.{between-each, between-above}
+use Rattle.a68_gen.proofs.Numbering.{ArmsAhead, arm_end, arm_writes, arms_on, case_framed, case_writes}
 use Rattle.a68_gen.proofs.Jumping.{link_all, link_jump, loop_all}
-use Rattle.a68_gen.proofs.Writing.{and_behind, had_not, is_written, nothing-written, writes-as}
+use Rattle.a68_gen.proofs.Writing.{and_behind, had_not, is_written, drop_next, nothing-written, writes-as}
 use Rattle.a68_gen.proofs.rows.+units.Goals as goal
 use Rattle.std.specs.Prelude.{not, pos, if◌then◌else◌}
 use Rattle.a68_acts.specs.Operations.{constant, skip}
@@ -209,97 +212,203 @@ only-returns-then-parts-ne1 t c = rw (← only_none (behind c.args.id (tree_at c
 pub only-returns : goal.only-returns
 only-returns t c = rw (one_part c.args.parts.now (omega arith)) c.write_part.ensures
 
+-- the phrases of an enquiry, among those behind it and among all
+pub write_link-enquire-requires : goal.write_link-enquire-requires
+write_link-enquire-requires t c = let below = c.requires.enquiry in (omega arith, c.parts-phrases.ensures.behind)
+
 pub write_link-returns-clause-writes : goal.write_link-returns-clause-writes
 write_link-returns-clause-writes t c =
-    link_all c.args.out.now.stop c.unit.new.out.stop c.emit.new.self.stop c.unit-2.new.out.stop c.emit-2.new.self.stop c.patch.new.self.stop
-    c.args.out.now.list c.unit.new.out.list c.emit.new.self.list c.unit-2.new.out.list c.emit-2.new.self.list c.patch.new.self.list
-    c.args.link.now.place c.len-unless.result c.len-x.result (tree_at c.args.program.now c.args.link.now.enquiry) (tree_at c.args.program.now c.args.link.now.part)
-    c.unit.ensures c.len-unless.ensures.long c.emit.ensures c.unit-2.ensures c.emit-2.ensures c.len-x.ensures.long c.patch.ensures.list c.patch.ensures.stop
+    let a = c.args.program.now in
+    let l = c.args.link.now in
+    let e = enquiry_tree a (tree_at a) l in
+    let w0 = c.args.out.now in
+    let w1 = c.enquire.new.out in
+    let first : Writes w0.stop w1.stop w0.list w1.list (asked (while_in l.at l.slots e) (length w0.list)) =
+    subst (λ (u : Tree). Writes w0.stop w1.stop w0.list w1.list (asked (while_in l.at l.slots u) (length w0.list)))
+    (enquiry_is a l.enquiry l.at c.parts-phrases.result.now c.parts-phrases.ensures.is c.parts-phrases.ensures.behind) c.enquire.ensures in
+    link_all w0.stop w1.stop c.emit.new.self.stop c.unit.new.out.stop c.emit-2.new.self.stop c.patch.new.self.stop
+    w0.list w1.list c.emit.new.self.list c.unit.new.out.list c.emit-2.new.self.list c.patch.new.self.list
+    l.at l.slots l.place c.len-unless.result c.len-x.result e (tree_at a l.part)
+    first c.len-unless.ensures.long c.emit.ensures c.unit.ensures c.emit-2.ensures c.len-x.ensures.long c.patch.ensures.list c.patch.ensures.stop
 
 pub write_link-returns-clause-jump : goal.write_link-returns-clause-jump
-write_link-returns-clause-jump t c =
-    λ is.
-    let none = had_not c.unit-2.new.out.stop c.emit-2.new.self.stop c.unit-2.new.out.list c.emit-2.new.self.list _ c.emit-2.ensures (sym c.patch.ensures.stop ∙ is) in
-    link_jump c.args.out.now.stop c.unit.new.out.stop c.emit.new.self.stop c.unit-2.new.out.stop c.args.out.now.list c.unit.new.out.list c.emit.new.self.list c.unit-2.new.out.list
-    c.args.link.now.place c.len-jump.result (tree_at c.args.program.now c.args.link.now.enquiry) (tree_at c.args.program.now c.args.link.now.part) c.unit.ensures c.emit.ensures c.unit-2.ensures c.len-jump.ensures.long none
+write_link-returns-clause-jump t c = λ is.
+    let a = c.args.program.now in
+    let l = c.args.link.now in
+    let e = enquiry_tree a (tree_at a) l in
+    let w0 = c.args.out.now in
+    let w1 = c.enquire.new.out in
+    let first : Writes w0.stop w1.stop w0.list w1.list (asked (while_in l.at l.slots e) (length w0.list)) =
+    subst (λ (u : Tree). Writes w0.stop w1.stop w0.list w1.list (asked (while_in l.at l.slots u) (length w0.list)))
+    (enquiry_is a l.enquiry l.at c.parts-phrases.result.now c.parts-phrases.ensures.is c.parts-phrases.ensures.behind) c.enquire.ensures in
+    let none = had_not c.unit.new.out.stop c.emit-2.new.self.stop c.unit.new.out.list c.emit-2.new.self.list _ c.emit-2.ensures (sym c.patch.ensures.stop ∙ is) in
+    link_jump w0.stop w1.stop c.emit.new.self.stop c.unit.new.out.stop w0.list w1.list c.emit.new.self.list c.unit.new.out.list
+    l.at l.slots l.place c.len-jump.result e (tree_at a l.part) first c.emit.ensures c.unit.ensures c.len-jump.ensures.long none
 
 pub write_links-links-init : goal.write_links-links-init
 write_links-links-init t c =
-    (c.requires.within, omega arith, ahead_first (link_tree (tree_at c.args.program.now) c.args.first) c.args.jumps.now.items c.args.out.now.stop c.args.out.now.list c.requires.empty)
+    let a = c.args.program.now in
+    let whole = link_tree a (tree_at a) c.args.first in
+    let w0 = c.args.out.now in (
+      c.requires.within,
+      omega arith,
+      λ s l w. subst (λ (os : List Opened). Finishes os (IsWhole whole w0.stop w0.list) s l) (sym c.requires.empty) w,
+    )
 
 pub write_links-links-preserved : goal.write_links-links-preserved
 write_links-links-preserved t c =
-    let f = tree_at c.args.program.now in
+    let a = c.args.program.now in
+    let f = tree_at a in
     let link = c.links.link in
-    let whole = link_tree f c.args.first in
-    let other = option_map_or f link.other (made.left_out link.place link.goal) in
-    let s0 = c.args.out.now.stop in
-    let l0 = c.args.out.now.list in
+    let wanted = IsWhole (link_tree a f c.args.first) c.args.out.now.stop c.args.out.now.list in
+    let w1 = c.links.out in
     let w2 = c.write_link-jump.new.out in
-    let w3 = c.keep.new.out in
-    let jumps = c.keep.new.jumps.items in
-    let on = ahead_on whole other (f link.enquiry) (f link.part) link.place c.write_link-jump.result c.links.jumps.items jumps s0 c.links.out.stop w2.stop w3.stop l0 c.links.out.list w2.list
-    c.links.invariant.2 c.write_link-jump.ensures.writes c.write_link-jump.ensures.jump c.keep.ensures.stop c.keep.ensures.kept in
-    let same : other ≡ link_tree f c.in-Some.next = ap (λ (o : Option ℕ). option_map_or f o (made.left_out link.place link.goal)) c.in-Some.ensures.there.0 ∙ c.in-Some.ensures.tree in
+    let w3 = c.keep_open.new.out in
+    let os = c.keep_open.new.opens.items in
+    let on = open_more wanted c.links.opens.items os link.at link.slots link.place c.write_link-jump.result link.yields (enquiry_tree a f link) (f link.part) (other_tree f link)
+    w1.stop w2.stop w3.stop w1.list w2.list c.links.invariant.2 c.write_link-jump.ensures.writes c.write_link-jump.ensures.jump c.keep_open.ensures.kept in
+    let same : other_tree f link ≡ link_tree a f c.in-Some.next = ap (λ (o : Option ℕ). option_map_or f o (made.left_out link.place link.goal)) c.in-Some.ensures.there.0 ∙ c.in-Some.ensures.tree in
     let so_far = c.links.invariant.1 in
     let below = c.in-Some.ensures.there.1 in (
       c.in-Some.ensures.within,
       omega arith,
-      subst (λ (l : List Instr). Ahead whole (link_tree f c.in-Some.next) jumps s0 w3.stop l0 l) (sym c.keep.ensures.list) (subst (λ (u : Tree). Ahead whole u jumps s0 w3.stop l0 w2.list) same on),
+      subst (λ (l : List Instr). IsOpen wanted os (link_tree a f c.in-Some.next) w3.stop l) (sym c.keep_open.ensures.list)
+          (subst (λ (u : Tree). IsOpen wanted os u w3.stop w2.list) same on),
     )
 
 pub write_links-returns-in-None-clause-chain : goal.write_links-returns-in-None-clause-chain
 write_links-returns-in-None-clause-chain t c =
-    let f = tree_at c.args.program.now in
+    let a = c.args.program.now in
+    let f = tree_at a in
     let link = c.links.link in
-    let whole = link_tree f c.args.first in
-    let other = option_map_or f link.other (made.left_out link.place link.goal) in
-    let s0 = c.args.out.now.stop in
-    let l0 = c.args.out.now.list in
+    let wanted = IsWhole (link_tree a f c.args.first) c.args.out.now.stop c.args.out.now.list in
+    let w1 = c.links.out in
     let w2 = c.write_link-jump.new.out in
-    let w3 = c.keep.new.out in
-    let jumps = c.keep.new.jumps.items in
-    let on = ahead_on whole other (f link.enquiry) (f link.part) link.place c.write_link-jump.result c.links.jumps.items jumps s0 c.links.out.stop w2.stop w3.stop l0 c.links.out.list w2.list
-    c.links.invariant.2 c.write_link-jump.ensures.writes c.write_link-jump.ensures.jump c.keep.ensures.stop c.keep.ensures.kept in
-    let all : Ahead whole other jumps s0 w3.stop l0 w3.list = subst (λ (l : List Instr). Ahead whole other jumps s0 w3.stop l0 l) (sym c.keep.ensures.list) on in
-    record {
-      count = all.count;
-      whole = λ s l w. ends_writes whole other jumps s0 w3.stop l0 w3.list all s l w;
-      jumps_are = λ is. ends_jumps whole other jumps s0 w3.stop l0 w3.list all is;
-    }
+    let w3 = c.keep_open.new.out in
+    let os = c.keep_open.new.opens.items in
+    let on = open_more wanted c.links.opens.items os link.at link.slots link.place c.write_link-jump.result link.yields (enquiry_tree a f link) (f link.part) (other_tree f link)
+    w1.stop w2.stop w3.stop w1.list w2.list c.links.invariant.2 c.write_link-jump.ensures.writes c.write_link-jump.ensures.jump c.keep_open.ensures.kept in
+    subst (λ (l : List Instr). IsOpen wanted os (other_tree f link) w3.stop l) (sym c.keep_open.ensures.list) on
 
 pub chain-otherwise-requires : goal.chain-otherwise-requires
 chain-otherwise-requires t c = let behind = c.write_links-last.ensures.behind in (omega arith, c.write_links-last.ensures.within.other)
 
 pub chain-returns : goal.chain-returns
 chain-returns t c =
-    let f = tree_at c.args.program.now in
-    let whole = link_tree f c.args.first in
-    let links = c.write_links-last.ensures.chain in
+    let a = c.args.program.now in
+    let whole = link_tree a (tree_at a) c.args.first in
     let w0 = c.args.out.now in
-    let w2 = c.write_links-last.new.out in
     let w3 = c.otherwise.new.out in
-    let w4 = c.patch_all.new.self in
-    let jumps = c.write_links-last.new.jumps.items in
-    let end = c.len-end.result in
-    let patched : w4.list ≡ aim_all w3.list jumps end = c.patch_all.ensures.list ∙ ap (λ (j : List ℕ). aim_all w3.list j end) c.deref.ensures.value in
-    let all = chain_writes links.count whole w0.stop w3.stop w0.list w3.list w4.list jumps end (links.whole w3.stop w3.list c.otherwise.ensures)
-    (λ is. links.jumps_are (had_not w2.stop w3.stop w2.list w3.list _ c.otherwise.ensures is)) c.len-end.ensures.long patched in
-    rw c.patch_all.ensures.stop all
+    let last = c.write_links-last.ensures.chain w3.stop w3.list c.otherwise.ensures in
+    c.close_all.ensures whole w0.stop w0.list
+    (subst (λ (os : List Opened). Finishes os (IsWhole whole w0.stop w0.list) w3.stop w3.list) (sym c.deref.ensures.value) last)
 
 pub conditional-chain-requires : goal.conditional-chain-requires
-conditional-chain-requires t c =
-    let same = c.in-Some.ensures.node in (omega arith, c.in-Some.ensures.within (length c.args.program.now.tree.nodes) c.requires)
+conditional-chain-requires t c = let same = c.in-Some.ensures.node in (omega arith, c.in-Some.ensures.within)
 
 pub conditional-returns-in-Some : goal.conditional-returns-in-Some
 conditional-returns-in-Some t c =
-    let tree = tree_at c.args.program.now in
-    let count = length c.args.program.now.tree.nodes in
-    let same = c.in-Some.ensures.tree (behind c.args.id tree) ∙ link_behind c.args.id count tree c.in-Some.first (c.in-Some.ensures.within count c.requires) c.in-Some.ensures.node in
+    let a = c.args.program.now in
+    let tree = tree_at a in
+    let same = c.in-Some.ensures.tree (behind c.args.id tree) ∙ link_behind a c.args.id tree c.in-Some.first c.in-Some.ensures.within c.in-Some.ensures.node in
     subst (λ (u : Tree). Writes c.args.out.now.stop c.chain.new.out.stop c.args.out.now.list c.chain.new.out.list (stretch u (length c.args.out.now.list))) (sym same) c.chain.ensures
 
 pub conditional-returns-in-None : goal.conditional-returns-in-None
 conditional-returns-in-None t c = rw (c.in-None.ensures.tree (behind c.args.id (tree_at c.args.program.now))) c.unbuilt.ensures
+
+pub write_arm-returns-clause-writes : goal.write_arm-returns-clause-writes
+write_arm-returns-clause-writes t c =
+    let w0 = c.args.out.now in
+    let w1 = c.keep.new.out in
+    let w2 = c.write_part.new.out in
+    let w3 = c.keep-2.new.out in
+    let w4 = c.emit.new.self in
+    arm_writes w0.stop w1.stop w2.stop w3.stop w4.stop w0.list w1.list w2.list w3.list w4.list c.args.place (behind c.args.id (tree_at c.args.program.now) c.args.part)
+    c.keep.ensures.list c.keep.ensures.stop c.write_part.ensures c.keep-2.ensures.list c.keep-2.ensures.stop c.emit.ensures
+
+pub write_arm-returns-clause-jumps : goal.write_arm-returns-clause-jumps
+write_arm-returns-clause-jumps t c = λ none.
+    let w0 = c.args.out.now in
+    let w1 = c.keep.new.out in
+    let w2 = c.write_part.new.out in
+    let w3 = c.keep-2.new.out in
+    let w4 = c.emit.new.self in
+    let end = arm_end w1.stop w2.stop w3.stop w4.stop w0.list w1.list w2.list w3.list w4.list c.args.place (behind c.args.id (tree_at c.args.program.now) c.args.part)
+    c.keep.ensures.list c.write_part.ensures c.keep-2.ensures.stop c.emit.ensures none in
+    c.keep-2.ensures.kept end.0 ∙ ap (λ (k : ℕ). c.args.jumps.now.items ++ k ∷ []) (c.len-jump.ensures.long ∙ end.1)
+
+pub write_arms-write_arm-requires : goal.write_arms-write_arm-requires
+write_arms-write_arm-requires t c =
+    let b = between-each c.args.id (length c.args.program.now.tree.nodes) c.loop-part.part-index c.args.parts.now c.requires.between c.loop-part-test.true in
+    let below = b.0 in
+    (omega arith, b)
+
+pub write_arms-loop-part-preserved : goal.write_arms-loop-part-preserved
+write_arms-loop-part-preserved t c =
+    let f = behind c.args.id (tree_at c.args.program.now) in
+    let ids = c.args.parts.now in
+    let i = c.loop-part.part-index in
+    let rest = trees_at f (drop (i + 1) ids) in
+    let w0 = c.args.out.now in
+    let w1 = c.loop-part.out in
+    let w2 = c.write_arm.new.out in
+    let starts = c.loop-part.starts.items in
+    let jumps = c.loop-part.jumps.items in
+    let before : ArmsAhead c.args.place (trees_at f ids) (f (get_or ids i 0) and_tree rest) starts jumps w0.stop w1.stop w0.list w1.list =
+    subst (λ (l : List ℕ). ArmsAhead c.args.place (trees_at f ids) (trees_at f l) starts jumps w0.stop w1.stop w0.list w1.list) (drop_next ids i c.loop-part-test.true) c.loop-part.invariant in
+    arms_on c.args.place (trees_at f ids) rest (f (get_or ids i 0)) starts c.write_arm.new.starts.items jumps c.write_arm.new.jumps.items w0.stop w1.stop w2.stop w0.list w1.list w2.list
+    before c.write_arm.ensures.writes c.write_arm.ensures.starts c.write_arm.ensures.jumps
+
+pub choose-returns : goal.choose-returns
+choose-returns t c =
+    let f = behind c.args.id (tree_at c.args.program.now) in
+    let ids = c.args.parts.now in
+    let w0 = c.args.out.now in
+    let w1 = c.emit.new.self in
+    let w2 = c.write_arms.new.out in
+    let w3 = c.otherwise.new.out in
+    let w4 = c.patch_all.new.self in
+    let w5 = c.patch_each.new.self in
+    let case = c.len-case.result in
+    let end = c.len-end.result in
+    let starts = c.write_arms.new.starts.items in
+    let jumps = c.write_arms.new.jumps.items in
+    let many : length c.in-Ok.items.items ≡ count (trees_at f ids) + 1 = c.in-Ok.ensures ∙ ap (λ (n : ℕ). n + 1) (sym (count_trees f ids)) in
+    let ends : w4.list ≡ aim_all w3.list jumps end = c.patch_all.ensures.list ∙ ap (λ (j : List ℕ). aim_all w3.list j end) c.deref.ensures.value in
+    let each : ((w5.list ≡ put_all w4.list case 0 starts) × (w5.stop ≡ w4.stop)) ⊎ (w5.stop ≡ ran_out w4.stop) =
+    subst (λ (ps : List ℕ). ((w5.list ≡ put_all w4.list case 0 ps) × (w5.stop ≡ w4.stop)) ⊎ (w5.stop ≡ ran_out w4.stop)) c.deref-2.ensures.value c.patch_each.ensures in
+    case_writes w0.stop w1.stop w2.stop w3.stop w4.stop w5.stop w0.list w1.list w2.list w3.list w4.list w5.list c.args.place case end c.in-Ok.items.items starts jumps (trees_at f ids)
+    (option_map_or (tree_at c.args.program.now) c.args.other (made.left_out c.args.place c.args.goal))
+    c.len-case.ensures.long many c.emit.ensures c.write_arms.ensures.writes c.write_arms.ensures.starts c.write_arms.ensures.jumps c.otherwise.ensures c.len-end.ensures.long ends
+    c.patch_all.ensures.stop each
+
+pub case-returns : goal.case-returns
+case-returns t c =
+    let a = c.args.program.now in
+    let id = c.args.id in
+    let node = c.node.result.now in
+    let note = c.note.result.now in
+    let place = c.args.place in
+    let goal_mode = c.args.goal in
+    let yields = not (is_void (shape_at a.modes goal_mode)) in
+    let ids = c.args.parts.now in
+    let enquiry = get_or ids 0 0 in
+    let units = c.before_out-units.result.now in
+    let other = c.out_of-other.result in
+    let below = (between-each id (length a.tree.nodes) 0 ids c.requires (omega arith)).0 in
+    let w0 = c.args.out.now in
+    let w1 = c.enquire.new.out in
+    let w2 = c.choose.new.out in
+    let w3 = c.shut.new.out in
+    let shut : Writes w2.stop w3.stop w2.list w3.list (shuts note.slots yields place) =
+    subst (λ (b : Bool). Writes w2.stop w3.stop w2.list w3.list (shuts note.slots (not b) place)) c.is_void.ensures c.shut.ensures in
+    let all = case_framed w0.stop w1.stop w2.stop w3.stop w0.list w1.list w2.list w3.list node.span.from note.slots place yields
+    (made.phrases_of node.span.from (trees_at (behind enquiry (tree_at a)) c.parts-phrases.result.now)) (trees_at (behind id (tree_at a)) units)
+    (option_map_or (tree_at a) other (made.left_out place goal_mode)) c.enquire.ensures c.choose.ensures shut in
+    let same = case_is a id place goal_mode yields enquiry (take (length ids - 1) (drop 1 ids)) c.parts-phrases.result.now units other node note c.node.ensures.is c.note.ensures c.parts-phrases.ensures.is
+    c.parts-phrases.ensures.behind below c.before_out-units.ensures.parts c.out_of-other.ensures.out c.out_of-other.ensures.within in
+    let whole = ap (λ (l : List ℕ). made.case_of a (behind id (tree_at a)) place goal_mode yields l) (sym (rest_parts ids (omega arith))) in
+    subst (λ (u : Tree). Writes w0.stop w3.stop w0.list w3.list (stretch u (length w0.list))) (same ∙ whole) all
 
 pub count-returns : goal.count-returns
 count-returns t c =

@@ -3,10 +3,10 @@ use Rattle.std.specs.declared.option.Option.{Option}
 use Rattle.a68_base.specs.declared.refusal.Stop.{Stop}
 use Rattle.a68_code.specs.declared.code.Instr.{Instr}
 use Rattle.a68_elab.specs.Made.{behind, tree_at, trees_at}
-use Rattle.a68_gen.specs.Chains.{IsWithin, link_tree}
+use Rattle.a68_gen.specs.Chains.{IsOpen, IsWhole, IsWithin, link_tree}
 use Rattle.a68_gen.specs.Listing.{stretches}
 use Rattle.a68_gen.specs.Writing.{Writes}
-use Rattle.a68_gen.proofs.Chaining.{Ahead}
+use Rattle.a68_gen.proofs.Numbering.{ArmsAhead}
 use Rattle.a68_gen.proofs.rows.+units.Given as goal
 
 abbrev pub decreases-unit : goal.decreases-unit
@@ -98,8 +98,27 @@ invariant-all-loop-part l = (s : Option Stop) (end : List Instr) → Writes l.ou
 -- the links before this one are written
 abbrev pub invariant-write_links-links : goal.invariant-write_links-links
 invariant-write_links-links l =
-    IsWithin (length l.program.tree.nodes) l.link × (l.fn.first.id ≤ l.link.id)
-    × Ahead (link_tree (tree_at l.program) l.fn.first) (link_tree (tree_at l.program) l.link) l.jumps.items l.initial.out.stop l.out.stop l.initial.out.list l.out.list
+    IsWithin l.program l.link × (l.fn.first.id ≤ l.link.id)
+    × IsOpen (IsWhole (link_tree l.program (tree_at l.program) l.fn.first) l.initial.out.stop l.initial.out.list) l.opens.items (link_tree l.program (tree_at l.program) l.link)
+    l.out.stop l.out.list
 
 abbrev pub decreases-write_links-links : goal.decreases-write_links-links
 decreases-write_links-links l = length l.program.tree.nodes - l.link.id
+
+abbrev pub decreases-case : goal.decreases-case
+decreases-case l = 8 * (length l.program.now.tree.nodes - l.id) + 5
+
+abbrev pub decreases-choose : goal.decreases-choose
+decreases-choose l = 8 * (length l.program.now.tree.nodes - l.id) + 3
+
+abbrev pub decreases-write_arms : goal.decreases-write_arms
+decreases-write_arms l = 8 * (length l.program.now.tree.nodes - l.id) + 2
+
+abbrev pub decreases-write_arm : goal.decreases-write_arm
+decreases-write_arm l = 8 * (length l.program.now.tree.nodes - l.id) + 1
+
+-- the parts before this one are written
+abbrev pub invariant-write_arms-loop-part : goal.invariant-write_arms-loop-part
+invariant-write_arms-loop-part l =
+    ArmsAhead l.place (trees_at (behind l.id (tree_at l.program)) l.parts) (trees_at (behind l.id (tree_at l.program)) (drop l.part-index l.parts)) l.starts.items l.jumps.items
+    l.initial.out.stop l.out.stop l.initial.out.list l.out.list

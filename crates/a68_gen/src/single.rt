@@ -1,0 +1,127 @@
+//! Single instructions, and constructs that are one.
+ghost use Rattle.std.specs.Option.{option_and_then};
+ghost use Rattle.std.specs.Prelude.{◌≡◌, ◌<◌, not, length, map, if◌then◌else◌};
+ghost use Rattle.a68_elab.specs.Constants.{value_in};
+ghost use Rattle.a68_elab.specs.Made as made;
+ghost use Rattle.a68_elab.specs.Trees as trees;
+ghost use Rattle.a68_gen.specs.Listing.{stretch};
+ghost use Rattle.a68_gen.specs.Stretches.{does_of};
+ghost use Rattle.a68_gen.specs.Writers.{Wrote};
+ghost use Rattle.a68_modes.specs.Nodes.{shape_at, is_void};
+
+use crate::writer::Writer;
+use a68_annot::{Annotated, Note};
+use a68_code::Does;
+use a68_modes::ModeId;
+use a68_runs::{behind_ref, is_one_of, standard_of, value_in};
+use a68_tree::Node;
+use a68_values::Value;
+use std::alloc::Global;
+
+/// Writes nothing for a construct that is not built. No annotated tree has one.
+pub fn unbuilt(_out: &mut Writer)
+    ensures { Wrote _out.old _out.new (stretch trees.unbuilt (length _out.old.list)) }
+{}
+
+/// Writes nothing for what is not elaborated.
+pub fn nothing(_out: &mut Writer)
+    ensures { Wrote _out.old _out.new (stretch (trees.together trees.no_trees) (length _out.old.list)) }
+{}
+
+// Push the value, where the denotation has one.
+fn denoted(place: u32, value: Option<Value>, out: &mut Writer)
+    ensures { Wrote out.old out.new (stretch (made.denoted place value) (length out.old.list)) }
+{
+    match value {
+        Some(value) => out.emit(place, Does::Push(value)),
+        None => unbuilt(out),
+    }
+}
+
+/// Push the value of a denotation.
+pub fn denotation(alloc: Global, program: &Annotated, node: &Node, out: &mut Writer)
+    requires { node.now.name < length program.now.tree.spellings }
+    ensures { Wrote out.old out.new (stretch (made.denoted node.now.span.from (option_and_then value_in (made.spelling_of program.now node.now))) (length out.old.list)) }
+{
+    match value_in(alloc, program.tree.spelling(node.name)) {
+        Ok(value) => denoted(node.span.from, value, out),
+        Err(_) => out.run_out(),
+    }
+}
+
+/// Push the value of a tag of the standard environ, or Tag: hops and slot.
+pub fn tag(program: &Annotated, node: &Node, note: &Note) -> Does
+    requires { node.now.name < length program.now.tree.spellings }
+    ensures { result ≡ does_of (made.tag_of (made.standard_of note.now.definition (made.spelling_of program.now node.now)) note.now.step.hops note.now.step.slot) 0 }
+{
+    match standard_of(program, node, note) {
+        Some(value) => Does::Push(value),
+        None => Does::Tag {
+            hops: note.step.hops,
+            slot: note.step.slot,
+        },
+    }
+}
+
+/// Store: the mode behind that of the name.
+pub fn store(program: &Annotated, note: &Note) -> Does
+    ensures { result ≡ Does.Store (made.behind_ref (shape_at program.now.modes note.now.mode)) }
+{
+    Does::Store(behind_ref(&program.modes, note.mode))
+}
+
+/// Leave 1 where a value is yielded, else Leave 0.
+pub fn leave(program: &Annotated, note: &Note) -> Does
+    ensures { result ≡ Does.Leave (if not (is_void (shape_at program.now.modes note.now.goal)) then 1 else 0) }
+{
+    if program.modes.is_void(note.goal) {
+        Does::Leave(0)
+    } else {
+        Does::Leave(1)
+    }
+}
+
+// The words and marks that negate an identity relation.
+fn isnt() -> &'static [&'static str]
+    ensures { map (λ word. word.now) result.now ≡ made.isnt }
+{
+    &["ISNT", ":/=:"]
+}
+
+/// Same: 1 where the relation is negated.
+pub fn same(program: &Annotated, node: &Node) -> Does
+    requires { node.now.name < length program.now.tree.spellings }
+    ensures { result ≡ Does.Same (made.negated (made.is_one_of made.isnt (made.spelling_of program.now node.now))) }
+{
+    let is_negated = is_one_of(isnt(), Some(program.tree.spelling(node.name)));
+    Does::Same(u32::from(is_negated))
+}
+
+// The word before a generator whose name stays.
+fn heaps() -> &'static [&'static str]
+    ensures { map (λ word. word.now) result.now ≡ made.heaps }
+{
+    &["HEAP"]
+}
+
+/// Heap or Make: a new name.
+pub fn new_name(in_heap: bool, mode: ModeId) -> Does
+    ensures { result ≡ (if in_heap then Does.Heap mode 0 else Does.Make mode 0) }
+{
+    if in_heap {
+        Does::Heap { mode, bounds: 0 }
+    } else {
+        Does::Make { mode, bounds: 0 }
+    }
+}
+
+/// A new name, in the heap where the generator says so.
+pub fn generator(program: &Annotated, node: &Node, note: &Note, out: &mut Writer)
+    requires { node.now.name < length program.now.tree.spellings }
+    ensures { Wrote out.old out.new (stretch (made.new_name (made.is_one_of made.heaps (made.spelling_of program.now node.now)) node.now.span.from
+        (made.behind_ref (shape_at program.now.modes note.now.mode))) (length out.old.list)) }
+{
+    let in_heap = is_one_of(heaps(), Some(program.tree.spelling(node.name)));
+    let mode = behind_ref(&program.modes, note.mode);
+    out.emit(node.span.from, new_name(in_heap, mode));
+}
