@@ -3,3 +3,4 @@ pub mod Lines
 pub mod Listing
 pub mod Names
 pub mod Put
+pub mod Variables

@@ -15,13 +15,13 @@ use Rattle.a68_values.specs.declared.kept.Kept.{Kept}
 
 module _ (text : List ℕ) (finish : Finish) (out notes : List ℕ) where
   pub refuses : (task : Task) (refusal : Refusal) → RefusedAs text refusal → IsRefusal refusal finish out notes → AnswersText task text finish out notes
-  refuses (run file fuel) refusal why says = refused refusal why says
+  refuses (run file fuel names) refusal why says = refused refusal why says
   refuses (check file) refusal why says = unmade refusal why says
   refuses (show_code file) refusal why says = unmade refusal why says
 
   pub answers : (task : Task) (made : Made) → Compiles text made
       → ((fuel : ℕ) (kept : Kept) → Translates (program_of made.program) made.code → RunOf made.code fuel kept → Permitted (program_of made.program) fuel kept)
       → AnswersMade task made finish out notes → AnswersText task text finish out notes
-  answers (run file fuel) made is law has = ran made is has (law fuel has.kept is.translated has.machine)
+  answers (run file fuel names) made is law has = ran made is has (law fuel has.kept is.translated has.machine)
   answers (check file) made is law has = compiled made is has
   answers (show_code file) made is law has = compiled made is has

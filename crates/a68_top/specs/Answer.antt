@@ -1,6 +1,7 @@
 -- What a call owes: the relation between the task, the text of the file, the finish, and the bytes on out and notes.
-use Rattle.std.specs.Prelude.{◌≡◌, ℕ, List, [], ◌∷◌, take, None, Some}
+use Rattle.std.specs.Prelude.{◌≡◌, ℕ, Bool, List, [], ◌∷◌, ◌++◌, take, None, Some, if◌then◌else◌}
 use Rattle.std.specs.declared.option.Option.{Option}
+use Rattle.a68_annot.specs.declared.annotated.Annotated.{Annotated}
 use Rattle.a68_base.specs.declared.limits.TheConstants.{MOST_READ}
 use Rattle.a68_base.specs.declared.refusal.Refusal.{Refusal}
 use Rattle.a68_base.specs.declared.status.Status.{Status}
@@ -10,6 +11,7 @@ use Rattle.a68_elab.specs.Made.{program_of}
 use Rattle.a68_elab.specs.Permitted.{Permitted}
 use Rattle.a68_report.specs.Lines.{usage_line, refusal_line, end_line}
 use Rattle.a68_report.specs.Listing.{code_text}
+use Rattle.a68_report.specs.Variables.{names_text}
 use Rattle.a68_strand.specs.Cyclic.{Cyclic}
 use Rattle.a68_strand.specs.RunOf.{RunOf}
 use Rattle.a68_top.specs.Compiles.{Compiles, RefusedAs}
@@ -45,18 +47,22 @@ status_of (ends.Fault why place strand) = Fault
 status_of ends.AllHalted = AllHalted
 status_of ends.Spent = Spent
 
--- The program has run so, and the text that the run printed is on out.
-pub record HasRun (made : Made) (fuel : ℕ) (finish : Finish) (out notes : List ℕ) : Type 0 where
+-- The lines of a run: how it ended, and behind that what its variables refer to, where this is asked for.
+abbrev pub run_lines : (names : Bool) → Annotated → Kept → List ℕ
+run_lines names program kept = end_line kept.end ++ (if names then names_text program kept else [])
+
+-- The program has run so; the text that the run printed is on out, and its lines are on notes.
+pub record HasRun (made : Made) (fuel : ℕ) (names : Bool) (finish : Finish) (out notes : List ℕ) : Type 0 where
   pub kept : Kept
   pub machine : RunOf made.code fuel kept
   pub cyclic : Cyclic made.code kept
-  pub says : Says finish out notes (record { status = status_of kept.end; refusal = None; made = Some made; ran = Some kept }) kept.journal.text (end_line kept.end)
+  pub says : Says finish out notes (record { status = status_of kept.end; refusal = None; made = Some made; ran = Some kept }) kept.journal.text (run_lines names made.program kept)
 
 -- A run of a text: the text is refused, or its program has run, as the rules of the language permit.
-pub data IsRunOf (text : List ℕ) (fuel : ℕ) (finish : Finish) (out notes : List ℕ) : Type 0 where
-  refused : (refusal : Refusal) → RefusedAs text refusal → IsRefusal refusal finish out notes → IsRunOf text fuel finish out notes
-  ran : (made : Made) → Compiles text made → (has : HasRun made fuel finish out notes) → Permitted (program_of made.program) fuel has.kept
-      → IsRunOf text fuel finish out notes
+pub data IsRunOf (text : List ℕ) (fuel : ℕ) (names : Bool) (finish : Finish) (out notes : List ℕ) : Type 0 where
+  refused : (refusal : Refusal) → RefusedAs text refusal → IsRefusal refusal finish out notes → IsRunOf text fuel names finish out notes
+  ran : (made : Made) → Compiles text made → (has : HasRun made fuel names finish out notes) → Permitted (program_of made.program) fuel has.kept
+      → IsRunOf text fuel names finish out notes
 
 -- The program is kept and not run, and this is on out.
 abbrev pub IsKept : Made → List ℕ → Finish → List ℕ → List ℕ → Type 0
@@ -73,7 +79,7 @@ nothing code = []
 
 -- what a task owes for what is read of the text of its file
 abbrev pub AnswersText : Task → List ℕ → Finish → List ℕ → List ℕ → Type 0
-AnswersText (run file fuel) text finish out notes = IsRunOf text fuel finish out notes
+AnswersText (run file fuel names) text finish out notes = IsRunOf text fuel names finish out notes
 AnswersText (check file) text finish out notes = IsMadeOf text nothing finish out notes
 AnswersText (show_code file) text finish out notes = IsMadeOf text code_text finish out notes
 

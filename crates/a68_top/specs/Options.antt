@@ -33,19 +33,22 @@ number_in most word = if nat_le (length word) 8 then option_and_then (number_as 
 
 -- the words before any word was read
 abbrev pub start : Found
-start = record { due = Word; file = None; workers = None; fuel = None }
+start = record { due = Word; file = None; workers = None; fuel = None; names = false }
 
 -- what is given once more is none
 abbrev pub is_new : Option ℕ → Bool
 is_new None = true
 is_new (Some n) = false
 
--- The number of workers, the fuel or the file is known; it is known once at most.
+-- The number of workers, the fuel or the file is known, or names are asked for; once at most.
 abbrev pub with_workers : Found → ℕ → Option Found
 with_workers found n = if is_new found.workers then Some (record found { due = Word; workers = Some n }) else None
 
 abbrev pub with_fuel : Found → ℕ → Option Found
 with_fuel found n = if is_new found.fuel then Some (record found { due = Word; fuel = Some n }) else None
+
+abbrev pub with_names : Found → Option Found
+with_names found = if found.names then None else Some (record found { names = true })
 
 abbrev pub with_file : Found → ℕ → Option Found
 with_file found at = if is_new found.file then Some (record found { file = Some at }) else None
@@ -67,7 +70,8 @@ any_word found at word =
     if bytes_eq word (codes "--") then Some (record found { due = Operand })
     else (if bytes_eq word (codes "--workers") then Some (record found { due = Workers })
     else (if bytes_eq word (codes "--fuel") then Some (record found { due = Fuel })
-    else (if is_operand word then with_file found at else joined found word)))
+    else (if bytes_eq word (codes "--names") then with_names found
+    else (if is_operand word then with_file found at else joined found word))))
 
 abbrev pub by_due : Due → Found → (at : ℕ) → List ℕ → Option Found
 by_due Word found at word = any_word found at word

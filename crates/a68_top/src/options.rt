@@ -31,6 +31,8 @@ pub struct Found {
     pub file: Option<usize>,
     pub workers: Option<u32>,
     pub fuel: Option<u32>,
+    /// Are the names asked for?
+    pub names: bool,
 }
 
 // Does the word name a file?
@@ -87,6 +89,21 @@ fn fuel_in(found: Found, word: &[u8]) -> Option<Found>
         }),
         _ => None,
     }
+}
+
+// The names are asked for, once at most.
+fn with_names(found: Found) -> Option<Found>
+    requires { HasRange found }
+    ensures found { result ≡ spec.with_names found }
+    ensures range { IfSome result HasRange }
+{
+    if found.names {
+        return None;
+    }
+    Some(Found {
+        names: true,
+        ..found
+    })
 }
 
 // The word of this number names the file.
@@ -151,6 +168,9 @@ fn any_word(found: Found, at: usize, word: &str) -> Option<Found>
             ..found
         });
     }
+    if word == "--names" {
+        return with_names(found);
+    }
     if is_operand(word.as_bytes()) {
         with_file(found, at)
     } else {
@@ -182,6 +202,7 @@ pub fn found_in(words: &[String]) -> Option<Found>
         file: None,
         workers: None,
         fuel: None,
+        names: false,
     };
     for at in 0..words.len() {
         match step(found, at, words[at].as_str()) {

@@ -1,14 +1,14 @@
 //! All that a call does before its first byte is written.
-ghost use Rattle.std.specs.Prelude.{◌≡◌, ◌≤◌, ◌<◌, ◌^◌, [], length, map, string_bytes, IfOk, OnOk, IfSome, IsErrOf, Some};
+ghost use Rattle.std.specs.Prelude.{◌≡◌, ◌≤◌, ◌<◌, ◌^◌, ◌++◌, [], length, map, string_bytes, IfOk, OnOk, IfSome, IsErrOf, Some};
 ghost use Rattle.a68_outside.specs.Cause.{Rose};
 ghost use Rattle.a68_top.specs.Words.{MayAskFor, task_in, file_of, files_of};
 ghost use Rattle.a68_code.specs.Valid.{IsValid};
 ghost use Rattle.a68_strand.specs.Cyclic.{Cyclic};
 ghost use Rattle.a68_strand.specs.RunOf.{RunOf};
 ghost use Rattle.a68_top.specs.Commands.{task_of, AnswersMade, HasFuel};
-ghost use Rattle.a68_report.specs.Lines.{end_line};
+ghost use Rattle.a68_report.specs.Variables.{names_text};
 ghost use Rattle.a68_report.specs.Listing.{code_text as listing};
-ghost use Rattle.a68_top.specs.Answer.{AnswersText, IsKept, IsRefusal, HasRun, IsUsage, read_of};
+ghost use Rattle.a68_top.specs.Answer.{AnswersText, IsKept, IsRefusal, HasRun, IsUsage, read_of, run_lines};
 ghost use Rattle.a68_top.specs.Outcome.{IsAnswer, Owes};
 ghost use Rattle.a68_world.specs.Run.{most_fuel};
 ghost use Rattle.a68_top.specs.declared.prepare.Early.TheVariants as early;
@@ -20,9 +20,9 @@ use a68_annot::Annotated;
 use a68_base::{MOST_READ, NoMemory, Refusal, Status, Stop, Text};
 use a68_code::Code;
 use a68_outside::{ReadStop, Shelf, read_at_most};
-use a68_report::{USAGE, code_text, end_line, refusal_line};
+use a68_report::{USAGE, code_text, end_line, names_text, refusal_line};
 use a68_sim::permitted_law;
-use a68_values::{End, Kept};
+use a68_values::Kept;
 use a68_world::run;
 use std::alloc::Global;
 
@@ -93,18 +93,61 @@ fn refused(alloc: Global, refusal: Refusal) -> Result<Owed, NoMemory>
     })
 }
 
-// What a run that printed this and ended so writes to out, and its line on notes.
-fn told(alloc: Global, printed: &Text, end: End) -> Result<(Text, Text), NoMemory>
-    ensures out { IfOk result (λ texts. texts.0 ≡ printed.now) }
-    ensures notes { IfOk result (λ texts. texts.1 ≡ end_line end) }
+// Puts the lines of the names behind the line of a run's end.
+fn add_names(
+    alloc: Global,
+    notes: &mut Text,
+    program: &Annotated,
+    kept: &Kept,
+) -> Result<(), NoMemory>
+    ensures { OnOk result (notes.new ≡ notes.old ++ names_text program.now kept.now) }
 {
+    let lines = names_text(alloc, program, kept)?;
+    notes.items.extend_from_slice(lines.as_slice())?;
+    Ok(())
+}
+
+// The lines of a run on notes.
+fn noted(alloc: Global, names: bool, program: &Annotated, kept: &Kept) -> Result<Text, NoMemory>
+    ensures { IfOk result (λ text. text ≡ run_lines names program.now kept.now) }
+{
+    let mut notes = end_line(alloc, kept.end)?;
+    if !names {
+        return Ok(notes);
+    }
+    match add_names(alloc, &mut notes, program, kept) {
+        Ok(()) => Ok(notes),
+        Err(error) => {
+            drop(notes);
+            Err(error)
+        }
+    }
+}
+
+// What a run writes to out, and its lines on notes.
+fn told(
+    alloc: Global,
+    names: bool,
+    program: &Annotated,
+    kept: &Kept,
+) -> Result<(Text, Text), NoMemory>
+    ensures out { IfOk result (λ texts. texts.0 ≡ kept.now.journal.text) }
+    ensures notes { IfOk result (λ texts. texts.1 ≡ run_lines names program.now kept.now) }
+{
+    let printed = &kept.journal.text;
     let out = Text::from_slice(alloc, printed.as_slice())?;
-    let notes = end_line(alloc, end)?;
+    let notes = noted(alloc, names, program, kept)?;
     Ok((out, notes))
 }
 
 // A code that was run, what its run keeps, and what that writes.
-fn finished(alloc: Global, code: Code, fuel: u32) -> Result<(Code, Kept, (Text, Text)), NoMemory>
+fn finished(
+    alloc: Global,
+    program: &Annotated,
+    code: Code,
+    fuel: u32,
+    names: bool,
+) -> Result<(Code, Kept, (Text, Text)), NoMemory>
     requires valid { IsValid code }
     requires short { length code.list < 2 ^ 32 }
     requires some_fuel { 1 ≤ fuel }
@@ -113,10 +156,10 @@ fn finished(alloc: Global, code: Code, fuel: u32) -> Result<(Code, Kept, (Text, 
     ensures runs { IfOk result (λ done. RunOf code fuel done.1) }
     ensures cyclic { IfOk result (λ done. Cyclic code done.1) }
     ensures out { IfOk result (λ done. done.2.0 ≡ done.1.journal.text) }
-    ensures notes { IfOk result (λ done. done.2.1 ≡ end_line done.1.end) }
+    ensures notes { IfOk result (λ done. done.2.1 ≡ run_lines names program.now done.1) }
 {
     let (code, kept) = run(alloc, code, fuel)?;
-    match told(alloc, &kept.journal.text, kept.end) {
+    match told(alloc, names, program, &kept) {
         Ok(texts) => Ok((code, kept, texts)),
         Err(error) => {
             drop(code);
@@ -127,15 +170,21 @@ fn finished(alloc: Global, code: Code, fuel: u32) -> Result<(Code, Kept, (Text, 
 }
 
 // What the run of a program owes.
-fn ran(alloc: Global, program: Annotated, code: Code, fuel: u32) -> Result<Owed, NoMemory>
+fn ran(
+    alloc: Global,
+    program: Annotated,
+    code: Code,
+    fuel: u32,
+    names: bool,
+) -> Result<Owed, NoMemory>
     requires valid { IsValid code }
     requires short { length code.list < 2 ^ 32 }
     requires some_fuel { 1 ≤ fuel }
     requires little_fuel { fuel ≤ most_fuel }
     ensures status { IfOk result (λ due. IsAnswer due.finish.status) }
-    ensures answer { IfOk result (λ due. HasRun (record { program = program; code = code }) fuel due.finish due.out due.notes) }
+    ensures answer { IfOk result (λ due. HasRun (record { program = program; code = code }) fuel names due.finish due.out due.notes) }
 {
-    match finished(alloc, code, fuel) {
+    match finished(alloc, &program, code, fuel, names) {
         Ok((code, kept, (out, notes))) => Ok(Owed {
             finish: Finish {
                 status: status_of(kept.end),
@@ -195,9 +244,9 @@ fn due_made(alloc: Global, command: &Command, made: Made) -> Result<Owed, NoMemo
     ensures answer { IfOk result (λ due. AnswersMade (task_of command.now) made due.finish due.out due.notes) }
 {
     match command {
-        Command::Run { fuel, .. } => {
+        Command::Run { fuel, names, .. } => {
             let Made { program, code } = made;
-            ran(alloc, program, code, *fuel)
+            ran(alloc, program, code, *fuel, *names)
         }
         Command::Check { .. } => {
             let out = Text {

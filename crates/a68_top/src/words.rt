@@ -2,7 +2,7 @@
 ghost use Rattle.std.specs.Prelude.{◌≡◌, ◌≤◌, List, ℕ, map, string_bytes, IfOk, IfSome};
 ghost use Rattle.std.specs.Option.{option_map, option_and_then};
 ghost use Rattle.a68_top.specs.Options.{HasRange, start, steps};
-ghost use Rattle.a68_top.specs.Words.{fuel_or_usual, task_in, task_by, task_of_found, file_of};
+ghost use Rattle.a68_top.specs.Words.{fuel_or_usual, has_no_option, task_in, task_by, task_of_found, file_of};
 ghost use Rattle.a68_top.specs.Commands.{task_of, HasFuel};
 
 use crate::options::{Due, Found, found_in};
@@ -44,12 +44,20 @@ impl FileName {
 /// What the words ask for.
 #[derive(Drop)]
 pub enum Command {
-    /// To compile the text of a file and to run it.
-    Run { file: FileName, fuel: u32 },
+    /// To compile the text of a file and to run it, and to tell the names where they are asked for.
+    Run {
+        file: FileName,
+        fuel: u32,
+        names: bool,
+    },
     /// To compile the text of a file.
-    Check { file: FileName },
+    Check {
+        file: FileName,
+    },
     /// To compile the text of a file and to list its code.
-    Code { file: FileName },
+    Code {
+        file: FileName,
+    },
 }
 
 impl Command {
@@ -75,6 +83,13 @@ fn fuel_or_usual(fuel: Option<u32>) -> u32
     }
 }
 
+// Is no option given?
+fn has_no_option(found: Found) -> bool
+    ensures { result ≡ has_no_option found }
+{
+    found.workers.is_none() && found.fuel.is_none() && !found.names
+}
+
 // What a verb asks for of a file: `run` alone has options.
 fn command_by(
     alloc: Global,
@@ -89,9 +104,10 @@ fn command_by(
     if verb == "run" {
         let file = FileName::new(alloc, file)?;
         let fuel = fuel_or_usual(found.fuel);
-        return Ok(Some(Command::Run { file, fuel }));
+        let names = found.names;
+        return Ok(Some(Command::Run { file, fuel, names }));
     }
-    if found.workers.is_some() || found.fuel.is_some() {
+    if !has_no_option(found) {
         return Ok(None);
     }
     if verb == "check" {

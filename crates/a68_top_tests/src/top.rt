@@ -185,6 +185,31 @@ const PRINTING: &[(&str, &str)] = &[
         "( MODE N = INT; PRIO MINUS = 1; N n := 7; print(n) )",
         SEVEN,
     ),
+    (
+        "( print((7 OVER -2, -7 MOD 3)) )",
+        "                  -3                  +2",
+    ),
+    ("( print(- 1 ** 2) )", "                  +1"),
+    (
+        "( INT the value = 3; print(thevalue) )",
+        "                  +3",
+    ),
+    (
+        "( BOOL b = TRUE; INT x := 5; print((b | x | 2) + 1) )",
+        "                  +6",
+    ),
+    (
+        "( print((whole(7, 4), whole(-7, -4), whole(12345, 3), whole(0, 0))) )",
+        "  +7  -7***0",
+    ),
+    (
+        "( print((ABS (16rff AND 2r1010), 64 ELEM 2r1)) )",
+        "                 +10T",
+    ),
+    (
+        "( REF INT p := NIL; print((p IS NIL, REF INT (p) IS NIL)) )",
+        "FT",
+    ),
     ("( CASE 2 IN print(3), print(7) ESAC )", SEVEN),
     ("( CASE 3 IN print(3), print(7) ESAC )", ""),
     ("( print(CASE 0 IN 1, 2 OUT 7 ESAC) )", SEVEN),
@@ -255,6 +280,32 @@ const REFUSED: &[(&str, u8, &str)] = &[
         "( REF STRING (NIL) +:= \"a\" )",
         1,
         "a68: refused X0 at byte 2\n",
+    ),
+    ("( print(1 + TRUE) )", 1, "a68: refused O1 at byte 10\n"),
+    ("( INT x := TRUE; SKIP )", 1, "a68: refused C1 at byte 11\n"),
+    ("( INT x, x; SKIP )", 1, "a68: refused N3 at byte 9\n"),
+    ("( PAR ( SKIP ) )", 1, "a68: refused P1 at byte 2\n"),
+    ("( print; SKIP )", 1, "a68: refused P2 at byte 2\n"),
+    (
+        "( STRUCT (INT a, b) s; c OF s; SKIP )",
+        1,
+        "a68: refused N4 at byte 23\n",
+    ),
+    (
+        "( PROC f = (INT a) INT: a; print(f(1, 2)) )",
+        1,
+        "a68: refused C3 at byte 33\n",
+    ),
+    ("( NIL IS NIL; SKIP )", 1, "a68: refused C2 at byte 2\n"),
+    (
+        "( REF INT p; ( INT x := 1; p := x ); SKIP )",
+        3,
+        "a68: fault Scope at byte 27\n",
+    ),
+    (
+        "( REF INT p := NIL; print(p) )",
+        3,
+        "a68: fault Nil at byte 26\n",
     ),
     ("BEGIN print(1);", 1, "a68: refused S6 at byte 15\n"),
     ("BEGIN print(1 +) END", 1, "a68: refused S6 at byte 15\n"),
@@ -453,6 +504,71 @@ fn programs_run_within_their_fuel(rt: HostRuntime) {
     }
 }
 
+/// Texts that are run with their names, the status, and what is noted.
+const NAMED: &[(&str, u8, &str)] = &[
+    ("( INT x := 4; BOOL b; x +:= 1 )", 0, "x = 5\nb = unset\n"),
+    ("BEGIN INT x := 5; SKIP END", 0, "x = 5\n"),
+    (
+        "( INT a := -5, BOOL b := TRUE, CHAR c := \"x\", BITS d := 2r1, INT u; HEAP INT h := 2; SKIP )",
+        0,
+        "a = -5\nb = T\nc = x\nd = FFFFFFFFFFFFFFFFFFFFFFFFFFFFFFFFFFFFFFFFFFFFFFFFFFFFFFFFFFFFFFFT\nu = unset\nh = 2\n",
+    ),
+    (
+        "( INT a := 1; INT k = 3; REF INT p := a; REF INT q = a; HEAP BOOL f := FALSE; SKIP )",
+        0,
+        "a = 1\nf = F\n",
+    ),
+    (
+        "( INT x := 1; ( INT y := 2; x := y ); FOR i TO 2 DO INT z := i; x +:= z OD; IF INT w := 0; w = 0 THEN SKIP FI )",
+        0,
+        "x = 5\n",
+    ),
+    ("( INT x := 1; ( INT x := 2; SKIP ) )", 0, "x = 1\n"),
+    (
+        "( INT a b := 0, c 1; c 1 := 9; SKIP )",
+        0,
+        "ab = 0\nc1 = 9\n",
+    ),
+    ("( MODE N = INT; N n := 7; SKIP )", 0, "n = 7\n"),
+    ("( CHAR c := REPR 10; SKIP )", 0, "c = \n\n"),
+    ("IF INT x := 1; TRUE THEN SKIP FI", 0, ""),
+    ("( SKIP )", 0, ""),
+    ("(1, 2)", 0, ""),
+    (
+        "( INT x := 3; INT y; INT z := y + 1; INT w := 1; SKIP )",
+        3,
+        "a68: fault Unset at byte 30\nx = 3\ny = unset\nz = unset\nw = unset\n",
+    ),
+    (
+        "( INT x := 1; x %:= 0 )",
+        3,
+        "a68: fault Divisor at byte 14\nx = 1\n",
+    ),
+    ("( INT x; SKIP", 1, "a68: refused S6 at byte 13\n"),
+];
+
+#[test]
+fn names_are_told(rt: HostRuntime) {
+    for (text, status, notes) in NAMED {
+        let given = of_words(&["run", "f", "--names"], text);
+        answers(&rt, rt.alloc(), given, *status, ("", notes));
+    }
+}
+
+#[test]
+fn names_stand_behind_the_end_of_fuel(rt: HostRuntime) {
+    let words = ["run", "f", "--fuel", "10", "--names"];
+    let due = "a68: fuel spent\nx = 0\n";
+    answers(&rt, rt.alloc(), of_words(&words, TURNS), 5, ("", due));
+}
+
+#[test]
+fn what_is_printed_stays(rt: HostRuntime) {
+    let given = of_words(&["run", "--names", "f"], FIVE);
+    let due = ("                  +5", "x = 5\n");
+    answers(&rt, rt.alloc(), given, 0, due);
+}
+
 /// Texts, and the listings of their codes.
 const LISTED: &[(&str, &str)] = &[
     (
@@ -534,6 +650,7 @@ const MISUSED: &[&[&str]] = &[
     &["walk", "f"],
     &["run", "f", "--fuel", "0"],
     &["check", "f", "g"],
+    &["check", "f", "--names"],
     &["code", "f", "--fuel", "7"],
     &["make", "3"],
 ];

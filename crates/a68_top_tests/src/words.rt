@@ -5,10 +5,14 @@ use std::alloc::Global;
 use std::panic::Expect;
 use std::process::Abort;
 
-// The verb of a command, its file, and its fuel, which is 0 where it has none.
+// The verb of a command, its file, and its fuel, which is 0 where it has none. Names are told with the verb.
 fn parts(command: &Command) -> (&'static str, &str, u32) {
     match command {
-        Command::Run { file, fuel } => ("run", file.as_str(), *fuel),
+        Command::Run { file, fuel, names } => (
+            if *names { "run with names" } else { "run" },
+            file.as_str(),
+            *fuel,
+        ),
         Command::Check { file } => ("check", file.as_str(), 0),
         Command::Code { file } => ("code", file.as_str(), 0),
     }
@@ -71,6 +75,7 @@ const MORE_RUNS: &[(&[&str], &str, u32)] = &[
     (&["run", "a b"], "a b", 4_000_000),
     (&["run", "f", "--fuel=00000001"], "f", 1),
     (&["run", "--", "--fuel=7"], "--fuel=7", 4_000_000),
+    (&["run", "--", "--names"], "--names", 4_000_000),
     (&["run", "é"], "é", 4_000_000),
 ];
 
@@ -80,6 +85,25 @@ fn words_run_files(rt: HostRuntime) {
         for (words, file, fuel) in table {
             are_command(&rt, rt.alloc(), words, ("run", file, *fuel));
         }
+    }
+}
+
+/// Words of runs that tell the names, the file, and the fuel.
+const NAMED: &[(&[&str], &str, u32)] = &[
+    (&["run", "f", "--names"], "f", 4_000_000),
+    (&["run", "--names", "f"], "f", 4_000_000),
+    (&["run", "--names", "--", "-f"], "-f", 4_000_000),
+    (&["run", "--names", "--fuel", "7", "f"], "f", 7),
+    (&["run", "--fuel=7", "f", "--names"], "f", 7),
+    (&["run", "f", "--workers", "4", "--names"], "f", 4_000_000),
+    (&["run", "--names", "names"], "names", 4_000_000),
+    (&["run", "--names", "--", "--names"], "--names", 4_000_000),
+];
+
+#[test]
+fn words_run_files_and_ask_for_names(rt: HostRuntime) {
+    for (words, file, fuel) in NAMED {
+        are_command(&rt, rt.alloc(), words, ("run with names", file, *fuel));
     }
 }
 
@@ -177,6 +201,26 @@ const MISMANNED: &[&[&str]] = &[
     &["run", "f", "--workers", "000000004"],
 ];
 
+/// Names that are asked for twice, with a value, without a file, or where an option wants its number.
+const MISNAMED: &[&[&str]] = &[
+    &["run", "--names"],
+    &["run", "f", "--names", "--names"],
+    &["run", "--names", "f", "--names"],
+    &["run", "f", "--names=1"],
+    &["run", "f", "--names="],
+    &["run", "f", "--name"],
+    &["run", "f", "--Names"],
+    &["run", "f", "-names"],
+    &["run", "f", "--fuel", "--names"],
+    &["run", "f", "--workers", "--names"],
+    &["run", "--names", "f", "g"],
+    &["--names", "run", "f"],
+    &["check", "f", "--names"],
+    &["check", "--names", "f"],
+    &["code", "f", "--names"],
+    &["make", "3", "--names"],
+];
+
 /// Other verbs, and options that a verb does not have.
 const UNSUITED: &[&[&str]] = &[
     &["check"],
@@ -203,7 +247,7 @@ const UNSUITED: &[&[&str]] = &[
 
 #[test]
 fn other_words_are_no_command(rt: HostRuntime) {
-    for table in [MISSHAPEN, MISCOUNTED, MISMANNED, UNSUITED] {
+    for table in [MISSHAPEN, MISCOUNTED, MISMANNED, MISNAMED, UNSUITED] {
         for words in table {
             are_none(&rt, rt.alloc(), words);
         }
