@@ -1,7 +1,7 @@
 //! What is put on a stack and taken off it.
-use crate::shown::plain;
 use crate::table::holds;
 use a68_acts::Counter;
+use a68_rules_tests::plain;
 use a68_stack::{Item, Stack};
 use a68_values::{Plain, Value};
 use std::alloc::Global;

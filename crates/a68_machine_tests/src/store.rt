@@ -5,9 +5,9 @@ ghost use Rattle.std.specs.Prelude.{◌≡◌, ◌∷◌, [], false};
 ghost use Rattle.a68_acts.specs.Store.{opening_store, standard_frame};
 ghost use Rattle.a68_machine_tests.specs.Stores.{entered, bound};
 
-use crate::shown::{plain, plain_in};
 use crate::table::holds;
 use a68_layout::Plan;
+use a68_rules_tests::{plain, plain_in};
 use a68_store::{Store, StoreStop};
 use a68_values::{Cells, Chain, Environ, FaultKind, Held, Plain, Value};
 use std::alloc::Global;

@@ -4,11 +4,11 @@ ghost use Rattle.a68_strand.specs.Room.{has_room, brings_room};
 ghost use Rattle.a68_strand.specs.Strands.{wants};
 
 use crate::codes::code_of;
-use crate::shown;
 use crate::table::{agrees, cut, holds};
 use a68_acts::Reply;
 use a68_base::find;
 use a68_code::Code;
+use a68_rules_tests::act;
 use a68_strand::{Ask, PlainReply, Strand};
 use a68_values::{Chain, Environ, Held, Name, Plain};
 use std::alloc::Global;
@@ -29,7 +29,7 @@ fn begun(rt: &impl Abort, alloc: Global, code: &Code) -> Strand {
 // Whether a strand asks what is told.
 fn asks(rt: &impl Abort, alloc: Global, strand: &Strand, told: &str) {
     let asked = match strand.ask() {
-        Ask::Want(want) => shown::act(rt, alloc, want),
+        Ask::Want(want) => act(alloc, want).expect(rt, "memory"),
         Ask::Fault { kind, place } => {
             format!(in alloc; "{kind:?} at {place}").expect(rt, "memory")
         }

@@ -3,9 +3,9 @@ ghost use Rattle.std.specs.Prelude.{◌<◌, ◌^◌, length};
 ghost use Rattle.a68_code.specs.Valid.{IsValid};
 
 use crate::codes::code_of;
-use crate::shown::plain_in;
 use crate::table::{agrees, holds};
 use a68_code::Code;
+use a68_rules_tests::plain_in;
 use a68_values::{End, Entry, FaultKind, Kept, Plain};
 use a68_world::{Turned, World, run};
 use std::alloc::Global;

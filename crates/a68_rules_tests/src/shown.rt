@@ -3,8 +3,6 @@ use a68_acts::{Doing, Next, Want};
 use a68_values::{Held, Plain, Value};
 use std::alloc::Global;
 use std::fmt::Debug;
-use std::panic::Expect;
-use std::process::Abort;
 use std::string::String;
 
 /// A value that fits one cell; Unset where it is none.
@@ -57,56 +55,51 @@ fn parts(want: &Want) -> Told {
     }
 }
 
-// A text grows by a part, where there is one.
-fn add(rt: &impl Abort, text: &mut String, part: &Option<impl Debug>) {
+// Makes a text grow by a part, where there is one; none where memory runs out.
+fn add(text: &mut String, part: &Option<impl Debug>) -> Option<()> {
     if let Some(part) = part {
-        write!(text, " {part:?}").expect(rt, "memory");
+        write!(text, " {part:?}").ok()?;
     }
+    Some(())
 }
 
-fn in_words(rt: &impl Abort, alloc: Global, told: &Told) -> String {
+fn in_words(alloc: Global, told: &Told) -> Option<String> {
     let (name, one, two, three, value) = told;
-    let mut text = String::from_str(alloc, name).expect(rt, "memory");
-    add(rt, &mut text, one);
-    add(rt, &mut text, two);
-    add(rt, &mut text, three);
-    add(rt, &mut text, value);
-    text
+    let mut text = String::from_str(alloc, name).ok()?;
+    add(&mut text, one)?;
+    add(&mut text, two)?;
+    add(&mut text, three)?;
+    add(&mut text, value)?;
+    Some(text)
 }
 
-// A text in quotes.
-fn printing(rt: &impl Abort, alloc: Global, bytes: &[u8]) -> String {
-    let text = String::from_utf8_lossy(alloc, bytes).expect(rt, "memory");
-    format!(in alloc; "Print {text:?}").expect(rt, "memory")
+// Tells a text that is printed, in quotes.
+fn printing(alloc: Global, bytes: &[u8]) -> Option<String> {
+    let text = String::from_utf8_lossy(alloc, bytes).ok()?;
+    format!(in alloc; "Print {text:?}").ok()
 }
 
-/// An act by its name, its numbers, and what it is given.
-pub fn act(rt: &impl Abort, alloc: Global, want: &Want) -> String {
+/// Tells an act by its name, its numbers, and what it is given; none where memory runs out.
+pub fn act(alloc: Global, want: &Want) -> Option<String> {
     match want {
-        Want::Print(text) => printing(rt, alloc, &text.items),
-        _ => in_words(rt, alloc, &parts(want)),
+        Want::Print(text) => printing(alloc, &text.items),
+        _ => in_words(alloc, &parts(want)),
     }
 }
 
-fn asking(rt: &impl Abort, alloc: Global, want: &Want, next: &Next) -> String {
-    let act = act(rt, alloc, want);
+fn asking(alloc: Global, want: &Want, next: &Next) -> Option<String> {
+    let act = act(alloc, want)?;
     match next {
-        Next::Made { scope } => format!(in alloc; "{act} of scope {scope}").expect(rt, "memory"),
-        _ => act,
+        Next::Made { scope } => format!(in alloc; "{act} of scope {scope}").ok(),
+        _ => Some(act),
     }
 }
 
-fn of_doing(rt: &impl Abort, alloc: Global, doing: &Doing) -> String {
+/// Tells what comes of an operation; none where memory runs out.
+pub fn doing(alloc: Global, doing: &Doing) -> Option<String> {
     match doing {
-        Doing::Yields(value) => format!(in alloc; "{:?}", plain(value)).expect(rt, "memory"),
-        Doing::Asks(want, next) => asking(rt, alloc, want, next),
-        Doing::Meets(kind) => format!(in alloc; "{kind:?}").expect(rt, "memory"),
+        Doing::Yields(value) => format!(in alloc; "{:?}", plain(value)).ok(),
+        Doing::Asks(want, next) => asking(alloc, want, next),
+        Doing::Meets(kind) => format!(in alloc; "{kind:?}").ok(),
     }
-}
-
-/// What comes of an operation.
-pub fn doing(rt: &impl Abort, alloc: Global, doing: Doing) -> String {
-    let shown = of_doing(rt, alloc, &doing);
-    drop(doing);
-    shown
 }

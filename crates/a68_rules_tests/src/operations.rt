@@ -1,5 +1,4 @@
 //! Operations on the values of their parts, by hand.
-use crate::shown;
 use crate::table::{agrees, holds};
 use a68_acts::{Doing, Next, Reply, *};
 use a68_modes::Modes;
@@ -201,7 +200,9 @@ fn a_name_is_made(rt: HostRuntime) {
 
 // Whether what comes of an operation is told so.
 fn is_shown(rt: &impl Abort, alloc: Global, doing: Doing, told: &str, case: &str) {
-    let shown = shown::doing(rt, alloc, doing);
+    let shown = crate::doing(alloc, &doing);
+    drop(doing);
+    let shown = shown.expect(rt, "memory");
     agrees(rt, &shown, told, case);
     drop(shown);
 }
