@@ -1,16 +1,20 @@
 -- The chains of frames, as they grow.
 use Rattle.std.proofs.Common.{◌≡◌, ◌<◌, ◌≤◌, ℕ, ◌+◌, Bool, true, false, List, [], ◌∷◌, ◌++◌, length, refl, sym, ap, ◌∙◌, arith, subst, ⊎_elim, Some, None, slice_get, Option, length-append, append_assoc}
-use Rattle.std.specs.Prelude.{slice_index_or}
+use Rattle.std.specs.Prelude.{if◌then◌else◌, slice_index_or}
+use Rattle.std.proofs.lemmas.Bool.{false≢true}
 use Rattle.a68_ranges.proofs.Taking.{some_one, read}
-use Rattle.a68_ranges.proofs.Layering.{get_front, get_last, get_pushed, below_more}
-use Rattle.a68_ranges.specs.Links.{IsBelow, AreLinked}
+use Rattle.a68_ranges.proofs.Layering.{get_front, get_last, get_pushed, below_more, layerless}
+use Rattle.a68_ranges.specs.Links.{IsBelow, AreLinked, has_layer, is_routine_text, layered}
+use Rattle.a68_ranges.specs.Nodes.{kind_at}
 use Rattle.a68_ranges.specs.Surroundings.{Lies}
 use Rattle.a68_ranges.specs.Tables.{Nested, outermost, within, AreRanges, Tables}
 use Rattle.a68_ranges.specs.declared.nests.Layer.{Layer}
-use Rattle.a68_frames.specs.Frames.{makes_frame}
+use Rattle.a68_frames.specs.Frames.{makes, makes_frame, slots_in, with_slots}
 use Rattle.a68_frames.specs.Tables.{Framed, passed, entered, AreChained, AreAboutBefore, TellsFrames, IsLayerAdded, Extends, frame_at}
 use Rattle.a68_frames.specs.Tables.{outermost as none_about}
 use Rattle.a68_tree.specs.Trees.{Built}
+use Rattle.a68_tree.specs.declared.kind.NodeKind.{NodeKind}
+use Rattle.a68_tree.specs.declared.kind.NodeKind.TheVariants as kind
 
 -- ---- what is told stays told
 
@@ -61,6 +65,40 @@ framed_at tree layers by_layer frames (Some number) ranges are there n = are.tel
 pub is_below : (by_layer : List (Option ℕ)) (frames : List Layer) (layer : Option ℕ) → AreLinked by_layer frames → IsBelow (length by_layer) layer → IsBelow (length frames) (frame_at by_layer layer)
 is_below by_layer frames None linked out = tt
 is_below by_layer frames (Some n) linked out = linked.there n (slice_index_or by_layer n None) (read by_layer n None out)
+
+-- ---- ranges without layers make no frames
+
+no_frame : (tree : Built) (range : ℕ) → has_layer tree range ≡ false → makes_frame tree range ≡ false
+unfolding makes_frame slots_in
+no_frame tree range e =
+    let none = layerless tree range e in
+    ap (λ (ds : List ℕ). makes (kind_at tree range) (length (with_slots tree ds))) none.0 ∙ go (kind_at tree range) none.1
+  where
+    go : (k : NodeKind) → is_routine_text k ≡ false → makes k 0 ≡ false
+    go kind.RoutineText e = absurd (false≢true (sym e))
+    go _ e = refl
+
+framed_head : {tree : Built} {frames : List Layer} {nest : Option ℕ} {ranges : List ℕ} (range : ℕ) (some more : List ℕ) → Framed tree frames nest ranges → ranges ≡ range ∷ some
+    → ((n : Option ℕ) → Framed tree frames n some → Framed tree frames n more) → Framed tree frames nest (range ∷ more)
+framed_head range some more none_about e on = absurd (cc)
+framed_head {tree = tree} {frames = frames} {nest = nest} range some more (passed {range = r} {more = rs} out rest) e on =
+    let head : r ≡ range = cc in
+    let tail : rs ≡ some = cc in
+    passed (subst (λ x. makes_frame tree x ≡ false) head out) (on nest (subst (λ xs. Framed tree frames nest xs) tail rest))
+framed_head {tree = tree} {frames = frames} range some more (entered {more = rs} i frame is made rest) e on =
+    let head : frame.range ≡ range = cc in
+    let tail : rs ≡ some = cc in
+    subst (λ x. Framed tree frames (Some i) (x ∷ more)) head (entered i frame is made (on frame.outer (subst (λ xs. Framed tree frames frame.outer xs) tail rest)))
+
+-- the frames of the ranges that have layers are those of all ranges
+framed_on : (tree : Built) (frames : List Layer) (ranges : List ℕ) (nest : Option ℕ) → Framed tree frames nest (layered tree ranges) → Framed tree frames nest ranges
+framed_on tree frames [] nest f = f
+framed_on tree frames (range ∷ ranges) nest f = go (has_layer tree range) refl (λ n g. framed_on tree frames ranges n g) f
+  where
+    go : (b : Bool) → has_layer tree range ≡ b → ((n : Option ℕ) → Framed tree frames n (layered tree ranges) → Framed tree frames n ranges)
+        → Framed tree frames nest (if b then range ∷ layered tree ranges else layered tree ranges) → Framed tree frames nest (range ∷ ranges)
+    go true e on f = framed_head range (layered tree ranges) ranges f refl on
+    go false e on f = passed (no_frame tree range e) (on nest f)
 
 -- ---- one layer more
 
@@ -141,8 +179,8 @@ about_more tree count about frames new nest before extends out there tells =
 
 -- what a layer about a node tells
 pub tells_by : (tree : Built) (tables : Tables) (at : ℕ) (layer : Option ℕ) (by_layer : List (Option ℕ)) (frames : List Layer) → AreRanges tree tables → at < length tables.nests.about
-    → ((ranges : List ℕ) → Lies tree at ranges → Nested tables.nests.layers layer ranges) → AreChained tree tables.nests.layers by_layer frames → IsBelow (length by_layer) layer
+    → ((ranges : List ℕ) → Lies tree at ranges → Nested tables.nests.layers layer (layered tree ranges)) → AreChained tree tables.nests.layers by_layer frames → IsBelow (length by_layer) layer
     → TellsFrames tree frames at (frame_at by_layer layer)
 tells_by tree tables at layer by_layer frames are low nested chained there =
     let t = are.nests.about at (slice_index_or tables.nests.about at None) (read tables.nests.about at None low) in
-    record { ranges = t.ranges; lies = t.lies; framed = framed_at tree tables.nests.layers by_layer frames layer t.ranges chained there (nested t.ranges t.lies) }
+    record { ranges = t.ranges; lies = t.lies; framed = framed_on tree frames t.ranges (frame_at by_layer layer) (framed_at tree tables.nests.layers by_layer frames layer (layered tree t.ranges) chained there (nested t.ranges t.lies)) }

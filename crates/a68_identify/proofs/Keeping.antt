@@ -44,8 +44,8 @@ leaf_there n leaves k l all at =
 module _ (nodes others : List Shape) (n : ℕ) (paths : (sort : Sort) (from to : Mode) (path : List Coercion) → from.id < n → to.id < n → Leads nodes sort from to path → Leads others sort from to path)
     (forms : (leaves : List Leaf) (b : Balanced) → All (IsLeafBelow n) leaves → IsFormed nodes by.Weak form.Row leaves (Some b) → IsFormed others by.Weak form.Row leaves (Some b)) where
   leads_on : (sort : Sort) (to : Mode) (l : Leaf) → to.id < n → IsLeafBelow n l → LeafLeads nodes sort to l → LeafLeads others sort to l
-  leads_on sort to (leaf.Mode m) g b w = (w.0, paths sort (as_it_stands m) to w.0 b g w.1)
-  leads_on sort to leaf.StrongOnly g b w = absurd w
+  leads_on by_sort to (leaf.Mode m) g b w = (w.0, paths by_sort (as_it_stands m) to w.0 b g w.1)
+  leads_on by_sort to leaf.StrongOnly g b w = absurd w
 
   suits_on : (to : Mode) (l : Leaf) → to.id < n → IsLeafBelow n l → LeafSuits nodes to l → LeafSuits others to l
   suits_on to (leaf.Mode m) g b w = (w.0, paths by.Strong (as_it_stands m) to w.0 b g w.1)

@@ -5,3 +5,4 @@ pub mod Standing
 pub mod Serving
 pub mod Preceding
 pub mod Keeping
+pub mod Sifting

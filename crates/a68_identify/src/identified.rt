@@ -13,7 +13,7 @@ ghost use Rattle.a68_ranges.specs.Tables.{AreRanges};
 
 use crate::fitting::all_fit;
 use crate::operands::operand_modes;
-use crate::reading::{declared_by, defines_sign};
+use crate::reading::{defines_sign, operators_by};
 use a68_base::NoMemory;
 use a68_coerce::Leaf;
 use a68_declare::NodeModes;
@@ -115,7 +115,7 @@ fn own(
     let mut next = ranges.about(formula.at);
     'outwards: while let Some(number) = next {
         let layer = ranges.layer(number);
-        let list = declared_by(tree, ranges, layer.range);
+        let list = operators_by(tree, ranges, layer.range);
         let found = first_definition(alloc, tree, modes, classes, of, formula, list)?;
         if found.is_some() {
             return Ok(found);

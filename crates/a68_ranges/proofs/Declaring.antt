@@ -19,7 +19,7 @@ unjoined_append tree [] qs = refl
 unjoined_append tree (p ∷ ps) qs =
     ap (λ rest. if_joined tree p (kind_at tree p) ++ rest) (unjoined_append tree ps qs) ∙ sym (append_assoc (if_joined tree p (kind_at tree p)) (unjoined tree ps) (unjoined tree qs))
 
-grown : (start list new more added : List ℕ) → new ≡ list ++ added → list ≡ start ++ more → new ≡ start ++ (more ++ added)
+pub grown : (start list new more added : List ℕ) → new ≡ list ++ added → list ≡ start ++ more → new ≡ start ++ (more ++ added)
 grown start list new more added e f = e ∙ ap (λ xs. xs ++ added) f ∙ append_assoc start more added
 
 -- one part more

@@ -3,6 +3,7 @@ pub mod Taking
 pub mod Parenting
 pub mod Layering
 pub mod Declaring
+pub mod Filtering
 pub mod Indexing
 pub mod Looking
 pub mod Repeating

@@ -1,13 +1,16 @@
 -- The definition that counts at a node, as it is looked up.
 use Rattle.std.proofs.Common.{◌≡◌, ◌<◌, ◌+◌, ◌^◌, ℕ, zero, suc, Bool, true, false, nat_eq, List, [], ◌∷◌, length, refl, sym, ap, ◌∙◌, arith, subst, inl, inr, ⊎_elim, Some, None, slice_get, Option, eqb-true, eq-eqb, lit<}
 use Rattle.std.specs.Prelude.{◌&&◌, if◌then◌else◌, slice_index_or, map, is_some}
+use Rattle.std.specs.List.{Contains}
 use Rattle.std.specs.Option.{option_map_or, option_and_then}
 use Rattle.std.specs.Str.{bytes_eq}
 use Rattle.std.proofs.lemmas.Bool.{false≢true}
 use Rattle.a68_base.specs.Tables.{find}
+use Rattle.a68_ranges.proofs.Layering.{layerless}
 use Rattle.a68_ranges.proofs.Taking.{some_one, read, past, below_or, is_there}
 use Rattle.a68_ranges.specs.Nodes.{IsPartAt, kind_at, name_at}
 use Rattle.a68_ranges.specs.Surroundings.{Lies, alone, part, IsUnder}
+use Rattle.a68_ranges.specs.Links.{has_layer, layered}
 use Rattle.a68_ranges.specs.Definitions.{defines, declared_in, Declares, FirstDefinition, here, further, IsDefinition, Undefined}
 use Rattle.a68_ranges.specs.Standard.{IsTagOf, IsModeWordOf, IsPriorityOf, spelled, standard_of, standard_tags, standard_priorities}
 use Rattle.a68_ranges.specs.Tables.{Nested, outermost, within, FindsOut, at_key, first_named, has_name, is_sort, same_sort, AreFirst, AreRanges, Tables, priority_or}
@@ -140,6 +143,51 @@ module _ (tree : Built) (sort : Sort) (name : ℕ) (layers : List Layer) (entrie
       (found_in other.outer (ap (λ (l : Layer). l.outer) same) rest more)
   found_in to e f n = absurd (cc)
 
+-- ---- the ranges that have no layers
+
+-- they declare nothing
+pub nothing_declared : (tree : Built) (range d : ℕ) → has_layer tree range ≡ false → Contains (declared_in tree range) d → ⊥
+nothing_declared tree range d e among =
+    let low : among.0 < 0 = subst (λ (ds : List ℕ). among.0 < length ds) (layerless tree range e).0 among.1 in
+    absurd (omega arith)
+
+module _ (tree : Built) (sort : Sort) (name : ℕ) where
+  none_declared : (range : ℕ) → has_layer tree range ≡ false → (d : ℕ) → Declares tree range sort name d → ⊥
+  none_declared range e d declares = nothing_declared tree range d e declares.among
+
+  head_first : (range : ℕ) (some ranges : List ℕ) → ((d : ℕ) → FirstDefinition tree sort name some d → FirstDefinition tree sort name ranges d) → {d : ℕ} → FirstDefinition tree sort name (range ∷ some) d
+      → FirstDefinition tree sort name (range ∷ ranges) d
+  head_first range some ranges on (here s) = here s
+  head_first range some ranges on (further {definition = d} none more) = further none (on d more)
+
+  -- what is first of all is first of those that have layers
+  first_on : (ranges : List ℕ) (d : ℕ) → FirstDefinition tree sort name (layered tree ranges) d → FirstDefinition tree sort name ranges d
+  first_on [] d f = f
+  first_on (range ∷ ranges) d f = go (has_layer tree range) refl (λ e g. first_on ranges e g) f
+    where
+      go : (b : Bool) → has_layer tree range ≡ b → ((e : ℕ) → FirstDefinition tree sort name (layered tree ranges) e → FirstDefinition tree sort name ranges e)
+          → FirstDefinition tree sort name (if b then range ∷ layered tree ranges else layered tree ranges) d → FirstDefinition tree sort name (range ∷ ranges) d
+      go true e on f = head_first range (layered tree ranges) ranges on f
+      go false e on f = further (none_declared range e) (on d f)
+
+  first_back : (ranges : List ℕ) (d : ℕ) → FirstDefinition tree sort name ranges d → FirstDefinition tree sort name (layered tree ranges) d
+  first_back [] d f = f
+  first_back (range ∷ ranges) d f = go (has_layer tree range) refl (λ e g. first_back ranges e g) f
+    where
+      drops : has_layer tree range ≡ false → ((e : ℕ) → FirstDefinition tree sort name ranges e → FirstDefinition tree sort name (layered tree ranges) e) → {e : ℕ}
+          → FirstDefinition tree sort name (range ∷ ranges) e → FirstDefinition tree sort name (layered tree ranges) e
+      drops no_layer on (here {definition = e} s) = absurd (none_declared range no_layer e s)
+      drops no_layer on (further {definition = e} none more) = on e more
+
+      go : (b : Bool) → has_layer tree range ≡ b → ((e : ℕ) → FirstDefinition tree sort name ranges e → FirstDefinition tree sort name (layered tree ranges) e)
+          → FirstDefinition tree sort name (range ∷ ranges) d → FirstDefinition tree sort name (if b then range ∷ layered tree ranges else layered tree ranges) d
+      go true e on f = head_first range ranges (layered tree ranges) on f
+      go false e on f = drops e on f
+
+  found_on : (ranges : List ℕ) (found : Option ℕ) → Found tree sort name (layered tree ranges) found → Found tree sort name ranges found
+  found_on ranges None none = λ d f. none d (first_back ranges d f)
+  found_on ranges (Some d) f = first_on ranges d f
+
 -- what was found at a node
 abbrev pub FoundAt : Built → (at : ℕ) → Sort → (name : ℕ) → Option ℕ → Type 0
 FoundAt tree at sort name None = Undefined tree at sort name
@@ -150,7 +198,7 @@ pub found_at : (tree : Built) (t : Tables) (at name : ℕ) (sort : Sort) (entrie
 found_at tree t at name sort entries found are there first out =
     let nest : Option ℕ = slice_index_or t.nests.about at None in
     let tells = are.nests.about at nest (read t.nests.about at None there) in
-    go found (found_in tree sort name t.nests.layers entries first nest refl out tells.nested)
+    go found (found_on tree sort name tells.ranges found (found_in tree sort name t.nests.layers entries first nest refl out tells.nested))
   where
     go : (o : Option ℕ) → Found tree sort name (are.nests.about at (slice_index_or t.nests.about at None) (read t.nests.about at None there)).ranges o → FoundAt tree at sort name o
     go None f = λ d def. f d (subst (λ rs. FirstDefinition tree sort name rs d) (lies_one def.lies (are.nests.about at (slice_index_or t.nests.about at None) (read t.nests.about at None there)).lies refl) def.first)
@@ -247,9 +295,9 @@ pub found_further : (layers : List Layer) (entries : List ((ℕ × ℕ) × ℕ))
 found_further layers entries name i nest (Some id) found layer e is at t rest = absurd (false≢true t)
 found_further layers entries name i nest None found layer e is at t rest = rw e (out_further i layer is (sym at) rest)
 
--- the layers about a node are those of its ranges
+-- the layers about a node are those of its ranges that have layers
 pub about_is : (tree : Built) (t : Tables) (at : ℕ) (nest : Option ℕ) (ranges : List ℕ) → AreRanges tree t → at < length t.nests.about → nest ≡ slice_index_or t.nests.about at None
-    → Lies tree at ranges → Nested t.nests.layers nest ranges
+    → Lies tree at ranges → Nested t.nests.layers nest (layered tree ranges)
 about_is tree t at nest ranges are there is lies =
     let tells = are.nests.about at nest (read t.nests.about at None there ∙ ap (λ (o : Option ℕ). Some o) (sym is)) in
-    subst (λ rs. Nested t.nests.layers nest rs) (lies_one tells.lies lies refl) tells.nested
+    subst (λ rs. Nested t.nests.layers nest (layered tree rs)) (lies_one tells.lies lies refl) tells.nested

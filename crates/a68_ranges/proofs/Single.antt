@@ -1,11 +1,10 @@
 -- Where no range declares a word twice, a word has one definition at each place, and a sign one priority.
-use Rattle.std.proofs.Common.{◌≡◌, ◌<◌, ◌≤◌, ◌⊎◌, inl, inr, ⊎_elim, ℕ, zero, suc, List, [], ◌∷◌, length, refl, sym, ap, ◌∙◌, arith, subst, Some, None, slice_get, Option}
+use Rattle.std.proofs.Common.{◌≡◌, ◌<◌, ◌≤◌, ◌⊎◌, inl, inr, ⊎_elim, ℕ, zero, suc, List, [], length, refl, sym, ap, ◌∙◌, arith, subst, Some, None, slice_get, Option}
 use Rattle.std.specs.Option.{option_map_or}
 use Rattle.std.specs.List.{Contains}
-use Rattle.a68_ranges.proofs.Taking.{some_one, read, past, below_or, is_there}
+use Rattle.a68_ranges.proofs.Taking.{some_one, read, past, below_or}
 use Rattle.a68_ranges.proofs.Looking.{lies_one}
-use Rattle.a68_ranges.specs.Nodes.{kind_at, name_at, parts_at}
-use Rattle.a68_ranges.specs.Definitions.{defines, declared_in, declared_by, Declares, FirstDefinition, here, further, IsDefinition}
+use Rattle.a68_ranges.specs.Definitions.{declared_in, declared_by, Declares, FirstDefinition, here, further, IsDefinition}
 use Rattle.a68_ranges.specs.Standard.{IsPriorityOf, written_priority}
 use Rattle.a68_ranges.specs.Twice.{IsTwice, IsSingle, single_priority}
 use Rattle.a68_ranges.specs.declared.sort.Sort.{Sort}

@@ -7,7 +7,7 @@ use Rattle.a68_ranges.specs.Definitions.{defines, declared_in, AreDeclared}
 use Rattle.a68_ranges.specs.Standard.{standard_of, AreWritten}
 use Rattle.a68_ranges.specs.declared.nests.Layer.{Layer}
 use Rattle.a68_ranges.specs.declared.nests.Parent.{Parent}
-use Rattle.a68_ranges.specs.Links.{AreLinked, AreEntered}
+use Rattle.a68_ranges.specs.Links.{AreLinked, AreEntered, layered}
 use Rattle.a68_ranges.specs.declared.sort.Sort.{Sort}
 use Rattle.a68_ranges.specs.declared.sort.Sort.TheVariants as sorts
 use Rattle.a68_ranges.specs.declared.standard.Standard.{Standard}
@@ -18,11 +18,11 @@ pub data Nested (layers : List Layer) : Option ℕ → List ℕ → Type 0 where
   outermost : Nested layers None []
   within : {ranges : List ℕ} (i : ℕ) (layer : Layer) → slice_get layers i ≡ Some layer → Nested layers layer.outer ranges → Nested layers (Some i) (layer.range ∷ ranges)
 
--- the layers tell of the ranges about a node
+-- the layers tell of those of the ranges about a node that have layers
 pub record TellsAbout (tree : Built) (layers : List Layer) (at : ℕ) (nest : Option ℕ) : Type 0 where
   pub ranges : List ℕ
   pub lies : Lies tree at ranges
-  pub nested : Nested layers nest ranges
+  pub nested : Nested layers nest (layered tree ranges)
 
 -- the layers of a tree, and the innermost layer about each node
 pub record Nest : Type 0 where
@@ -35,9 +35,9 @@ pub record AreNests (tree : Built) (nests : Nest) : Type 0 where
 
 -- a node's ranges are entered, by its parent
 abbrev pub IsNestOf : Built → (about : List (Option ℕ)) → (old new : List Layer) → (id : ℕ) → Option Parent → (nest : Option ℕ) → Type 0
-IsNestOf tree about old new id None nest = AreEntered old new [] None nest
+IsNestOf tree about old new id None nest = AreEntered tree old new [] None nest
 IsNestOf tree about old new id (Some parent) nest =
-    AreEntered old new (entered tree (kind_at tree parent.node) parent.node (parts_at tree parent.node) parent.place id) (slice_index_or about parent.node None) nest
+    AreEntered tree old new (entered tree (kind_at tree parent.node) parent.node (parts_at tree parent.node) parent.place id) (slice_index_or about parent.node None) nest
 
 -- the layers of the nodes before one
 pub record AreNestsBefore (tree : Built) (count : ℕ) (about : List (Option ℕ)) (layers : List Layer) : Type 0 where
@@ -67,6 +67,20 @@ abbrev pub first_named : Built → Sort → (name : ℕ) → List ℕ → Option
 first_named tree sort name [] = None
 first_named tree sort name (d ∷ ds) = if has_name tree sort name d then Some d else first_named tree sort name ds
 
+-- those of these nodes that define operators
+abbrev pub operators_among : Built → List ℕ → List ℕ
+operators_among tree [] = []
+operators_among tree (d ∷ ds) = if is_sort sorts.Operator (defines (kind_at tree d)) then d ∷ operators_among tree ds else operators_among tree ds
+
+-- the operator definitions among what a range declares, in order of text
+unfoldable pub operators_in : Built → (range : ℕ) → List ℕ
+operators_in tree range = operators_among tree (declared_in tree range)
+
+-- the operator definitions of each of the nodes before one
+pub record AreOperators (tree : Built) (count : ℕ) (operators : List (List ℕ)) : Type 0 where
+  pub long : length operators ≡ count
+  pub each : (range : ℕ) → range < count → slice_get operators range ≡ Some (operators_in tree range)
+
 -- what the entries of a map have for a name in a range
 abbrev pub at_key : List ((ℕ × ℕ) × ℕ) → (range name : ℕ) → Option ℕ
 at_key entries range name = lookup (λ k. nat_eq range k.0 && nat_eq name k.1) entries
@@ -92,6 +106,7 @@ pub record Tables : Type 0 where
   pub count : ℕ
   pub nests : Nest
   pub declared : List (List ℕ)
+  pub operators : List (List ℕ)
   pub tags : List ((ℕ × ℕ) × ℕ)
   pub mode_words : List ((ℕ × ℕ) × ℕ)
   pub priorities : List ((ℕ × ℕ) × ℕ)
@@ -104,6 +119,7 @@ pub record AreRanges (tree : Built) (tables : Tables) : Type 0 where
   pub few : length tree.nodes + 9 < 2 ^ 32
   pub nests : AreNests tree tables.nests
   pub declared : AreDeclared tree (length tree.nodes) tables.declared
+  pub operators : AreOperators tree (length tree.nodes) tables.operators
   pub tags : AreFirst tree sorts.Tag tables.tags
   pub mode_words : AreFirst tree sorts.ModeWord tables.mode_words
   pub priorities : AreFirst tree sorts.Priority tables.priorities

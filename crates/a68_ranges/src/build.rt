@@ -11,6 +11,7 @@ ghost use Rattle.a68_ranges.specs.declared.sort.Sort.TheVariants as sorts;
 use crate::declared::declared_of;
 use crate::index::{Index, index_of};
 use crate::nests::nests_of;
+use crate::operators::operators_of;
 use crate::reading::{earlier, place_of};
 use crate::sort::Sort;
 use crate::standard::standard_names;
@@ -66,13 +67,15 @@ fn tables_of(
     requires priorities { AreFirst tree.now sorts.Priority indices.priorities.entries }
     ensures { IfOk result (λ ranges. AreRanges tree.now ranges) }
 {
-    let nests = nests_of(alloc, tree)?;
+    let nests = nests_of(alloc, tree, &declared)?;
+    let operators = operators_of(alloc, tree, &declared)?;
     let standard = standard_names(alloc, tree)?;
     let written = written_of(alloc, tree)?;
     Ok(Ranges {
         count: tree.len(),
         nests,
         declared,
+        operators,
         tags: indices.tags,
         mode_words: indices.mode_words,
         priorities: indices.priorities,

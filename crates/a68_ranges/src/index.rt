@@ -74,7 +74,8 @@ fn note_list(
     Ok(late)
 }
 
-fn items(parts: &Parts) -> &[NodeId]
+/// The nodes of a list.
+pub fn items(parts: &Parts) -> &[NodeId]
     ensures { result.now ≡ parts.now }
 {
     &parts.items

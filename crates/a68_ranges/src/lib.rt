@@ -7,6 +7,7 @@ mod index;
 mod laws;
 mod layers;
 mod nests;
+mod operators;
 mod reading;
 mod sort;
 mod standard;

@@ -1,6 +1,7 @@
 //! The ranges about each node.
 ghost use Rattle.std.specs.Prelude.{◌≡◌, ◌<◌, IfOk, None, Some, length, slice_get, slice_index_or};
 ghost use Rattle.std.specs.List.{All};
+ghost use Rattle.a68_ranges.specs.Definitions.{AreDeclared};
 ghost use Rattle.a68_ranges.specs.Parents.{AreParentsBefore, IsParentBefore, HaveParts};
 ghost use Rattle.a68_ranges.specs.Tables.{AreNests, IsNestOf, FindsOut};
 ghost use Rattle.a68_ranges.specs.Tables as tables;
@@ -9,7 +10,7 @@ ghost use Rattle.a68_ranges.specs.Links.{IsBelow};
 use crate::index::Index;
 use crate::layers::enter;
 use a68_base::NoMemory;
-use a68_tree::{NodeId, Tree};
+use a68_tree::{NodeId, Parts, Tree};
 use std::alloc::Global;
 use std::marker::Model;
 
@@ -27,7 +28,8 @@ pub struct Parent {
     pub place: usize,
 }
 
-/// The ranges about each node of a tree: the number of the innermost layer, and the layers.
+/// The ranges about each node of a tree: the number of the innermost layer, and the layers. Ranges that declare nothing have
+/// none, but for routine texts.
 #[derive(Drop)]
 pub struct Nests {
     about: Vec<Option<usize>>,
@@ -124,10 +126,12 @@ fn parents(alloc: Global, tree: &Tree) -> Result<Vec<Option<Parent>>, NoMemory>
 fn nest_of(
     layers: &mut Vec<Layer>,
     tree: &Tree,
+    declared: &[Parts],
     id: NodeId,
     parent: Option<Parent>,
     about: &[Option<usize>],
 ) -> Result<Option<usize>, NoMemory>
+    requires declared { AreDeclared tree.now (length tree.now.nodes) declared.now }
     requires there { id < length tree.now.nodes }
     requires parent { IsParentBefore tree.now (length tree.now.nodes) id parent }
     requires known { length about.now ≡ id }
@@ -136,19 +140,27 @@ fn nest_of(
     let Some(parent) = parent else {
         return Ok(None);
     };
-    let nest = enter(layers, tree, parent, id, about)?;
+    let nest = enter(layers, tree, declared, parent, id, about)?;
     Ok(nest)
 }
 
-/// The ranges about each node.
-pub fn nests_of(alloc: Global, tree: &Tree) -> Result<Nests, NoMemory>
+/// The ranges about each node, by what each node declares.
+pub fn nests_of(alloc: Global, tree: &Tree, declared: &[Parts]) -> Result<Nests, NoMemory>
+    requires { AreDeclared tree.now (length tree.now.nodes) declared.now }
     ensures { IfOk result (λ nests. AreNests tree.now nests) }
 {
     let parents = parents(alloc, tree)?;
     let mut about = Vec::new(alloc);
     let mut layers = Vec::new(alloc);
     for id in 0..tree.len() {
-        let nest = nest_of(&mut layers, tree, id, parents[id as usize], &about)?;
+        let nest = nest_of(
+            &mut layers,
+            tree,
+            declared,
+            id,
+            parents[id as usize],
+            &about,
+        )?;
         about.push(nest)?;
     }
     Ok(Nests { about, layers })

@@ -3,8 +3,8 @@ ghost use Rattle.std.specs.Prelude.{◌≡◌, ◌<◌, ◌+◌, ◌^◌, List, 
 ghost use Rattle.std.specs.Option.{option_and_then};
 ghost use Rattle.a68_ranges.specs.Definitions.{declared_in};
 ghost use Rattle.a68_ranges.specs.Standard.{IsTagOf, IsModeWordOf, IsPriorityOf};
-ghost use Rattle.a68_ranges.specs.Tables.{AreRanges, Nested};
-ghost use Rattle.a68_ranges.specs.Links.{IsBelow};
+ghost use Rattle.a68_ranges.specs.Tables.{AreRanges, Nested, operators_in};
+ghost use Rattle.a68_ranges.specs.Links.{IsBelow, layered};
 ghost use Rattle.a68_ranges.specs.Surroundings.{Lies};
 ghost use Rattle.a68_ranges.specs.Tables as tables;
 ghost use Rattle.a68_ranges.specs.declared.standard.Standard.{Standard as Named};
@@ -24,6 +24,7 @@ pub struct Ranges {
     pub(crate) count: u32,
     pub(crate) nests: Nests,
     pub(crate) declared: Vec<Parts>,
+    pub(crate) operators: Vec<Parts>,
     pub(crate) tags: Index,
     pub(crate) mode_words: Index,
     pub(crate) priorities: Index,
@@ -36,7 +37,7 @@ impl Model for Ranges {
 
     ghost Value = { Tables };
 
-    ghost view = { λ ranges. record { count = ranges.count; nests = ranges.nests; declared = ranges.declared.items; tags = ranges.tags.entries; mode_words = ranges.mode_words.entries; priorities = ranges.priorities.entries; standard = ranges.standard.items; written = ranges.written.items } };
+    ghost view = { λ ranges. record { count = ranges.count; nests = ranges.nests; declared = ranges.declared.items; operators = ranges.operators.items; tags = ranges.tags.entries; mode_words = ranges.mode_words.entries; priorities = ranges.priorities.entries; standard = ranges.standard.items; written = ranges.written.items } };
 }
 
 impl Ranges {
@@ -73,11 +74,11 @@ impl Ranges {
         )
     }
 
-    /// The number of the innermost layer about a node: of the range that it lies in, and of those outside it. None where it
-    /// lies in no range.
+    /// The number of the innermost layer about a node: of the ranges that it lies in, the innermost first. A range that
+    /// declares nothing has no layer, unless it is a routine text. None where the node lies in no range that has one.
     pub fn about(&self, at: NodeId) -> Option<usize>
         requires { at < length self.now.nests.about }
-        ensures ranges { (tree : Built) → AreRanges tree self.now → (ranges : List ℕ) → Lies tree at ranges → Nested self.now.nests.layers result ranges }
+        ensures ranges { (tree : Built) → AreRanges tree self.now → (ranges : List ℕ) → Lies tree at ranges → Nested self.now.nests.layers result (layered tree ranges) }
         ensures there { IsBelow (length self.now.nests.layers) result }
     {
         self.nests.about(at)
@@ -98,6 +99,14 @@ impl Ranges {
         ensures { (tree : Built) → AreRanges tree self.now → result.now ≡ declared_in tree range }
     {
         &self.declared[range as usize].items
+    }
+
+    /// The operator definitions among what a range declares, in order of text.
+    pub fn operators(&self, range: NodeId) -> &[NodeId]
+        requires { range < length self.now.operators }
+        ensures { (tree : Built) → AreRanges tree self.now → result.now ≡ operators_in tree range }
+    {
+        &self.operators[range as usize].items
     }
 }
 

@@ -107,6 +107,34 @@ const WAYS: &[(&str, u32, u32, u32)] = &[
         1,
     ),
     ("( INT m, n; [1:n] INT b; SKIP )", 15, 0, 1),
+    (
+        "( INT a = 1; IF a = 0 THEN 1 ELIF a = 1 THEN 2 ELIF a = 2 THEN 3 ELIF a = 3 THEN 4 ELSE a FI )",
+        88,
+        0,
+        0,
+    ),
+    (
+        "( INT a = 1; IF INT b = 2; b = 0 THEN 1 ELIF a = 1 THEN 2 ELIF INT c = 3; c = 2 THEN a ELIF b = a THEN 4 ELSE c FI )",
+        85,
+        2,
+        0,
+    ),
+    (
+        "( INT a = 1; IF INT b = 2; b = 0 THEN 1 ELIF a = 1 THEN 2 ELIF INT c = 3; c = 2 THEN a ELIF b = a THEN 4 ELSE c FI )",
+        92,
+        1,
+        0,
+    ),
+    (
+        "( INT a = 1; IF INT b = 2; b = 0 THEN 1 ELIF a = 1 THEN 2 ELIF INT c = 3; c = 2 THEN a ELIF b = a THEN 4 ELSE c FI )",
+        110,
+        0,
+        0,
+    ),
+    ("( INT a = 1; ( ( INT b = 2; a ) ) )", 28, 1, 0),
+    ("( INT a = 1; ( ( INT b = 2; ( b ) ) ) )", 30, 0, 0),
+    ("( INT a = 1; ( ( INT b, a; ( a ) ) ) )", 29, 0, 1),
+    ("( INT a = 1; PROC f = VOID: ( ( a ) ); SKIP )", 32, 1, 0),
     ("( STRUCT (INT x, y) s; s )", 23, 0, 0),
 ];
 

@@ -406,6 +406,45 @@ const FORMULAS: &[(&str, u32, &str, &str, &str)] = &[
     ),
 ];
 
+/// Such rows of operators that stand beside variables, and outside ranges that declare none or nothing at all.
+const BESIDE_OTHERS: &[(&str, u32, &str, &str, &str)] = &[
+    (
+        "( INT i; OP + = (BOOL a, b) BOOL: a; INT j; TRUE + FALSE )",
+        44,
+        "2",
+        "2",
+        "own 12",
+    ),
+    (
+        "( INT i; OP + = (BOOL a, b) BOOL: a; INT j; OP + = (CHAR a, b) CHAR: b; INT k; \"a\" + \"b\" )",
+        79,
+        "3",
+        "3",
+        "own 47",
+    ),
+    (
+        "( OP + = (BOOL a, b) BOOL: a; ( INT i; ( ( OP + = (BOOL a, b) BOOL: b; ( INT j; TRUE + FALSE ) ) ) ) )",
+        80,
+        "2",
+        "2",
+        "own 46",
+    ),
+    (
+        "( OP + = (BOOL a, b) BOOL: a; ( INT i; ( ( OP + = (CHAR a, b) CHAR: b; ( INT j; TRUE + FALSE ) ) ) ) )",
+        80,
+        "2",
+        "2",
+        "own 5",
+    ),
+    (
+        "( OP + = (BOOL a, b) BOOL: a; IF FALSE THEN TRUE ELIF FALSE THEN TRUE ELIF TRUE + FALSE THEN TRUE ELSE FALSE FI )",
+        75,
+        "2",
+        "2",
+        "own 5",
+    ),
+];
+
 /// A text, and the byte of the first operator that a related one precedes in its range.
 const RELATED: &[(&str, Option<u32>)] = &[
     ("( OP + = (INT a, b) INT: a; SKIP )", None),
@@ -483,6 +522,10 @@ const RELATED: &[(&str, Option<u32>)] = &[
         None,
     ),
     ("( OP A = INT: 1; OP A = BOOL: TRUE; SKIP )", Some(20)),
+    (
+        "( INT i; OP A = (INT a) VOID: SKIP; INT j; OP A = (REF INT a) VOID: SKIP; SKIP )",
+        Some(46),
+    ),
     (
         "( WHILE OP A = (INT a) VOID: SKIP; TRUE DO OP A = (INT a) VOID: SKIP; SKIP OD )",
         None,
@@ -645,6 +688,13 @@ fn operators_of_formulas(rt: HostRuntime) {
     operators_are_one();
     interning_keeps_operators();
     for row in FORMULAS {
+        operator_is_told(&rt, rt.alloc(), row);
+    }
+}
+
+#[test]
+fn operators_beside_other_definitions(rt: HostRuntime) {
+    for row in BESIDE_OTHERS {
         operator_is_told(&rt, rt.alloc(), row);
     }
 }
