@@ -9,6 +9,6 @@ mod want;
 pub use operation::{Counter, Doing, Next};
 pub use operations::{
     advanced, applied, assigned, case_of, counter_of, has_turn, is_update, made, made_in_heap,
-    print_next, related, resumed, skipped, united, updating, whole_of,
+    print_next, related, resumed, routine, skipped, united, updating, whole_of,
 };
 pub use want::{Reply, Want};

@@ -1,8 +1,9 @@
 //! Operations on the values of their parts.
-ghost use Rattle.std.specs.Prelude.{◌≡◌, ◌<◌, [], ◌∷◌, length, reverse, IfOk, Ok};
+ghost use Rattle.std.specs.Prelude.{◌≡◌, ◌<◌, [], ◌∷◌, length, reverse, List, IfOk, Ok};
 ghost use Rattle.a68_acts.specs.Operations as operations;
 ghost use Rattle.a68_acts.specs.Operations.{make, yielding};
 ghost use Rattle.a68_modes.specs.Nodes.{shape_at};
+ghost use Rattle.a68_modes.specs.declared.shape.Shape.{Shape};
 ghost use Rattle.a68_ops.specs.Applied.{applied, updated};
 ghost use Rattle.a68_ops.specs.Printed.{item_text, whole as whole_number};
 ghost use Rattle.a68_values.specs.Content.{plain};
@@ -13,7 +14,7 @@ use a68_base::{NoMemory, Text};
 use a68_layout::{LayoutStop, plan};
 use a68_modes::{ModeId, Modes, Shape};
 use a68_ops::{OpStop, apply, is_unset, item_text, text_value, updated, whole};
-use a68_values::{Chain, FaultKind, Held, Name, Plain, Value, ValueNode, Values};
+use a68_values::{Chain, FaultKind, Held, Name, Plain, Routine, Value, ValueNode, Values};
 use std::alloc::Global;
 
 /// The value of SKIP.
@@ -89,6 +90,26 @@ pub fn made_in_heap(alloc: Global, modes: &Modes, mode: ModeId) -> Result<Doing,
     ensures { IfOk result (λ doing. doing ≡ operations.making modes.now mode 0) }
 {
     making(alloc, modes, mode, 0)
+}
+
+/// A routine of the routine text of that number, of the scope of the frame so many frames outwards; of scope 0 where
+/// there is no distance.
+#[tactic(auto, unfolding(crate::specs::Operations::start))]
+pub fn routine(text: u32, distance: Option<u32>, chain: &Chain) -> Doing
+    ensures { (modes : List Shape) → result ≡ operations.start modes (operations.routine text distance) chain.now [] }
+{
+    let Some(environ) = chain.items.first() else {
+        return Doing::Meets(FaultKind::Kind);
+    };
+    let frame = environ.frame;
+    let scope = match distance {
+        None => 0,
+        Some(hops) => match chain.items.get(hops as usize) {
+            None => return Doing::Meets(FaultKind::Kind),
+            Some(outer) => outer.scope,
+        },
+    };
+    Doing::Yields(Value::of(Plain::Routine(Routine { text, frame, scope })))
 }
 
 // Whether two names refer to the same.

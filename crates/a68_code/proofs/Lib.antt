@@ -1,3 +1,4 @@
+pub mod Entering
 pub mod Landing
 pub mod Noting
 pub mod Reading

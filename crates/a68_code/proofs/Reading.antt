@@ -21,5 +21,5 @@ does_at_within (x ∷ xs) zero does e = omega arith
 does_at_within (x ∷ xs) (suc at) does e = let h = does_at_within xs at does e in omega arith
 
 -- an instruction with other operands than it may have does not fit
-pub not_fitting : (code : Code) (at : ℕ) (does : Does) (b : Bool) → does_at code.list at ≡ Some does → b ≡ is_well_made code.modes (length code.list) does → b ≡ false → IsTrue b ↔ FitsAt code at
+pub not_fitting : (code : Code) (at : ℕ) (does : Does) (b : Bool) → does_at code.list at ≡ Some does → b ≡ is_well_made code.modes (length code.texts) (length code.list) does → b ≡ false → IsTrue b ↔ FitsAt code at
 not_fitting code at does b is e f = (λ t. absurd (both_ways b f t), λ fits. e ∙ (fits does is).0)

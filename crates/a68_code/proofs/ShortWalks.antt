@@ -13,7 +13,7 @@ use Rattle.a68_code.specs.Valid.{IsValid}
 use Rattle.a68_code.specs.declared.code.Code.{Code}
 use Rattle.a68_code.specs.declared.code.Instr.{Instr}
 use Rattle.a68_code.specs.declared.does.Does.{Does}
-use Rattle.a68_code.specs.declared.does.Does.TheVariants.{Jump, Unless, Case, Step, Turn, Advance, End}
+use Rattle.a68_code.specs.declared.does.Does.TheVariants.{Jump, Unless, Case, Step, Turn, Advance, Return, End}
 
 -- a way leads from one place over so many instructions, none of which is a Turn, to another
 pub data Walks (list : List Instr) : ℕ → ℕ → ℕ → Type 0 where
@@ -131,6 +131,7 @@ landing_cases at to (Unless x) i = ⊎_elim (λ e. inl (sym e)) (λ e. inr (inr 
 landing_cases at to (Step x) i = ⊎_elim (λ e. inl (sym e)) (λ e. inr (inr (inr (inl (ap (λ (n : ℕ). Step n) e))))) (either (at + 1) x to i)
 landing_cases at to (Advance x) i = ⊎_elim (λ e. inl (sym e)) (λ e. inr (inr (inr (inr (inl (ap (λ (n : ℕ). Advance n) e)))))) (either (at + 1) x to i)
 landing_cases at to (Case places) i = inr (inr (inr (inr (inr (places, refl, i)))))
+landing_cases at to Return i = absurd (let h = i.1 in omega arith)
 landing_cases at to End i = absurd (let h = i.1 in omega arith)
 landing_cases at to _ i = inl (sym (only (at + 1) to i))
 
@@ -217,8 +218,8 @@ module _ (code : Code) (valid : IsValid code) where
     ordered : (kind : Does) → does ≡ kind → IsInOrder code.list at kind
     ordered kind e = subst (λ (d : Does). IsInOrder code.list at d) e (valid.in_order at does is)
 
-    made : (kind : Does) → does ≡ kind → IsTrue (is_well_made code.modes (length code.list) kind)
-    made kind e = subst (λ (d : Does). IsTrue (is_well_made code.modes (length code.list) d)) e (valid.well_made at does is)
+    made : (kind : Does) → does ≡ kind → IsTrue (is_well_made code.modes (length code.texts) (length code.list) kind)
+    made kind e = subst (λ (d : Does). IsTrue (is_well_made code.modes (length code.texts) (length code.list) d)) e (valid.well_made at does is)
 
     this : Landing at to does → suc count ≤ ahead code.list at
     this (inl e) = next e

@@ -6,111 +6,117 @@ use Rattle.std.proofs.lemmas.Bool.{cases_eq, cases_lt}
 use Rattle.std.specs.List.{Contains}
 use Rattle.std.proofs.lemmas.List.Elements.{Contains-push_cases, Contains-push, Contains-append_left}
 use Rattle.a68_modes.specs.declared.shape.Shape.{Shape}
-use Rattle.a68_code.specs.Flow.{does_at, takes, leaves, landings, Reaches}
+use Rattle.a68_code.specs.Flow.{does_at, takes, leaves, landings, entrances, Reaches, MayMeet}
 use Rattle.a68_code.specs.Flow.Reaches.{begins, goes_on}
 use Rattle.a68_code.specs.Operands.{is_well_made}
 use Rattle.a68_modes.specs.Nodes.{shape_at, is_void}
 use Rattle.a68_code.specs.Valid.{IsValid}
-use Rattle.a68_code.specs.Walk.{Heights, Places, Knows, unknown, FitsAt, GoesOn, Fails}
+use Rattle.a68_code.specs.Walk.{Heights, Places, Knows, unknown, FitsAt, NotesAll, AnyClashes, GoesOn, Fails, AreHeights, Agree, AllAgree}
 use Rattle.a68_code.proofs.Noting.{unknown_less, unknown-replicate}
 use Rattle.a68_code.specs.declared.code.Code.{Code}
 use Rattle.a68_code.specs.declared.does.Does.{Does}
-use Rattle.a68_code.specs.declared.does.Does.TheVariants.{Skip, Leave}
+use Rattle.a68_code.specs.declared.does.Does.TheVariants.{Skip, Leave, Call}
+use Rattle.a68_code.specs.declared.owner.Owner.{Owner}
+use Rattle.a68_code.specs.declared.owner.Owner.TheVariants as owner
 
--- the instruction at this place finds what it takes, and each place where the machine goes on has its height
-pub record Passed (code : Code) (heights : Heights) (at height : ℕ) : Type 0 where
+-- the owner may meet the instruction at this place, which finds what it takes, and each place where the machine goes on has
+-- its height
+pub record Passed (code : Code) (whose : Owner) (heights : Heights) (at height : ℕ) : Type 0 where
   pub does : Does
   pub is : does_at code.list at ≡ Some does
+  pub meets : MayMeet whose does height
   pub below : ℕ
   pub finds : below + takes does ≡ height
   pub onward : (to : ℕ) → Contains (landings at does) to → Knows heights to (below + leaves code.modes does)
 
-pub record Halfway (code : Code) (heights : Heights) (todo : Places) : Type 0 where
+pub record Halfway (code : Code) (whose : Owner) (heights : Heights) (todo : Places) : Type 0 where
   pub long : length heights ≡ length code.list
-  pub first : Knows heights 0 0
-  pub sound : (at height : ℕ) → Knows heights at height → Reaches code at height
+  pub first : (at : ℕ) → Contains (entrances code whose) at → Knows heights at 0
+  pub sound : (at height : ℕ) → Knows heights at height → Reaches code whose at height
   pub noted : (at height : ℕ) → Contains todo (at, height) → Knows heights at height
-  pub closed : (at height : ℕ) → Knows heights at height → Contains todo (at, height) ⊎ Passed code heights at height
+  pub closed : (at height : ℕ) → Knows heights at height → Contains todo (at, height) ⊎ Passed code whose heights at height
   pub small : (at height : ℕ) → Knows heights at height → height + unknown heights < length heights
 
 -- a place is taken off
-pub taken : (code : Code) (heights : Heights) (todo rest : Places) (at height : ℕ) → todo ≡ rest ++ (at, height) ∷ [] → Halfway code heights todo → Knows heights at height
-taken code heights todo rest at height e h = h.noted at height (subst (λ (t : Places). Contains t (at, height)) (sym e) (Contains-push rest (at, height)))
+pub taken : (code : Code) (whose : Owner) (heights : Heights) (todo rest : Places) (at height : ℕ) → todo ≡ rest ++ (at, height) ∷ [] → Halfway code whose heights todo → Knows heights at height
+taken code whose heights todo rest at height e h = h.noted at height (subst (λ (t : Places). Contains t (at, height)) (sym e) (Contains-push rest (at, height)))
 
 within_table : (heights : Heights) (at height : ℕ) → Knows heights at height → at < length heights
 within_table heights at height k = ⊎_elim (λ lt. lt) (λ ge. absurd (let e : get_or heights at None ≡ None = get_or_past heights at None ge in cc)) (cases_lt at (length heights))
 
-pub taken_within : (code : Code) (heights : Heights) (todo rest : Places) (at height : ℕ) → todo ≡ rest ++ (at, height) ∷ [] → Halfway code heights todo → at < length code.list
-taken_within code heights todo rest at height e h = let k = within_table heights at height (taken code heights todo rest at height e h) in let l = h.long in omega arith
+pub taken_within : (code : Code) (whose : Owner) (heights : Heights) (todo rest : Places) (at height : ℕ) → todo ≡ rest ++ (at, height) ∷ [] → Halfway code whose heights todo → at < length code.list
+taken_within code whose heights todo rest at height e h = let k = within_table heights at height (taken code whose heights todo rest at height e h) in let l = h.long in omega arith
 
-pub taken_small : (code : Code) (heights : Heights) (todo rest : Places) (at height : ℕ) → todo ≡ rest ++ (at, height) ∷ [] → Halfway code heights todo → height < length code.list
-taken_small code heights todo rest at height e h = let k = h.small at height (taken code heights todo rest at height e h) in let l = h.long in omega arith
+pub taken_small : (code : Code) (whose : Owner) (heights : Heights) (todo rest : Places) (at height : ℕ) → todo ≡ rest ++ (at, height) ∷ [] → Halfway code whose heights todo → height < length code.list
+taken_small code whose heights todo rest at height e h = let k = h.small at height (taken code whose heights todo rest at height e h) in let l = h.long in omega arith
 
 -- and the walk goes on from it
-module _ (code : Code) (heights : Heights) (todo rest : Places) (at height : ℕ) (does : Does)
-    (e : todo ≡ rest ++ (at, height) ∷ []) (h : Halfway code heights todo) (is : does_at code.list at ≡ Some does) where
+module _ (code : Code) (whose : Owner) (heights : Heights) (todo rest : Places) (at height : ℕ) (does : Does)
+    (e : todo ≡ rest ++ (at, height) ∷ []) (h : Halfway code whose heights todo) (is : does_at code.list at ≡ Some does) where
   before : (x k : ℕ) → Contains rest (x, k) → Contains todo (x, k)
   before x k i = subst (λ (t : Places). Contains t (x, k)) (sym e) (Contains-append_left rest ((at, height) ∷ []) (x, k) i)
 
   here : Knows heights at height
-  here = taken code heights todo rest at height e h
+  here = taken code whose heights todo rest at height e h
 
-  onward : (below to : ℕ) → below + takes does ≡ height → Contains (landings at does) to → Reaches code to (below + leaves code.modes does)
-  onward below to finds i = goes_on below (subst (λ (n : ℕ). Reaches code at n) (sym finds) (h.sound at height here)) is i
+  onward : (below to : ℕ) → below + takes does ≡ height → Contains (landings at does) to → Reaches code whose to (below + leaves code.modes does)
+  onward below to finds i = goes_on below (subst (λ (n : ℕ). Reaches code whose at n) (sym finds) (h.sound at height here)) is i
 
-  pub halfway_on : (heights' : Heights) (todo' : Places) → leaves code.modes does ≤ takes does + 1 → GoesOn code.modes at does height heights rest heights' todo' → Halfway code heights' todo'
-  halfway_on heights' todo' one (below, finds, v) = record {
+  pub halfway_on : (heights' : Heights) (todo' : Places) → leaves code.modes does ≤ takes does + 1 → GoesOn code.modes whose at does height heights rest heights' todo' → Halfway code whose heights' todo'
+  halfway_on heights' todo' one (meets, (below, finds, v)) = record {
     long = v.long ∙ h.long;
-    first = v.kept 0 0 h.first;
-    sound = λ x k g. ⊎_elim (λ old. h.sound x k old) (λ new. subst (λ (n : ℕ). Reaches code x n) (sym new.1) (onward below x finds new.0)) (v.only x k g);
+    first = λ x i. v.kept x 0 (h.first x i);
+    sound = λ x k g. ⊎_elim (λ old. h.sound x k old) (λ new. subst (λ (n : ℕ). Reaches code whose x n) (sym new.1) (onward below x finds new.0)) (v.only x k g);
     noted = λ x k i. ⊎_elim (λ old. v.kept x k (h.noted x k (before x k old))) (λ g. g) (v.noted x k i);
     closed = λ x k g. ⊎_elim (λ old. was x k (h.closed x k old)) (λ new. inl new.2) (v.only x k g);
     small = λ x k g. ⊎_elim (λ old. let a = h.small x k old in let b = v.fewer in let c = v.long in omega arith) (λ new. let a = h.small at height here in let b = new.1 in let d = new.3 in let c = v.long in omega arith) (v.only x k g);
   }
     where
-      was : (x k : ℕ) → Contains todo (x, k) ⊎ Passed code heights x k → Contains todo' (x, k) ⊎ Passed code heights' x k
-      was x k (inr p) = inr (record { does = p.does; is = p.is; below = p.below; finds = p.finds; onward = λ to i. v.kept to _ (p.onward to i) })
+      was : (x k : ℕ) → Contains todo (x, k) ⊎ Passed code whose heights x k → Contains todo' (x, k) ⊎ Passed code whose heights' x k
+      was x k (inr p) = inr (record { does = p.does; is = p.is; meets = p.meets; below = p.below; finds = p.finds; onward = λ to i. v.kept to _ (p.onward to i) })
       was x k (inl i) = ⊎_elim (λ j. inl (v.onward x k j)) (λ same. inr (just x k same)) (Contains-push_cases rest (at, height) (x, k) (subst (λ (t : Places). Contains t (x, k)) e i))
         where
-          just : (x k : ℕ) → ◌≡◌ {A = ℕ × ℕ} (at, height) (x, k) → Passed code heights' x k
-          just x k same = subst (λ (q : ℕ × ℕ). Passed code heights' q.0 q.1) same (record { does = does; is = is; below = below; finds = finds; onward = v.all })
+          just : (x k : ℕ) → ◌≡◌ {A = ℕ × ℕ} (at, height) (x, k) → Passed code whose heights' x k
+          just x k same = subst (λ (q : ℕ × ℕ). Passed code whose heights' q.0 q.1) same (record { does = does; is = is; meets = meets; below = below; finds = finds; onward = v.all })
 
-  pub not_valid : Fails code.modes at does height heights → IsValid code → ⊥
-  not_valid (inl few) valid = let enough = valid.supplied at height does (h.sound at height here) is in absurd (omega arith)
-  not_valid (inr (below, finds, (to, i, inl past))) valid = let inside = valid.within to _ (onward below to finds i) in let long = h.long in absurd (omega arith)
-  not_valid (inr (below, finds, (to, i, inr (other, knows, differs)))) valid = differs (valid.agreed to other _ (h.sound to other knows) (onward below to finds i))
+  pub not_valid : Fails code.modes whose at does height heights → IsValid code → ⊥
+  not_valid (inl never) valid = never (valid.ends whose at height does (h.sound at height here) is)
+  not_valid (inr (inl few)) valid = let enough = valid.supplied whose at height does (h.sound at height here) is in absurd (omega arith)
+  not_valid (inr (inr (below, finds, (to, i, inl past)))) valid = let inside = valid.within whose to _ (onward below to finds i) in let long = h.long in absurd (omega arith)
+  not_valid (inr (inr (below, finds, (to, i, inr (other, knows, differs))))) valid = differs (valid.agreed whose whose to other _ (h.sound to other knows) (onward below to finds i))
 
 -- an instruction with operands that it may have leaves at most one value more than it takes
-pub leaves_one : (modes : List Shape) (count : ℕ) (does : Does) → IsTrue (is_well_made modes count does) → leaves modes does ≤ takes does + 1
-leaves_one modes count (Leave kept) w = omega arith
-leaves_one modes count (Skip mode) w = cond_of (is_void (shape_at modes mode))
+pub leaves_one : (modes : List Shape) (texts count : ℕ) (does : Does) → IsTrue (is_well_made modes texts count does) → leaves modes does ≤ takes does + 1
+leaves_one modes texts count (Leave kept) w = omega arith
+leaves_one modes texts count (Skip mode) w = cond_of (is_void (shape_at modes mode))
   where
     cond_of : (b : Bool) → cond b 0 1 ≤ 1
     cond_of true = omega arith
     cond_of false = omega arith
-leaves_one modes count _ w = omega arith
+leaves_one modes texts count (Call n true) w = omega arith
+leaves_one modes texts count (Call n false) w = omega arith
+leaves_one modes texts count _ w = omega arith
 
 none_left : (q : ℕ × ℕ) → Contains [] q → ⊥
 none_left q i = let h = i.1 in omega arith
 
 -- nothing is left to do
-pub valid_from : (code : Code) (heights : Heights) (todo : Places) → length todo ≡ 0 → 0 < length code.list → ((at : ℕ) → FitsAt code at) → Halfway code heights todo → IsValid code
-valid_from code heights todo none first fits h = record {
-  begins = λ e. let n : length code.list ≡ 0 = ap length e in omega arith;
-  well_made = λ at does is. (fits at does is).0;
-  in_order = λ at does is. (fits at does is).1;
-  within = λ at height r. let k = within_table heights at height (complete r) in let l = h.long in omega arith;
-  supplied = λ at height does r is. supplied at height does is (passed at height (complete r));
-  agreed = λ at one other r q. same_Some one other (sym (complete r) ∙ complete q);
+pub heights_from : (code : Code) (whose : Owner) (heights : Heights) (todo : Places) → length todo ≡ 0 → Halfway code whose heights todo → AreHeights code whose heights
+heights_from code whose heights todo none h = record {
+  long = h.long;
+  sound = h.sound;
+  complete = λ at height r. complete r;
+  supplied = λ at height does k is. supplied at height does is (passed at height k);
+  ends = λ at height does k is. let p = passed at height k in subst (λ (d : Does). MayMeet whose d height) (same_Some p.does does (sym p.is ∙ is)) p.meets;
 }
   where
-    passed : (at height : ℕ) → Knows heights at height → Passed code heights at height
+    passed : (at height : ℕ) → Knows heights at height → Passed code whose heights at height
     passed at height k = ⊎_elim (λ i. absurd (none_left (at, height) (subst (λ (t : Places). Contains t (at, height)) (nil_from_length todo none) i))) (λ p. p) (h.closed at height k)
 
-    supplied : (at height : ℕ) (does : Does) → does_at code.list at ≡ Some does → Passed code heights at height → takes does ≤ height
+    supplied : (at height : ℕ) (does : Does) → does_at code.list at ≡ Some does → Passed code whose heights at height → takes does ≤ height
     supplied at height does is p = let same : p.does ≡ does = same_Some p.does does (sym p.is ∙ is) in let f = p.finds in let g : takes p.does ≡ takes does = ap takes same in omega arith
 
-    goes : (at below to : ℕ) (does : Does) → does_at code.list at ≡ Some does → Contains (landings at does) to → Passed code heights at (below + takes does) → Knows heights to (below + leaves code.modes does)
+    goes : (at below to : ℕ) (does : Does) → does_at code.list at ≡ Some does → Contains (landings at does) to → Passed code whose heights at (below + takes does) → Knows heights to (below + leaves code.modes does)
     goes at below to does is i p =
         let same : p.does ≡ does = same_Some p.does does (sym p.is ∙ is) in
         let f = p.finds in
@@ -119,48 +125,99 @@ valid_from code heights todo none first fits h = record {
         let k = p.onward to (subst (λ (d : Does). Contains (landings at d) to) (sym same) i) in
         subst (λ (n : ℕ). Knows heights to (n + leaves code.modes does)) e (subst (λ (d : Does). Knows heights to (p.below + leaves code.modes d)) same k)
 
-    complete : {at height : ℕ} → Reaches code at height → Knows heights at height
-    complete begins = h.first
+    complete : {at height : ℕ} → Reaches code whose at height → Knows heights at height
+    complete (begins i) = h.first _ i
     complete (goes_on {at = at} {to = to} {does = does} below r is i) = goes at below to does is i (passed at (below + takes does) (complete r))
 
--- the walk before its first step
-pub halfway_first : (code : Code) (heights : Heights) (todo : Places) → 0 < length code.list → heights ≡ set (replicate (length code.list) None) 0 (Some 0) → todo ≡ (0, 0) ∷ [] → Halfway code heights todo
-halfway_first code heights todo first e f = subst (λ (t : Places). Halfway code heights t) (sym f) (subst (λ (t : Heights). Halfway code t ((0, 0) ∷ [])) (sym e) start)
-  where
-    empty : Heights
-    empty = replicate (length code.list) None
+-- ---- the walk before its first step
 
+no_height : (count at height : ℕ) → Knows (replicate count None) at height → ⊥
+no_height count at height k = none-some height (sym none ∙ k)
+  where
     unset : Option ℕ
     unset = None
 
-    none : (x : ℕ) → get_or empty x None ≡ None
-    none x = ⊎_elim (λ lt. get_or-replicate (length code.list) x None None lt) (λ ge. get_or_past empty x None (let l = length-replicate (length code.list) unset in omega arith)) (cases_lt x (length code.list))
+    none : get_or (replicate count unset) at None ≡ None
+    none = ⊎_elim (λ lt. get_or-replicate count at None None lt) (λ ge. get_or_past (replicate count unset) at None (let l = length-replicate count unset in omega arith)) (cases_lt at count)
 
-    room : 0 < length empty
-    room = let l = length-replicate (length code.list) unset in omega arith
+-- the walk comes to the entrances
+pub halfway_first : (code : Code) (whose : Owner) (places : List ℕ) (heights : Heights) (todo : Places) → places ≡ entrances code whose
+    → NotesAll places 0 (replicate (length code.list) None) [] heights todo → Halfway code whose heights todo
+halfway_first code whose places heights todo same v = record {
+  long = v.long ∙ length-replicate (length code.list) unset;
+  first = λ at i. v.all at (subst (λ (ps : List ℕ). Contains ps at) (sym same) i);
+  sound = λ at height k. ⊎_elim (λ old. absurd (no_height (length code.list) at height old))
+      (λ new. subst (λ (n : ℕ). Reaches code whose at n) (sym new.1) (begins (subst (λ (ps : List ℕ). Contains ps at) same new.0))) (v.only at height k);
+  noted = λ at height i. ⊎_elim (λ old. absurd (none_left (at, height) old)) (λ k. k) (v.noted at height i);
+  closed = λ at height k. ⊎_elim (λ old. absurd (no_height (length code.list) at height old)) (λ new. inl new.2) (v.only at height k);
+  small = λ at height k. ⊎_elim (λ old. absurd (no_height (length code.list) at height old))
+      (λ new. let a = new.1 in let b = new.3 in let c = unknown-replicate (length code.list) in let l = length-replicate (length code.list) unset in let m = v.long in omega arith) (v.only at height k);
+}
+  where
+    unset : Option ℕ
+    unset = None
 
-    only : (x k : ℕ) → Knows (set empty 0 (Some 0)) x k → (x ≡ 0) × (k ≡ 0)
-    only x k g = go (cases_eq x 0)
-      where
-        go : (x ≡ 0) ⊎ (x ≡ 0 → ⊥) → (x ≡ 0) × (k ≡ 0)
-        go (inl e) = (e, same_Some k 0 (sym (subst (λ (p : ℕ). Knows (set empty 0 (Some 0)) p k) e g) ∙ get_or-set_same empty 0 (Some 0) None room))
-        go (inr ne) = absurd (none-some k (sym (none x) ∙ sym (get_or-set_other empty 0 x (Some 0) None ne) ∙ g))
+-- an entrance is behind the list, or has another height than 0
+pub no_entrance : (code : Code) (whose : Owner) (places : List ℕ) → places ≡ entrances code whose → AnyClashes places 0 (replicate (length code.list) None) → IsValid code → ⊥
+no_entrance code whose places same (to, i, inl past) valid =
+    let inside = valid.within whose to 0 (begins (subst (λ (ps : List ℕ). Contains ps to) same i)) in
+    let l = length-replicate (length code.list) unset in absurd (omega arith)
+  where
+    unset : Option ℕ
+    unset = None
+no_entrance code whose places same (to, i, inr (other, knows, differs)) valid = absurd (no_height (length code.list) to other knows)
 
-    at_start : (P : ℕ → ℕ → Type 0) → P 0 0 → (x k : ℕ) → (x ≡ 0) × (k ≡ 0) → P x k
-    at_start P p x k (e, f) = subst (λ (y : ℕ). P y k) (sym e) (subst (λ (y : ℕ). P 0 y) (sym f) p)
+-- ---- all owners
 
-    first_known : Knows (set empty 0 (Some 0)) 0 0
-    first_known = get_or-set_same empty 0 (Some 0) None room
+-- tables of the heights that the ways of all owners come to
+pub record AllHeights (code : Code) (program yielding others : Heights) : Type 0 where
+  pub of_program : AreHeights code owner.Program program
+  pub of_yielding : AreHeights code (owner.Texts true) yielding
+  pub of_others : AreHeights code (owner.Texts false) others
 
-    parts : (x k : ℕ) → Contains {X = ℕ × ℕ} ((0, 0) ∷ []) (x, k) → (x ≡ 0) × (k ≡ 0)
-    parts x k i = ⊎_elim (λ j. absurd (none_left (x, k) j)) (λ same. (ap (λ (q : ℕ × ℕ). q.0) (sym same), ap (λ (q : ℕ × ℕ). q.1) (sym same))) (Contains-push_cases {X = ℕ × ℕ} [] (0, 0) (x, k) i)
+table_of : (program yielding others : Heights) → Owner → Heights
+table_of program yielding others owner.Program = program
+table_of program yielding others (owner.Texts true) = yielding
+table_of program yielding others (owner.Texts false) = others
 
-    start : Halfway code (set empty 0 (Some 0)) ((0, 0) ∷ [])
-    start = record {
-      long = length-set empty 0 (Some 0) ∙ length-replicate (length code.list) unset;
-      first = first_known;
-      sound = λ x k g. at_start (λ y z. Reaches code y z) begins x k (only x k g);
-      noted = λ x k i. at_start (λ y z. Knows (set empty 0 (Some 0)) y z) first_known x k (parts x k i);
-      closed = λ x k g. inl (at_start (λ y z. Contains {X = ℕ × ℕ} ((0, 0) ∷ []) (y, z)) (Contains-push {X = ℕ × ℕ} [] (0, 0)) x k (only x k g));
-      small = λ x k g. let a = unknown_less empty 0 0 room (none 0) in let b = unknown-replicate (length code.list) in let l = length-replicate (length code.list) unset in let m = length-set empty 0 (Some 0) in let o : k ≡ 0 = (only x k g).1 in omega arith;
-    }
+known_in : (code : Code) (program yielding others : Heights) → AllHeights code program yielding others → (whose : Owner) → AreHeights code whose (table_of program yielding others whose)
+unfolding table_of
+known_in code program yielding others all owner.Program = all.of_program
+known_in code program yielding others all (owner.Texts true) = all.of_yielding
+known_in code program yielding others all (owner.Texts false) = all.of_others
+
+agrees_with_itself : (heights : Heights) → Agree heights heights
+agrees_with_itself heights at one other k l = same_Some one other (sym k ∙ l)
+
+pub valid_from : (code : Code) (program yielding others : Heights) → 0 < length code.list → ((at : ℕ) → FitsAt code at) → AllHeights code program yielding others
+    → AllAgree program yielding others → IsValid code
+unfolding table_of
+valid_from code program yielding others first fits all (py, po, yo) = record {
+  begins = λ e. let n : length code.list ≡ 0 = ap length e in omega arith;
+  well_made = λ at does is. (fits at does is).0;
+  in_order = λ at does is. (fits at does is).1;
+  within = λ whose at height r. let h = known whose in let k = within_table (table whose) at height (h.complete at height r) in let l = h.long in omega arith;
+  supplied = λ whose at height does r is. let h = known whose in h.supplied at height does (h.complete at height r) is;
+  ends = λ whose at height does r is. let h = known whose in h.ends at height does (h.complete at height r) is;
+  agreed = λ whose whom at one other r q. agree whose whom at one other ((known whose).complete at one r) ((known whom).complete at other q);
+}
+  where
+    table : Owner → Heights
+    table = table_of program yielding others
+
+    known : (whose : Owner) → AreHeights code whose (table_of program yielding others whose)
+    known = known_in code program yielding others all
+
+    agree : (whose whom : Owner) → Agree (table_of program yielding others whose) (table_of program yielding others whom)
+    agree owner.Program owner.Program = agrees_with_itself program
+    agree owner.Program (owner.Texts true) = py
+    agree owner.Program (owner.Texts false) = po
+    agree (owner.Texts true) owner.Program = λ at one other k l. sym (py at other one l k)
+    agree (owner.Texts true) (owner.Texts true) = agrees_with_itself yielding
+    agree (owner.Texts true) (owner.Texts false) = yo
+    agree (owner.Texts false) owner.Program = λ at one other k l. sym (po at other one l k)
+    agree (owner.Texts false) (owner.Texts true) = λ at one other k l. sym (yo at other one l k)
+    agree (owner.Texts false) (owner.Texts false) = agrees_with_itself others
+
+pub agree_where_valid : (code : Code) (whose whom : Owner) (heights others : Heights) → AreHeights code whose heights → AreHeights code whom others → IsValid code → Agree heights others
+agree_where_valid code whose whom heights others h o valid at one other k l = valid.agreed whose whom at one other (h.sound at one k) (o.sound at other l)

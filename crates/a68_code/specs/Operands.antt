@@ -4,23 +4,25 @@ use Rattle.std.specs.List.{list_all}
 use Rattle.a68_modes.specs.Nodes.{shape_at, is_plain, is_void}
 use Rattle.a68_modes.specs.declared.shape.Shape.{Shape}
 use Rattle.a68_code.specs.declared.does.Does.{Does}
-use Rattle.a68_code.specs.declared.does.Does.TheVariants.{Skip, Leave, Make, Heap, Same, Deref, Store, Apply, Jump, Unless, Case, Step, Advance}
+use Rattle.a68_code.specs.declared.does.Does.TheVariants.{Skip, Routine, Leave, Make, Heap, Same, Deref, Store, Apply, Jump, Unless, Case, Step, Advance}
 
 -- The operands are such as an instruction may have, among so many instructions: a place is that of an instruction, a
 -- list of places has one at least, the row of an Apply is that of an operator that yields at once or is combined
--- with assignation to a name of INT, and a mode is plain, with no bounds, since values of other modes do not run yet.
-abbrev pub is_well_made : List Shape → ℕ → Does → Bool
-is_well_made modes count (Skip mode) = is_void (shape_at modes mode) || is_plain (shape_at modes mode)
-is_well_made modes count (Leave kept) = nat_le kept 1
-is_well_made modes count (Make mode bounds) = is_plain (shape_at modes mode) && (bounds == 0)
-is_well_made modes count (Heap mode bounds) = is_plain (shape_at modes mode) && (bounds == 0)
-is_well_made modes count (Deref mode) = is_plain (shape_at modes mode)
-is_well_made modes count (Store mode) = is_plain (shape_at modes mode)
-is_well_made modes count (Apply row) = (nat_le 1 row && nat_le row 5) || ((nat_le 7 row && nat_le row 23) || (nat_le 26 row && nat_le row 33))
-is_well_made modes count (Same negated) = nat_le negated 1
-is_well_made modes count (Jump to) = nat_lt to count
-is_well_made modes count (Unless to) = nat_lt to count
-is_well_made modes count (Case places) = nat_lt 0 (length places) && list_all (λ to. nat_lt to count) places
-is_well_made modes count (Step to) = nat_lt to count
-is_well_made modes count (Advance to) = nat_lt to count
-is_well_made modes count _ = true
+-- with assignation to a name of INT, a routine text is one of so many, and a mode is plain, with no bounds: names refer to
+-- plain values alone yet.
+abbrev pub is_well_made : List Shape → (texts count : ℕ) → Does → Bool
+is_well_made modes texts count (Skip mode) = is_void (shape_at modes mode) || is_plain (shape_at modes mode)
+is_well_made modes texts count (Routine text distance) = nat_lt text texts
+is_well_made modes texts count (Leave kept) = nat_le kept 1
+is_well_made modes texts count (Make mode bounds) = is_plain (shape_at modes mode) && (bounds == 0)
+is_well_made modes texts count (Heap mode bounds) = is_plain (shape_at modes mode) && (bounds == 0)
+is_well_made modes texts count (Deref mode) = is_plain (shape_at modes mode)
+is_well_made modes texts count (Store mode) = is_plain (shape_at modes mode)
+is_well_made modes texts count (Apply row) = (nat_le 1 row && nat_le row 5) || ((nat_le 7 row && nat_le row 23) || (nat_le 26 row && nat_le row 33))
+is_well_made modes texts count (Same negated) = nat_le negated 1
+is_well_made modes texts count (Jump to) = nat_lt to count
+is_well_made modes texts count (Unless to) = nat_lt to count
+is_well_made modes texts count (Case places) = nat_lt 0 (length places) && list_all (λ to. nat_lt to count) places
+is_well_made modes texts count (Step to) = nat_lt to count
+is_well_made modes texts count (Advance to) = nat_lt to count
+is_well_made modes texts count _ = true

@@ -1,18 +1,19 @@
 -- Inner: the headline does not rest on this file.
--- For the two passes that decide which codes are valid. The second is a walk, which keeps a table of the heights found
--- so far, by places, and the places at which it has yet to go on, with their heights.
+-- For the passes that decide which codes are valid: one over all instructions, and a walk along the ways of each owner. A walk
+-- keeps a table of the heights found so far, by places, and the places at which it has yet to go on, with their heights.
 use Rattle.std.specs.Prelude.{◌≡◌, ◌≢◌, ◌<◌, ◌≤◌, ◌+◌, ◌⊎◌, IsTrue, ℕ, suc, List, [], ◌∷◌, ◌++◌, length, Some, None, Contains, slice_index_or, slice_set}
 use Rattle.std.specs.declared.option.Option.{Option}
 use Rattle.a68_modes.specs.declared.shape.Shape.{Shape}
-use Rattle.a68_code.specs.Flow.{does_at, takes, leaves, landings}
+use Rattle.a68_code.specs.Flow.{does_at, takes, leaves, landings, Reaches, MayMeet}
 use Rattle.a68_code.specs.Operands.{is_well_made}
 use Rattle.a68_code.specs.Order.{IsInOrder}
 use Rattle.a68_code.specs.declared.code.Code.{Code}
 use Rattle.a68_code.specs.declared.does.Does.{Does}
+use Rattle.a68_code.specs.declared.owner.Owner.{Owner}
 
 -- the instruction at this place, if there is one, has operands and a jump as it may have them
 abbrev pub FitsAt : Code → ℕ → Type 0
-FitsAt code at = (does : Does) → does_at code.list at ≡ Some does → IsTrue (is_well_made code.modes (length code.list) does) × IsInOrder code.list at does
+FitsAt code at = (does : Does) → does_at code.list at ≡ Some does → IsTrue (is_well_made code.modes (length code.texts) (length code.list) does) × IsInOrder code.list at does
 
 abbrev pub Heights : Type 0
 Heights = List (Option ℕ)
@@ -55,12 +56,28 @@ pub record NotesAll (places : List ℕ) (height : ℕ) (heights : Heights) (todo
 abbrev pub AnyClashes : List ℕ → ℕ → Heights → Type 0
 AnyClashes places height heights = (to : ℕ) × Contains places to × Clashes to height heights
 
--- the instruction finds what it takes, and all places where the machine may go on are noted
-abbrev pub GoesOn : List Shape → ℕ → Does → ℕ → Heights → Places → Heights → Places → Type 0
-GoesOn modes at does height heights todo heights' todo' =
-    (below : ℕ) × (below + takes does ≡ height) × NotesAll (landings at does) (below + leaves modes does) heights todo heights' todo'
+-- the owner may meet the instruction, which finds what it takes, and all places where the machine may go on are noted
+abbrev pub GoesOn : List Shape → Owner → ℕ → Does → ℕ → Heights → Places → Heights → Places → Type 0
+GoesOn modes whose at does height heights todo heights' todo' =
+    MayMeet whose does height × ((below : ℕ) × (below + takes does ≡ height) × NotesAll (landings at does) (below + leaves modes does) heights todo heights' todo')
 
--- the instruction finds too few values, or comes to a place that has another height or is behind the list
-abbrev pub Fails : List Shape → ℕ → Does → ℕ → Heights → Type 0
-Fails modes at does height heights =
-    (height < takes does) ⊎ ((below : ℕ) × (below + takes does ≡ height) × AnyClashes (landings at does) (below + leaves modes does) heights)
+-- the owner may not meet the instruction, or it finds too few values, or it comes to a place that has another height or is
+-- behind the list
+abbrev pub Fails : List Shape → Owner → ℕ → Does → ℕ → Heights → Type 0
+Fails modes whose at does height heights =
+    (MayMeet whose does height → ⊥) ⊎ ((height < takes does) ⊎ ((below : ℕ) × (below + takes does ≡ height) × AnyClashes (landings at does) (below + leaves modes does) heights))
+
+-- the heights at the places to which the ways of an owner lead, which meet nothing that they may not
+pub record AreHeights (code : Code) (whose : Owner) (heights : Heights) : Type 0 where
+  pub long : length heights ≡ length code.list
+  pub sound : (at height : ℕ) → Knows heights at height → Reaches code whose at height
+  pub complete : (at height : ℕ) → Reaches code whose at height → Knows heights at height
+  pub supplied : (at height : ℕ) (does : Does) → Knows heights at height → does_at code.list at ≡ Some does → takes does ≤ height
+  pub ends : (at height : ℕ) (does : Does) → Knows heights at height → does_at code.list at ≡ Some does → MayMeet whose does height
+
+-- two tables have no two heights at one place
+abbrev pub Agree : (heights others : Heights) → Type 0
+Agree heights others = (at one other : ℕ) → Knows heights at one → Knows others at other → one ≡ other
+
+abbrev pub AllAgree : (heights others further : Heights) → Type 0
+AllAgree heights others further = Agree heights others × Agree heights further × Agree others further

@@ -15,6 +15,7 @@ use std::alloc::Global;
 /// | Push | a value | | value | | |
 /// | Skip | a mode | | value | | the value of SKIP; nothing for VOID |
 /// | Nil | | | name | | the name that refers to nothing |
+/// | Routine | number of a routine text, distance | | routine | | of the scope of the frame so many frames outwards; of that of the standard environ where there is no distance |
 /// | Tag | hops, slot | | value | Look | the slot of the frame so many frames outwards |
 /// | Enter | slots | | | Enter | a frame within this one, of scope one more |
 /// | Leave | 0 or 1 | value, for 1 | value, for 1 | | back to the outer frame; for 1 the value may not be newer than it |
@@ -29,6 +30,8 @@ use std::alloc::Global;
 /// | Drop | | value | | | |
 /// | Print | count | the items | | Print | one for each item in order |
 /// | Whole | | number, width | text | | the number as a text |
+/// | Call | count, whether a value comes back | routine, the parameters | value, where it comes back | Turn, Enter, Bind of each parameter in order | goes to the entrance of the routine text; the fault Kind where that yields just where nothing comes back |
+/// | Return | | value, where the body leaves one | the same, on the caller's stack | | goes behind the Call; the value may not be newer than the caller's frame |
 /// | Jump | place | | | | goes there |
 /// | Unless | place | truth value | | | goes there for false |
 /// | Case | places | number | | | goes to the place of that number, counted from 1; to the last one for any other number |
@@ -45,6 +48,7 @@ pub enum Does {
     Push(Value),
     Skip(u32),
     Nil,
+    Routine { text: u32, distance: Option<u32> },
     Tag { hops: u32, slot: u32 },
     Enter(u32),
     Leave(u32),
@@ -59,6 +63,8 @@ pub enum Does {
     Drop,
     Print(u32),
     Whole,
+    Call { count: u32, gives: bool },
+    Return,
     Jump(u32),
     Unless(u32),
     Case(Places),
@@ -77,6 +83,10 @@ impl Drop for Does {
             Does::Push(_)
             | Does::Skip(_)
             | Does::Nil
+            | Does::Routine {
+                text: _,
+                distance: _,
+            }
             | Does::Tag { hops: _, slot: _ }
             | Does::Enter(_)
             | Does::Leave(_)
@@ -91,6 +101,8 @@ impl Drop for Does {
             | Does::Drop
             | Does::Print(_)
             | Does::Whole
+            | Does::Call { count: _, gives: _ }
+            | Does::Return
             | Does::Jump(_)
             | Does::Unless(_)
             | Does::Case(_)
@@ -114,6 +126,10 @@ impl Does {
             Does::Push(value) => Does::Push(value.copy(alloc)?),
             Does::Skip(mode) => Does::Skip(*mode),
             Does::Nil => Does::Nil,
+            Does::Routine { text, distance } => Does::Routine {
+                text: *text,
+                distance: *distance,
+            },
             Does::Tag { hops, slot } => Does::Tag {
                 hops: *hops,
                 slot: *slot,
@@ -137,6 +153,11 @@ impl Does {
             Does::Drop => Does::Drop,
             Does::Print(count) => Does::Print(*count),
             Does::Whole => Does::Whole,
+            Does::Call { count, gives } => Does::Call {
+                count: *count,
+                gives: *gives,
+            },
+            Does::Return => Does::Return,
             Does::Jump(to) => Does::Jump(*to),
             Does::Unless(to) => Does::Unless(*to),
             Does::Case(places) => Does::Case(places.copy(alloc)?),

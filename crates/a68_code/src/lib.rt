@@ -5,6 +5,7 @@ mod code;
 mod does;
 mod operands;
 mod order;
+mod owner;
 mod places;
 mod valid;
 mod walk;

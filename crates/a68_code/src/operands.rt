@@ -15,12 +15,14 @@ pub fn operands_of(row: u32) -> u32
 }
 
 impl Does {
-    /// Whether the operands are such as the instruction may have, in a list of so many instructions.
-    pub(crate) fn is_well_made(&self, modes: &Modes, count: usize) -> bool
-        ensures { result ≡ is_well_made modes.now count self.now }
+    /// Whether the operands are such as the instruction may have, in a list of so many instructions, of
+    /// so many routine texts.
+    pub(crate) fn is_well_made(&self, modes: &Modes, texts: usize, count: usize) -> bool
+        ensures { result ≡ is_well_made modes.now texts count self.now }
     {
         match self {
             Does::Skip(mode) => modes.is_void(*mode) || modes.is_plain(*mode),
+            Does::Routine { text, .. } => (*text as usize) < texts,
             Does::Leave(one) | Does::Same(one) => *one <= 1,
             Does::Make { mode, bounds } | Does::Heap { mode, bounds } => {
                 modes.is_plain(*mode) && *bounds == 0
@@ -37,18 +39,19 @@ impl Does {
     }
 
     /// How many values the instruction takes from the stack.
-    pub(crate) fn takes(&self) -> u32
+    pub(crate) fn takes(&self) -> usize
         ensures { result ≡ takes self.now }
     {
         match self {
             Does::Counter => 3,
             Does::Store(_) | Does::Same(_) | Does::Whole => 2,
-            Does::Apply(row) => operands_of(*row),
+            Does::Apply(row) => operands_of(*row) as usize,
             Does::Bind(_) | Does::Deref(_) | Does::Unite(_) | Does::Drop => 1,
             Does::Unless(_) | Does::Case(_) | Does::Index | Does::Step(_) => 1,
             Does::Advance(_) | Does::Forget => 1,
-            Does::Leave(count) | Does::Print(count) => *count,
-            Does::Make { bounds, .. } | Does::Heap { bounds, .. } => *bounds,
+            Does::Leave(count) | Does::Print(count) => *count as usize,
+            Does::Make { bounds, .. } | Does::Heap { bounds, .. } => *bounds as usize,
+            Does::Call { count, .. } => *count as usize + 1,
             _ => 0,
         }
     }
@@ -61,8 +64,10 @@ impl Does {
             Does::Leave(kept) => *kept,
             Does::Index => 2,
             Does::Skip(mode) => u32::from(!modes.is_void(*mode)),
+            Does::Call { gives, .. } => u32::from(*gives),
             Does::Enter(_) | Does::Bind(_) | Does::Drop | Does::Print(_) | Does::Jump(_) => 0,
-            Does::Unless(_) | Does::Case(_) | Does::Turn | Does::Forget | Does::End => 0,
+            Does::Unless(_) | Does::Case(_) | Does::Turn | Does::Forget => 0,
+            Does::Return | Does::End => 0,
             _ => 1,
         }
     }

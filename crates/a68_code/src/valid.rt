@@ -1,18 +1,74 @@
 //! Which codes the machine runs.
-ghost use Rattle.std.specs.Prelude.{◌↔◌, ◌<◌, ℕ, IfOk, IsTrue, length};
+ghost use Rattle.std.specs.Prelude.{◌↔◌, ◌≡◌, ◌<◌, ◌++◌, ℕ, IfOk, OnOk, IsTrue, MatchOption, length};
+ghost use Rattle.a68_code.specs.Flow as flow;
 ghost use Rattle.a68_code.specs.Valid.{IsValid};
-ghost use Rattle.a68_code.specs.Walk.{FitsAt};
+ghost use Rattle.a68_code.specs.Walk.{Agree, AllAgree, AreHeights, FitsAt};
 
-use crate::Code;
 use crate::order::is_in_order;
+use crate::owner::Owner;
 use crate::walk::Walk;
+use crate::{Code, RoutineEntrance};
 use a68_base::NoMemory;
 use std::alloc::Global;
 
+// Adds the entrance of a routine text, where its body leaves a value, or where it leaves none.
+fn add_entrance(
+    places: &mut Vec<usize>,
+    yields: bool,
+    text: RoutineEntrance,
+) -> Result<(), NoMemory>
+    ensures { OnOk result (places.new.items ≡ places.old.items ++ flow.entrance_if yields text) }
+{
+    if text.yields == yields {
+        places.push(text.at as usize)?;
+    }
+    Ok(())
+}
+
+// The entrances of those routine texts whose bodies leave a value, or of the others.
+fn entrances_in(
+    alloc: Global,
+    yields: bool,
+    texts: &[RoutineEntrance],
+) -> Result<Vec<usize>, NoMemory>
+    ensures { IfOk result (λ places. places.items ≡ flow.entrances_in yields texts.now) }
+{
+    let mut places = Vec::new(alloc);
+    for text in texts {
+        add_entrance(&mut places, yields, *text)?;
+    }
+    Ok(places)
+}
+
+// Whether two tables have no two heights at one place.
+fn agree(heights: &[Option<usize>], others: &[Option<usize>]) -> bool
+    requires { length heights.now ≡ length others.now }
+    ensures { IsTrue result ↔ Agree heights.now others.now }
+{
+    for at in 0..heights.len() {
+        if let (Some(one), Some(other)) = (heights[at], others[at]) {
+            if one != other {
+                return false;
+            }
+        }
+    }
+    true
+}
+
+// Whether no two of three tables have two heights at one place.
+fn all_agree(heights: &[Option<usize>], others: &[Option<usize>], further: &[Option<usize>]) -> bool
+    requires one { length heights.now ≡ length others.now }
+    requires two { length heights.now ≡ length further.now }
+    ensures { IsTrue result ↔ AllAgree heights.now others.now further.now }
+{
+    agree(heights, others) && agree(heights, further) && agree(others, further)
+}
+
 impl Code {
     /// Whether the machine runs the code (own): it never leaves the list, finds on the stack what an instruction takes,
-    /// and goes back only at the end of a loop, to a Step with a Turn behind it; and the modes that instructions name
-    /// are plain, since values of other modes do not run yet. Takes time in proportion to the list.
+    /// goes back only at the end of a loop, to a Step with a Turn behind it, and ends the program at End and a routine at
+    /// Return, with a value just where its entrance says so; and names refer to plain values alone yet. Takes time in
+    /// proportion to the list.
     pub fn valid(&self, alloc: Global) -> Result<bool, NoMemory>
         ensures { IfOk result (λ valid. IsTrue valid ↔ IsValid self.now) }
     {
@@ -41,22 +97,59 @@ impl Code {
     {
         let list = &self.list.items;
         let does = &list[at].does;
-        does.is_well_made(&self.modes, list.len()) && is_in_order(list, at, does)
+        let texts = self.texts.items.len();
+        does.is_well_made(&self.modes, texts, list.len()) && is_in_order(list, at, does)
     }
 
-    /// Walks along all ways from the first instruction. Each place is taken at most once.
+    /// Walks along the ways of all owners.
     fn ways_agree(&self, alloc: Global) -> Result<bool, NoMemory>
         requires first { 0 < length self.now.list }
         requires fits { (at : ℕ) → FitsAt self.now at }
         ensures { IfOk result (λ agree. IsTrue agree ↔ IsValid self.now) }
     {
+        let Some(program) = self.heights(alloc, Owner::Program)? else {
+            return Ok(false);
+        };
+        let Some(yielding) = self.heights(alloc, Owner::Texts { yields: true })? else {
+            return Ok(false);
+        };
+        let Some(others) = self.heights(alloc, Owner::Texts { yields: false })? else {
+            return Ok(false);
+        };
+        Ok(all_agree(&program, &yielding, &others))
+    }
+
+    /// Where the ways of an owner begin.
+    fn entrances(&self, alloc: Global, whose: Owner) -> Result<Vec<usize>, NoMemory>
+        ensures { IfOk result (λ places. places.items ≡ flow.entrances self.now whose) }
+    {
+        match whose {
+            Owner::Program => {
+                let mut places = Vec::new(alloc);
+                places.push(0)?;
+                Ok(places)
+            }
+            Owner::Texts { yields } => entrances_in(alloc, yields, &self.texts.items),
+        }
+    }
+
+    /// Walks along all ways of an owner, and gives the heights of the stack at the places to which they lead; none where
+    /// they meet what they may not. Each place is taken at most once.
+    fn heights(&self, alloc: Global, whose: Owner) -> Result<Option<Vec<Option<usize>>>, NoMemory>
+        requires { (at : ℕ) → FitsAt self.now at }
+        ensures { IfOk result (λ known. MatchOption known (IsValid self.now → ⊥) (λ heights. AreHeights self.now whose heights.items)) }
+    {
         let list = &self.list.items;
+        let entrances = self.entrances(alloc, whose)?;
         let mut walk = Walk::new(alloc, list.len())?;
+        if !walk.note_all(&entrances, 0)? {
+            return Ok(None);
+        }
         while let Some((at, height)) = walk.todo.pop() {
-            if !walk.go_on(&self.modes, at, &list[at].does, height)? {
-                return Ok(false);
+            if !walk.go_on(&self.modes, whose, at, &list[at].does, height)? {
+                return Ok(None);
             }
         }
-        Ok(true)
+        Ok(Some(walk.heights))
     }
 }

@@ -1,9 +1,10 @@
 //! The walk along all ways, which finds the height of the stack at each place.
-ghost use Rattle.std.specs.Prelude.{◌≡◌, ◌+◌, ◌∷◌, ◌<◌, ◌≤◌, ◌^◌, [], IfOk, MatchBool, None, Some, replicate, slice_set};
-ghost use Rattle.a68_code.specs.Flow.{landings, leaves, takes};
+ghost use Rattle.std.specs.Prelude.{◌≡◌, ◌↔◌, ◌+◌, ◌∷◌, ◌<◌, ◌≤◌, ◌^◌, [], IfOk, IsTrue, MatchBool, None, Some, replicate, slice_set};
+ghost use Rattle.a68_code.specs.Flow.{landings, leaves, takes, MayMeet};
 ghost use Rattle.a68_code.specs.Walk.{AnyClashes, Clashes, Fails, GoesOn, Notes, NotesAll};
 
 use crate::Does;
+use crate::owner::Owner;
 use a68_base::NoMemory;
 use a68_modes::Modes;
 use std::alloc::Global;
@@ -15,6 +16,18 @@ pub struct Walk {
     pub todo: Vec<(usize, usize)>,
 }
 
+// Whether the ways of an owner may meet the instruction with this height.
+fn may_meet(whose: Owner, does: &Does, height: usize) -> bool
+    ensures { IsTrue result ↔ MayMeet whose does.now height }
+{
+    match (whose, does) {
+        (Owner::Program, Does::Return) => false,
+        (Owner::Texts { .. }, Does::End) => false,
+        (Owner::Texts { yields }, Does::Return) => height == usize::from(yields),
+        _ => true,
+    }
+}
+
 /// A table in which no place has a height.
 fn no_heights(alloc: Global, count: usize) -> Result<Vec<Option<usize>>, NoMemory>
     ensures { IfOk result (λ heights. heights.items ≡ replicate count None) }
@@ -24,16 +37,13 @@ fn no_heights(alloc: Global, count: usize) -> Result<Vec<Option<usize>>, NoMemor
 }
 
 impl Walk {
-    /// The walk before its first step, through so many instructions.
+    /// The walk before it comes to a place, through so many instructions.
     pub fn new(alloc: Global, count: usize) -> Result<Walk, NoMemory>
-        requires { 0 < count }
-        ensures heights { IfOk result (λ walk. walk.heights.items ≡ slice_set (replicate count None) 0 (Some 0)) }
-        ensures todo { IfOk result (λ walk. walk.todo.items ≡ (0, 0) ∷ []) }
+        ensures heights { IfOk result (λ walk. walk.heights.items ≡ replicate count None) }
+        ensures todo { IfOk result (λ walk. walk.todo.items ≡ []) }
     {
-        let mut heights = no_heights(alloc, count)?;
-        let mut todo = Vec::new(alloc);
-        todo.push((0, 0))?;
-        heights[0] = Some(0);
+        let heights = no_heights(alloc, count)?;
+        let todo = Vec::new(alloc);
         Ok(Walk { heights, todo })
     }
 
@@ -58,7 +68,7 @@ impl Walk {
     }
 
     /// Ways come to these places with this height.
-    fn note_all(&mut self, places: &[usize], height: usize) -> Result<bool, NoMemory>
+    pub fn note_all(&mut self, places: &[usize], height: usize) -> Result<bool, NoMemory>
         ensures { IfOk result (λ fits. MatchBool fits
             (NotesAll places.now height self.old.heights.items self.old.todo.items
             self.new.heights.items self.new.todo.items)
@@ -96,7 +106,7 @@ impl Walk {
             (AnyClashes (landings at does.now) height self.old.heights.items)) }
     {
         match does {
-            Does::End => self.note_all(&[], height),
+            Does::Return | Does::End => self.note_all(&[], height),
             Does::Jump(to) => self.note_all(&[*to as usize], height),
             Does::Case(places) => self.note_places(&places.items, height),
             Does::Unless(to) | Does::Step(to) | Does::Advance(to) => self.note_all(
@@ -111,6 +121,7 @@ impl Walk {
     pub fn go_on(
         &mut self,
         modes: &Modes,
+        whose: Owner,
         at: usize,
         does: &Does,
         height: usize,
@@ -119,12 +130,12 @@ impl Walk {
         requires room { height + 1 < 2 ^ 64 }
         requires one { leaves modes.now does.now ≤ takes does.now + 1 }
         ensures { IfOk result (λ fits. MatchBool fits
-            (GoesOn modes.now at does.now height self.old.heights.items self.old.todo.items
+            (GoesOn modes.now whose at does.now height self.old.heights.items self.old.todo.items
             self.new.heights.items self.new.todo.items)
-            (Fails modes.now at does.now height self.old.heights.items)) }
+            (Fails modes.now whose at does.now height self.old.heights.items)) }
     {
-        let takes = does.takes() as usize;
-        if height < takes {
+        let takes = does.takes();
+        if !may_meet(whose, does, height) || height < takes {
             return Ok(false);
         }
         let below = height - takes;

@@ -1,14 +1,14 @@
 -- The constructs of a program begin where its nodes do.
 use Rattle.std.proofs.Common.{◌≡◌, ℕ, zero, suc, ◌≤◌, Bool, true, false, List, [], ◌∷◌, Some, None, slice_get, refl, arith, nat_eq}
 use Rattle.std.specs.Option.{is_some, option_map_or, option_and_then}
-use Rattle.std.specs.Prelude.{if◌then◌else◌, not}
+use Rattle.std.specs.Prelude.{if◌then◌else◌, map, not}
 use Rattle.std.specs.declared.option.Option.{Option}
 use Rattle.a68_annot.specs.declared.annotated.Annotated.{Annotated}
 use Rattle.a68_annot.specs.declared.note.Note.{Note}
 use Rattle.a68_elab.specs.Constants.{value_in}
 use Rattle.a68_elab.specs.Made as made
-use Rattle.a68_elab.specs.Made.{program_of, tree_at, tree_from, trees_at, unit, coerced, behind_ref, all_but_last, last_tree, spelling_of, is_one_of, called, printers, wholes, items_at, begins_with, is_heap, is_declarer, behind_heap, new_name}
-use Rattle.a68_elab.specs.Places.{BeginsBy, AllBeginBy, TestBeginsBy, ProgramBeginsBy}
+use Rattle.a68_elab.specs.Made.{body_of, last_id, parts_at, texts_in, program_of, tree_at, tree_from, trees_at, unit, coerced, behind_proc, behind_ref, all_but_last, last_tree, spelling_of, is_one_of, called, printers, wholes, items_at, begins_with, is_heap, is_declarer, behind_heap, new_name}
+use Rattle.a68_elab.specs.Places.{BeginsBy, AllBeginBy, TestBeginsBy, TextsBeginBy, ProgramBeginsBy}
 use Rattle.a68_elab.specs.Trees.{Tree, Trees, no_trees, ◌and_tree◌}
 use Rattle.a68_modes.specs.Nodes.{shape_at, is_void}
 use Rattle.a68_modes.specs.declared.coercion.Coercion.{Coercion}
@@ -23,6 +23,7 @@ module _ (end : ℕ) where
   coerced_begins : (modes : List Shape) (place mode : ℕ) (path : List Coercion) (t : Tree) → place ≤ end → BeginsBy end t → BeginsBy end (coerced modes place mode path t)
   coerced_begins modes place mode [] t p b = b
   coerced_begins modes place mode (coercion.Deref ∷ path) t p b = coerced_begins modes place (behind_ref (shape_at modes mode)) path _ p (p, (b, tt))
+  coerced_begins modes place mode (coercion.Deproc ∷ path) t p b = coerced_begins modes place (behind_proc (shape_at modes mode)) path _ p (p, (b, tt))
   coerced_begins modes place mode (coercion.Unite m ∷ path) t p b = coerced_begins modes place m path _ p (p, (b, tt))
   coerced_begins modes place mode (coercion.Drop ∷ path) t p b = coerced_begins modes place 0 path _ p (p, (b, tt))
   coerced_begins modes place mode (_ ∷ path) t p b = tt
@@ -46,7 +47,9 @@ module _ (end : ℕ) where
   variable_begins new true place mode slot (d and_tree no_trees) p n b = (p, (n, tt))
   variable_begins new true place mode slot no_trees p n b = tt
   variable_begins new true place mode slot (d and_tree (source and_tree (t and_tree ts))) p n b = tt
-  variable_begins new false place mode slot ts p n b = tt
+  variable_begins new false place mode slot no_trees p n b = tt
+  variable_begins new false place mode slot (source and_tree no_trees) p n b = (p, ((p, (n, (b.0, tt))), tt))
+  variable_begins new false place mode slot (source and_tree (t and_tree ts)) p n b = tt
 
   trees_begin : (f : ℕ → Tree) (ids : List ℕ) → ((id : ℕ) → BeginsBy end (f id)) → AllBeginBy end (trees_at f ids)
   trees_begin f [] h = tt
@@ -56,11 +59,11 @@ module _ (end : ℕ) where
   either_begins true t u p q = p
   either_begins false t u p q = q
 
-  call_begins : (a : Annotated) (f : ℕ → Tree) (place : ℕ) (ids : List ℕ) → place ≤ end → ((id : ℕ) → BeginsBy end (f id)) → BeginsBy end (made.call_of a f place ids)
-  call_begins a f place [] p h = tt
-  call_begins a f place (primary ∷ ids) p h =
+  call_begins : (a : Annotated) (f : ℕ → Tree) (place : ℕ) (yields : Bool) (ids : List ℕ) → place ≤ end → ((id : ℕ) → BeginsBy end (f id)) → BeginsBy end (made.call_of a f place yields ids)
+  call_begins a f place yields [] p h = tt
+  call_begins a f place yields (primary ∷ ids) p h =
       either_begins (is_one_of printers (called a primary)) _ _ (p, trees_begin f (items_at a ids) h)
-      (either_begins (is_one_of wholes (called a primary)) _ _ (p, trees_begin f ids h) tt)
+      (either_begins (is_one_of wholes (called a primary)) _ _ (p, trees_begin f ids h) (p, (h primary, trees_begin f ids h)))
 
   collateral_begins : (none : Bool) (ts : Trees) → AllBeginBy end ts → BeginsBy end (made.collateral_of none ts)
   collateral_begins true ts b = b
@@ -136,9 +139,14 @@ module _ (end : ℕ) where
   denoted_begins place None p = tt
   denoted_begins place (Some v) p = (p, tt)
 
-  formula_begins : (place : ℕ) (op : Option ℕ) (ts : Trees) → place ≤ end → AllBeginBy end ts → BeginsBy end (made.formula place op ts)
-  formula_begins place None ts p b = tt
-  formula_begins place (Some row) ts p b = (p, b)
+  declared_begins : (place : ℕ) (yields : Bool) (note : Note) (definition : Option ℕ) (ts : Trees) → place ≤ end → AllBeginBy end ts
+      → BeginsBy end (made.declared_formula place yields note definition ts)
+  declared_begins place yields note None ts p b = tt
+  declared_begins place yields note (Some d) ts p b = (p, ((p, tt), b))
+
+  formula_begins : (place : ℕ) (yields : Bool) (note : Note) (op : Option ℕ) (ts : Trees) → place ≤ end → AllBeginBy end ts → BeginsBy end (made.formula_by place yields note op ts)
+  formula_begins place yields note None ts p b = declared_begins place yields note note.definition ts p b
+  formula_begins place yields note (Some row) ts p b = (p, b)
 
   construct_begins : (a : Annotated) (f : ℕ → Tree) (node : Node) (note : Note) (k : NodeKind) → node.span.from ≤ end → ((id : ℕ) → BeginsBy end (f id))
       → ((k : ℕ) (n : Node) → slice_get a.tree.nodes k ≡ Some n → n.span.from ≤ end) → BeginsBy end (made.made a f node note k)
@@ -146,8 +154,10 @@ module _ (end : ℕ) where
   construct_begins a f node note kind.Skip p h all = (p, tt)
   construct_begins a f node note kind.Nil p h all = (p, tt)
   construct_begins a f node note kind.Tag p h all = (p, tt)
-  construct_begins a f node note kind.Monadic p h all = formula_begins node.span.from note.op (trees_at f node.parts) p (trees_begin f node.parts h)
-  construct_begins a f node note kind.Dyadic p h all = formula_begins node.span.from note.op (trees_at f node.parts) p (trees_begin f node.parts h)
+  construct_begins a f node note kind.RoutineText p h all = (p, tt)
+  construct_begins a f node note kind.OpDefinition p h all = (p, (last_begins (trees_at f node.parts) (trees_begin f node.parts h), tt))
+  construct_begins a f node note kind.Monadic p h all = formula_begins node.span.from (not (is_void (shape_at a.modes note.mode))) note note.op (trees_at f node.parts) p (trees_begin f node.parts h)
+  construct_begins a f node note kind.Dyadic p h all = formula_begins node.span.from (not (is_void (shape_at a.modes note.mode))) note note.op (trees_at f node.parts) p (trees_begin f node.parts h)
   construct_begins a f node note kind.Assignation p h all = (p, trees_begin f node.parts h)
   construct_begins a f node note kind.Identity p h all = (p, trees_begin f node.parts h)
   construct_begins a f node note kind.Generator p h all = new_begins (is_one_of made.heaps (spelling_of a node)) node.span.from (behind_ref (shape_at a.modes note.mode)) p
@@ -161,7 +171,7 @@ module _ (end : ℕ) where
   construct_begins a f node note kind.ModeDefinition p h all = tt
   construct_begins a f node note kind.Priority p h all = tt
   construct_begins a f node note kind.Joined p h all = trees_begin f node.parts h
-  construct_begins a f node note kind.Call p h all = call_begins a f node.span.from node.parts p h
+  construct_begins a f node note kind.Call p h all = call_begins a f node.span.from (not (is_void (shape_at a.modes note.mode))) node.parts p h
   construct_begins a f node note kind.Cast p h all = last_begins (trees_at f node.parts) (trees_begin f node.parts h)
   construct_begins a f node note kind.Collateral p h all = collateral_begins (is_void (shape_at a.modes note.goal)) (trees_at f node.parts) (trees_begin f node.parts h)
   construct_begins a f node note kind.Serial p h all =
@@ -197,6 +207,10 @@ module _ (end : ℕ) where
   unfolding tree_at
   tree_at_begins program h id = node_begins program 0 program.tree.nodes program.notes h h id
 
+  texts_begin : (a : Annotated) (ids : List ℕ) → ((id : ℕ) (n : Node) → slice_get a.tree.nodes id ≡ Some n → n.span.from ≤ end) → TextsBeginBy end (map (body_of a) ids)
+  texts_begin a [] h = tt
+  texts_begin a (id ∷ ids) h = ((first_begins (slice_get a.tree.nodes id) (λ n e. h id n e), tree_at_begins a h (last_id (parts_at a id))), texts_begin a ids h)
+
 -- where all nodes begin by a byte, the constructs do
 pub program_begins : (program : Annotated) (end : ℕ) → ((id : ℕ) (n : Node) → slice_get program.tree.nodes id ≡ Some n → n.span.from ≤ end) → ProgramBeginsBy end (program_of program)
-program_begins program end h = record { place = first_begins end (slice_get program.tree.nodes 0) (λ n e. h 0 n e); tree = tree_at_begins end program h 0 }
+program_begins program end h = record { place = first_begins end (slice_get program.tree.nodes 0) (λ n e. h 0 n e); tree = tree_at_begins end program h 0; texts = texts_begin end program (texts_in program) h }

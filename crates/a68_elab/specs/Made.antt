@@ -1,13 +1,13 @@
 -- The tree of a program, of the list of its annotated nodes.
-use Rattle.std.specs.Prelude.{ℕ, zero, suc, pos, Bool, true, false, not, List, [], ◌∷◌, None, Some, codes, slice_get, nat_eq, nat_lt, if◌then◌else◌}
+use Rattle.std.specs.Prelude.{ℕ, zero, suc, pos, max, Bool, true, false, not, ◌&&◌, List, [], ◌∷◌, ◌++◌, length, map, None, Some, codes, slice_get, nat_eq, nat_lt, if◌then◌else◌}
 use Rattle.std.specs.Option.{is_some, option_map_or, option_and_then}
 use Rattle.std.specs.declared.option.Option.{Option}
-use Rattle.a68_acts.specs.Operations.{Operation, constant, skip, nil, tag, make, heap, bind, deref, store, apply, same, unite, drop, print, whole}
+use Rattle.a68_acts.specs.Operations.{Operation, constant, skip, nil, routine, tag, make, heap, bind, deref, store, apply, same, unite, drop, print, whole}
 use Rattle.a68_annot.specs.declared.annotated.Annotated.{Annotated}
 use Rattle.a68_annot.specs.declared.note.Note.{Note}
 use Rattle.a68_base.specs.Tables.{is_listed}
 use Rattle.a68_elab.specs.Constants.{value_in, standard_in}
-use Rattle.a68_elab.specs.Trees.{collateral, serial, Tree, Trees, operation, together, phrases, range, choice, cases, loop, unbuilt, Test, no_test, while_in, no_trees, ◌and_tree◌, Program}
+use Rattle.a68_elab.specs.Trees.{collateral, serial, Tree, Trees, operation, together, phrases, range, choice, cases, loop, call, unbuilt, Test, no_test, while_in, no_trees, ◌and_tree◌, Body, Program}
 use Rattle.a68_modes.specs.Nodes.{shape_at, is_void}
 use Rattle.a68_modes.specs.declared.coercion.Coercion.{Coercion}
 use Rattle.a68_modes.specs.declared.coercion.Coercion.TheVariants as coercion
@@ -81,6 +81,11 @@ abbrev pub behind_ref : Shape → ℕ
 behind_ref (shape.Ref m) = m
 behind_ref _ = 0
 
+-- the mode of what a procedure of this mode yields
+abbrev pub behind_proc : Shape → ℕ
+behind_proc (shape.Proc params result) = result
+behind_proc _ = 0
+
 -- A unit of a mode under its coercions, from the first to the last (Report, 6.1.1). A coercion begins where its unit
 -- does. The others are not built yet.
 abbrev pub coerced : List Shape → (place mode : ℕ) → List Coercion → Tree → Tree
@@ -88,6 +93,9 @@ coerced modes place mode [] t = t
 coerced modes place mode (coercion.Deref ∷ path) t =
     let m = behind_ref (shape_at modes mode) in
     coerced modes place m path (operation place (deref m) serial (only t))
+coerced modes place mode (coercion.Deproc ∷ path) t =
+    let m = behind_proc (shape_at modes mode) in
+    coerced modes place m path (call place (not (is_void (shape_at modes m))) (only t))
 -- uniting names the mode from which it starts
 coerced modes place mode (coercion.Unite from ∷ path) t = coerced modes place from path (operation place (unite from) serial (only t))
 coerced modes place mode (coercion.Drop ∷ path) t = coerced modes place 0 path (operation place drop serial (only t))
@@ -118,12 +126,14 @@ abbrev pub behind_heap : (has : Bool) → List ℕ → List ℕ
 behind_heap true (id ∷ ids) = ids
 behind_heap _ ids = ids
 
--- A variable: a new name; its source, which is assigned to it; and its slot bound to it (Report, 4.4.2). One that a
--- routine text begins is not built yet.
+-- A variable: a new name; its source, which is assigned to it; and its slot bound to it (Report, 4.4.2). A routine text
+-- without a declarer before it is such a source too.
 abbrev pub variable_of : (new : Tree) (begins : Bool) (place mode slot : ℕ) → Trees → Tree
 variable_of new true place mode slot (declarer and_tree (source and_tree no_trees)) =
     operation place (bind slot) serial (only (operation place (store mode) serial (new and_tree only source)))
 variable_of new true place mode slot (declarer and_tree no_trees) = operation place (bind slot) serial (only new)
+variable_of new false place mode slot (source and_tree no_trees) =
+    operation place (bind slot) serial (only (operation place (store mode) serial (new and_tree only source)))
 variable_of new _ place mode slot _ = unbuilt
 
 abbrev pub begins_with : (NodeKind → Bool) → Annotated → List ℕ → Bool
@@ -165,12 +175,12 @@ printers = codes "print" ∷ codes "write" ∷ []
 abbrev pub wholes : List (List ℕ)
 wholes = codes "whole" ∷ []
 
--- a call of print, write or whole of the standard environ (Report, 10.3); the others are not built yet
-abbrev pub call_of : Annotated → (ℕ → Tree) → (place : ℕ) → List ℕ → Tree
-call_of a f place [] = unbuilt
-call_of a f place (primary ∷ ids) =
+-- a call of print, write or whole of the standard environ (Report, 10.3), or of a routine (Report, 5.4.3)
+abbrev pub call_of : Annotated → (ℕ → Tree) → (place : ℕ) (yields : Bool) → List ℕ → Tree
+call_of a f place yields [] = unbuilt
+call_of a f place yields (primary ∷ ids) =
     if is_one_of printers (called a primary) then operation place print collateral (trees_at f (items_at a ids))
-    else (if is_one_of wholes (called a primary) then operation place whole collateral (trees_at f ids) else unbuilt)
+    else (if is_one_of wholes (called a primary) then operation place whole collateral (trees_at f ids) else call place yields (f primary and_tree trees_at f ids))
 
 -- a construct in a range, which makes a frame where it has slots: it is entered at one place and left at another (own)
 abbrev pub framed : (place out slots : ℕ) (yields : Bool) → Tree → Tree
@@ -306,10 +316,18 @@ loop_of a f place ids =
     let test = if_first is_while a tests in
     loop_by a f place (is_some tag) from by to test (only_id (past test tests))
 
+-- a formula whose operator the text defines: a call of the routine in its slot, on the operands (Report, 5.4.2.2)
+abbrev pub declared_formula : (place : ℕ) (yields : Bool) → Note → (definition : Option ℕ) → Trees → Tree
+declared_formula place yields note None ts = unbuilt
+declared_formula place yields note (Some d) ts = call place yields (leaf place (tag note.step.hops note.step.slot) and_tree ts)
+
 -- a formula, which applies its operator to the values of its operands (Report, 5.4.2)
-abbrev pub formula : (place : ℕ) → Option ℕ → Trees → Tree
-formula place None ts = unbuilt
-formula place (Some row) ts = operation place (apply row) collateral ts
+abbrev pub formula_by : (place : ℕ) (yields : Bool) → Note → (op : Option ℕ) → Trees → Tree
+formula_by place yields note None ts = declared_formula place yields note note.definition ts
+formula_by place yields note (Some row) ts = operation place (apply row) collateral ts
+
+abbrev pub formula : (place : ℕ) (yields : Bool) → Note → Trees → Tree
+formula place yields note ts = formula_by place yields note note.op ts
 
 -- a collateral clause: of VOID its parts alone (Report, 3.3); displays are not built yet
 abbrev pub collateral_of : (is_void : Bool) → Trees → Tree
@@ -327,24 +345,55 @@ isnt = codes "ISNT" ∷ codes ":/=:" ∷ []
 abbrev pub heaps : List (List ℕ)
 heaps = codes "HEAP" ∷ []
 
+-- ---- routine texts (Report, 5.4.1)
+
+abbrev pub is_routine_text : NodeKind → Bool
+is_routine_text kind.RoutineText = true
+is_routine_text _ = false
+
+-- the first routine text among these nodes that begins at a byte; the nodes have numbers from one on
+abbrev pub text_among : (byte from : ℕ) → List Node → List ℕ
+text_among byte from [] = []
+text_among byte from (n ∷ ns) = if is_routine_text n.kind && nat_eq n.span.from byte then from ∷ [] else text_among byte (suc from) ns
+
+-- the routine texts that begin before a byte, in order of text
+abbrev pub texts_before : Annotated → (byte : ℕ) → List ℕ
+texts_before a zero = []
+texts_before a (suc byte) = texts_before a byte ++ text_among byte 0 a.tree.nodes
+
+-- the number of the routine text that begins at a byte: how many begin before it
+abbrev pub text_number : Annotated → (byte : ℕ) → ℕ
+text_number a byte = length (texts_before a byte)
+
+-- a byte behind those at which nodes begin
+abbrev pub behind_all : List Node → ℕ
+behind_all [] = 0
+behind_all (n ∷ ns) = max (suc n.span.from) (behind_all ns)
+
+-- all routine texts, in order of text
+abbrev pub texts_in : Annotated → List ℕ
+texts_in a = texts_before a (behind_all a.tree.nodes)
+
 -- The construct that a node stands for: `f` gives the trees of the nodes behind it. One row for each kind of node; the
 -- others are not built yet.
 abbrev pub made : Annotated → (f : ℕ → Tree) → Node → Note → NodeKind → Tree
 made a f node note kind.Denotation = denoted node.span.from (option_and_then value_in (spelling_of a node))
 made a f node note kind.Skip = leaf node.span.from (skip note.goal)
 made a f node note kind.Nil = leaf node.span.from nil
+made a f node note kind.RoutineText = leaf node.span.from (routine (text_number a node.span.from) note.need)
 made a f node note kind.Tag = leaf node.span.from (tag_of (standard_of note.definition (spelling_of a node)) note.step.hops note.step.slot)
-made a f node note kind.Monadic = formula node.span.from note.op (trees_at f node.parts)
-made a f node note kind.Dyadic = formula node.span.from note.op (trees_at f node.parts)
+made a f node note kind.Monadic = formula node.span.from (not (is_void (shape_at a.modes note.mode))) note (trees_at f node.parts)
+made a f node note kind.Dyadic = formula node.span.from (not (is_void (shape_at a.modes note.mode))) note (trees_at f node.parts)
 made a f node note kind.Assignation = operation node.span.from (store (behind_ref (shape_at a.modes note.mode))) collateral (trees_at f node.parts)
 made a f node note kind.Identity = operation node.span.from (same (negated (is_one_of isnt (spelling_of a node)))) collateral (trees_at f node.parts)
 made a f node note kind.Generator = new_name (is_one_of heaps (spelling_of a node)) node.span.from (behind_ref (shape_at a.modes note.mode))
+made a f node note kind.OpDefinition = operation node.span.from (bind note.step.slot) serial (only (last_tree (trees_at f node.parts)))
 made a f node note kind.IdentityDefinition = operation node.span.from (bind note.step.slot) serial (only (last_tree (trees_at f node.parts)))
 made a f node note kind.Variable = variable a f node.span.from (behind_ref (shape_at a.modes note.mode)) note.step.slot node.parts
 made a f node note kind.ModeDefinition = together no_trees
 made a f node note kind.Priority = together no_trees
 made a f node note kind.Joined = together (trees_at f node.parts)
-made a f node note kind.Call = call_of a f node.span.from node.parts
+made a f node note kind.Call = call_of a f node.span.from (not (is_void (shape_at a.modes note.mode))) node.parts
 made a f node note kind.Cast = last_tree (trees_at f node.parts)
 made a f node note kind.Collateral = collateral_of (is_void (shape_at a.modes note.goal)) (trees_at f node.parts)
 made a f node note kind.Serial = serial_of node.span.from note.slots (not (is_void (shape_at a.modes note.goal))) (trees_at f node.parts)
@@ -377,10 +426,33 @@ tree_at a id = tree_from a 0 a.tree.nodes a.notes id
 abbrev pub behind : (id : ℕ) → (ℕ → Tree) → ℕ → Tree
 behind id f i = if nat_lt id i then f i else unbuilt
 
+-- ---- programs
+
+-- the last of some nodes; the first node of all where there is none
+abbrev pub last_id : List ℕ → ℕ
+last_id [] = 0
+last_id (id ∷ []) = id
+last_id (id ∷ (i ∷ ids)) = last_id (i ∷ ids)
+
+abbrev pub place_of : Annotated → (id : ℕ) → ℕ
+place_of a id = option_map_or (λ (n : Node). n.span.from) (slice_get a.tree.nodes id) 0
+
+abbrev pub mode_of : Annotated → (id : ℕ) → ℕ
+mode_of a id = option_map_or (λ (n : Note). n.mode) (slice_get a.notes id) 0
+
+-- the body of a routine text is its last part; it leaves a value where the mode of the routine is not one without a yield
+abbrev pub body_of : Annotated → (id : ℕ) → Body
+body_of a id = record {
+  place = place_of a id;
+  yields = not (is_void (shape_at a.modes (behind_proc (shape_at a.modes (mode_of a id)))));
+  tree = tree_at a (last_id (parts_at a id));
+}
+
 -- the program of an annotated tree, whose first node is that of the whole text
 abbrev pub program_of : Annotated → Program
-program_of program = record {
-  place = option_map_or (λ (n : Node). n.span.from) (slice_get program.tree.nodes 0) 0;
-  tree = tree_at program 0;
-  modes = program.modes;
+program_of a = record {
+  place = place_of a 0;
+  tree = tree_at a 0;
+  texts = map (body_of a) (texts_in a);
+  modes = a.modes;
 }

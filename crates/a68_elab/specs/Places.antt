@@ -1,7 +1,7 @@
 -- Inner: the headline does not rest on this file.
 -- Where the constructs of a program begin.
-use Rattle.std.specs.Prelude.{ℕ, ◌≤◌}
-use Rattle.a68_elab.specs.Trees.{Tree, Trees, operation, together, phrases, range, choice, cases, loop, unbuilt, Test, no_test, while_in, no_trees, ◌and_tree◌, Program}
+use Rattle.std.specs.Prelude.{ℕ, ◌≤◌, List, [], ◌∷◌}
+use Rattle.a68_elab.specs.Trees.{Tree, Trees, operation, together, phrases, range, choice, cases, loop, call, unbuilt, Test, no_test, while_in, no_trees, ◌and_tree◌, Body, Program}
 
 -- each construct of the tree begins at this byte or before it
 abbrev mutual
@@ -13,6 +13,7 @@ abbrev mutual
   BeginsBy end (choice place enquiry if_true if_false) = (place ≤ end) × BeginsBy end enquiry × BeginsBy end if_true × BeginsBy end if_false
   BeginsBy end (cases place enquiry arms out) = (place ≤ end) × BeginsBy end enquiry × AllBeginBy end arms × BeginsBy end out
   BeginsBy end (loop place controls limited counts test body) = (place ≤ end) × AllBeginBy end controls × TestBeginsBy end test × BeginsBy end body
+  BeginsBy end (call place yields parts) = (place ≤ end) × AllBeginBy end parts
   BeginsBy end unbuilt = Unit {0}
 
   pub AllBeginBy : (end : ℕ) → Trees → Type 0
@@ -23,7 +24,13 @@ abbrev mutual
   TestBeginsBy end no_test = Unit {0}
   TestBeginsBy end (while_in at slots test) = (at ≤ end) × BeginsBy end test
 
+-- so do routine texts and the constructs in them
+abbrev pub TextsBeginBy : (end : ℕ) → List Body → Type 0
+TextsBeginBy end [] = Unit {0}
+TextsBeginBy end (body ∷ bodies) = ((body.place ≤ end) × BeginsBy end body.tree) × TextsBeginBy end bodies
+
 -- the program and each construct in it begin there or before
 pub record ProgramBeginsBy (end : ℕ) (program : Program) : Type 0 where
   pub place : program.place ≤ end
   pub tree : BeginsBy end program.tree
+  pub texts : TextsBeginBy end program.texts

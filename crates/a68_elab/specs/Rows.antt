@@ -1,9 +1,9 @@
 -- The rules of elaboration: what comes next for a term.
-use Rattle.std.specs.Prelude.{ℕ, zero, suc, Bool, true, false, ◌&&◌, List, [], ◌∷◌, None, Some, Ok, Err, nat_lt, if◌then◌else◌}
+use Rattle.std.specs.Prelude.{ℕ, zero, suc, Bool, true, false, ◌&&◌, List, [], ◌∷◌, length, map, None, Some, Ok, Err, slice_get, nat_lt, if◌then◌else◌}
 use Rattle.std.specs.Option.{option_map, option_map_or}
 use Rattle.std.specs.declared.option.Option.{Option}
 use Rattle.std.specs.declared.result.Result.{Result}
-use Rattle.a68_acts.specs.Operations.{start, resumed, tested, case_of, counter_of, has_turn, advanced}
+use Rattle.a68_acts.specs.Operations.{start, resumed, called, tested, case_of, counter_of, has_turn, advanced}
 use Rattle.a68_acts.specs.declared.operation.Counter.{Counter}
 use Rattle.a68_acts.specs.declared.operation.Doing.{Doing}
 use Rattle.a68_acts.specs.declared.operation.Doing.TheVariants as doing
@@ -11,8 +11,8 @@ use Rattle.a68_acts.specs.declared.want.Reply.{Reply}
 use Rattle.a68_acts.specs.declared.want.Reply.TheVariants as reply
 use Rattle.a68_acts.specs.declared.want.Want.{Want}
 use Rattle.a68_acts.specs.declared.want.Want.TheVariants as want
-use Rattle.a68_elab.specs.Terms.{Job, operating, resuming, gathering, preceding, ending, ranged, choosing, casing, chosen, limiting, counting, stepping, turning, opening, naming, indexing, ranging, testing, running, advancing, quitting, leaving, Term, todo, part, yielded, no_terms, ◌and_term◌, only, todos, values, last_of}
-use Rattle.a68_elab.specs.Trees.{Tree, operation, together, phrases, range, choice, cases, loop, unbuilt, Trees, no_trees, ◌and_tree◌, count, Test, no_test, while_in, Turns, depth, Program}
+use Rattle.a68_elab.specs.Terms.{Job, operating, resuming, gathering, preceding, ending, ranged, choosing, casing, chosen, limiting, counting, stepping, turning, opening, naming, indexing, ranging, testing, running, advancing, quitting, leaving, calling, entering, binding, inside, Term, todo, part, yielded, no_terms, ◌and_term◌, only, todos, values, last_of}
+use Rattle.a68_elab.specs.Trees.{Tree, operation, together, phrases, range, choice, cases, loop, call, unbuilt, Trees, no_trees, ◌and_tree◌, count, Test, no_test, while_in, Turns, depth, Body, Program}
 use Rattle.a68_modes.specs.declared.shape.Shape.{Shape}
 use Rattle.a68_ops.specs.Applied.{applied}
 use Rattle.a68_values.specs.Content.{Content, plain, void, scope_of}
@@ -20,6 +20,7 @@ use Rattle.a68_values.specs.declared.act.FaultKind.{FaultKind}
 use Rattle.a68_values.specs.declared.act.FaultKind.TheVariants as fault
 use Rattle.a68_values.specs.declared.chain.Environ.{Environ}
 use Rattle.a68_values.specs.declared.plain.Plain.TheVariants as value
+use Rattle.a68_values.specs.declared.plain.Routine.{Routine}
 
 -- what comes next: a silent change, an act with what follows its reply, or a fault. An act and a fault are those of the
 -- construct that begins at this place.
@@ -109,6 +110,45 @@ abbrev pub goes_out : (place : ℕ) → List Environ → (List Environ → Term)
 goes_out place (inner ∷ (e ∷ outer)) f = goes (f (e ∷ outer))
 goes_out place _ f = meets fault.Kind place
 
+-- ---- calls (Report, 5.4.3.2)
+
+-- a routine is called: a turn, and then its frame
+abbrev pub call_of : (place : ℕ) → List Environ → (parameters : List Content) → Result Routine FaultKind → Then Term
+call_of place chain vs (Ok r) = acts place want.Turn (turned place chain (part (entering place r vs) chain no_terms))
+call_of place chain vs (Err kind) = meets kind place
+
+abbrev pub calls : List Body → (place : ℕ) (yields : Bool) → List Environ → List Content → Then Term
+calls texts place yields chain [] = meets fault.Kind place
+calls texts place yields chain (v ∷ vs) = call_of place chain vs (called (map (λ (b : Body). b.yields) texts) yields v)
+
+-- within the routine's frame
+abbrev pub within_body : (place : ℕ) → Routine → (parameters : List Content) → (from : List Environ) → Reply → Term
+within_body place r vs from (reply.Frame inner) = part (binding place r from 0 vs) inner no_terms
+within_body place r vs from _ = misled place from
+
+-- the routine's frame stands within that in which its text was met, and is newer in scope by one than that of the caller
+abbrev pub enters_body : (place : ℕ) → Routine → (parameters : List Content) → List Environ → Then Term
+enters_body place r vs [] = meets fault.Kind place
+enters_body place r vs (e ∷ outer) = acts place (want.Enter r.frame (suc e.scope) (length vs)) (within_body place r vs (e ∷ outer))
+
+-- the body, where it is there
+abbrev pub body_in : (place : ℕ) (from inner : List Environ) → Option Body → Then Term
+body_in place from inner None = meets fault.Kind place
+body_in place from inner (Some body) = goes (part (inside body.place body.yields from) inner (only (todo body.tree inner)))
+
+-- the next parameter is bound in the routine's frame; behind the last one comes the body
+abbrev pub binds_next : List Body → (place : ℕ) → Routine → (from : List Environ) → (slot : ℕ) → (left : List Content) → List Environ → Then Term
+binds_next texts place r from slot [] chain = body_in place from chain (slice_get texts r.text)
+binds_next texts place r from slot (v ∷ left) [] = meets fault.Kind place
+binds_next texts place r from slot (v ∷ left) (e ∷ outer) =
+    acts place (want.Bind e.frame slot v) (turned place (e ∷ outer) (part (binding place r from (suc slot) left) (e ∷ outer) no_terms))
+
+-- the yield of a body goes to the caller's frame, and may not be newer in scope; the place is that of the routine text
+abbrev pub returned : (place : ℕ) (yields : Bool) → List Environ → Content → Then Term
+returned place false from v = goes (yielded v)
+returned place true [] v = meets fault.Kind place
+returned place true (e ∷ outer) v = if nat_lt e.scope (scope_of v) then meets fault.Scope place else goes (yielded v)
+
 -- ---- the rules
 
 -- what a construct does first that is to be elaborated
@@ -130,6 +170,8 @@ begin (loop place controls true counts test body) chain =
     goes (part (limiting (record { place = place; counts = counts; test = test; body = body })) chain (todos controls chain))
 begin (loop place controls false counts test body) chain =
     goes (part (counting (record { place = place; counts = counts; test = test; body = body })) chain (todos controls chain))
+-- a call: the routine and its parameters (Report, 5.4.3.2)
+begin (call place yields parts) chain = goes (part (calling place yields) chain (todos parts chain))
 -- what is not built has no rule; no program that fits comes here (own)
 begin unbuilt chain = meets fault.Kind 0
 
@@ -172,6 +214,11 @@ finish program (advancing (suc n) c l) chain vs = goes_out l.place chain (λ out
 finish program (quitting zero place c) chain vs = goes (part (leaving c) chain no_terms)
 finish program (quitting (suc n) place c) chain vs = goes_out place chain (λ out. part (quitting n place c) out no_terms)
 finish program (leaving c) chain vs = goes (yielded void)
+-- A call: a turn, the frame, the parameters in order, the body, and the check of its yield (Report, 5.4.3.2)
+finish program (calling place yields) chain vs = calls program.texts place yields chain vs
+finish program (entering place r ps) chain vs = enters_body place r ps chain
+finish program (binding place r from slot left) chain vs = binds_next program.texts place r from slot left chain
+finish program (inside place yields from) chain vs = returned place yields from (last_of vs)
 
 -- what comes next for a term itself; none while its parts have not yielded, and for a yield
 abbrev pub row : Program → Term → Option (Then Term)

@@ -8,6 +8,7 @@ use Rattle.a68_acts.specs.declared.operation.Doing.{Doing}
 use Rattle.a68_elab.specs.Trees.{Order, collateral, serial, Tree, Trees, Turns, no_trees, ◌and_tree◌}
 use Rattle.a68_values.specs.Content.{Content, void}
 use Rattle.a68_values.specs.declared.chain.Environ.{Environ}
+use Rattle.a68_values.specs.declared.plain.Routine.{Routine}
 
 -- what is done once the parts at hand have yielded
 pub data Job : Type 0 where
@@ -54,6 +55,14 @@ pub data Job : Type 0 where
   quitting : (frames place : ℕ) (counter : Counter) → Job
   -- the end of the loop, with the counter that it had
   leaving : (counter : Counter) → Job
+  -- the call of a routine, which is there with its parameters
+  calling : (place : ℕ) (yields : Bool) → Job
+  -- its frame
+  entering : (place : ℕ) (r : Routine) (parameters : List Content) → Job
+  -- its parameters that are left, from this slot on; it is called from this chain
+  binding : (place : ℕ) (r : Routine) (from : List Environ) (slot : ℕ) (left : List Content) → Job
+  -- the yield of its body
+  inside : (place : ℕ) (yields : Bool) (from : List Environ) → Job
 
 -- A construct that is to be elaborated, one that is being elaborated, with its parts at hand, or the yield of one. A
 -- construct stands in a chain of frames, the innermost first: an environ of the Report (2.1.1.1.c).
@@ -75,13 +84,14 @@ abbrev pub todos : Trees → List Environ → Terms
 todos no_trees chain = no_terms
 todos (tree and_tree trees) chain = todo tree chain and_term todos trees chain
 
--- how the parts at hand are elaborated: those of an operation as the tree says, those of a collateral clause and FROM, BY
--- and TO at any time, and all others one after another (Report, 2.1.4.2, 3.3.2 and 3.5.2)
+-- how the parts at hand are elaborated: those of an operation as the tree says, those of a collateral clause, of a call and
+-- FROM, BY and TO at any time, and all others one after another (Report, 2.1.4.2, 3.3.2, 3.5.2 and 5.4.3.2)
 abbrev pub order_of : Job → Order
 order_of (operating place op order) = order
 order_of gathering = collateral
 order_of (limiting l) = collateral
 order_of (counting l) = collateral
+order_of (calling place yields) = collateral
 order_of _ = serial
 
 -- the values of parts that have all yielded

@@ -30,6 +30,8 @@ mutual
     -- a loop clause: FROM, BY and TO, whether TO is there, whether FOR is there, whose frame has one slot, WHILE, and DO
     -- (Report, 3.5)
     loop : (place : ℕ) (controls : Trees) (limited counts : Bool) (test : Test) (body : Tree) → Tree
+    -- a call: the routine, and its parameters; `yields` tells whether a value comes back (Report, 5.4.3)
+    call : (place : ℕ) (yields : Bool) (parts : Trees) → Tree
     -- a construct that is not built yet: no program that fits has one, and no code is its translation (own)
     unbuilt : Tree
 
@@ -72,8 +74,15 @@ depth_of counts test = deeper_in test (if counts then 1 else 0)
 abbrev pub depth : Turns → ℕ
 depth l = depth_of l.counts l.test
 
--- a program: where it begins, its tree, and the modes that its operations name
+-- a routine text: where it begins, whether its body leaves a value, and the body (Report, 5.4.1)
+pub record Body : Type 0 where
+  pub place : ℕ
+  pub yields : Bool
+  pub tree : Tree
+
+-- a program: where it begins, its tree, its routine texts by their numbers, and the modes that its operations name
 pub record Program : Type 0 where
   pub place : ℕ
   pub tree : Tree
+  pub texts : List Body
   pub modes : List Shape

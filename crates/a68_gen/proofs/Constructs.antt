@@ -4,24 +4,25 @@ use Rattle.std.proofs.lemmas.Bool.{false≢true}
 use Rattle.std.proofs.lemmas.List.{take_all}
 use Rattle.std.proofs.lemmas.Option.{same_Some}
 use Rattle.std.specs.Option.{option_map, option_map_or}
-use Rattle.std.specs.Prelude.{if◌then◌else◌}
+use Rattle.std.specs.Prelude.{not, if◌then◌else◌}
 use Rattle.std.specs.declared.option.Option.{Option}
 use Rattle.a68_annot.specs.declared.annotated.Annotated.{Annotated}
 use Rattle.a68_annot.specs.declared.note.Note.{Note}
 use Rattle.a68_tree.specs.declared.node.Node.{Node}
 use Rattle.a68_code.specs.declared.code.Instr.{Instr}
-use Rattle.a68_acts.specs.Operations.{bind, Operation}
+use Rattle.a68_acts.specs.Operations.{bind, tag, Operation}
 use Rattle.a68_code.specs.declared.does.Does.{Does}
 use Rattle.a68_code.specs.declared.does.Does.TheVariants as does
 use Rattle.a68_elab.specs.Made as made
-use Rattle.a68_elab.specs.Made.{coerced, behind_ref, leaf, only, trees_at, all_but_last, last_tree}
-use Rattle.a68_elab.specs.Trees.{Tree, Trees, operation, serial, choice, unbuilt, no_trees, ◌and_tree◌, count}
+use Rattle.a68_elab.specs.Made.{coerced, behind_proc, behind_ref, leaf, only, trees_at, all_but_last, last_tree}
+use Rattle.a68_elab.specs.Trees.{Tree, Trees, operation, serial, choice, call, unbuilt, no_trees, ◌and_tree◌, count}
 use Rattle.a68_gen.specs.Coercing.{coercions, are_built}
 use Rattle.a68_gen.specs.Listing.{instr, opens, size, sizes, stretch, stretches, test_stretch}
 use Rattle.a68_gen.specs.Loops.{asked, unless_at}
+use Rattle.a68_gen.specs.Sources.{assigned_tree}
 use Rattle.a68_gen.specs.Stretches.{does_of}
 use Rattle.a68_gen.proofs.Sizes.{size_stretch}
-use Rattle.a68_modes.specs.Nodes.{shape_at}
+use Rattle.a68_modes.specs.Nodes.{shape_at, is_void}
 use Rattle.a68_modes.specs.declared.coercion.Coercion.{Coercion}
 use Rattle.a68_modes.specs.declared.coercion.Coercion.TheVariants as coercion
 use Rattle.a68_modes.specs.declared.shape.Shape.{Shape}
@@ -38,6 +39,10 @@ coerced_list modes place mode at [] t built = sym (append-nil (stretch t at))
 coerced_list modes place mode at (coercion.Deref ∷ path) t built =
     let m = behind_ref (shape_at modes mode) in
     coerced_list modes place m at path _ built ∙ one_more (stretch t at) (coercions modes place m path) (instr place (does.Deref m))
+coerced_list modes place mode at (coercion.Deproc ∷ path) t built =
+    let m = behind_proc (shape_at modes mode) in
+    let gives = not (is_void (shape_at modes m)) in
+    coerced_list modes place m at path _ built ∙ one_more (stretch t at) (coercions modes place m path) (instr place (does.Call 0 gives))
 coerced_list modes place mode at (coercion.Unite m ∷ path) t built =
     coerced_list modes place m at path _ built ∙ one_more (stretch t at) (coercions modes place m path) (instr place (does.Unite m))
 coerced_list modes place mode at (coercion.Drop ∷ path) t built =
@@ -48,6 +53,7 @@ coerced_list modes place mode at (_ ∷ path) t built = absurd (false≢true bui
 pub coerced_unbuilt : (modes : List Shape) (place mode : ℕ) (path : List Coercion) (t : Tree) → are_built path ≡ false → coerced modes place mode path t ≡ unbuilt
 coerced_unbuilt modes place mode [] t none = absurd (false≢true (sym none))
 coerced_unbuilt modes place mode (coercion.Deref ∷ path) t none = coerced_unbuilt modes place _ path _ none
+coerced_unbuilt modes place mode (coercion.Deproc ∷ path) t none = coerced_unbuilt modes place _ path _ none
 coerced_unbuilt modes place mode (coercion.Unite m ∷ path) t none = coerced_unbuilt modes place m path _ none
 coerced_unbuilt modes place mode (coercion.Drop ∷ path) t none = coerced_unbuilt modes place 0 path _ none
 coerced_unbuilt modes place mode (_ ∷ path) t none = refl
@@ -80,6 +86,22 @@ last_is f (a ∷ (b ∷ ids)) some =
 pub count_trees : (f : ℕ → Tree) (ids : List ℕ) → count (trees_at f ids) ≡ length ids
 count_trees f [] = refl
 count_trees f (i ∷ ids) = ap (λ n. suc n) (count_trees f ids)
+
+-- a call of the first part with the others
+pub call_list : (f : ℕ → Tree) (ids : List ℕ) (place n at : ℕ) (yields : Bool) → 0 < length ids → n ≡ length ids - 1
+    → stretches (trees_at f ids) at ++ instr place (does.Call n yields) ∷ [] ≡ stretch (call place yields (trees_at f ids)) at
+call_list f [] place n at yields some e = absurd (omega arith)
+call_list f (i ∷ ids) place n at yields some e =
+    let many : n ≡ count (trees_at f ids) = (let c = count_trees f ids in omega arith) in
+    ap (λ (k : ℕ). stretches (trees_at f (i ∷ ids)) at ++ instr place (does.Call k yields) ∷ []) many
+
+-- a call of what a tag stands for
+pub applied_list : (f : ℕ → Tree) (ids : List ℕ) (place hops slot n at : ℕ) (yields : Bool) → n ≡ length ids
+    → (instr place (does.Tag hops slot) ∷ []) ++ (stretches (trees_at f ids) (at + 1) ++ instr place (does.Call n yields) ∷ [])
+    ≡ stretch (call place yields (leaf place (tag hops slot) and_tree trees_at f ids)) at
+applied_list f ids place hops slot n at yields e =
+    let many : n ≡ count (trees_at f ids) = e ∙ sym (count_trees f ids) in
+    ap (λ (k : ℕ). (instr place (does.Tag hops slot) ∷ []) ++ (stretches (trees_at f ids) (at + 1) ++ instr place (does.Call k yields) ∷ [])) many
 
 -- the instruction of a new name
 abbrev pub new_does : (in_heap : Bool) (mode : ℕ) → Does
@@ -135,10 +157,27 @@ declared_none f h true place mode slot (a ∷ []) is n m = absurd (n refl)
 declared_none f h true place mode slot (a ∷ (b ∷ [])) is n m = absurd (m refl)
 declared_none f h true place mode slot (a ∷ (b ∷ (c ∷ ids))) is n m = refl
 
-pub declared_other : (f : ℕ → Tree) (in_heap begins : Bool) (place mode slot : ℕ) (ids : List ℕ) → begins ≡ false
+pub begun_none : (f : ℕ → Tree) (in_heap begins : Bool) (place mode slot : ℕ) (ids : List ℕ) → begins ≡ false → length ids ≢ 1
     → unbuilt ≡ made.variable_of (made.new_name in_heap place mode) begins place mode slot (trees_at f ids)
-declared_other f h true place mode slot ids is = absurd (false≢true (sym is))
-declared_other f h false place mode slot ids is = refl
+begun_none f h true place mode slot ids is n = absurd (false≢true (sym is))
+begun_none f h false place mode slot [] is n = refl
+begun_none f h false place mode slot (a ∷ []) is n = absurd (n refl)
+begun_none f h false place mode slot (a ∷ (b ∷ ids)) is n = refl
+
+pub begun_tree : (f : ℕ → Tree) (in_heap begins : Bool) (place mode slot : ℕ) (ids : List ℕ) → begins ≡ false → length ids ≡ 1
+    → assigned_tree in_heap place mode slot (f (get_or ids 0 0)) ≡ made.variable_of (made.new_name in_heap place mode) begins place mode slot (trees_at f ids)
+begun_tree f h true place mode slot ids is n = absurd (false≢true (sym is))
+begun_tree f h false place mode slot [] is n = absurd (omega arith)
+begun_tree f h false place mode slot (a ∷ []) is n = refl
+begun_tree f h false place mode slot (a ∷ (b ∷ ids)) is n = absurd (omega arith)
+
+pub declared_tree : (f : ℕ → Tree) (in_heap begins : Bool) (place mode slot : ℕ) (ids : List ℕ) → begins ≡ true → length ids ≡ 2
+    → assigned_tree in_heap place mode slot (f (get_or ids 1 0)) ≡ made.variable_of (made.new_name in_heap place mode) begins place mode slot (trees_at f ids)
+declared_tree f h false place mode slot ids is n = absurd (false≢true is)
+declared_tree f h true place mode slot [] is n = absurd (omega arith)
+declared_tree f h true place mode slot (a ∷ []) is n = absurd (omega arith)
+declared_tree f h true place mode slot (a ∷ (b ∷ [])) is n = refl
+declared_tree f h true place mode slot (a ∷ (b ∷ (c ∷ ids))) is n = absurd (omega arith)
 
 set_list : (s : List Instr) (m k b : Instr) → (m ∷ []) ++ (s ++ k ∷ b ∷ []) ≡ (((m ∷ (s ++ [])) ++ k ∷ []) ++ []) ++ b ∷ []
 set_list s m k b =
@@ -146,13 +185,12 @@ set_list s m k b =
     ∙ ap (λ l. ((m ∷ l) ++ k ∷ []) ++ b ∷ []) (append-nil s)
     ∙ append_assoc (m ∷ s) (k ∷ []) (b ∷ []))
 
-pub declared_set : (in_heap begins : Bool) (place mode slot at : ℕ) (d source : Tree) → begins ≡ true
+pub assigned_list : (in_heap : Bool) (place mode slot at : ℕ) (source : Tree)
     → (instr place (new_does in_heap mode) ∷ []) ++ (stretch source (at + 1) ++ instr place (does.Store mode) ∷ instr place (does.Bind slot) ∷ [])
-    ≡ stretch (made.variable_of (made.new_name in_heap place mode) begins place mode slot (d and_tree (source and_tree no_trees))) at
-declared_set h false place mode slot at d source is = absurd (false≢true is)
-declared_set true true place mode slot at d source is =
+    ≡ stretch (assigned_tree in_heap place mode slot source) at
+assigned_list true place mode slot at source =
     set_list (stretch source (at + 1)) (instr place (does.Heap mode 0)) (instr place (does.Store mode)) (instr place (does.Bind slot))
-declared_set false true place mode slot at d source is =
+assigned_list false place mode slot at source =
     set_list (stretch source (at + 1)) (instr place (does.Make mode 0)) (instr place (does.Store mode)) (instr place (does.Bind slot))
 
 -- ---- what is not built

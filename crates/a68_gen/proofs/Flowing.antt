@@ -7,8 +7,8 @@ use Rattle.std.specs.List.{All, Contains}
 use Rattle.std.specs.Option.{option_map}
 use Rattle.std.specs.Prelude.{not, ◌&&◌, if◌then◌else◌}
 use Rattle.std.specs.declared.option.Option.{Option}
-use Rattle.a68_acts.specs.Operations.{Operation, constant, skip, nil, tag, make, heap, bind, deref, store, apply, same, unite, drop, print, whole, leaves}
-use Rattle.a68_code.specs.Flow.{does_at, takes, landings}
+use Rattle.a68_acts.specs.Operations.{Operation, constant, skip, nil, routine, tag, make, heap, bind, deref, store, apply, same, unite, drop, print, whole, leaves}
+use Rattle.a68_code.specs.Flow.{does_at, takes, landings, one_if, MayMeet}
 use Rattle.a68_code.specs.Flow as flow
 use Rattle.a68_code.specs.Operands.{is_well_made}
 use Rattle.a68_code.specs.Order.{IsInOrder}
@@ -16,7 +16,9 @@ use Rattle.a68_code.specs.declared.code.Code.{Code}
 use Rattle.a68_code.specs.declared.code.Instr.{Instr}
 use Rattle.a68_code.specs.declared.does.Does.{Does}
 use Rattle.a68_code.specs.declared.does.Does.TheVariants as does
-use Rattle.a68_elab.specs.Trees.{Tree, Trees, operation, together, phrases, range, choice, cases, loop, unbuilt, no_trees, ◌and_tree◌, count, Test, no_test, while_in, depth_of}
+use Rattle.a68_code.specs.declared.owner.Owner.{Owner}
+use Rattle.a68_code.specs.declared.owner.Owner.TheVariants as owner
+use Rattle.a68_elab.specs.Trees.{Tree, Trees, operation, together, phrases, range, choice, cases, loop, call, unbuilt, no_trees, ◌and_tree◌, count, Test, no_test, while_in, depth_of}
 use Rattle.a68_gen.proofs.Forward.{forward, forward_index, forward_leaves, forward_arms, forward_test}
 use Rattle.a68_gen.proofs.Heights.{bit, after, after_true, after_false, At, LimitHeights, IndexHeights, OpenHeights, LeaveHeights, HeightsOf, AllHeights, ArmHeights, TestHeights, nothing_more, starts, starts_all, starts_limit, starts_index, starts_leave, starts_test}
 use Rattle.a68_gen.specs.Operands.{FitsModes, FitAll, TestFitsModes}
@@ -24,54 +26,71 @@ use Rattle.a68_gen.specs.Stretches.{Has, Limits, Indexes, Opens, Leaves, Stands,
 use Rattle.a68_modes.specs.Nodes.{shape_at, is_void}
 use Rattle.a68_modes.specs.declared.shape.Shape.{Shape}
 
-none : (x : ℕ) → Contains [] x → ⊥
+pub none : (x : ℕ) → Contains [] x → ⊥
 none x i = let h = i.1 in omega arith
 
-only : (x to : ℕ) → Contains (x ∷ []) to → to ≡ x
+pub only : (x to : ℕ) → Contains (x ∷ []) to → to ≡ x
 only x to i = ⊎_elim (λ j. absurd (none to j)) (λ e. sym e) (Contains-push_cases [] x to i)
 
 either : (x y to : ℕ) → Contains (x ∷ (y ∷ [])) to → (to ≡ x) ⊎ (to ≡ y)
 either x y to i = ⊎_elim (λ j. inl (only x to j)) (λ e. inr (sym e)) (Contains-push_cases (x ∷ []) y to i)
 
 -- the instruction of an operation goes on with the next one, and names no place
-pub record Straight (list : List Instr) (modes : List Shape) (count k : ℕ) (op : Operation) (d : Does) : Type 0 where
+pub record Straight (list : List Instr) (modes : List Shape) (texts count k : ℕ) (op : Operation) (d : Does) : Type 0 where
   pub lands : landings k d ≡ (k + 1) ∷ []
   pub ordered : IsInOrder list k d
-  pub made : is_well_made modes count d ≡ is_well_made modes 0 d
+  pub made : is_well_made modes texts count d ≡ is_well_made modes texts 0 d
   pub left : flow.leaves modes d ≡ bit (leaves modes op)
 
-straight : (list : List Instr) (modes : List Shape) (c k : ℕ) (op : Operation) (n : ℕ) → Straight list modes c k op (does_of op n)
-straight list modes c k (constant v) n = record { lands = refl; ordered = tt; made = refl; left = refl }
-straight list modes c k (skip m) n = record { lands = refl; ordered = tt; made = refl; left = by_void (is_void (shape_at modes m)) }
+straight : (list : List Instr) (modes : List Shape) (texts c k : ℕ) (op : Operation) (n : ℕ) → Straight list modes texts c k op (does_of op n)
+straight list modes texts c k (constant v) n = record { lands = refl; ordered = tt; made = refl; left = refl }
+straight list modes texts c k (skip m) n = record { lands = refl; ordered = tt; made = refl; left = by_void (is_void (shape_at modes m)) }
   where
     by_void : (x : Bool) → (if x then 0 else 1) ≡ bit (not x)
     by_void true = refl
     by_void false = refl
-straight list modes c k nil n = record { lands = refl; ordered = tt; made = refl; left = refl }
-straight list modes c k (tag hops slot) n = record { lands = refl; ordered = tt; made = refl; left = refl }
-straight list modes c k (make m bounds) n = record { lands = refl; ordered = tt; made = refl; left = refl }
-straight list modes c k (heap m bounds) n = record { lands = refl; ordered = tt; made = refl; left = refl }
-straight list modes c k (bind slot) n = record { lands = refl; ordered = tt; made = refl; left = refl }
-straight list modes c k (deref m) n = record { lands = refl; ordered = tt; made = refl; left = refl }
-straight list modes c k (store m) n = record { lands = refl; ordered = tt; made = refl; left = refl }
-straight list modes c k (apply r) n = record { lands = refl; ordered = tt; made = refl; left = refl }
-straight list modes c k (same negated) n = record { lands = refl; ordered = tt; made = refl; left = refl }
-straight list modes c k (unite m) n = record { lands = refl; ordered = tt; made = refl; left = refl }
-straight list modes c k drop n = record { lands = refl; ordered = tt; made = refl; left = refl }
-straight list modes c k print n = record { lands = refl; ordered = tt; made = refl; left = refl }
-straight list modes c k whole n = record { lands = refl; ordered = tt; made = refl; left = refl }
+straight list modes texts c k (routine text distance) n = record { lands = refl; ordered = tt; made = refl; left = refl }
+straight list modes texts c k nil n = record { lands = refl; ordered = tt; made = refl; left = refl }
+straight list modes texts c k (tag hops slot) n = record { lands = refl; ordered = tt; made = refl; left = refl }
+straight list modes texts c k (make m bounds) n = record { lands = refl; ordered = tt; made = refl; left = refl }
+straight list modes texts c k (heap m bounds) n = record { lands = refl; ordered = tt; made = refl; left = refl }
+straight list modes texts c k (bind slot) n = record { lands = refl; ordered = tt; made = refl; left = refl }
+straight list modes texts c k (deref m) n = record { lands = refl; ordered = tt; made = refl; left = refl }
+straight list modes texts c k (store m) n = record { lands = refl; ordered = tt; made = refl; left = refl }
+straight list modes texts c k (apply r) n = record { lands = refl; ordered = tt; made = refl; left = refl }
+straight list modes texts c k (same negated) n = record { lands = refl; ordered = tt; made = refl; left = refl }
+straight list modes texts c k (unite m) n = record { lands = refl; ordered = tt; made = refl; left = refl }
+straight list modes texts c k drop n = record { lands = refl; ordered = tt; made = refl; left = refl }
+straight list modes texts c k print n = record { lands = refl; ordered = tt; made = refl; left = refl }
+straight list modes texts c k whole n = record { lands = refl; ordered = tt; made = refl; left = refl }
 
--- the instruction at k finds so many values, and W has the height of each place where it goes on
-pub record Flows (code : Code) (W : ℕ → ℕ → Type 0) (k h : ℕ) : Type 0 where
+-- a way may meet what goes on
+may_meet : (whose : Owner) (d : Does) (h k l : ℕ) (ls : List ℕ) → landings k d ≡ l ∷ ls → MayMeet whose d h
+may_meet owner.Program does.Return h k l ls e = absurd (cc)
+may_meet (owner.Texts yields) does.End h k l ls e = absurd (cc)
+may_meet (owner.Texts yields) does.Return h k l ls e = absurd (cc)
+may_meet whose d h k l ls e = tt
+
+case_meets : (whose : Owner) (places : List ℕ) (h : ℕ) → MayMeet whose (does.Case places) h
+case_meets owner.Program places h = tt
+case_meets (owner.Texts yields) places h = tt
+
+pub bit_is : (b : Bool) → bit b ≡ one_if b
+bit_is true = refl
+bit_is false = refl
+
+-- The instruction at k finds so many values, ways of the owner may meet it, and W has the height of each place where it goes on
+pub record Flows (code : Code) (whose : Owner) (W : ℕ → ℕ → Type 0) (k h : ℕ) : Type 0 where
   pub does : Does
   pub is : does_at code.list k ≡ Some does
   pub below : ℕ
   pub finds : below + takes does ≡ h
   pub leads : (to : ℕ) → Contains (landings k does) to → W to (below + flow.leaves code.modes does)
-  pub made : IsTrue (is_well_made code.modes (length code.list) does)
+  pub meets : MayMeet whose does h
+  pub made : IsTrue (is_well_made code.modes (length code.texts) (length code.list) does)
   pub ordered : IsInOrder code.list k does
 
-module _ (code : Code) (W : ℕ → ℕ → Type 0) (is_inside : (k h : ℕ) → W k h → k < length code.list) where
+module _ (code : Code) (whose : Owner) (W : ℕ → ℕ → Type 0) (is_inside : (k h : ℕ) → W k h → k < length code.list) where
   does_is : (k b p : ℕ) (d : Does) → Has code p d k b → does_at code.list k ≡ Some d
   does_is k b p d h = ap (λ (o : Option Instr). option_map (λ instr. instr.does) o) h.0
 
@@ -82,47 +101,50 @@ module _ (code : Code) (W : ℕ → ℕ → Type 0) (is_inside : (k h : ℕ) →
   is_place : (to h : ℕ) → W to h → IsTrue (nat_lt to (length code.list))
   is_place to h w = lt-ltb to (length code.list) (is_inside to h w)
 
-  at_flows : (m c : ℕ) → Flows code W m c → (k h : ℕ) → At m c k h → Flows code W k h
-  at_flows m c f k h x = subst (λ (y : ℕ). Flows code W y h) (sym x.0) (subst (Flows code W m) (sym x.1) f)
+  at_flows : (m c : ℕ) → Flows code whose W m c → (k h : ℕ) → At m c k h → Flows code whose W k h
+  at_flows m c f k h x = subst (λ (y : ℕ). Flows code whose W y h) (sym x.0) (subst (Flows code whose W m) (sym x.1) f)
 
   -- an instruction that goes on with the next one
   next : (k b p : ℕ) (d : Does) (below c : ℕ) → Has code p d k b → landings k d ≡ (k + 1) ∷ [] → below + takes d ≡ c → W b (below + flow.leaves code.modes d)
-      → IsTrue (is_well_made code.modes (length code.list) d) → IsInOrder code.list k d → Flows code W k c
+      → IsTrue (is_well_made code.modes (length code.texts) (length code.list) d) → IsInOrder code.list k d → Flows code whose W k c
   next k b p d below c has lands finds w made ordered = record {
     does = d;
     is = does_is k b p d has;
     below = below;
     finds = finds;
     leads = λ to i. at_place b to _ _ (only (k + 1) to (subst (λ (l : List ℕ). Contains l to) lands i) ∙ has.1) refl w;
+    meets = may_meet whose d c k (k + 1) [] lands;
     made = made;
     ordered = ordered;
   }
 
   -- an instruction that goes on with the next one or jumps
   branch : (k b p : ℕ) (d : Does) (below c to : ℕ) → Has code p d k b → landings k d ≡ (k + 1) ∷ (to ∷ []) → below + takes d ≡ c → W b (below + flow.leaves code.modes d)
-      → W to (below + flow.leaves code.modes d) → IsTrue (is_well_made code.modes (length code.list) d) → IsInOrder code.list k d → Flows code W k c
+      → W to (below + flow.leaves code.modes d) → IsTrue (is_well_made code.modes (length code.texts) (length code.list) d) → IsInOrder code.list k d → Flows code whose W k c
   branch k b p d below c x has lands finds w w' made ordered = record {
     does = d;
     is = does_is k b p d has;
     below = below;
     finds = finds;
     leads = λ to i. ⊎_elim (λ e. at_place b to _ _ (e ∙ has.1) refl w) (λ e. at_place x to _ _ e refl w') (either (k + 1) x to (subst (λ (l : List ℕ). Contains l to) lands i));
+    meets = may_meet whose d c k (k + 1) (x ∷ []) lands;
     made = made;
     ordered = ordered;
   }
 
-  jump : (k b p to h : ℕ) → Has code p (does.Jump to) k b → k < to → W to h → Flows code W k h
+  jump : (k b p to h : ℕ) → Has code p (does.Jump to) k b → k < to → W to h → Flows code whose W k h
   jump k b p x h has less w = record {
     does = does.Jump x;
     is = does_is k b p (does.Jump x) has;
     below = h;
     finds = omega arith;
     leads = λ to i. at_place x to _ _ (only x to i) (omega arith) w;
+    meets = may_meet whose (does.Jump x) h k x [] refl;
     made = is_place x h w;
     ordered = less;
   }
 
-  leave_made : (g : Bool) → IsTrue (is_well_made code.modes (length code.list) (leave g))
+  leave_made : (g : Bool) → IsTrue (is_well_made code.modes (length code.texts) (length code.list) (leave g))
   leave_made true = refl
   leave_made false = refl
 
@@ -135,7 +157,7 @@ module _ (code : Code) (W : ℕ → ℕ → Type 0) (is_inside : (k h : ℕ) →
   leave_leaves false = refl
 
   -- TO's own step
-  limit_flows : (limited : Bool) (p a b : ℕ) (s : Limits code limited p a b) (base : ℕ) → W b (base + 3) → (k h : ℕ) → LimitHeights code limited p a b s base k h → Flows code W k h
+  limit_flows : (limited : Bool) (p a b : ℕ) (s : Limits code limited p a b) (base : ℕ) → W b (base + 3) → (k h : ℕ) → LimitHeights code limited p a b s base k h → Flows code whose W k h
   limit_flows false p a b s base out k h x = absurd x
   limit_flows true p a b s base out k h x =
       at_flows a (base + 3)
@@ -143,7 +165,7 @@ module _ (code : Code) (W : ℕ → ℕ → Type 0) (is_inside : (k h : ℕ) →
 
   -- the frame of FOR
   index_flows : (counts : Bool) (p a b : ℕ) (s : Indexes code counts p a b) (base : ℕ) → ((k h : ℕ) → IndexHeights code counts p a b s base k h → W k h) → W b (base + 1)
-      → (k h : ℕ) → IndexHeights code counts p a b s base k h → Flows code W k h
+      → (k h : ℕ) → IndexHeights code counts p a b s base k h → Flows code whose W k h
   index_flows false p a b s base into out k h x = absurd x
   index_flows true p a b s base into out k h (inl x) =
       at_flows a (base + 1)
@@ -155,14 +177,14 @@ module _ (code : Code) (W : ℕ → ℕ → Type 0) (is_inside : (k h : ℕ) →
       (next s.1 b p (does.Bind 0) (base + 1) (base + 2) s.4 refl (omega arith) (at_place b b (base + 1) (base + 1 + 0) refl (omega arith) out) refl tt) k h x
 
   -- a frame that is made
-  open_flows : (n p a b : ℕ) (s : Opens code n p a b) (base : ℕ) → W b base → (k h : ℕ) → OpenHeights code n p a b s base k h → Flows code W k h
+  open_flows : (n p a b : ℕ) (s : Opens code n p a b) (base : ℕ) → W b base → (k h : ℕ) → OpenHeights code n p a b s base k h → Flows code whose W k h
   open_flows zero p a b s base out k h x = absurd x
   open_flows (suc n) p a b s base out k h x =
       at_flows a base (next a b p (does.Enter (suc n)) base base s refl (omega arith) (at_place b b base (base + 0) refl (omega arith) out) refl tt) k h x
 
   -- frames that are left
   leave_flows : (p n a b : ℕ) (s : Leaves code p n a b) (base : ℕ) → ((k h : ℕ) → LeaveHeights code p n a b s base k h → W k h) → W b base
-      → (k h : ℕ) → LeaveHeights code p n a b s base k h → Flows code W k h
+      → (k h : ℕ) → LeaveHeights code p n a b s base k h → Flows code whose W k h
   leave_flows p zero a b s base into out k h x = absurd x
   leave_flows p (suc n) a b s base into out k h (inl x) =
       at_flows a base (next a s.0 p (does.Leave 0) base base s.1 refl (omega arith) (at_place s.0 s.0 base (base + 0) refl (omega arith) first) refl tt) k h x
@@ -246,8 +268,8 @@ module _ (code : Code) (W : ℕ → ℕ → Type 0) (is_inside : (k h : ℕ) →
       }
 
   mutual
-    pub flows : (g : Bool) (t : Tree) (a b : ℕ) (s : Stands code g t a b) (base : ℕ) → FitsModes code.modes t → ((k h : ℕ) → HeightsOf code g t a b s base k h → W k h)
-        → W b (base + bit g) → (k h : ℕ) → HeightsOf code g t a b s base k h → Flows code W k h
+    pub flows : (g : Bool) (t : Tree) (a b : ℕ) (s : Stands code g t a b) (base : ℕ) → FitsModes code.modes (length code.texts) t → ((k h : ℕ) → HeightsOf code g t a b s base k h → W k h)
+        → W b (base + bit g) → (k h : ℕ) → HeightsOf code g t a b s base k h → Flows code whose W k h
     flows g (operation p op o parts) a b s base fit into out k h (inl x) =
         flows_all true parts a s.0 s.3 base fit.1 (λ k h y. into k h (inl y)) (into s.0 (after true parts base) (inr (refl, refl))) k h x
     flows g (operation p op o parts) a b s base fit into out k h (inr x) = at_flows s.0 (after true parts base) here k h x
@@ -255,10 +277,10 @@ module _ (code : Code) (W : ℕ → ℕ → Type 0) (is_inside : (k h : ℕ) →
         n : ℕ
         n = count parts
 
-        straightly : Straight code.list code.modes (length code.list) s.0 op (does_of op n)
-        straightly = straight code.list code.modes (length code.list) s.0 op n
+        straightly : Straight code.list code.modes (length code.texts) (length code.list) s.0 op (does_of op n)
+        straightly = straight code.list code.modes (length code.texts) (length code.list) s.0 op n
 
-        here : Flows code W s.0 (after true parts base)
+        here : Flows code whose W s.0 (after true parts base)
         here =
             next s.0 b p (does_of op n) base _ s.4 straightly.lands (ap (λ (x : ℕ). base + x) s.2 ∙ sym (after_true parts base))
             (subst (W b) (ap (λ (x : ℕ). base + x) (ap bit s.1 ∙ sym straightly.left)) out)
@@ -289,7 +311,7 @@ module _ (code : Code) (W : ℕ → ℕ → Type 0) (is_inside : (k h : ℕ) →
         no : W s.3 base
         no = begun g if_false s.3 b s.8 base (λ k h y. into k h (inr (inr (inr (inr y))))) out
 
-        here : Flows code W s.0 (base + 1)
+        here : Flows code whose W s.0 (base + 1)
         here =
             branch s.0 s.1 p (does.Unless s.3) base (base + 1) s.3 s.5 refl refl (at_place s.1 s.1 base (base + 0) refl (omega arith) yes)
             (at_place s.3 s.3 base (base + 0) refl (omega arith) no) (is_place s.3 base no)
@@ -325,13 +347,14 @@ module _ (code : Code) (W : ℕ → ℕ → Type 0) (is_inside : (k h : ℕ) →
         led : All (λ to. W to base) (with_last s.3 s.2)
         led = arms_all g p b arms s.3 s.1 s.2 s.6 base s.2 (λ to. W to base) (λ k le y. each k y) last
 
-        here : Flows code W s.0 (base + 1)
+        here : Flows code whose W s.0 (base + 1)
         here = record {
           does = does.Case places;
           is = does_is s.0 s.1 p (does.Case places) s.5;
           below = base;
           finds = refl;
           leads = λ to i. at_place to to base (base + 0) refl (omega arith) (All-contains (λ z. W z base) places to led i);
+          meets = case_meets whose places (base + 1);
           made = both_true (some_last s.3 s.2) (list_all-from_AllPass (λ to. nat_lt to (length code.list)) places inside);
           ordered = list_all-from_AllPass (λ to. nat_lt s.0 to) places onward;
         }
@@ -387,10 +410,17 @@ module _ (code : Code) (W : ℕ → ℕ → Type 0) (is_inside : (k h : ℕ) →
         leave_flows p (depth_of counts test) s.10 s.11 s.25 (base + 1) (λ k h y. into k h (inr (inr (inr (inr (inr (inr (inr (inr (inr (inr (inr (inl y))))))))))))) l.at_e k h x
     flows g (loop p controls limited counts test body) a b s base fit into out k h (inr (inr (inr (inr (inr (inr (inr (inr (inr (inr (inr (inr x)))))))))))) =
         at_flows s.11 (base + 1) (next s.11 b p does.Forget base (base + 1) s.26 refl refl (subst (λ (y : Bool). W b (base + bit y)) s.12 out) refl tt) k h x
+    flows g (call p yields no_trees) a b s base fit into out k h x = absurd s
+    flows g (call p yields (primary and_tree parts)) a b s base fit into out k h (inl x) =
+        flows_all true (primary and_tree parts) a s.0 s.2 base fit (λ k h y. into k h (inl y)) (into s.0 (after true (primary and_tree parts) base) (inr (refl, refl))) k h x
+    flows g (call p yields (primary and_tree parts)) a b s base fit into out k h (inr x) =
+        at_flows s.0 (after true (primary and_tree parts) base)
+        (next s.0 b p (does.Call (count parts) yields) base _ s.3 refl (sym (after_true (primary and_tree parts) base))
+        (subst (W b) (ap (λ (y : ℕ). base + y) (ap bit s.1 ∙ bit_is yields)) out) refl tt) k h x
     flows g unbuilt a b s base fit into out k h x = absurd s
 
-    pub flows_all : (g : Bool) (ts : Trees) (a b : ℕ) (s : StandAll code g ts a b) (base : ℕ) → FitAll code.modes ts → ((k h : ℕ) → AllHeights code g ts a b s base k h → W k h)
-        → W b (after g ts base) → (k h : ℕ) → AllHeights code g ts a b s base k h → Flows code W k h
+    pub flows_all : (g : Bool) (ts : Trees) (a b : ℕ) (s : StandAll code g ts a b) (base : ℕ) → FitAll code.modes (length code.texts) ts → ((k h : ℕ) → AllHeights code g ts a b s base k h → W k h)
+        → W b (after g ts base) → (k h : ℕ) → AllHeights code g ts a b s base k h → Flows code whose W k h
     flows_all g no_trees a b s base fit into out k h x = absurd x
     flows_all g (t and_tree ts) a b s base fit into out k h (inl x) =
         flows g t a s.0 s.1 base fit.0 (λ k h y. into k h (inl y)) first k h x
@@ -402,8 +432,8 @@ module _ (code : Code) (W : ℕ → ℕ → Type 0) (is_inside : (k h : ℕ) →
     flows_all g (t and_tree ts) a b s base fit into out k h (inr x) = flows_all g ts s.0 b s.2 (base + bit g) fit.1 (λ k h y. into k h (inr y)) out k h x
 
     -- parts that are chosen among
-    arms_flow : (g : Bool) (p e : ℕ) (ts : Trees) (ps : List ℕ) (a b : ℕ) (s : StandArms code g p e ts ps a b) (base : ℕ) → FitAll code.modes ts
-        → ((k h : ℕ) → ArmHeights code g p e ts ps a b s base k h → W k h) → W e (base + bit g) → b ≤ e → (k h : ℕ) → ArmHeights code g p e ts ps a b s base k h → Flows code W k h
+    arms_flow : (g : Bool) (p e : ℕ) (ts : Trees) (ps : List ℕ) (a b : ℕ) (s : StandArms code g p e ts ps a b) (base : ℕ) → FitAll code.modes (length code.texts) ts
+        → ((k h : ℕ) → ArmHeights code g p e ts ps a b s base k h → W k h) → W e (base + bit g) → b ≤ e → (k h : ℕ) → ArmHeights code g p e ts ps a b s base k h → Flows code whose W k h
     arms_flow g p e no_trees [] a b s base fit into quit le k h x = absurd x
     arms_flow g p e no_trees (q ∷ ps) a b s base fit into quit le k h x = absurd s
     arms_flow g p e (t and_tree ts) [] a b s base fit into quit le k h x = absurd s
@@ -415,8 +445,8 @@ module _ (code : Code) (W : ℕ → ℕ → Type 0) (is_inside : (k h : ℕ) →
         arms_flow g p e ts ps s.1 b s.5 base fit.1 (λ k h y. into k h (inr (inr y))) quit le k h x
 
     -- the test of a loop
-    test_flows : (t : Test) (p f a b : ℕ) (s : Tests code t p f a b) (base : ℕ) → TestFitsModes code.modes t → ((k h : ℕ) → TestHeights code t p f a b s base k h → W k h)
-        → W b base → W f base → b ≤ f → (k h : ℕ) → TestHeights code t p f a b s base k h → Flows code W k h
+    test_flows : (t : Test) (p f a b : ℕ) (s : Tests code t p f a b) (base : ℕ) → TestFitsModes code.modes (length code.texts) t → ((k h : ℕ) → TestHeights code t p f a b s base k h → W k h)
+        → W b base → W f base → b ≤ f → (k h : ℕ) → TestHeights code t p f a b s base k h → Flows code whose W k h
     test_flows no_test p f a b s base fit into out quit le k h x = absurd x
     test_flows (while_in at slots t) p f a b s base fit into out quit le k h (inl x) =
         open_flows slots at a s.0 s.2 base (begun true t s.0 s.1 s.3 base (λ k h y. into k h (inr (inl y))) (into s.1 (base + 1) (inr (inr (refl, refl))))) k h x

@@ -1,7 +1,7 @@
 -- A stretch goes forward.
 use Rattle.std.proofs.Common.{◌≡◌, ◌≤◌, ◌+◌, ℕ, zero, suc, arith, Bool, true, false, List, [], ◌∷◌}
 use Rattle.a68_code.specs.declared.code.Code.{Code}
-use Rattle.a68_elab.specs.Trees.{Tree, Trees, operation, together, phrases, range, choice, cases, loop, unbuilt, no_trees, ◌and_tree◌, Test, no_test, while_in, depth_of}
+use Rattle.a68_elab.specs.Trees.{Tree, Trees, operation, together, phrases, range, choice, cases, loop, call, unbuilt, no_trees, ◌and_tree◌, Test, no_test, while_in, depth_of}
 use Rattle.a68_gen.specs.Stretches.{Limits, Indexes, Opens, Leaves, Stands, StandAll, StandArms, Tests}
 
 pub next_is : (k m : ℕ) → k + 1 ≡ m → suc k ≡ m
@@ -42,6 +42,9 @@ mutual
       let o = forward_test code test p s.10 s.5 s.6 s.20 in let z = forward code false body s.6 s.7 s.21 in
       let l = forward_leaves code p (depth_of counts test) s.7 s.8 s.22 in let r = forward_leaves code p (depth_of counts test) s.10 s.11 s.25 in
       let p1 = s.16.1 in let p2 = s.17.1 in let p3 = s.18.1 in let p4 = s.23.1 in let p5 = s.24.1 in let p6 = s.26.1 in omega arith
+  forward code g (call p yields no_trees) a b s = absurd s
+  forward code g (call p yields (primary and_tree parts)) a b s =
+      let x = forward_all code true (primary and_tree parts) a s.0 s.2 in let y = s.3.1 in omega arith
   forward code g unbuilt a b s = absurd s
 
   pub forward_all : (code : Code) (g : Bool) (ts : Trees) (a b : ℕ) → StandAll code g ts a b → a ≤ b

@@ -2,7 +2,7 @@
 use Rattle.std.proofs.Common.{◌≡◌, ◌<◌, ◌≤◌, ◌⊎◌, ◌+◌, ℕ, zero, suc, arith, Bool, true, false, List, [], ◌∷◌, refl, sym, ap, ◌∙◌, subst, inl, inr, ⊎_elim}
 use Rattle.std.proofs.lemmas.Bool.{cases_lt, false≢true}
 use Rattle.a68_code.specs.declared.code.Code.{Code}
-use Rattle.a68_elab.specs.Trees.{Tree, Trees, operation, together, phrases, range, choice, cases, loop, unbuilt, no_trees, ◌and_tree◌, count, Test, no_test, while_in, depth_of}
+use Rattle.a68_elab.specs.Trees.{Tree, Trees, operation, together, phrases, range, choice, cases, loop, call, unbuilt, no_trees, ◌and_tree◌, count, Test, no_test, while_in, depth_of}
 use Rattle.a68_gen.specs.Stretches.{Limits, Indexes, Opens, Leaves, Stands, StandAll, StandArms, Tests}
 
 abbrev pub bit : Bool → ℕ
@@ -65,6 +65,9 @@ abbrev mutual
       ⊎ (At s.3 (base + 1) k h ⊎ (IndexHeights code counts p s.4 s.5 s.19 base k h ⊎ (TestHeights code test p s.10 s.5 s.6 s.20 (base + 1) k h
       ⊎ (HeightsOf code false body s.6 s.7 s.21 (base + 1) k h ⊎ (LeaveHeights code p (depth_of counts test) s.7 s.8 s.22 (base + 1) k h ⊎ (At s.8 (base + 1) k h
       ⊎ (At s.9 (base + 1) k h ⊎ (LeaveHeights code p (depth_of counts test) s.10 s.11 s.25 (base + 1) k h ⊎ (At s.11 (base + 1) k h))))))))))))
+  HeightsOf code g (call p yields no_trees) a b s base k h = ⊥
+  HeightsOf code g (call p yields (primary and_tree parts)) a b s base k h =
+      AllHeights code true (primary and_tree parts) a s.0 s.2 base k h ⊎ At s.0 (after true (primary and_tree parts) base) k h
   HeightsOf code g unbuilt a b s base k h = ⊥
 
   pub AllHeights : (code : Code) (g : Bool) (ts : Trees) (a b : ℕ) → StandAll code g ts a b → (base : ℕ) → ℕ → ℕ → Type 0
@@ -99,7 +102,7 @@ one m b c e = record {
   covers = λ k l u. (c, (omega arith, refl));
 }
 
-nothing : (a b : ℕ) → a ≡ b → Piece a b (λ k h. ⊥)
+pub nothing : (a b : ℕ) → a ≡ b → Piece a b (λ k h. ⊥)
 nothing a b e = record {
   forth = omega arith;
   inside = λ k h x. absurd x;
@@ -169,6 +172,9 @@ mutual
       (both _ _ _ _ _ (one s.9 s.10 (base + 1) s.24.1)
       (both _ _ _ _ _ (leave_piece code p (depth_of counts test) s.10 s.11 s.25 (base + 1))
       (one s.11 b (base + 1) s.26.1))))))))))))
+  piece code g (call p yields no_trees) a b s base = absurd s
+  piece code g (call p yields (primary and_tree parts)) a b s base =
+      both _ _ _ _ _ (pieces code true (primary and_tree parts) a s.0 s.2 base) (one s.0 b (after true (primary and_tree parts) base) s.3.1)
   piece code g unbuilt a b s base = absurd s
 
   pieces : (code : Code) (g : Bool) (ts : Trees) (a b : ℕ) (s : StandAll code g ts a b) (base : ℕ) → Piece a b (AllHeights code g ts a b s base)
@@ -205,6 +211,9 @@ mutual
   starts code g (cases p enquiry arms out) a b s base = ⊎_elim (λ y. inl (inl y)) (λ e. absurd (false≢true (sym e.1))) (starts code true enquiry a s.0 s.4 base)
   starts code g (loop p controls limited counts test body) a b s base =
       ⊎_elim (λ y. inl (inl y)) (λ e. absurd (omega (arith, e.1 ∙ after_true controls base ∙ ap (λ (n : ℕ). base + n) s.13))) (starts_all code true controls a s.0 s.14 base)
+  starts code g (call p yields no_trees) a b s base = absurd s
+  starts code g (call p yields (primary and_tree parts)) a b s base =
+      ⊎_elim (λ y. inl (inl y)) (λ e. inl (inr e)) (starts_all code true (primary and_tree parts) a s.0 s.2 base)
   starts code g unbuilt a b s base = absurd s
 
   pub starts_all : (code : Code) (g : Bool) (ts : Trees) (a b : ℕ) (s : StandAll code g ts a b) (base : ℕ) → AllHeights code g ts a b s base a base ⊎ ((a ≡ b) × (base ≡ after g ts base))

@@ -9,6 +9,7 @@ pub mod Jumping
 pub mod Linking
 pub mod Listed
 pub mod Numbering
+pub mod Ordered
 pub mod Patching
 pub mod Places
 pub mod Refusing

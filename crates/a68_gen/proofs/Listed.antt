@@ -7,10 +7,10 @@ use Rattle.a68_code.specs.declared.code.Code.{Code}
 use Rattle.a68_code.specs.declared.code.Instr.{Instr}
 use Rattle.a68_code.specs.declared.code.RoutineEntrance.{RoutineEntrance}
 use Rattle.a68_code.specs.declared.does.Does.TheVariants as does
-use Rattle.a68_elab.specs.Trees.{Tree, Trees, operation, together, phrases, range, choice, cases, loop, unbuilt, no_trees, ◌and_tree◌, count, Test, no_test, while_in, depth_of, Program}
-use Rattle.a68_gen.specs.Listing.{instr, limits, indexes, opens, leaves, size, sizes, test_size, arm_places, stretch, stretches, arm_stretches, test_stretch, listing}
+use Rattle.a68_elab.specs.Trees.{Tree, Trees, operation, together, phrases, range, choice, cases, loop, call, unbuilt, no_trees, ◌and_tree◌, count, Test, no_test, while_in, depth_of, Body, Program}
+use Rattle.a68_gen.specs.Listing.{instr, limits, indexes, opens, leaves, size, sizes, test_size, arm_places, stretch, stretches, arm_stretches, test_stretch, text_size, text_stretches, entrances, listing, entrances_of}
 use Rattle.a68_gen.proofs.Sizes.{size_leaves, size_stretch, size_stretches, size_arms, size_test}
-use Rattle.a68_gen.specs.Stretches.{does_of, leave, Limits, Indexes, Opens, Leaves, Stands, StandAll, StandArms, Tests, with_last, Translates}
+use Rattle.a68_gen.specs.Stretches.{does_of, leave, Limits, Indexes, Opens, Leaves, Stands, StandAll, StandArms, Tests, StandTexts, with_last, Translates}
 use Rattle.a68_gen.specs.Writing.{IsTooLong, most, places}
 use Rattle.a68_modes.specs.declared.shape.Shape.{Shape}
 
@@ -199,6 +199,10 @@ mutual
       (all_part code true controls a s.0 s.14) (limit_part code limited place s.0 s.1 s.15) s.16.0 s.16.1 s.17.0 s.17.1 s.18.0 s.18.1 (index_part code counts place s.4 s.5 s.19)
       (test_part code test place s.10 s.5 s.6 s.20) (part code false body s.6 s.7 s.21) (leave_part code place k s.7 s.8 s.22) s.23.0 s.23.1 s.24.0 s.24.1
       (leave_part code place k s.10 s.11 s.25) s.26.0 s.26.1
+  part code gives (call place yields no_trees) a b s = absurd s
+  part code gives (call place yields (primary and_tree parts)) a b s =
+      let i = instr place (does.Call (count parts) yields) in
+      behind code.list a s.0 b (stretches (primary and_tree parts) a) (i ∷ []) (all_part code true (primary and_tree parts) a s.0 s.2) (last code.list s.0 b i s.3.0 s.3.1)
   part code gives unbuilt a b s = absurd s
 
   all_part : (code : Code) (gives : Bool) (trees : Trees) (a b : ℕ) → StandAll code gives trees a b → Part code.list a (stretches trees a) b
@@ -235,19 +239,65 @@ mutual
       both_part code.list a s.0 b (length (opens slots begin)) (opens slots begin) (λ z. stretch test z ++ unless ∷ []) refl (open_part code slots begin a s.0 s.2)
       (behind code.list s.0 s.1 b (stretch test s.0) (unless ∷ []) (part code true test s.0 s.1 s.3) (last code.list s.1 b unless s.4.0 s.4.1))
 
+-- ---- routine texts
+
+-- where the text behind one begins
+next_text : (code : Code) (body : Body) (a m n : ℕ) → Stands code body.yields body.tree a m → m + 1 ≡ n → n ≡ a + text_size body
+next_text code body a m n s e =
+    let ends = (part code body.yields body.tree a m s).ends in
+    let long = size_stretch body.tree a in
+    omega arith
+
+texts_part : (code : Code) (bodies : List Body) (es : List RoutineEntrance) (a b : ℕ) → StandTexts code bodies es a b → Part code.list a (text_stretches bodies a) b
+texts_part code [] [] a b s = none code.list a b s
+texts_part code [] (e ∷ es) a b s = absurd s
+texts_part code (body ∷ bodies) [] a b s = absurd s
+texts_part code (body ∷ bodies) (e ∷ es) a b s =
+    let return = instr body.place does.Return in
+    let rest : Part code.list s.1 (text_stretches bodies (a + text_size body)) b =
+    subst (λ (z : ℕ). Part code.list s.1 (text_stretches bodies z) b) (next_text code body a s.0 s.1 s.3 s.4.1) (texts_part code bodies es s.1 b s.5) in
+    behind code.list a s.0 b (stretch body.tree a) (return ∷ text_stretches bodies (a + text_size body)) (part code body.yields body.tree a s.0 s.3)
+    (one code.list s.0 s.1 b return (text_stretches bodies (a + text_size body)) s.4.0 s.4.1 rest)
+
+texts_entrances : (code : Code) (bodies : List Body) (es : List RoutineEntrance) (a b : ℕ) → StandTexts code bodies es a b → es ≡ entrances bodies a
+texts_entrances code [] [] a b s = refl
+texts_entrances code [] (e ∷ es) a b s = absurd s
+texts_entrances code (body ∷ bodies) [] a b s = absurd s
+texts_entrances code (body ∷ bodies) (e ∷ es) a b s =
+    let first : RoutineEntrance = record { at = a; yields = body.yields } in
+    ap (λ (x : RoutineEntrance). x ∷ es) s.2 ∙ ap (λ (l : List RoutineEntrance). first ∷ l) (texts_entrances code bodies es s.1 b s.5)
+    ∙ ap (λ (z : ℕ). first ∷ entrances bodies z) (next_text code body a s.0 s.1 s.3 s.4.1)
+
+-- End is behind the program
+at_end : (program : Program) (code : Code) (t : Translates program code) → t.end ≡ size program.tree
+at_end program code t =
+    let ends = (part code false program.tree 0 t.end t.stands).ends in
+    let long = size_stretch program.tree 0 in
+    omega arith
+
 -- the code of a program is its listing
 pub listed : (program : Program) (code : Code) → Translates program code → code.list ≡ listing program
 listed program code t =
     let end = instr program.place does.End in
-    let p = behind code.list 0 t.end (t.end + 1) (stretch program.tree 0) (end ∷ []) (part code false program.tree 0 t.end t.stands) (last code.list t.end (t.end + 1) end t.ends.0 refl) in
-    let nothing : drop (t.end + 1) code.list ≡ [] = (let n = t.no_more in drop_all (t.end + 1) code.list (omega arith)) in
+    let rest = text_stretches program.texts (size program.tree + 1) in
+    let texts : Part code.list (t.end + 1) rest t.last =
+    subst (λ (z : ℕ). Part code.list (t.end + 1) (text_stretches program.texts (z + 1)) t.last) (at_end program code t)
+    (texts_part code program.texts code.texts (t.end + 1) t.last t.texts) in
+    let p = behind code.list 0 t.end t.last (stretch program.tree 0) (end ∷ rest) (part code false program.tree 0 t.end t.stands)
+    (one code.list t.end (t.end + 1) t.last end rest t.ends.0 refl texts) in
+    let nothing : drop t.last code.list ≡ [] = (let n = t.no_more in drop_all t.last code.list (omega arith)) in
     p.upto ∙ ap (λ l. listing program ++ l) nothing ∙ append-nil (listing program)
+
+-- and its entrances are those that are listed
+pub texts_listed : (program : Program) (code : Code) → Translates program code → code.texts ≡ entrances_of program
+texts_listed program code t =
+    texts_entrances code program.texts code.texts (t.end + 1) t.last t.texts ∙ ap (λ (z : ℕ). entrances program.texts (z + 1)) (at_end program code t)
 
 -- a program has one code
 pub one_code : (program : Program) (code other : Code) → Translates program code → Translates program other → other ≡ code
 one_code program code other t u =
     let list : other.list ≡ code.list = listed program other u ∙ sym (listed program code t) in
-    let texts : other.texts ≡ code.texts = u.texts ∙ sym t.texts in
+    let texts : other.texts ≡ code.texts = texts_listed program other u ∙ sym (texts_listed program code t) in
     let modes : other.modes ≡ code.modes = u.modes ∙ sym t.modes in
     ap {A = List Instr} {B = Code} (λ x. record { list = x; texts = other.texts; modes = other.modes }) list
     ∙ ap {A = List RoutineEntrance} {B = Code} (λ x. record { list = code.list; texts = x; modes = other.modes }) texts

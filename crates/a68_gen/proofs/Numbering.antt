@@ -224,15 +224,21 @@ arms_on place whole rest t starts starts' jumps jumps' s0 s1 s2 l0 l1 l2 before 
 
 -- ---- one part
 
+-- a part, where something is kept before it
+pub kept_before : (s0 s1 s2 : Option Stop) (l0 l1 l2 : List Instr) (t : Tree) → l1 ≡ l0 → (s1 ≡ s0) ⊎ (s1 ≡ ran_out s0) → Writes s1 s2 l1 l2 (stretch t (length l1))
+    → Writes s0 s2 l0 l2 (stretch t (length l0))
+kept_before s0 s1 s2 l0 l1 l2 t e k w =
+    let none = kept_writes s0 s0 s1 l0 l0 [] k (nothing-written s0 l0) in
+    let part : Writes s1 s2 l0 l2 (stretch t (length l0)) = subst (λ (l : List Instr). Writes s1 s2 l l2 (stretch t (length l))) e w in
+    let is_same : length l0 + 0 ≡ length l0 = omega arith in
+    subst (λ (n : ℕ). Writes s0 s2 l0 l2 (stretch t n)) is_same (and_behind s0 s1 s2 l0 l0 l2 [] (λ n. stretch t n) none part)
+
 -- a part and its jump, where numbers are kept before and between
 pub arm_writes : (s0 s1 s2 s3 s4 : Option Stop) (l0 l1 l2 l3 l4 : List Instr) (place : ℕ) (t : Tree) → l1 ≡ l0 → (s1 ≡ s0) ⊎ (s1 ≡ ran_out s0) → Writes s1 s2 l1 l2 (stretch t (length l1))
     → l3 ≡ l2 → (s3 ≡ s2) ⊎ (s3 ≡ ran_out s2) → Writes s3 s4 l3 l4 (instr place (does.Jump 0) ∷ []) → Writes s0 s4 l0 l4 (stretch t (length l0) ++ instr place (does.Jump 0) ∷ [])
 arm_writes s0 s1 s2 s3 s4 l0 l1 l2 l3 l4 place t e1 k1 w12 e3 k3 w34 =
     let q = stretch t (length l0) in
-    let none = kept_writes s0 s0 s1 l0 l0 [] k1 (nothing-written s0 l0) in
-    let part : Writes s1 s2 l0 l2 q = subst (λ (l : List Instr). Writes s1 s2 l l2 (stretch t (length l))) e1 w12 in
-    let same : length l0 + 0 ≡ length l0 = omega arith in
-    let w02 : Writes s0 s2 l0 l2 q = subst (λ (n : ℕ). Writes s0 s2 l0 l2 (stretch t n)) same (and_behind s0 s1 s2 l0 l0 l2 [] (λ n. stretch t n) none (subst (λ (n : ℕ). Writes s1 s2 l0 l2 (stretch t n)) refl part)) in
+    let w02 = kept_before s0 s1 s2 l0 l1 l2 t e1 k1 w12 in
     let jump : Writes s3 s4 l2 l4 (instr place (does.Jump 0) ∷ []) = subst (λ (l : List Instr). Writes s3 s4 l l4 (instr place (does.Jump 0) ∷ [])) e3 w34 in
     and_behind s0 s3 s4 l0 l2 l4 q (λ n. instr place (does.Jump 0) ∷ []) (kept_writes s0 s2 s3 l0 l2 q k3 w02) jump
 

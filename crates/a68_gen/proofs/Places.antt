@@ -1,13 +1,15 @@
 -- The instructions of a program begin where its constructs do.
-use Rattle.std.proofs.Common.{◌≡◌, ℕ, zero, suc, ◌+◌, ◌≤◌, Bool, true, false, List, [], ◌∷◌, ◌++◌, length, Some, slice_get, subst}
+use Rattle.std.proofs.Common.{◌≡◌, ℕ, zero, suc, ◌+◌, ◌≤◌, Bool, true, false, List, [], ◌∷◌, ◌++◌, length, Some, slice_get, sym, ap, ◌∙◌, subst}
 use Rattle.std.proofs.lemmas.Option.{same_Some}
 use Rattle.a68_base.specs.declared.refusal.Refusal.{Refusal}
+use Rattle.a68_code.specs.declared.code.Code.{Code}
 use Rattle.a68_code.specs.declared.code.Instr.{Instr}
 use Rattle.a68_code.specs.declared.does.Does.TheVariants as does
-use Rattle.a68_elab.specs.Places.{BeginsBy, AllBeginBy, TestBeginsBy, ProgramBeginsBy}
-use Rattle.a68_elab.specs.Trees.{Tree, Trees, operation, together, phrases, range, choice, cases, loop, unbuilt, no_trees, ◌and_tree◌, count, Test, no_test, while_in, depth_of, Program}
-use Rattle.a68_gen.specs.Listing.{instr, limits, indexes, opens, leaves, size, sizes, test_size, arm_places, stretch, stretches, arm_stretches, test_stretch, listing}
-use Rattle.a68_gen.specs.Stretches.{does_of, leave, with_last}
+use Rattle.a68_elab.specs.Places.{BeginsBy, AllBeginBy, TestBeginsBy, TextsBeginBy, ProgramBeginsBy}
+use Rattle.a68_elab.specs.Trees.{Tree, Trees, operation, together, phrases, range, choice, cases, loop, call, unbuilt, no_trees, ◌and_tree◌, count, Test, no_test, while_in, depth_of, Body, Program}
+use Rattle.a68_gen.specs.Listing.{instr, limits, indexes, opens, leaves, size, sizes, test_size, arm_places, stretch, stretches, arm_stretches, test_stretch, text_size, text_stretches, listing}
+use Rattle.a68_gen.proofs.Listed.{listed}
+use Rattle.a68_gen.specs.Stretches.{does_of, leave, with_last, Translates}
 use Rattle.a68_gen.specs.Writing.{IsTooLong, most, places}
 
 -- the construct of each instruction begins at this byte or before it
@@ -24,6 +26,11 @@ module _ (end : ℕ) where
   lie-get [] k p l e = absurd (cc)
   lie-get (x ∷ list) zero p l e = subst (λ (z : ℕ). z ≤ end) (same_Some x.place p e) l.0
   lie-get (x ∷ list) (suc k) p l e = lie-get list k p l.1 e
+
+  lie-at : (list : List Instr) (k : ℕ) (i : Instr) → LieBy end list → slice_get list k ≡ Some i → i.place ≤ end
+  lie-at [] k i l e = absurd (cc)
+  lie-at (x ∷ list) zero i l e = subst (λ (z : Instr). z.place ≤ end) (same_Some x i e) l.0
+  lie-at (x ∷ list) (suc k) i l e = lie-at list k i l.1 e
 
   limit_lies : (limited : Bool) (place : ℕ) → place ≤ end → LieBy end (limits limited place)
   limit_lies false place p = tt
@@ -83,6 +90,9 @@ module _ (end : ℕ) where
         let head = instr place does.Counter ∷ instr place (does.Step e) ∷ instr place does.Turn ∷ (idx ++ r2) in
         let head_lies : LieBy end head = (b.0, (b.0, (b.0, lie-append idx r2 (index_lies counts place b.0) r2_lies))) in
         lie-append (stretches controls at) (lim ++ head) (all_lie controls at b.1) (lie-append lim head (limit_lies limited place b.0) head_lies)
+    lies (call place yields no_trees) at b = tt
+    lies (call place yields (primary and_tree parts)) at b =
+        lie-append (stretches (primary and_tree parts) at) (instr place (does.Call (count parts) yields) ∷ []) (all_lie (primary and_tree parts) at b.1) (b.0, tt)
     lies unbuilt at b = tt
 
     all_lie : (trees : Trees) (at : ℕ) → AllBeginBy end trees → LieBy end (stretches trees at)
@@ -103,7 +113,22 @@ module _ (end : ℕ) where
         lie-append (opens slots begin) (stretch test m ++ instr place (does.Unless f) ∷ []) (open_lies slots begin b.0)
         (lie-append (stretch test m) (instr place (does.Unless f) ∷ []) (lies test m b.1) (p, tt))
 
+  texts_lie : (bodies : List Body) (at : ℕ) → TextsBeginBy end bodies → LieBy end (text_stretches bodies at)
+  texts_lie [] at b = tt
+  texts_lie (body ∷ bodies) at b =
+      let m = at + text_size body in
+      lie-append (stretch body.tree at) (instr body.place does.Return ∷ text_stretches bodies m) (lies body.tree at b.0.1) (b.0.0, texts_lie bodies m b.1)
+
+  program_lies : (program : Program) → ProgramBeginsBy end program → LieBy end (listing program)
+  program_lies program b =
+      let m = size program.tree + 1 in
+      lie-append (stretch program.tree 0) (instr program.place does.End ∷ text_stretches program.texts m) (lies program.tree 0 b.tree) (b.place, texts_lie program.texts m b.texts)
+
 -- a program that is too long is refused at one of its constructs
 pub refused_by : (program : Program) (end : ℕ) (refusal : Refusal) → ProgramBeginsBy end program → IsTooLong (listing program) refusal → refusal.place ≤ end
-refused_by program end refusal b t =
-    lie-get end (listing program) most refusal.place (lie-append end (stretch program.tree 0) (instr program.place does.End ∷ []) (lies end program.tree 0 b.tree) (b.place, tt)) t.place
+refused_by program end refusal b t = lie-get end (listing program) most refusal.place (program_lies end program b) t.place
+
+-- each instruction of the code of a program begins where a construct of it does
+pub code_begins_by : (program : Program) (code : Code) (end : ℕ) → Translates program code → ProgramBeginsBy end program → (at : ℕ) (i : Instr) → slice_get code.list at ≡ Some i → i.place ≤ end
+code_begins_by program code end t b at i e =
+    lie-at end (listing program) at i (program_lies end program b) (ap (λ (list : List Instr). slice_get list at) (sym (listed program code t)) ∙ e)

@@ -1,7 +1,7 @@
 -- How long a stretch is.
 use Rattle.std.proofs.Common.{◌≡◌, ℕ, zero, suc, ◌+◌, [], ◌∷◌, ◌++◌, length, refl, ap, arith, length-append}
 use Rattle.a68_code.specs.declared.does.Does.TheVariants as does
-use Rattle.a68_elab.specs.Trees.{Tree, Trees, operation, together, phrases, range, choice, cases, loop, unbuilt, no_trees, ◌and_tree◌, count, Test, no_test, while_in, depth_of}
+use Rattle.a68_elab.specs.Trees.{Tree, Trees, operation, together, phrases, range, choice, cases, loop, call, unbuilt, no_trees, ◌and_tree◌, count, Test, no_test, while_in, depth_of}
 use Rattle.a68_gen.specs.Listing.{instr, limits, indexes, opens, leaves, size, sizes, test_size, arm_places, stretch, stretches, arm_stretches, test_stretch}
 use Rattle.a68_gen.specs.Stretches.{does_of, leave, with_last}
 
@@ -64,6 +64,10 @@ mutual
         length-append out last,
         length-append out (instr place does.Forget ∷ []),
       )
+  size_stretch (call place yields no_trees) at = refl
+  size_stretch (call place yields (primary and_tree parts)) at =
+      let s = size_stretches (primary and_tree parts) at in
+      omega (arith, length-append (stretches (primary and_tree parts) at) (instr place (does.Call (count parts) yields) ∷ []))
   size_stretch unbuilt at = refl
 
   pub size_stretches : (trees : Trees) (at : ℕ) → length (stretches trees at) ≡ sizes trees

@@ -2,12 +2,13 @@
 use Rattle.std.proofs.Common.{◌≡◌, ℕ, zero, suc, ◌+◌, Bool, true, false, List, [], ◌∷◌, ◌++◌, length, refl, sym, ◌∙◌, ap, subst, arith, length-append, Some, slice_get}
 use Rattle.a68_code.specs.declared.code.Code.{Code}
 use Rattle.a68_code.specs.declared.code.Instr.{Instr}
+use Rattle.a68_code.specs.declared.code.RoutineEntrance.{RoutineEntrance}
 use Rattle.a68_code.specs.declared.does.Does.{Does}
 use Rattle.a68_code.specs.declared.does.Does.TheVariants as does
-use Rattle.a68_elab.specs.Trees.{Tree, Trees, operation, together, phrases, range, choice, cases, loop, unbuilt, no_trees, ◌and_tree◌, count, Test, no_test, while_in, depth_of, Program}
-use Rattle.a68_gen.specs.Listing.{instr, limits, indexes, opens, leaves, size, sizes, test_size, arm_places, stretch, stretches, arm_stretches, test_stretch, listing}
-use Rattle.a68_gen.specs.Fits.{Fits, AllFit, TestFits}
-use Rattle.a68_gen.specs.Stretches.{does_of, leave, Has, Limits, Indexes, Opens, Leaves, Stands, StandAll, StandArms, Tests, with_last, Translates}
+use Rattle.a68_elab.specs.Trees.{Tree, Trees, operation, together, phrases, range, choice, cases, loop, call, unbuilt, no_trees, ◌and_tree◌, count, Test, no_test, while_in, depth_of, Body, Program}
+use Rattle.a68_gen.specs.Listing.{instr, limits, indexes, opens, leaves, size, sizes, test_size, arm_places, stretch, stretches, arm_stretches, test_stretch, text_size, text_stretches, entrances, listing, entrances_of}
+use Rattle.a68_gen.specs.Fits.{Fits, AllFit, TestFits, TextsFit}
+use Rattle.a68_gen.specs.Stretches.{does_of, leave, Has, Limits, Indexes, Opens, Leaves, Stands, StandAll, StandArms, Tests, StandTexts, with_last, Translates}
 use Rattle.a68_gen.proofs.Sizes.{size_leaves, size_stretch, size_stretches, size_arms, size_test}
 
 -- the instructions stand in the code from a place on
@@ -237,6 +238,17 @@ mutual
         leave_stands code place k q (holds-front out (forget ∷ []) h10),
         (holds-head {at = e} forget [] h11, last),
       )
+  stands code gives (call place yields no_trees) at f h = absurd f
+  stands code gives (call place yields (primary and_tree parts)) at f h =
+      let ps = stretches (primary and_tree parts) at in
+      let i = instr place (does.Call (count parts) yields) in
+      let n = sizes (primary and_tree parts) in
+      let e : at + n + 1 ≡ at + (n + 1) = omega arith in (
+        at + n,
+        f.0,
+        all_stand code true (primary and_tree parts) at f.1 (holds-front ps (i ∷ []) h),
+        (holds-head i [] (holds-on n ps (i ∷ []) (size_stretches (primary and_tree parts) at) h), e),
+      )
   stands code gives unbuilt at f h = absurd f
 
   pub all_stand : (code : Code) (gives : Bool) (trees : Trees) (at : ℕ) → AllFit code.modes gives trees → Holds code at (stretches trees at) → StandAll code gives trees at (at + sizes trees)
@@ -290,22 +302,63 @@ mutual
 holds-all : (code : Code) (list : List Instr) → code.list ≡ list → Holds code 0 list
 holds-all code list e = record { each = λ k i p. let z : 0 + k ≡ k = omega arith in rw (z, e) p }
 
+-- how many instructions routine texts become
+abbrev text_sizes : List Body → ℕ
+text_sizes [] = 0
+text_sizes (body ∷ bodies) = text_size body + text_sizes bodies
+
+size_texts : (bodies : List Body) (at : ℕ) → length (text_stretches bodies at) ≡ text_sizes bodies
+size_texts [] at = refl
+size_texts (body ∷ bodies) at =
+    let first = stretch body.tree at in
+    let behind = text_stretches bodies (at + text_size body) in
+    let s = size_stretch body.tree at in
+    let rest = size_texts bodies (at + text_size body) in
+    omega (arith, length-append first (instr body.place does.Return ∷ behind))
+
+-- the routine texts stand behind one another
+texts_stand : (code : Code) (bodies : List Body) (at : ℕ) → TextsFit code.modes bodies → Holds code at (text_stretches bodies at) → StandTexts code bodies (entrances bodies at) at (at + text_sizes bodies)
+texts_stand code [] at f h = omega arith
+texts_stand code (body ∷ bodies) at f h =
+    let m = at + size body.tree in
+    let n = at + text_size body in
+    let first = stretch body.tree at in
+    let return = instr body.place does.Return in
+    let rest = text_stretches bodies n in
+    let h1 = holds-on {at = at} (size body.tree) first (return ∷ rest) (size_stretch body.tree at) h in
+    let e : m + 1 ≡ n = omega arith in
+    let h2 : Holds code n rest = subst (λ (z : ℕ). Holds code z rest) e (holds-tail {at = m} return rest h1) in
+    let end : n + text_sizes bodies ≡ at + (text_size body + text_sizes bodies) = omega arith in (
+      m,
+      n,
+      refl,
+      stands code body.yields body.tree at f.0 (holds-front first (return ∷ rest) h),
+      (holds-head {at = m} return rest h1, e),
+      subst (λ (z : ℕ). StandTexts code bodies (entrances bodies n) n z) end (texts_stand code bodies n f.1 h2),
+    )
+
 -- code that is the listing of a program whose parts fit translates it
-pub translated : (program : Program) (code : Code) → code.list ≡ listing program → code.texts ≡ [] → code.modes ≡ program.modes → Fits program.modes false program.tree → Translates program code
-translated program code listed texts modes fits =
+pub translated : (program : Program) (code : Code) → code.list ≡ listing program → code.texts ≡ entrances_of program → code.modes ≡ program.modes
+    → Fits program.modes false program.tree → TextsFit program.modes program.texts → Translates program code
+translated program code listed texts modes fits all_fit =
     let list = stretch program.tree 0 in
     let i = instr program.place does.End in
     let n = size program.tree in
-    let h = holds-all code (list ++ i ∷ []) listed in
+    let rest = text_stretches program.texts (n + 1) in
+    let h = holds-all code (list ++ i ∷ rest) listed in
     let zero_end : 0 + n ≡ n = omega arith in
-    let end_at : slice_get code.list n ≡ Some i = subst (λ z. slice_get code.list z ≡ Some i) zero_end (holds-head {at = 0 + n} i [] (holds-on n list (i ∷ []) (size_stretch program.tree 0) h)) in
+    let h1 : Holds code n (i ∷ rest) = subst (λ (z : ℕ). Holds code z (i ∷ rest)) zero_end (holds-on n list (i ∷ rest) (size_stretch program.tree 0) h) in
     let fit : Fits code.modes false program.tree = subst (λ m. Fits m false program.tree) (sym modes) fits in
+    let texts_fit : TextsFit code.modes program.texts = subst (λ m. TextsFit m program.texts) (sym modes) all_fit in
     let long = size_stretch program.tree 0 in
+    let long_texts = size_texts program.texts (n + 1) in
+    let front = length-append list (i ∷ rest) in
     record {
       end = n;
-      stands = to_end code false program.tree 0 zero_end (stands code false program.tree 0 fit (holds-front list (i ∷ []) h));
-      ends = (end_at, refl);
-      no_more = ap (λ (l : List Instr). length l) listed ∙ length-append list (i ∷ []) ∙ ap (λ (k : ℕ). k + 1) long;
-      texts = texts;
+      last = n + 1 + text_sizes program.texts;
+      stands = to_end code false program.tree 0 zero_end (stands code false program.tree 0 fit (holds-front list (i ∷ rest) h));
+      ends = (holds-head {at = n} i rest h1, refl);
+      texts = subst (λ (es : List RoutineEntrance). StandTexts code program.texts es (n + 1) (n + 1 + text_sizes program.texts)) (sym texts) (texts_stand code program.texts (n + 1) texts_fit (holds-tail {at = n} i rest h1));
+      no_more = ap (λ (l : List Instr). length l) listed ∙ omega (arith, front, long, long_texts);
       modes = modes;
     }

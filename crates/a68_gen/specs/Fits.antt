@@ -1,9 +1,9 @@
 -- Inner: the headline does not rest on this file.
 -- Trees whose parts leave what is taken of them.
-use Rattle.std.specs.Prelude.{◌≡◌, Bool, true, false, List}
+use Rattle.std.specs.Prelude.{◌≡◌, Bool, true, false, List, [], ◌∷◌}
 use Rattle.a68_acts.specs.Operations.{leaves}
 use Rattle.a68_code.specs.Flow.{takes}
-use Rattle.a68_elab.specs.Trees.{Tree, Trees, operation, together, phrases, range, choice, cases, loop, unbuilt, Test, no_test, while_in, no_trees, ◌and_tree◌, count}
+use Rattle.a68_elab.specs.Trees.{Tree, Trees, operation, together, phrases, range, choice, cases, loop, call, unbuilt, Test, no_test, while_in, no_trees, ◌and_tree◌, count, Body}
 use Rattle.a68_gen.specs.Stretches.{does_of}
 use Rattle.a68_modes.specs.declared.shape.Shape.{Shape}
 
@@ -21,6 +21,8 @@ abbrev mutual
   Fits modes gives (cases place enquiry arms out) = Fits modes true enquiry × AllFit modes gives arms × Fits modes gives out
   Fits modes gives (loop place controls limited counts test body) =
       (gives ≡ false) × (count controls ≡ 3) × AllFit modes true controls × TestFits modes test × Fits modes false body
+  Fits modes gives (call place yields no_trees) = ⊥
+  Fits modes gives (call place yields (primary and_tree parts)) = (gives ≡ yields) × AllFit modes true (primary and_tree parts)
   Fits modes gives unbuilt = ⊥
 
   pub AllFit : List Shape → (gives : Bool) → Trees → Type 0
@@ -30,3 +32,8 @@ abbrev mutual
   pub TestFits : List Shape → Test → Type 0
   TestFits modes no_test = Unit {0}
   TestFits modes (while_in at slots test) = Fits modes true test
+
+-- and so do the bodies of routine texts
+abbrev pub TextsFit : List Shape → List Body → Type 0
+TextsFit modes [] = Unit {0}
+TextsFit modes (body ∷ bodies) = Fits modes body.yields body.tree × TextsFit modes bodies

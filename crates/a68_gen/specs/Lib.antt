@@ -6,6 +6,8 @@ pub mod Loops
 pub mod Numbers
 pub mod Operands
 pub mod Runs
+pub mod Sources
 pub mod Stretches
+pub mod Texts
 pub mod Writers
 pub mod Writing

@@ -1,9 +1,10 @@
 -- The code of a program: the instructions of each construct, in order.
 use Rattle.std.specs.Prelude.{ℕ, zero, suc, Bool, true, false, ◌+◌, List, [], ◌∷◌, ◌++◌, length}
 use Rattle.a68_code.specs.declared.code.Instr.{Instr}
+use Rattle.a68_code.specs.declared.code.RoutineEntrance.{RoutineEntrance}
 use Rattle.a68_code.specs.declared.does.Does.{Does}
 use Rattle.a68_code.specs.declared.does.Does.TheVariants as does
-use Rattle.a68_elab.specs.Trees.{Tree, Trees, operation, together, phrases, range, choice, cases, loop, unbuilt, no_trees, ◌and_tree◌, count, Test, no_test, while_in, depth_of, Program}
+use Rattle.a68_elab.specs.Trees.{Tree, Trees, operation, together, phrases, range, choice, cases, loop, call, unbuilt, no_trees, ◌and_tree◌, count, Test, no_test, while_in, depth_of, Body, Program}
 use Rattle.a68_gen.specs.Stretches.{does_of, leave, with_last}
 
 -- an instruction keeps the place of its construct
@@ -41,6 +42,8 @@ abbrev mutual
   size (cases place enquiry arms out) = size enquiry + 1 + sizes arms + count arms + size out
   size (loop place controls limited counts test body) =
       sizes controls + length (limits limited place) + 3 + length (indexes counts place) + test_size test + size body + depth_of counts test + 2 + depth_of counts test + 1
+  size (call place yields no_trees) = 0
+  size (call place yields (primary and_tree parts)) = sizes (primary and_tree parts) + 1
   size unbuilt = 0
 
   pub sizes : Trees → ℕ
@@ -88,6 +91,9 @@ abbrev mutual
       let e = f + depth_of counts test in
       stretches controls at ++ (limits limited place ++ (instr place does.Counter ∷ instr place (does.Step e) ∷ instr place does.Turn ∷ (indexes counts place
       ++ (test_stretch place f test w ++ (stretch body x ++ (out ++ instr place (does.Advance t) ∷ instr place (does.Jump e) ∷ (out ++ instr place does.Forget ∷ [])))))))
+  -- the routine, its parameters, and Call
+  stretch (call place yields no_trees) at = []
+  stretch (call place yields (primary and_tree parts)) at = stretches (primary and_tree parts) at ++ instr place (does.Call (count parts) yields) ∷ []
   -- what is not built has none
   stretch unbuilt at = []
 
@@ -106,6 +112,26 @@ abbrev mutual
   test_stretch place f no_test at = []
   test_stretch place f (while_in begin slots test) at = opens slots begin ++ (stretch test (at + length (opens slots begin)) ++ instr place (does.Unless f) ∷ [])
 
--- the instructions of a program, which yields nothing, and End behind them
+-- ---- routine texts
+
+-- how many instructions a routine text becomes: its body, and Return
+abbrev pub text_size : Body → ℕ
+text_size body = size body.tree + 1
+
+-- those of routine texts, one behind the other
+abbrev pub text_stretches : List Body → (at : ℕ) → List Instr
+text_stretches [] at = []
+text_stretches (body ∷ bodies) at = stretch body.tree at ++ (instr body.place does.Return ∷ text_stretches bodies (at + text_size body))
+
+-- and where each begins
+abbrev pub entrances : List Body → (at : ℕ) → List RoutineEntrance
+entrances [] at = []
+entrances (body ∷ bodies) at = record { at = at; yields = body.yields } ∷ entrances bodies (at + text_size body)
+
+-- the instructions of a program, which yields nothing, End behind them, and those of its routine texts
 abbrev pub listing : Program → List Instr
-listing program = stretch program.tree 0 ++ instr program.place does.End ∷ []
+listing program = stretch program.tree 0 ++ (instr program.place does.End ∷ text_stretches program.texts (size program.tree + 1))
+
+-- the entrances of its routine texts
+abbrev pub entrances_of : Program → List RoutineEntrance
+entrances_of program = entrances program.texts (size program.tree + 1)

@@ -1,17 +1,19 @@
 -- Translation: which instructions a construct becomes, and where they stand.
 use Rattle.std.specs.Prelude.{◌≡◌, ℕ, zero, suc, ◌+◌, Bool, true, false, List, [], ◌∷◌, length, Some, slice_get, if◌then◌else◌}
-use Rattle.a68_acts.specs.Operations.{Operation, constant, skip, nil, tag, make, heap, bind, deref, store, apply, same, unite, drop, print, whole, leaves}
+use Rattle.a68_acts.specs.Operations.{Operation, constant, skip, nil, routine, tag, make, heap, bind, deref, store, apply, same, unite, drop, print, whole, leaves}
 use Rattle.a68_code.specs.Flow.{takes}
 use Rattle.a68_code.specs.declared.code.Code.{Code}
+use Rattle.a68_code.specs.declared.code.RoutineEntrance.{RoutineEntrance}
 use Rattle.a68_code.specs.declared.does.Does.{Does}
 use Rattle.a68_code.specs.declared.does.Does.TheVariants as does
-use Rattle.a68_elab.specs.Trees.{Tree, Trees, operation, together, phrases, range, choice, cases, loop, unbuilt, no_trees, ◌and_tree◌, count, Test, no_test, while_in, depth_of, Program}
+use Rattle.a68_elab.specs.Trees.{Tree, Trees, operation, together, phrases, range, choice, cases, loop, call, unbuilt, no_trees, ◌and_tree◌, count, Test, no_test, while_in, depth_of, Body, Program}
 
 -- the instruction of an operation on so many values
 abbrev pub does_of : Operation → ℕ → Does
 does_of (constant v) n = does.Push v
 does_of (skip mode) n = does.Skip mode
 does_of nil n = does.Nil
+does_of (routine text distance) n = does.Routine text distance
 does_of (tag hops slot) n = does.Tag hops slot
 does_of (make mode bounds) n = does.Make mode bounds
 does_of (heap mode bounds) n = does.Heap mode bounds
@@ -88,6 +90,10 @@ abbrev mutual
       × Indexes code counts place u w × Tests code test place f w x × Stands code false body x n
       × Leaves code place (depth_of counts test) n n' × Has code place (does.Advance t) n' v × Has code place (does.Jump e) v f
       × Leaves code place (depth_of counts test) f e × Has code place does.Forget e b
+  -- the routine, its parameters, and Call
+  Stands code gives (call place yields no_trees) a b = ⊥
+  Stands code gives (call place yields (primary and_tree parts)) a b =
+      (m : ℕ) × (gives ≡ yields) × StandAll code true (primary and_tree parts) a m × Has code place (does.Call (count parts) yields) m b
   -- what is not built stands nowhere
   Stands code gives unbuilt a b = ⊥
 
@@ -108,12 +114,20 @@ abbrev mutual
   Tests code no_test place f a b = a ≡ b
   Tests code (while_in at slots test) place f a b = (m n : ℕ) × Opens code slots at a m × Stands code true test m n × Has code place (does.Unless f) n b
 
--- the code is the stretch of the program, which yields nothing, and End behind it, and no more; it has no routine texts,
--- since these do not run yet, and its modes are those of the program
+-- the routine texts one behind the other, each at its entrance, with Return behind its body
+abbrev pub StandTexts : Code → List Body → List RoutineEntrance → (a b : ℕ) → Type 0
+StandTexts code [] [] a b = a ≡ b
+StandTexts code (body ∷ bodies) (e ∷ es) a b =
+    (m n : ℕ) × (e ≡ record { at = a; yields = body.yields }) × Stands code body.yields body.tree a m × Has code body.place does.Return m n × StandTexts code bodies es n b
+StandTexts code _ _ a b = ⊥
+
+-- The code is the stretch of the program, which yields nothing, End behind it, the routine texts behind that, and no more;
+-- its modes are those of the program.
 pub record Translates (program : Program) (code : Code) : Type 0 where
   pub end : ℕ
+  pub last : ℕ
   pub stands : Stands code false program.tree 0 end
   pub ends : Has code program.place does.End end (end + 1)
-  pub no_more : length code.list ≡ end + 1
-  pub texts : code.texts ≡ []
+  pub texts : StandTexts code program.texts code.texts (end + 1) last
+  pub no_more : length code.list ≡ last
   pub modes : code.modes ≡ program.modes

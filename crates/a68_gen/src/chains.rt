@@ -8,7 +8,8 @@ ghost use Rattle.a68_gen.specs.Chains.{IsWithin, link_tree};
 ghost use Rattle.a68_modes.specs.Nodes.{shape_at, is_void};
 ghost use Rattle.a68_tree.specs.Trees.{AllBetween};
 
-use a68_annot::{Annotated, Note};
+use crate::numbered::Numbered;
+use a68_annot::Note;
 use a68_modes::ModeId;
 use a68_tree::{Node, NodeId, NodeKind};
 
@@ -29,7 +30,7 @@ pub struct Link {
 
 // The choice of these parts, with what its enquiry begins.
 fn link_with(
-    program: &Annotated,
+    program: &Numbered,
     id: NodeId,
     enquiry: NodeId,
     part: NodeId,
@@ -45,8 +46,8 @@ fn link_with(
     ensures within { IsWithin program.now result }
     ensures node { result.id ≡ id }
 {
-    let node = program.tree.node(enquiry);
-    let _parts = program.tree.parts(enquiry);
+    let node = program.node(enquiry);
+    let _parts = program.parts(enquiry);
     let slots = program.note(enquiry).slots;
     Link {
         id,
@@ -55,7 +56,7 @@ fn link_with(
         other,
         place,
         goal,
-        yields: !program.modes.is_void(goal),
+        yields: !program.is_void(goal),
         at: node.span.from,
         slots,
     }
@@ -63,7 +64,7 @@ fn link_with(
 
 /// The choice of a node with these parts, where there are two or three.
 pub fn link_of(
-    program: &Annotated,
+    program: &Numbered,
     id: NodeId,
     parts: &[NodeId],
     place: u32,
@@ -93,7 +94,7 @@ fn is_link(node: &Node, note: &Note) -> bool
 }
 
 /// The next choice of a chain, where there is one.
-pub fn next_link(program: &Annotated, link: &Link) -> Option<Link>
+pub fn next_link(program: &Numbered, link: &Link) -> Option<Link>
     requires { IsWithin program.now link.now }
     ensures tree { IfSome result (λ next. tree_at program.now next.id ≡ link_tree program.now (tree_at program.now) next) }
     ensures within { IfSome result (IsWithin program.now) }
@@ -102,7 +103,7 @@ pub fn next_link(program: &Annotated, link: &Link) -> Option<Link>
     let Some(id) = link.other else {
         return None;
     };
-    let node = program.tree.node(id);
+    let node = program.node(id);
     let note = program.note(id);
     if !is_link(node, note) {
         return None;

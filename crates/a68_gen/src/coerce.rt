@@ -8,7 +8,7 @@ use crate::writer::Writer;
 use a68_annot::Note;
 use a68_code::Does;
 use a68_modes::{Coercion, ModeId, Modes};
-use a68_runs::behind_ref;
+use a68_runs::{behind_proc, behind_ref};
 
 /// Are all coercions of a unit built?
 pub fn are_built(note: &Note) -> bool
@@ -17,7 +17,7 @@ pub fn are_built(note: &Note) -> bool
     let path = &note.path.items;
     path.iter().all(|coercion| matches!(
         coercion,
-        Coercion::Deref | Coercion::Unite(_) | Coercion::Drop
+        Coercion::Deref | Coercion::Deproc | Coercion::Unite(_) | Coercion::Drop
     ))
 }
 
@@ -36,6 +36,12 @@ fn coerce_once(
         Coercion::Deref => {
             let behind = behind_ref(modes, mode);
             out.emit(place, Does::Deref(behind));
+            behind
+        }
+        Coercion::Deproc => {
+            let behind = behind_proc(modes, mode);
+            let gives = !modes.is_void(behind);
+            out.emit(place, Does::Call { count: 0, gives });
             behind
         }
         Coercion::Unite(from) => {

@@ -6,6 +6,7 @@ mod coerce;
 mod emit;
 mod ends;
 mod loops;
+mod numbered;
 mod rows;
 mod single;
 mod translate;

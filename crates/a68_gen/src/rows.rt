@@ -1,15 +1,17 @@
 //! The instructions of constructs. Above each function stands what it writes: `[x]` is what the part x writes.
 ghost use Rattle.std.specs.Option.{option_map, option_map_or, option_and_then};
 ghost use Rattle.a68_acts.specs.Operations as operations;
-ghost use Rattle.std.specs.Prelude.{◌≡◌, ◌<◌, ◌≤◌, ◌+◌, ◌⊎◌, ◌∷◌, ◌++◌, [], not, length, map, ℕ, IfSome, if◌then◌else◌};
+ghost use Rattle.std.specs.Prelude.{◌≡◌, ◌<◌, ◌≤◌, ◌+◌, ◌⊎◌, ◌∷◌, ◌++◌, [], not, length, map, ℕ, IfSome, if◌then◌else◌, false, true};
 ghost use Rattle.a68_elab.specs.Constants.{value_in};
 ghost use Rattle.a68_elab.specs.Made as made;
 ghost use Rattle.a68_elab.specs.Made.{behind, tree_at, trees_at};
 ghost use Rattle.a68_elab.specs.Trees as trees;
+ghost use Rattle.a68_elab.specs.Trees.{◌and_tree◌};
 ghost use Rattle.a68_gen.specs.Chains.{IsOpen, IsWhole, IsWithin, enquiry_tree, jump_of, link_list, link_tree, other_tree};
 ghost use Rattle.a68_gen.specs.Listing.{arm_places, arm_stretches, instr, size, stretch, stretches, test_stretch};
 ghost use Rattle.a68_gen.specs.Loops.{asked, counted, unless_at};
 ghost use Rattle.a68_gen.specs.Numbers.{arm_jumps, case_list};
+ghost use Rattle.a68_gen.specs.Sources.{assigned_tree};
 ghost use Rattle.a68_gen.specs.Stretches.{does_of};
 ghost use Rattle.a68_gen.specs.Writers.{Wrote};
 ghost use Rattle.a68_gen.specs.Writing.{ran_out};
@@ -22,9 +24,10 @@ use crate::coerce::{are_built, coerce};
 use crate::emit::{push_int, zeros};
 use crate::ends::{Opened, close_all, keep, keep_open, shut};
 use crate::loops::{depth, leave_frames, limit, open, turn};
+use crate::numbered::Numbered;
 use crate::single::{denotation, generator, leave, new_name, nothing, same, store, tag, unbuilt};
 use crate::writer::Writer;
-use a68_annot::{Annotated, Note};
+use a68_annot::Note;
 use a68_code::{Does, Places};
 use a68_modes::ModeId;
 use a68_runs::{
@@ -36,23 +39,23 @@ use std::alloc::Global;
 
 /// Writes a unit and its coercions: [construct] coercions.
 #[cycle(units)]
-pub fn unit(alloc: Global, program: &Annotated, id: NodeId, out: &mut Writer)
+pub fn unit(alloc: Global, program: &Numbered, id: NodeId, out: &mut Writer)
     requires { id < length program.now.tree.nodes }
     ensures { Wrote out.old out.new (stretch (tree_at program.now id) (length out.old.list)) }
 {
-    let node = program.tree.node(id);
+    let node = program.node(id);
     let note = program.note(id);
     if !are_built(note) {
         unbuilt(out);
         return;
     }
     construct(alloc, program, id, node, note, out);
-    coerce(&program.modes, node.span.from, note, out);
+    coerce(program.modes(), node.span.from, note, out);
 }
 
 // One of the parts of a node.
 #[cycle(units)]
-fn write_part(alloc: Global, program: &Annotated, id: NodeId, part: NodeId, out: &mut Writer)
+fn write_part(alloc: Global, program: &Numbered, id: NodeId, part: NodeId, out: &mut Writer)
     requires { (id < part) × (part < length program.now.tree.nodes) }
     ensures { Wrote out.old out.new (stretch (behind id (tree_at program.now) part) (length out.old.list)) }
 {
@@ -63,7 +66,7 @@ fn write_part(alloc: Global, program: &Annotated, id: NodeId, part: NodeId, out:
 #[cycle(units)]
 fn construct(
     alloc: Global,
-    program: &Annotated,
+    program: &Numbered,
     id: NodeId,
     node: &Node,
     note: &Note,
@@ -72,6 +75,7 @@ fn construct(
     requires there { id < length program.now.tree.nodes }
     requires between { AllBetween id (length program.now.tree.nodes) node.now.parts }
     requires named { node.now.name < length program.now.tree.spellings }
+    requires begins { node.now.span.from < made.behind_all program.now.tree.nodes }
     ensures { Wrote out.old out.new (stretch (made.made program.now (behind id (tree_at program.now)) node.now note.now node.now.kind) (length out.old.list)) }
 {
     let place = node.span.from;
@@ -80,6 +84,16 @@ fn construct(
         NodeKind::Denotation => denotation(alloc, program, node, out),
         NodeKind::Skip => out.emit(place, Does::Skip(note.goal)),
         NodeKind::Nil => out.emit(place, Does::Nil),
+        NodeKind::RoutineText => {
+            let text = program.text_number(place);
+            out.emit(
+                place,
+                Does::Routine {
+                    text,
+                    distance: note.need,
+                },
+            )
+        }
         NodeKind::Tag => out.emit(place, tag(program, node, note)),
         NodeKind::Monadic | NodeKind::Dyadic => {
             formula(alloc, program, id, parts, place, note, out)
@@ -93,12 +107,14 @@ fn construct(
             operation(alloc, program, id, parts, place, does, out)
         }
         NodeKind::Generator => generator(program, node, note, out),
-        NodeKind::IdentityDefinition => definition(alloc, program, id, parts, place, note, out),
+        NodeKind::OpDefinition | NodeKind::IdentityDefinition => {
+            definition(alloc, program, id, parts, place, note, out)
+        }
         NodeKind::Variable => variable(alloc, program, id, parts, place, note, out),
         NodeKind::ModeDefinition | NodeKind::Priority => nothing(out),
         NodeKind::Joined => all(alloc, program, id, parts, out),
         NodeKind::Collateral => collateral(alloc, program, id, parts, note, out),
-        NodeKind::Call => call(alloc, program, id, parts, place, out),
+        NodeKind::Call => call(alloc, program, id, parts, place, note, out),
         NodeKind::Cast => last(alloc, program, id, parts, out),
         NodeKind::Serial => serial(alloc, program, id, parts, place, note, out),
         NodeKind::Closed
@@ -116,7 +132,7 @@ fn construct(
 
 // [parts], one behind the other.
 #[cycle(units)]
-fn all(alloc: Global, program: &Annotated, id: NodeId, parts: &[NodeId], out: &mut Writer)
+fn all(alloc: Global, program: &Numbered, id: NodeId, parts: &[NodeId], out: &mut Writer)
     requires { AllBetween id (length program.now.tree.nodes) parts.now }
     ensures { Wrote out.old out.new (stretches (trees_at (behind id (tree_at program.now)) parts.now) (length out.old.list)) }
 {
@@ -129,7 +145,7 @@ fn all(alloc: Global, program: &Annotated, id: NodeId, parts: &[NodeId], out: &m
 #[cycle(units)]
 fn operation(
     alloc: Global,
-    program: &Annotated,
+    program: &Numbered,
     id: NodeId,
     parts: &[NodeId],
     place: u32,
@@ -143,11 +159,11 @@ fn operation(
     out.emit(place, does);
 }
 
-// [operands] Apply.
+// Tag [operands] Call. There is no memory for more operands than an instruction can tell.
 #[cycle(units)]
-fn formula(
+fn applied(
     alloc: Global,
-    program: &Annotated,
+    program: &Numbered,
     id: NodeId,
     parts: &[NodeId],
     place: u32,
@@ -155,17 +171,78 @@ fn formula(
     out: &mut Writer,
 )
     requires { AllBetween id (length program.now.tree.nodes) parts.now }
-    ensures { Wrote out.old out.new (stretch (made.formula place note.now.op (trees_at (behind id (tree_at program.now)) parts.now)) (length out.old.list)) }
+    ensures { Wrote out.old out.new (stretch (trees.call place (not (is_void (shape_at program.now.modes note.now.mode)))
+        (made.leaf place (operations.tag note.now.step.hops note.now.step.slot) and_tree trees_at (behind id (tree_at program.now)) parts.now)) (length out.old.list)) }
+{
+    let gives = !program.is_void(note.mode);
+    match u32::try_from(parts.len()) {
+        Ok(count) => {
+            out.emit(
+                place,
+                Does::Tag {
+                    hops: note.step.hops,
+                    slot: note.step.slot,
+                },
+            );
+            operation(
+                alloc,
+                program,
+                id,
+                parts,
+                place,
+                Does::Call { count, gives },
+                out,
+            )
+        }
+        Err(_) => out.run_out(),
+    }
+}
+
+// A formula whose operator the text defines.
+#[cycle(units)]
+fn declared_formula(
+    alloc: Global,
+    program: &Numbered,
+    id: NodeId,
+    parts: &[NodeId],
+    place: u32,
+    note: &Note,
+    out: &mut Writer,
+)
+    requires { AllBetween id (length program.now.tree.nodes) parts.now }
+    ensures { Wrote out.old out.new (stretch (made.declared_formula place (not (is_void (shape_at program.now.modes note.now.mode))) note.now note.now.definition
+        (trees_at (behind id (tree_at program.now)) parts.now)) (length out.old.list)) }
+{
+    match note.definition {
+        Some(_) => applied(alloc, program, id, parts, place, note, out),
+        None => unbuilt(out),
+    }
+}
+
+// [operands] Apply, or a call of the operator.
+#[cycle(units)]
+fn formula(
+    alloc: Global,
+    program: &Numbered,
+    id: NodeId,
+    parts: &[NodeId],
+    place: u32,
+    note: &Note,
+    out: &mut Writer,
+)
+    requires { AllBetween id (length program.now.tree.nodes) parts.now }
+    ensures { Wrote out.old out.new (stretch (made.formula place (not (is_void (shape_at program.now.modes note.now.mode))) note.now
+        (trees_at (behind id (tree_at program.now)) parts.now)) (length out.old.list)) }
 {
     match note.op {
         Some(row) => operation(alloc, program, id, parts, place, Does::Apply(row), out),
-        None => unbuilt(out),
+        None => declared_formula(alloc, program, id, parts, place, note, out),
     }
 }
 
 // The last part: [part].
 #[cycle(units)]
-fn last(alloc: Global, program: &Annotated, id: NodeId, parts: &[NodeId], out: &mut Writer)
+fn last(alloc: Global, program: &Numbered, id: NodeId, parts: &[NodeId], out: &mut Writer)
     requires { AllBetween id (length program.now.tree.nodes) parts.now }
     ensures { Wrote out.old out.new (stretch (made.last_tree (trees_at (behind id (tree_at program.now)) parts.now)) (length out.old.list)) }
 {
@@ -180,7 +257,7 @@ fn last(alloc: Global, program: &Annotated, id: NodeId, parts: &[NodeId], out: &
 #[cycle(units)]
 fn definition(
     alloc: Global,
-    program: &Annotated,
+    program: &Numbered,
     id: NodeId,
     parts: &[NodeId],
     place: u32,
@@ -195,11 +272,34 @@ fn definition(
     out.emit(place, Does::Bind(note.step.slot));
 }
 
-// Make or Heap; with a source [source] Store; Bind.
+// Make or Heap; [source] Store; Bind.
 #[cycle(units)]
-fn declared(
+fn assigned(
     alloc: Global,
-    program: &Annotated,
+    program: &Numbered,
+    id: NodeId,
+    source: NodeId,
+    place: u32,
+    in_heap: bool,
+    note: &Note,
+    out: &mut Writer,
+)
+    requires { (id < source) × (source < length program.now.tree.nodes) }
+    ensures { Wrote out.old out.new (stretch (assigned_tree in_heap place (made.behind_ref (shape_at program.now.modes note.now.mode)) note.now.step.slot
+        (behind id (tree_at program.now) source)) (length out.old.list)) }
+{
+    let mode = behind_ref(program.modes(), note.mode);
+    out.emit(place, new_name(in_heap, mode));
+    write_part(alloc, program, id, source, out);
+    out.emit(place, Does::Store(mode));
+    out.emit(place, Does::Bind(note.step.slot));
+}
+
+// A variable that a routine text begins, which is its source.
+#[cycle(units)]
+fn begun(
+    alloc: Global,
+    program: &Numbered,
     id: NodeId,
     parts: &[NodeId],
     place: u32,
@@ -209,35 +309,51 @@ fn declared(
 )
     requires { AllBetween id (length program.now.tree.nodes) parts.now }
     ensures { let mode = made.behind_ref (shape_at program.now.modes note.now.mode) in
-        Wrote out.old out.new (stretch (made.variable_of (made.new_name in_heap place mode) (made.begins_with made.is_declarer program.now parts.now) place mode note.now.step.slot
+        Wrote out.old out.new (stretch (made.variable_of (made.new_name in_heap place mode) false place mode note.now.step.slot
         (trees_at (behind id (tree_at program.now)) parts.now)) (length out.old.list)) }
 {
-    let mode = behind_ref(&program.modes, note.mode);
-    let slot = note.step.slot;
-    if !begins_with_declarer(program, id, parts) {
+    if parts.len() != 1 {
         unbuilt(out);
         return;
     }
+    assigned(alloc, program, id, parts[0], place, in_heap, note, out);
+}
+
+// A variable that a declarer begins: Make or Heap; with a source [source] Store; Bind.
+#[cycle(units)]
+fn declared(
+    alloc: Global,
+    program: &Numbered,
+    id: NodeId,
+    parts: &[NodeId],
+    place: u32,
+    in_heap: bool,
+    note: &Note,
+    out: &mut Writer,
+)
+    requires { AllBetween id (length program.now.tree.nodes) parts.now }
+    ensures { let mode = made.behind_ref (shape_at program.now.modes note.now.mode) in
+        Wrote out.old out.new (stretch (made.variable_of (made.new_name in_heap place mode) true place mode note.now.step.slot
+        (trees_at (behind id (tree_at program.now)) parts.now)) (length out.old.list)) }
+{
     if parts.len() == 1 {
+        let mode = behind_ref(program.modes(), note.mode);
         out.emit(place, new_name(in_heap, mode));
-        out.emit(place, Does::Bind(slot));
+        out.emit(place, Does::Bind(note.step.slot));
         return;
     }
     if parts.len() != 2 {
         unbuilt(out);
         return;
     }
-    out.emit(place, new_name(in_heap, mode));
-    write_part(alloc, program, id, parts[1], out);
-    out.emit(place, Does::Store(mode));
-    out.emit(place, Does::Bind(slot));
+    assigned(alloc, program, id, parts[1], place, in_heap, note, out);
 }
 
 // A variable, in the heap where HEAP stands before its declarer.
 #[cycle(units)]
 fn variable(
     alloc: Global,
-    program: &Annotated,
+    program: &Numbered,
     id: NodeId,
     parts: &[NodeId],
     place: u32,
@@ -248,16 +364,20 @@ fn variable(
     ensures { Wrote out.old out.new (stretch (made.variable program.now (behind id (tree_at program.now)) place (made.behind_ref (shape_at program.now.modes note.now.mode))
         note.now.step.slot parts.now) (length out.old.list)) }
 {
-    let in_heap = begins_in_heap(program, id, parts);
-    let parts = behind_heap(in_heap, parts);
-    declared(alloc, program, id, parts, place, in_heap, note, out);
+    let in_heap = begins_in_heap(program.annotated(), id, parts);
+    let rest = behind_heap(in_heap, parts);
+    if begins_with_declarer(program.annotated(), id, rest) {
+        declared(alloc, program, id, rest, place, in_heap, note, out);
+    } else {
+        begun(alloc, program, id, rest, place, in_heap, note, out);
+    }
 }
 
 // A collateral clause of VOID: [parts].
 #[cycle(units)]
 fn collateral(
     alloc: Global,
-    program: &Annotated,
+    program: &Numbered,
     id: NodeId,
     parts: &[NodeId],
     note: &Note,
@@ -267,7 +387,7 @@ fn collateral(
     ensures { Wrote out.old out.new (stretch (made.collateral_of (is_void (shape_at program.now.modes note.now.goal)) (trees_at (behind id (tree_at program.now)) parts.now))
         (length out.old.list)) }
 {
-    if program.modes.is_void(note.goal) {
+    if program.is_void(note.goal) {
         all(alloc, program, id, parts, out);
     } else {
         unbuilt(out);
@@ -278,7 +398,7 @@ fn collateral(
 #[cycle(units)]
 fn prints(
     alloc: Global,
-    program: &Annotated,
+    program: &Numbered,
     id: NodeId,
     items: &[NodeId],
     place: u32,
@@ -293,31 +413,71 @@ fn prints(
     }
 }
 
-// [items] Print; [number] [width] Whole. What is called leaves nothing.
+// [primary] [parameters] Call. There is no memory for more parameters than an instruction can tell.
 #[cycle(units)]
-fn call(
+fn routine(
     alloc: Global,
-    program: &Annotated,
+    program: &Numbered,
     id: NodeId,
     parts: &[NodeId],
     place: u32,
+    note: &Note,
+    out: &mut Writer,
+)
+    requires between { AllBetween id (length program.now.tree.nodes) parts.now }
+    requires some { 0 < length parts.now }
+    ensures { Wrote out.old out.new (stretch (trees.call place (not (is_void (shape_at program.now.modes note.now.mode)))
+        (trees_at (behind id (tree_at program.now)) parts.now)) (length out.old.list)) }
+{
+    let gives = !program.is_void(note.mode);
+    match u32::try_from(parts.len() - 1) {
+        Ok(count) => operation(
+            alloc,
+            program,
+            id,
+            parts,
+            place,
+            Does::Call { count, gives },
+            out,
+        ),
+        Err(_) => out.run_out(),
+    }
+}
+
+// [items] Print; [number] [width] Whole; or a call of a routine. What is called of the standard environ leaves nothing.
+#[cycle(units)]
+fn call(
+    alloc: Global,
+    program: &Numbered,
+    id: NodeId,
+    parts: &[NodeId],
+    place: u32,
+    note: &Note,
     out: &mut Writer,
 )
     requires { AllBetween id (length program.now.tree.nodes) parts.now }
-    ensures { Wrote out.old out.new (stretch (made.call_of program.now (behind id (tree_at program.now)) place parts.now) (length out.old.list)) }
+    ensures { Wrote out.old out.new (stretch (made.call_of program.now (behind id (tree_at program.now)) place (not (is_void (shape_at program.now.modes note.now.mode))) parts.now)
+        (length out.old.list)) }
 {
     if parts.len() == 0 {
         unbuilt(out);
         return;
     }
-    let name = called(program, parts[0]);
+    let name = called(program.annotated(), parts[0]);
     let rest = &parts[1..];
     if is_one_of(printers(), name) {
-        prints(alloc, program, id, items_at(program, id, rest), place, out);
+        prints(
+            alloc,
+            program,
+            id,
+            items_at(program.annotated(), id, rest),
+            place,
+            out,
+        );
     } else if is_one_of(wholes(), name) {
         operation(alloc, program, id, rest, place, Does::Whole, out);
     } else {
-        unbuilt(out);
+        routine(alloc, program, id, parts, place, note, out);
     }
 }
 
@@ -325,7 +485,7 @@ fn call(
 #[cycle(units)]
 fn serial(
     alloc: Global,
-    program: &Annotated,
+    program: &Numbered,
     id: NodeId,
     parts: &[NodeId],
     place: u32,
@@ -351,7 +511,7 @@ fn serial(
 
 // [part], the only one.
 #[cycle(units)]
-fn only(alloc: Global, program: &Annotated, id: NodeId, parts: &[NodeId], out: &mut Writer)
+fn only(alloc: Global, program: &Numbered, id: NodeId, parts: &[NodeId], out: &mut Writer)
     requires { AllBetween id (length program.now.tree.nodes) parts.now }
     ensures { Wrote out.old out.new (stretch (made.only_of (trees_at (behind id (tree_at program.now)) parts.now)) (length out.old.list)) }
 {
@@ -366,7 +526,7 @@ fn only(alloc: Global, program: &Annotated, id: NodeId, parts: &[NodeId], out: &
 #[cycle(units)]
 fn otherwise(
     alloc: Global,
-    program: &Annotated,
+    program: &Numbered,
     id: NodeId,
     part: Option<NodeId>,
     place: u32,
@@ -384,7 +544,7 @@ fn otherwise(
 
 // [enquiry] Unless x [part] Jump 0 x: and gives the number of the Jump. With slots Enter stands before it.
 #[cycle(units)]
-fn write_link(alloc: Global, program: &Annotated, link: &Link, out: &mut Writer) -> u32
+fn write_link(alloc: Global, program: &Numbered, link: &Link, out: &mut Writer) -> u32
     requires { IsWithin program.now link.now }
     ensures writes { Wrote out.old out.new (link_list link.now.at link.now.slots link.now.place (enquiry_tree program.now (tree_at program.now) link.now)
         (tree_at program.now link.now.part) (length out.old.list)) }
@@ -392,7 +552,7 @@ fn write_link(alloc: Global, program: &Annotated, link: &Link, out: &mut Writer)
         (tree_at program.now link.now.part) (length out.old.list) }
 {
     let place = link.place;
-    let phrases = program.tree.parts(link.enquiry);
+    let phrases = program.parts(link.enquiry);
     enquire(
         alloc,
         program,
@@ -417,7 +577,7 @@ fn write_link(alloc: Global, program: &Annotated, link: &Link, out: &mut Writer)
 #[cycle(units)]
 fn write_links(
     alloc: Global,
-    program: &Annotated,
+    program: &Numbered,
     first: Link,
     opens: &mut Vec<Opened>,
     out: &mut Writer,
@@ -442,7 +602,7 @@ fn write_links(
 
 // A chain of choices: no more of the stack is needed however long it is.
 #[cycle(units)]
-fn chain(alloc: Global, program: &Annotated, first: Link, out: &mut Writer)
+fn chain(alloc: Global, program: &Numbered, first: Link, out: &mut Writer)
     requires { IsWithin program.now first }
     ensures { Wrote out.old out.new (stretch (link_tree program.now (tree_at program.now) first) (length out.old.list)) }
 {
@@ -458,7 +618,7 @@ fn chain(alloc: Global, program: &Annotated, first: Link, out: &mut Writer)
 #[cycle(units)]
 fn conditional(
     alloc: Global,
-    program: &Annotated,
+    program: &Numbered,
     id: NodeId,
     parts: &[NodeId],
     place: u32,
@@ -479,7 +639,7 @@ fn conditional(
 #[cycle(units)]
 fn write_arm(
     alloc: Global,
-    program: &Annotated,
+    program: &Numbered,
     id: NodeId,
     part: NodeId,
     place: u32,
@@ -505,7 +665,7 @@ fn write_arm(
 #[cycle(units)]
 fn write_arms(
     alloc: Global,
-    program: &Annotated,
+    program: &Numbered,
     id: NodeId,
     parts: &[NodeId],
     place: u32,
@@ -531,7 +691,7 @@ fn write_arms(
 #[cycle(units)]
 fn choose(
     alloc: Global,
-    program: &Annotated,
+    program: &Numbered,
     id: NodeId,
     parts: &[NodeId],
     other: Option<NodeId>,
@@ -572,7 +732,7 @@ fn choose(
 #[cycle(units)]
 fn case(
     alloc: Global,
-    program: &Annotated,
+    program: &Numbered,
     id: NodeId,
     parts: &[NodeId],
     place: u32,
@@ -589,21 +749,21 @@ fn case(
     }
     let enquiry = parts[0];
     let rest = &parts[1..];
-    let begin = program.tree.node(enquiry).span.from;
+    let begin = program.node(enquiry).span.from;
     let slots = program.note(enquiry).slots;
-    let phrases = program.tree.parts(enquiry);
+    let phrases = program.parts(enquiry);
     enquire(alloc, program, enquiry, phrases, begin, slots, out);
-    let units = before_out(program, id, rest);
-    let other = out_of(program, id, rest);
+    let units = before_out(program.annotated(), id, rest);
+    let other = out_of(program.annotated(), id, rest);
     choose(alloc, program, id, units, other, place, goal, out);
-    shut(place, slots, !program.modes.is_void(goal), out);
+    shut(place, slots, !program.is_void(goal), out);
 }
 
 // FROM, BY or TO: [part], or what is meant where it is left out.
 #[cycle(units)]
 fn control(
     alloc: Global,
-    program: &Annotated,
+    program: &Numbered,
     id: NodeId,
     part: Option<NodeId>,
     left_out: Does,
@@ -623,7 +783,7 @@ fn control(
 #[cycle(units)]
 fn count(
     alloc: Global,
-    program: &Annotated,
+    program: &Numbered,
     id: NodeId,
     parts: &LoopParts,
     place: u32,
@@ -643,7 +803,7 @@ fn count(
 #[cycle(units)]
 fn enquire(
     alloc: Global,
-    program: &Annotated,
+    program: &Numbered,
     id: NodeId,
     parts: &[NodeId],
     place: u32,
@@ -659,15 +819,15 @@ fn enquire(
 
 // The enquiry behind WHILE.
 #[cycle(units)]
-fn ask(alloc: Global, program: &Annotated, id: NodeId, clause: Option<NodeId>, out: &mut Writer)
+fn ask(alloc: Global, program: &Numbered, id: NodeId, clause: Option<NodeId>, out: &mut Writer)
     requires { IfSome clause (λ p. (id < p) × (p < length program.now.tree.nodes)) }
     ensures { Wrote out.old out.new (asked (made.enquiry_at program.now (behind id (tree_at program.now)) clause) (length out.old.list)) }
 {
     match clause {
         Some(clause) => {
-            let place = program.tree.node(clause).span.from;
+            let place = program.node(clause).span.from;
             let slots = program.note(clause).slots;
-            let parts = program.tree.parts(clause);
+            let parts = program.parts(clause);
             enquire(alloc, program, id, parts, place, slots, out)
         }
         None => unbuilt(out),
@@ -678,7 +838,7 @@ fn ask(alloc: Global, program: &Annotated, id: NodeId, clause: Option<NodeId>, o
 #[cycle(units)]
 fn test(
     alloc: Global,
-    program: &Annotated,
+    program: &Numbered,
     id: NodeId,
     test: Option<NodeId>,
     place: u32,
@@ -691,7 +851,7 @@ fn test(
     let Some(part) = test else {
         return None;
     };
-    ask(alloc, program, id, only_id(program.tree.parts(part)), out);
+    ask(alloc, program, id, only_id(program.parts(part)), out);
     let unless = out.len();
     out.emit(place, Does::Unless(0));
     Some(unless)
@@ -699,7 +859,7 @@ fn test(
 
 // The body of a loop.
 #[cycle(units)]
-fn body(alloc: Global, program: &Annotated, id: NodeId, part: Option<NodeId>, out: &mut Writer)
+fn body(alloc: Global, program: &Numbered, id: NodeId, part: Option<NodeId>, out: &mut Writer)
     requires { IfSome part (λ p. (id < p) × (p < length program.now.tree.nodes)) }
     ensures { Wrote out.old out.new (stretch (option_map_or (behind id (tree_at program.now)) part trees.unbuilt) (length out.old.list)) }
 {
@@ -714,7 +874,7 @@ fn body(alloc: Global, program: &Annotated, id: NodeId, part: Option<NodeId>, ou
 #[cycle(units)]
 fn repeat(
     alloc: Global,
-    program: &Annotated,
+    program: &Numbered,
     id: NodeId,
     parts: &[NodeId],
     place: u32,
@@ -723,7 +883,7 @@ fn repeat(
     requires { AllBetween id (length program.now.tree.nodes) parts.now }
     ensures { Wrote out.old out.new (stretch (made.loop_of program.now (behind id (tree_at program.now)) place parts.now) (length out.old.list)) }
 {
-    let parts = loop_parts(program, id, parts);
+    let parts = loop_parts(program.annotated(), id, parts);
     let frames = depth(program, &parts);
     count(alloc, program, id, &parts, place, out);
     let step = out.len();

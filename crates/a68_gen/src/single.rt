@@ -9,8 +9,9 @@ ghost use Rattle.a68_gen.specs.Stretches.{does_of};
 ghost use Rattle.a68_gen.specs.Writers.{Wrote};
 ghost use Rattle.a68_modes.specs.Nodes.{shape_at, is_void};
 
+use crate::numbered::Numbered;
 use crate::writer::Writer;
-use a68_annot::{Annotated, Note};
+use a68_annot::Note;
 use a68_code::Does;
 use a68_modes::ModeId;
 use a68_runs::{behind_ref, is_one_of, standard_of, value_in};
@@ -39,22 +40,22 @@ fn denoted(place: u32, value: Option<Value>, out: &mut Writer)
 }
 
 /// Push the value of a denotation.
-pub fn denotation(alloc: Global, program: &Annotated, node: &Node, out: &mut Writer)
+pub fn denotation(alloc: Global, program: &Numbered, node: &Node, out: &mut Writer)
     requires { node.now.name < length program.now.tree.spellings }
     ensures { Wrote out.old out.new (stretch (made.denoted node.now.span.from (option_and_then value_in (made.spelling_of program.now node.now))) (length out.old.list)) }
 {
-    match value_in(alloc, program.tree.spelling(node.name)) {
+    match value_in(alloc, program.annotated().tree.spelling(node.name)) {
         Ok(value) => denoted(node.span.from, value, out),
         Err(_) => out.run_out(),
     }
 }
 
 /// Push the value of a tag of the standard environ, or Tag: hops and slot.
-pub fn tag(program: &Annotated, node: &Node, note: &Note) -> Does
+pub fn tag(program: &Numbered, node: &Node, note: &Note) -> Does
     requires { node.now.name < length program.now.tree.spellings }
     ensures { result ≡ does_of (made.tag_of (made.standard_of note.now.definition (made.spelling_of program.now node.now)) note.now.step.hops note.now.step.slot) 0 }
 {
-    match standard_of(program, node, note) {
+    match standard_of(program.annotated(), node, note) {
         Some(value) => Does::Push(value),
         None => Does::Tag {
             hops: note.step.hops,
@@ -64,17 +65,17 @@ pub fn tag(program: &Annotated, node: &Node, note: &Note) -> Does
 }
 
 /// Store: the mode behind that of the name.
-pub fn store(program: &Annotated, note: &Note) -> Does
+pub fn store(program: &Numbered, note: &Note) -> Does
     ensures { result ≡ Does.Store (made.behind_ref (shape_at program.now.modes note.now.mode)) }
 {
-    Does::Store(behind_ref(&program.modes, note.mode))
+    Does::Store(behind_ref(program.modes(), note.mode))
 }
 
 /// Leave 1 where a value is yielded, else Leave 0.
-pub fn leave(program: &Annotated, note: &Note) -> Does
+pub fn leave(program: &Numbered, note: &Note) -> Does
     ensures { result ≡ Does.Leave (if not (is_void (shape_at program.now.modes note.now.goal)) then 1 else 0) }
 {
-    if program.modes.is_void(note.goal) {
+    if program.is_void(note.goal) {
         Does::Leave(0)
     } else {
         Does::Leave(1)
@@ -89,11 +90,11 @@ fn isnt() -> &'static [&'static str]
 }
 
 /// Same: 1 where the relation is negated.
-pub fn same(program: &Annotated, node: &Node) -> Does
+pub fn same(program: &Numbered, node: &Node) -> Does
     requires { node.now.name < length program.now.tree.spellings }
     ensures { result ≡ Does.Same (made.negated (made.is_one_of made.isnt (made.spelling_of program.now node.now))) }
 {
-    let is_negated = is_one_of(isnt(), Some(program.tree.spelling(node.name)));
+    let is_negated = is_one_of(isnt(), Some(program.annotated().tree.spelling(node.name)));
     Does::Same(u32::from(is_negated))
 }
 
@@ -116,12 +117,12 @@ pub fn new_name(in_heap: bool, mode: ModeId) -> Does
 }
 
 /// A new name, in the heap where the generator says so.
-pub fn generator(program: &Annotated, node: &Node, note: &Note, out: &mut Writer)
+pub fn generator(program: &Numbered, node: &Node, note: &Note, out: &mut Writer)
     requires { node.now.name < length program.now.tree.spellings }
     ensures { Wrote out.old out.new (stretch (made.new_name (made.is_one_of made.heaps (made.spelling_of program.now node.now)) node.now.span.from
         (made.behind_ref (shape_at program.now.modes note.now.mode))) (length out.old.list)) }
 {
-    let in_heap = is_one_of(heaps(), Some(program.tree.spelling(node.name)));
-    let mode = behind_ref(&program.modes, note.mode);
+    let in_heap = is_one_of(heaps(), Some(program.annotated().tree.spelling(node.name)));
+    let mode = behind_ref(program.modes(), note.mode);
     out.emit(node.span.from, new_name(in_heap, mode));
 }

@@ -89,6 +89,22 @@ const CASES: &str = "\
 - two parts of two heights | Push, Case 2 3, Push, End
 + two parts of one height | Push, Case 2 4, Push, Jump 5, Push, Drop, End
 + nothing is printed | Print 0, End
++ a routine that yields | Text 4 1, Routine 0 -, Call 0 1, Drop, End, Push 5, Return
+- it yields where its entrance says it does not | Text 4 0, Routine 0 -, Call 0 1, Drop, End, Push 5, Return
++ a routine that yields nothing | Text 3 0, Routine 0 -, Call 0 0, End, Skip 0, Return
+- it yields nothing where its entrance says it does | Text 3 1, Routine 0 -, Call 0 0, End, Skip 0, Return
+- a way of a routine text meets End | Text 3 0, Routine 0 -, Call 0 0, End, Skip 0, End
+- a way of a routine text passes the end | Text 3 0, Routine 0 -, Call 0 0, End, Skip 0
+- the program meets Return | Return
+- the program goes on into a routine text | Text 1 0, Skip 0, Return
++ a routine text that nobody calls | Text 1 0, End, Return
+- an entrance outside | Text 9 0, End
+- no such routine text | Routine 0 -, Drop, End
+- a call with a parameter too few | Text 3 0, Routine 0 -, Call 1 0, End, Return
++ a call with its parameter | Text 4 0, Routine 0 0, Push 5, Call 1 0, End, Return
+- a body that takes from its caller | Text 5 0, Push 5, Routine 0 -, Call 0 0, Drop, End, Drop, Return
+- two texts of one body, one of which yields | Text 2 0, Text 2 1, Skip 0, End, Return
++ two texts of one body | Text 2 0, Text 2 0, Skip 0, End, Return
 ";
 
 // The sign of the code of these instructions: + where a copy of it is valid.

@@ -1,7 +1,8 @@
 //! Codes by their instructions in words: a name and at most two numbers each, with commas between. A Case has any
-//! number of them.
+//! number of them, and a Routine of scope 0 has - for its second one. Text is no instruction but the entrance of a routine
+//! text, with 1 where its body leaves a value.
 use a68_base::find;
-use a68_code::{Code, Does, Instr, Instrs, Places, Routines};
+use a68_code::{Code, Does, Instr, Instrs, Places, RoutineEntrance, Routines};
 use a68_modes::Modes;
 use a68_values::{Plain, Value};
 use std::alloc::Global;
@@ -36,6 +37,8 @@ enum Form {
     Same,
     Unite,
     Whole,
+    Call,
+    Return,
     End,
 }
 
@@ -65,6 +68,8 @@ const FORMS: &[(&str, Form)] = &[
     ("Same", Form::Same),
     ("Unite", Form::Unite),
     ("Whole", Form::Whole),
+    ("Call", Form::Call),
+    ("Return", Form::Return),
     ("End", Form::End),
 ];
 
@@ -104,6 +109,11 @@ fn instruction(form: Form, one: u32, two: u32) -> Does {
         Form::Same => Does::Same(one),
         Form::Unite => Does::Unite(one),
         Form::Whole => Does::Whole,
+        Form::Call => Does::Call {
+            count: one,
+            gives: two == 1,
+        },
+        Form::Return => Does::Return,
         Form::End => Does::End,
     }
 }
@@ -132,8 +142,39 @@ fn does(rt: &impl Abort, alloc: Global, op: &str) -> Does {
         return Does::Case(places(rt, alloc, numbers));
     }
     let (one, two) = apart(numbers);
+    if name == "Routine" {
+        let distance = if two == "-" {
+            None
+        } else {
+            Some(number(rt, two))
+        };
+        return Does::Routine {
+            text: number(rt, one),
+            distance,
+        };
+    }
     let form = find(FORMS, name.as_bytes()).expect(rt, "an instruction");
     instruction(form, number(rt, one), number(rt, two))
+}
+
+// The entrance of a routine text, where the words tell of one.
+fn entrance(rt: &impl Abort, op: &str) -> Option<RoutineEntrance> {
+    let numbers = op.strip_prefix("Text ")?;
+    let (at, yields) = apart(numbers);
+    Some(RoutineEntrance {
+        at: number(rt, at),
+        yields: yields == "1",
+    })
+}
+
+fn texts(rt: &impl Abort, alloc: Global, ops: &str) -> Routines {
+    let mut items = Vec::new(alloc);
+    for op in ops.split(',') {
+        if let Some(entrance) = entrance(rt, op.trim()) {
+            items.push(entrance).expect(rt, "memory");
+        }
+    }
+    Routines { items }
 }
 
 fn instructions(rt: &impl Abort, alloc: Global, ops: &str) -> Instrs {
@@ -141,7 +182,7 @@ fn instructions(rt: &impl Abort, alloc: Global, ops: &str) -> Instrs {
     let mut place = 0u32;
     for op in ops.split(',') {
         let op = op.trim();
-        if !op.is_empty() {
+        if !op.is_empty() && !op.starts_with("Text ") {
             let does = does(rt, alloc, op);
             items.push(Instr { place, does }).expect(rt, "memory");
             place = place.saturating_add(1);
@@ -154,8 +195,6 @@ fn instructions(rt: &impl Abort, alloc: Global, ops: &str) -> Instrs {
 pub fn code_of(rt: &impl Abort, alloc: Global, ops: &str) -> Code {
     let modes = Modes::new(alloc).expect(rt, "memory");
     let list = instructions(rt, alloc, ops);
-    let texts = Routines {
-        items: Vec::new(alloc),
-    };
+    let texts = texts(rt, alloc, ops);
     Code { list, texts, modes }
 }

@@ -1,6 +1,7 @@
 //! Strands of small codes, told their replies by hand.
 ghost use Rattle.std.specs.Prelude.{◌≡◌, IsTrue};
-ghost use Rattle.a68_strand.specs.Room.{has_room, brings_room};
+ghost use Rattle.a68_stack.specs.Room.{has_room};
+ghost use Rattle.a68_strand.specs.Room.{brings_room};
 ghost use Rattle.a68_strand.specs.Strands.{wants};
 
 use crate::codes::code_of;
@@ -235,4 +236,63 @@ fn meets_the_fault_of_an_update(rt: HostRuntime) {
         "Make 1 = Base\nFetch 7 = Held\n",
         "Divisor at 2",
     );
+}
+
+/// A call with two parameters: its frame within frame 0, of scope 1, with a slot for each; the second parameter is the
+/// yield.
+const CALLING: &str =
+    "Text 6 1, Routine 0 -, Push 5, Push 6, Call 2 1, Print 1, End, Tag 0 1, Return";
+
+const CALLED: &str = "\
+Turn = Go
+Enter 0 1 2 = Frame
+Bind 1 0 Int(5) = Go
+Bind 1 1 Int(6) = Done
+Look 1 1 = Name
+";
+
+// What the name yields is newer than the caller's frame; so Return meets Scope at its own place.
+#[test]
+fn calls(rt: HostRuntime) {
+    run(&rt, rt.alloc(), CALLING, CALLED, "Scope at 7");
+}
+
+/// A routine without parameters that yields a number.
+const YIELDING: &str = "Text 4 1, Routine 0 -, Call 0 1, Print 1, End, Push 3, Return";
+
+const YIELDED: &str = "\
+Turn = Done
+Enter 0 1 0 = Frame
+Print \"                  +3\" = Go
+";
+
+#[test]
+fn goes_back_with_a_value(rt: HostRuntime) {
+    run(&rt, rt.alloc(), YIELDING, YIELDED, "End");
+}
+
+/// A routine within a routine: the caller's frame gives the scope, that of the text the frame about it.
+const NESTED: &str =
+    "Text 3 0, Text 6 0, Routine 0 -, Call 0 0, End, Routine 1 0, Call 0 0, Return, Skip 0, Return";
+
+const ENTERED: &str = "\
+Turn = Go
+Enter 0 1 0 = Frame
+Turn = Go
+Enter 1 2 0 = Frame
+";
+
+#[test]
+fn calls_within_a_call(rt: HostRuntime) {
+    run(&rt, rt.alloc(), NESTED, ENTERED, "End");
+}
+
+// What is no routine is not called, nor one that yields just where nothing comes back.
+#[test]
+fn calls_no_other_value(rt: HostRuntime) {
+    let alloc = rt.alloc();
+    run(&rt, alloc, "Push 5, Call 0 0, End", "", "Kind at 1");
+    run(&rt, alloc, "Skip 1, Call 0 0, End", "", "Unset at 1");
+    let ops = "Text 3 0, Routine 0 -, Call 0 1, End, Return";
+    run(&rt, alloc, ops, "", "Kind at 1");
 }

@@ -15,7 +15,8 @@ use Rattle.a68_meaning.specs.Meaning.{IsUnbroken}
 use Rattle.a68_modes.specs.declared.coercion.Coercion.{Coercion}
 use Rattle.a68_modes.specs.declared.coercion.Sort.TheVariants as by
 use Rattle.a68_modes.specs.declared.shape.Shape.{Shape}
-use Rattle.a68_notes.specs.Notes.{AreCoercions, AreNotes, IsPathOf}
+use Rattle.a68_notes.specs.Notes.{AreCoercions, AreNotes, IsPathOf, IsStrongPath}
+use Rattle.a68_notes.specs.Voiding.{is_voided}
 use Rattle.a68_positions.specs.Given.{position_at}
 use Rattle.a68_positions.specs.declared.position.Position.TheVariants as position
 use Rattle.a68_ranges.specs.Nodes.{kind_at, parts_at, place_at}
@@ -99,10 +100,11 @@ found_leads Leading None path finds is some = absurd (some finds)
 found_leads Leading (Some p) path finds is some = subst Leading (sym is) finds
 
 pub leads_on : (of : ByNode) (a : Asked) (notes : List Note) (n from m : ℕ) (setter : Option ℕ) (note : Note) → IsUnbroken of a → AreNotes of a notes → slice_get notes n ≡ Some note
-    → yield_at a.ys n ≡ yields.Unit (leaf.Mode from) → position_at a.ps n ≡ position.Goal m setter → Leads a.nodes by.Strong (as_it_stands from) (as_it_stands m) note.path
-leads_on of a notes n from m setter note fine are at yields_it asked =
+    → yield_at a.ys n ≡ yields.Unit (leaf.Mode from) → position_at a.ps n ≡ position.Goal m setter → is_voided a.nodes (kind_at a.tree n) m ≡ false → Leads a.nodes by.Strong (as_it_stands from) (as_it_stands m) note.path
+leads_on of a notes n from m setter note fine are at yields_it asked kept =
     let path : AreCoercions a.nodes by.Strong from m note.path =
-    subst (λ o. IsPathOf a.nodes o (yields.Unit (leaf.Mode from)) note.path) asked (subst (λ y. IsPathOf a.nodes (position_at a.ps n) y note.path) yields_it (are.each n note at).path) in
+    subst (λ b. IsStrongPath b a.nodes m (yields.Unit (leaf.Mode from)) note.path) kept
+    (subst (λ o. IsPathOf a.nodes (kind_at a.tree n) o (yields.Unit (leaf.Mode from)) note.path) asked (subst (λ y. IsPathOf a.nodes (kind_at a.tree n) (position_at a.ps n) y note.path) yields_it (are.each n note at).path)) in
     let long = are.long in
     let within = slice_get_within notes n note at in
     let low : n < length a.tree.nodes = omega arith in

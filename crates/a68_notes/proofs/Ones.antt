@@ -1,5 +1,5 @@
 -- The notes of a tree are one.
-use Rattle.std.proofs.Common.{◌≡◌, ◌<◌, ◌≤◌, ◌∙◌, ℕ, suc, List, [], ◌∷◌, length, refl, sym, ap, subst, arith, slice_get, Option, Some, None}
+use Rattle.std.proofs.Common.{◌≡◌, ◌<◌, ◌≤◌, ◌∙◌, ℕ, suc, Bool, true, false, List, [], ◌∷◌, length, refl, sym, ap, subst, arith, slice_get, Option, Some, None}
 use Rattle.std.specs.Option.{option_map_or}
 use Rattle.a68_annot.specs.declared.note.Note.{Note}
 use Rattle.a68_base.specs.declared.limits.TheConstants.{MOST_MODES}
@@ -20,7 +20,7 @@ use Rattle.a68_modes.specs.declared.coercion.Sort.{Sort}
 use Rattle.a68_modes.specs.declared.coercion.Sort.TheVariants as by
 use Rattle.a68_modes.specs.declared.shape.Shape.{Shape}
 use Rattle.a68_notes.proofs.Needing.{one_need}
-use Rattle.a68_notes.specs.Notes.{mode_of, step_or_none, target_of, AreCoercions, AreNotes, IsNeedOf, IsNote, IsPathOf, IsPathTo, IsStep, UsesFrame}
+use Rattle.a68_notes.specs.Notes.{mode_of, step_or_none, target_of, AreCoercions, AreNotes, IsNeedOf, IsNote, IsPathOf, IsPathTo, IsStrongPath, IsVoidPath, IsStep, UsesFrame}
 use Rattle.a68_positions.specs.Given.{position_at}
 use Rattle.a68_positions.specs.Positions.{ArePositions}
 use Rattle.a68_positions.specs.declared.position.Position.{Position}
@@ -29,6 +29,7 @@ use Rattle.a68_ranges.specs.Definitions.{defines}
 use Rattle.a68_ranges.specs.Nodes.{kind_at}
 use Rattle.a68_refusals.specs.First.{Asked}
 use Rattle.a68_tree.specs.Trees.{Built}
+use Rattle.a68_notes.specs.Voiding.{is_voided}
 use Rattle.a68_tree.specs.declared.kind.NodeKind.{NodeKind}
 use Rattle.a68_tree.specs.declared.kind.NodeKind.TheVariants as kind
 use Rattle.a68_tree.specs.declared.node.FrameStep.{FrameStep}
@@ -86,11 +87,23 @@ module _ (paths : PathsAreOne) (nodes : List Shape) (sound : AreSound nodes) whe
   one_path_to by_sort to (yields.Unit leaf.StrongOnly) p q low a b = a ∙ sym b
   one_path_to by_sort to _ p q low a b = a ∙ sym b
 
-  one_path : (own : Position) (y : Yielding) (p q : List Coercion) → ((l : Leaf) → y ≡ yields.Unit l → IsLeafBelow (length nodes) l) → IsPathOf nodes own y p → IsPathOf nodes own y q
+  one_void_path : (y : Yielding) (p q : List Coercion) → IsVoidPath nodes y p → IsVoidPath nodes y q → p ≡ q
+  one_void_path (yields.Unit (leaf.Mode from)) p q a b = a ∙ sym b
+  one_void_path (yields.Unit leaf.StrongOnly) p q a b = a ∙ sym b
+  one_void_path yields.Unknown p q a b = a ∙ sym b
+  one_void_path (yields.Part part) p q a b = a ∙ sym b
+  one_void_path yields.Choice p q a b = a ∙ sym b
+
+  one_strong : (voided : Bool) (to : ℕ) (y : Yielding) (p q : List Coercion) → ((l : Leaf) → y ≡ yields.Unit l → IsLeafBelow (length nodes) l) → IsStrongPath voided nodes to y p
+      → IsStrongPath voided nodes to y q → p ≡ q
+  one_strong true to y p q low a b = one_void_path y p q a b
+  one_strong false to y p q low a b = one_path_to by.Strong to y p q low a b
+
+  one_path : (form : NodeKind) (own : Position) (y : Yielding) (p q : List Coercion) → ((l : Leaf) → y ≡ yields.Unit l → IsLeafBelow (length nodes) l) → IsPathOf nodes form own y p → IsPathOf nodes form own y q
       → p ≡ q
-  one_path (position.Goal m setter) y p q low a b = one_path_to by.Strong m y p q low a b
-  one_path (position.Asks by_sort (Some m)) y p q low a b = one_path_to by_sort m y p q low a b
-  one_path _ y p q low a b = a ∙ sym b
+  one_path form (position.Goal m setter) y p q low a b = one_strong (is_voided nodes form m) m y p q low a b
+  one_path form (position.Asks by_sort (Some m)) y p q low a b = one_path_to by_sort m y p q low a b
+  one_path form _ y p q low a b = a ∙ sym b
 
 one_step : WaysAreOne → (tree : Built) (n : ℕ) (target : Option ℕ) (s t : FrameStep) → IsStep tree n target s → IsStep tree n target t → s ≡ t
 one_step ways tree n None s t a b = a ∙ sym b
@@ -111,7 +124,7 @@ module _ (paths : PathsAreOne) (ways : WaysAreOne) (of : ByNode) (a : Asked) (so
       subst (λ d. IsStep a.tree n (target_of n d (has_slot (defines (kind_at a.tree n)))) y.step) (sym definition) q.step in
       same_note x y
       (p.mode ∙ ap (λ g. mode_of of a.defined n g (yield_at a.ys n) (kind_at a.tree n)) goal ∙ sym q.mode)
-      (one_path paths a.nodes sound (position_at a.ps n) (yield_at a.ys n) x.path y.path (units n) p.path q.path)
+      (one_path paths a.nodes sound (kind_at a.tree n) (position_at a.ps n) (yield_at a.ys n) x.path y.path (units n) p.path q.path)
       goal
       (p.op ∙ sym q.op)
       definition

@@ -17,6 +17,7 @@ use Rattle.a68_modes.specs.declared.coercion.Coercion.{Coercion}
 use Rattle.a68_modes.specs.declared.coercion.Sort.{Sort}
 use Rattle.a68_modes.specs.declared.coercion.Sort.TheVariants as by
 use Rattle.a68_modes.specs.declared.shape.Shape.{Shape}
+use Rattle.a68_notes.specs.Voiding.{is_voided, voiding}
 use Rattle.a68_positions.specs.Given.{finding_at, position_at}
 use Rattle.a68_positions.specs.declared.position.Position.{Position}
 use Rattle.a68_positions.specs.declared.position.Position.TheVariants as position
@@ -120,11 +121,21 @@ abbrev pub IsPathTo : List Shape → Sort → (to : ℕ) → Yielding → List C
 IsPathTo nodes by_sort to (yields.Unit l) path = IsPathFrom nodes by_sort to l path
 IsPathTo nodes by_sort to _ path = path ≡ []
 
--- the coercions of a unit by what is asked of it and by what it yields
-abbrev pub IsPathOf : List Shape → Position → Yielding → List Coercion → Type 0
-IsPathOf nodes (position.Goal m setter) y path = IsPathTo nodes by.Strong m y path
-IsPathOf nodes (position.Asks by_sort (Some m)) y path = IsPathTo nodes by_sort m y path
-IsPathOf nodes _ y path = path ≡ []
+-- those of a unit of which nothing is asked
+abbrev pub IsVoidPath : List Shape → Yielding → List Coercion → Type 0
+IsVoidPath nodes (yields.Unit (leaf.Mode from)) path = path ≡ voiding (length nodes) nodes from
+IsVoidPath nodes _ path = path ≡ []
+
+-- those of a unit in a strong position, of which nothing is asked or something is
+abbrev pub IsStrongPath : (voided : Bool) → List Shape → (to : ℕ) → Yielding → List Coercion → Type 0
+IsStrongPath true nodes to y path = IsVoidPath nodes y path
+IsStrongPath false nodes to y path = IsPathTo nodes by.Strong to y path
+
+-- the coercions of a unit of a form by what is asked of it and by what it yields
+abbrev pub IsPathOf : List Shape → NodeKind → Position → Yielding → List Coercion → Type 0
+IsPathOf nodes form (position.Goal m setter) y path = IsStrongPath (is_voided nodes form m) nodes m y path
+IsPathOf nodes form (position.Asks by_sort (Some m)) y path = IsPathTo nodes by_sort m y path
+IsPathOf nodes form _ y path = path ≡ []
 
 -- a routine text uses a frame from outside, so many frames outwards: by a tag that is applied in it, or by the operator of a formula in it
 pub data UsesFrame (a : Asked) (text hops : ℕ) : Type 0 where
@@ -141,7 +152,7 @@ IsNeedOf a n _ need = need ≡ None
 pub record IsNote (of : ByNode) (a : Asked) (n : ℕ) (note : Note) : Type 0 where
   pub mode : note.mode ≡ mode_of of a.defined n note.goal (yield_at a.ys n) (kind_at a.tree n)
   pub goal : note.goal ≡ goal_of (position_at a.ps n)
-  pub path : IsPathOf a.nodes (position_at a.ps n) (yield_at a.ys n) note.path
+  pub path : IsPathOf a.nodes (kind_at a.tree n) (position_at a.ps n) (yield_at a.ys n) note.path
   pub op : note.op ≡ row_of (finding_at a.fs n)
   pub definition : note.definition ≡ definition_of a.tree a.tags n (finding_at a.fs n) (kind_at a.tree n)
   pub step : IsStep a.tree n (target_of n note.definition (has_slot (defines (kind_at a.tree n)))) note.step

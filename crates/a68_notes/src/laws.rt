@@ -1,5 +1,5 @@
 //! What holds of the notes of every tree.
-ghost use Rattle.std.specs.Prelude.{◌≡◌, ℕ, List, slice_get, Option, Some};
+ghost use Rattle.std.specs.Prelude.{◌≡◌, ℕ, false, List, slice_get, Option, Some};
 ghost use Rattle.a68_annot.specs.declared.note.Note.{Note};
 ghost use Rattle.a68_coerce.specs.Paths.{Leads};
 ghost use Rattle.a68_coerce.specs.declared.leaf.Leaf.TheVariants as leaf;
@@ -8,8 +8,10 @@ ghost use Rattle.a68_equiv.specs.Related.{as_it_stands};
 ghost use Rattle.a68_meaning.specs.Meaning.{IsMeaning, IsUnbroken};
 ghost use Rattle.a68_modes.specs.declared.coercion.Sort.TheVariants as by;
 ghost use Rattle.a68_notes.specs.Notes.{AreNotes};
+ghost use Rattle.a68_notes.specs.Voiding.{is_voided};
 ghost use Rattle.a68_positions.specs.Given.{position_at};
 ghost use Rattle.a68_positions.specs.declared.position.Position.TheVariants as position;
+ghost use Rattle.a68_ranges.specs.Nodes.{kind_at};
 ghost use Rattle.a68_refusals.specs.First.{Asked};
 ghost use Rattle.a68_yields.specs.Leaves.{yield_at};
 ghost use Rattle.a68_yields.specs.declared.yielding.Yielding.TheVariants as yields;
@@ -33,9 +35,11 @@ pub fn notes_are_one()
     positions_keep_shapes();
 }
 
-/// A law: where a tree breaks no rule, the coercions of a unit of one mode lead strongly to the mode that is asked of it.
+/// A law: where a tree breaks no rule, the coercions of a unit of one mode lead strongly to the mode that is asked of it, but
+/// for those of a unit that is called where nothing is asked.
 pub fn paths_lead()
     ensures { (of : ByNode) (a : Asked) (notes : List Note) (n from m : ℕ) (setter : Option ℕ) (note : Note) → IsUnbroken of a → AreNotes of a notes
         → slice_get notes n ≡ Some note → yield_at a.ys n ≡ yields.Unit (leaf.Mode from) → position_at a.ps n ≡ position.Goal m setter
+        → is_voided a.nodes (kind_at a.tree n) m ≡ false
         → Leads a.nodes by.Strong (as_it_stands from) (as_it_stands m) note.path }
 {}

@@ -8,6 +8,7 @@ mod needs;
 mod notes;
 mod path;
 mod step;
+mod voided;
 
 pub use laws::{notes_are_one, paths_lead};
 pub use notes::find_notes;

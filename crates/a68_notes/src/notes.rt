@@ -47,7 +47,7 @@ fn note_of(
     let definition = definition_of(tree, &meaning.tags, node, found, kind);
     let step = step_of(map, node, target_of(node, definition, has_slot(kind)));
     let slots = map.slots(node);
-    let path = path_of(alloc, &meaning.modes, own, yielding)?;
+    let path = path_of(alloc, &meaning.modes, kind, own, yielding)?;
     Ok(Note {
         mode,
         path,

@@ -2,15 +2,18 @@
 ghost use Rattle.std.specs.Prelude.{◌≡◌, ◌<◌, [], IfOk, length};
 ghost use Rattle.std.specs.Option.{option_map_or};
 ghost use Rattle.a68_coerce.specs.Below.{IsLeafBelow};
-ghost use Rattle.a68_notes.specs.Notes.{AreCoercions, IsPathFrom, IsPathOf, IsPathTo};
+ghost use Rattle.a68_notes.specs.Notes.{AreCoercions, IsPathFrom, IsPathOf, IsPathTo, IsStrongPath, IsVoidPath};
+ghost use Rattle.a68_notes.specs.Voiding.{is_voided};
 ghost use Rattle.a68_positions.specs.Below.{IsPositionBelow};
 ghost use Rattle.a68_yields.specs.declared.yielding.Yielding.TheVariants as yields;
 
+use crate::voided::{is_voided, voiding};
 use a68_base::NoMemory;
 use a68_coerce::{Leaf, path};
 use a68_mode_table::ModeTable;
 use a68_modes::{ModeId, Path, Sort};
 use a68_positions::Position;
+use a68_tree::NodeKind;
 use a68_yields::Yielding;
 use std::alloc::Global;
 
@@ -85,19 +88,49 @@ fn path_to(
     }
 }
 
-/// Finds the coercions of a unit, by what is asked of it and what it yields; none of another node.
+// Finds the coercions of a unit of which nothing is asked.
+fn void_path(alloc: Global, modes: &ModeTable, yielding: Yielding) -> Result<Path, NoMemory>
+    ensures { IfOk result (IsVoidPath modes.now yielding) }
+{
+    match yielding {
+        Yielding::Unit(Leaf::Mode(from)) => voiding(alloc, modes.modes(), from),
+        _ => Ok(no_coercions(alloc)),
+    }
+}
+
+// Finds the coercions of a unit of that form in a strong position.
+fn strong_path(
+    alloc: Global,
+    modes: &ModeTable,
+    kind: NodeKind,
+    to: ModeId,
+    yielding: Yielding,
+) -> Result<Path, NoMemory>
+    requires to { to < length modes.now }
+    requires yielding { (l : _) → yielding ≡ yields.Unit l → IsLeafBelow (length modes.now) l }
+    ensures { IfOk result (IsStrongPath (is_voided modes.now kind to) modes.now to yielding) }
+{
+    if is_voided(modes.modes(), kind, to) {
+        void_path(alloc, modes, yielding)
+    } else {
+        path_to(alloc, modes, Sort::Strong, to, yielding)
+    }
+}
+
+/// Finds the coercions of a unit, by its form, by what is asked of it and what it yields; none of another node.
 pub fn path_of(
     alloc: Global,
     modes: &ModeTable,
+    kind: NodeKind,
     own: Position,
     yielding: Yielding,
 ) -> Result<Path, NoMemory>
     requires own { IsPositionBelow (length modes.now) own }
     requires yielding { (l : _) → yielding ≡ yields.Unit l → IsLeafBelow (length modes.now) l }
-    ensures { IfOk result (IsPathOf modes.now own yielding) }
+    ensures { IfOk result (IsPathOf modes.now kind own yielding) }
 {
     match own {
-        Position::Goal(mode, _) => path_to(alloc, modes, Sort::Strong, mode, yielding),
+        Position::Goal(mode, _) => strong_path(alloc, modes, kind, mode, yielding),
         Position::Asks(by_sort, Some(mode)) => path_to(alloc, modes, by_sort, mode, yielding),
         Position::Asks(_, None)
         | Position::Items(_)

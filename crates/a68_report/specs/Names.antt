@@ -1,12 +1,13 @@
 -- The names of the instructions (own).
 use Rattle.std.specs.Prelude.{ℕ, List, codes}
 use Rattle.a68_code.specs.declared.does.Does.{Does}
-use Rattle.a68_code.specs.declared.does.Does.TheVariants.{Push, Skip, Nil, Tag, Enter, Leave, Bind, Make, Heap, Deref, Store, Apply, Same, Unite, Drop, Print, Whole, Jump, Unless, Case, Counter, Index, Step, Turn, Advance, Forget, End}
+use Rattle.a68_code.specs.declared.does.Does.TheVariants.{Push, Skip, Nil, Routine, Tag, Enter, Leave, Bind, Make, Heap, Deref, Store, Apply, Same, Unite, Drop, Print, Whole, Call, Return, Jump, Unless, Case, Counter, Index, Step, Turn, Advance, Forget, End}
 
 abbrev pub name_of : Does → List ℕ
 name_of (Push value) = codes "Push"
 name_of (Skip mode) = codes "Skip"
 name_of Nil = codes "Nil"
+name_of (Routine text distance) = codes "Routine"
 name_of (Tag hops slot) = codes "Tag"
 name_of (Enter slots) = codes "Enter"
 name_of (Leave kept) = codes "Leave"
@@ -21,6 +22,8 @@ name_of (Unite mode) = codes "Unite"
 name_of Drop = codes "Drop"
 name_of (Print count) = codes "Print"
 name_of Whole = codes "Whole"
+name_of (Call count gives) = codes "Call"
+name_of Return = codes "Return"
 name_of (Jump to) = codes "Jump"
 name_of (Unless to) = codes "Unless"
 name_of (Case places) = codes "Case"

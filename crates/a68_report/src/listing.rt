@@ -1,5 +1,6 @@
 //! The listing of a code.
 ghost use Rattle.std.specs.Prelude.{◌≡◌, ◌++◌, IfOk, OnOk};
+ghost use Rattle.a68_code.specs.declared.does.Does.TheVariants.{Routine};
 ghost use Rattle.a68_report.specs.Listing as spec;
 ghost use Rattle.a68_report.specs.Put.{number};
 
@@ -18,12 +19,28 @@ fn put_pair(text: &mut Text, one: u32, other: u32) -> Result<(), NoMemory>
     put_number(text, u64::from(other))
 }
 
+// Puts the number of a routine text, and how many frames outwards its scope is found.
+fn put_routine(text: &mut Text, number: u32, distance: Option<u32>) -> Result<(), NoMemory>
+    ensures { OnOk result (text.new ≡ text.old ++ spec.operands (Routine number distance)) }
+{
+    put_number(text, u64::from(number))?;
+    match distance {
+        None => put_behind(text, b"-1"),
+        Some(hops) => put_number(text, u64::from(hops)),
+    }
+}
+
 // Puts the operands of an instruction.
 fn put_operands(text: &mut Text, does: &Does) -> Result<(), NoMemory>
     ensures { OnOk result (text.new ≡ text.old ++ spec.operands does.now) }
 {
     match does {
         Does::Push(value) => put_constant(text, value),
+        Does::Routine {
+            text: number,
+            distance,
+        } => put_routine(text, *number, *distance),
+        Does::Call { count, gives } => put_pair(text, *count, u32::from(*gives)),
         Does::Tag {
             hops: one,
             slot: other,
@@ -51,7 +68,15 @@ fn put_operands(text: &mut Text, does: &Does) -> Result<(), NoMemory>
         | Does::Step(number)
         | Does::Advance(number) => put_number(text, u64::from(*number)),
         Does::Case(places) => put_list(text, &places.items),
-        _ => Ok(()),
+        Does::Nil
+        | Does::Drop
+        | Does::Whole
+        | Does::Counter
+        | Does::Index
+        | Does::Turn
+        | Does::Forget
+        | Does::Return
+        | Does::End => Ok(()),
     }
 }
 

@@ -51,6 +51,7 @@ fn parts(want: &Want) -> Told {
             let value = plain_in(held).unwrap_or(Plain::Unset);
             ("Assign", Some(*cell as usize), None, None, Some(value))
         }
+        Want::Turn => ("Turn", None, None, None, None),
         _ => ("another", None, None, None, None),
     }
 }

@@ -10,7 +10,7 @@ use Rattle.a68_code.specs.Flow.{takes}
 use Rattle.a68_code.specs.Operands.{is_well_made}
 use Rattle.a68_code.specs.declared.does.Does.TheVariants as does
 use Rattle.a68_elab.specs.Constants.{value_in}
-use Rattle.a68_elab.specs.Made.{before_out, behind_heap, behind_ref, begins_with, called, if_first, is_by, is_declarer, is_for, is_from, is_heap, is_one_of, is_to, is_while, items_at, only_id, out_of, parts_at, past, printers, spelling_of, standard_of, wholes}
+use Rattle.a68_elab.specs.Made.{before_out, behind_heap, behind_proc, behind_ref, begins_with, called, if_first, is_by, is_declarer, is_for, is_from, is_heap, is_one_of, is_to, is_while, items_at, only_id, out_of, parts_at, past, printers, spelling_of, standard_of, wholes}
 use Rattle.a68_modes.specs.Nodes.{shape_at, is_plain, is_void}
 use Rattle.a68_modes.specs.declared.coercion.Coercion.{Coercion}
 use Rattle.a68_modes.specs.declared.coercion.Coercion.TheVariants as coercion
@@ -24,6 +24,10 @@ use Rattle.a68_tree.specs.declared.node.Node.{Node}
 -- whether a value is asked of a node
 abbrev pub asks_value : Annotated → Note → Bool
 asks_value a note = not (is_void (shape_at a.modes note.goal))
+
+-- whether a construct yields a value before its coercions
+abbrev pub yields_value : Annotated → Note → Bool
+yields_value a note = not (is_void (shape_at a.modes note.mode))
 
 -- a tag that is defined, or stands for a value of the standard environ; print, write and whole are neither
 abbrev pub is_value : (definition : Option ℕ) → (spelling : Option (List ℕ)) → Bool
@@ -142,9 +146,17 @@ abbrev pub suits : Annotated → (row : ℕ) → List ℕ → Bool
 suits a row ids = not (is_update row) || names_int a ids
 
 -- an operator that runs, on as many values as it takes (Report, 5.4.2)
-abbrev pub formula_runs : Annotated → (op : Option ℕ) → List ℕ → Bool
-formula_runs a None ids = false
-formula_runs a (Some row) ids = is_well_made a.modes 0 (does.Apply row) && (are_values a (takes (does.Apply row)) ids && suits a row ids)
+abbrev pub formula_runs : Annotated → (row : ℕ) → List ℕ → Bool
+formula_runs a row ids = is_well_made a.modes 0 0 (does.Apply row) && (are_values a (takes (does.Apply row)) ids && suits a row ids)
+
+-- a formula whose operator the text defines leaves what the routine yields, whose operands leave values
+abbrev pub declared_leaves : Annotated → (yields : Bool) → (definition : Option ℕ) → List ℕ → Option Bool
+declared_leaves a yields None ids = None
+declared_leaves a yields (Some d) ids = if_so (all_leave a true ids) yields
+
+abbrev pub formula_leaves : Annotated → (yields : Bool) → (op definition : Option ℕ) → List ℕ → Option Bool
+formula_leaves a yields None definition ids = declared_leaves a yields definition ids
+formula_leaves a yields (Some row) definition ids = if_so (formula_runs a row ids) true
 
 -- a declarer, and a source, if any, which leaves a value (Report, 4.4.1)
 abbrev pub source_runs : Annotated → List ℕ → Bool
@@ -152,18 +164,28 @@ source_runs a (declarer ∷ []) = true
 source_runs a (declarer ∷ (source ∷ [])) = is_outcome true (outcome a source)
 source_runs a _ = false
 
+-- a routine text without a declarer before it, which leaves a value
+abbrev pub routine_runs : Annotated → List ℕ → Bool
+routine_runs a (source ∷ []) = is_outcome true (outcome a source)
+routine_runs a _ = false
+
 abbrev pub declared_runs : Annotated → List ℕ → Bool
-declared_runs a ids = begins_with is_declarer a ids && source_runs a ids
+declared_runs a ids = if begins_with is_declarer a ids then source_runs a ids else routine_runs a ids
 
 abbrev pub variable_runs : Annotated → List ℕ → Bool
 variable_runs a ids = declared_runs a (behind_heap (begins_with is_heap a ids) ids)
 
--- print and write of values, which leaves none; whole of two values, which leaves one (Report, 10.3)
-abbrev pub call_leaves : Annotated → List ℕ → Option Bool
-call_leaves a [] = None
-call_leaves a (primary ∷ ids) =
+-- print and write of values, which leaves none; whole of two values, which leaves one (Report, 10.3); and a routine with
+-- parameters that leave values, which leaves what it yields (Report, 5.4.3)
+abbrev pub call_leaves : Annotated → (yields : Bool) → List ℕ → Option Bool
+call_leaves a yields [] = None
+call_leaves a yields (primary ∷ ids) =
     if is_one_of printers (called a primary) then if_so (all_leave a true (items_at a ids)) false
-    else (if is_one_of wholes (called a primary) then if_so (are_values a 2 ids) true else None)
+    else (if is_one_of wholes (called a primary) then if_so (are_values a 2 ids) true else if_so (all_leave a true (primary ∷ ids)) yields)
+
+-- whether a routine of this mode yields a value
+abbrev pub proc_yields : Annotated → (mode : ℕ) → Bool
+proc_yields a mode = not (is_void (shape_at a.modes (behind_proc (shape_at a.modes mode))))
 
 -- ---- choices (Report, 3.4)
 
@@ -228,17 +250,19 @@ leaves_as a node note kind.Denotation = if_so (is_some (option_and_then value_in
 leaves_as a node note kind.Skip = if_so (is_skipped a note.goal) (asks_value a note)
 leaves_as a node note kind.Nil = Some true
 leaves_as a node note kind.Tag = Some true
-leaves_as a node note kind.Monadic = if_so (formula_runs a note.op node.parts) true
-leaves_as a node note kind.Dyadic = if_so (formula_runs a note.op node.parts) true
+leaves_as a node note kind.RoutineText = if_so (is_outcome (proc_yields a note.mode) (last_outcome a node.parts)) true
+leaves_as a node note kind.Monadic = formula_leaves a (yields_value a note) note.op note.definition node.parts
+leaves_as a node note kind.Dyadic = formula_leaves a (yields_value a note) note.op note.definition node.parts
 leaves_as a node note kind.Assignation = if_so (refers_to_plain a note.mode && are_values a 2 node.parts) true
 leaves_as a node note kind.Identity = if_so (are_values a 2 node.parts) true
 leaves_as a node note kind.Generator = if_so (refers_to_plain a note.mode) true
+leaves_as a node note kind.OpDefinition = if_so (is_outcome true (last_outcome a node.parts)) false
 leaves_as a node note kind.IdentityDefinition = if_so (is_outcome true (last_outcome a node.parts)) false
 leaves_as a node note kind.Variable = if_so (refers_to_plain a note.mode && variable_runs a node.parts) false
 leaves_as a node note kind.ModeDefinition = Some false
 leaves_as a node note kind.Priority = Some false
 leaves_as a node note kind.Joined = if_so (all_leave a false node.parts) false
-leaves_as a node note kind.Call = call_leaves a node.parts
+leaves_as a node note kind.Call = call_leaves a (yields_value a note) node.parts
 leaves_as a node note kind.Cast = last_outcome a node.parts
 leaves_as a node note kind.Collateral = if_so (is_void (shape_at a.modes note.goal) && all_leave a false node.parts) false
 leaves_as a node note kind.Serial = if_so (are_phrases a (asks_value a note) node.parts) (asks_value a note)
@@ -259,6 +283,9 @@ path_leaves modes mode left [] = Some left
 path_leaves modes mode true (coercion.Deref ∷ path) =
     let m = behind_ref (shape_at modes mode) in
     if is_plain (shape_at modes m) then path_leaves modes m true path else None
+path_leaves modes mode true (coercion.Deproc ∷ path) =
+    let m = behind_proc (shape_at modes mode) in
+    path_leaves modes m (not (is_void (shape_at modes m))) path
 path_leaves modes mode true (coercion.Unite from ∷ path) = path_leaves modes from true path
 path_leaves modes mode true (coercion.Drop ∷ path) = path_leaves modes 0 false path
 path_leaves modes mode _ _ = None

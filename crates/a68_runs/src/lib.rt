@@ -11,7 +11,7 @@ mod runs;
 pub use constants::{standard_of, value_in};
 pub use loops::{LoopParts, loop_parts, only_id};
 pub use nodes::{
-    before_out, begins_in_heap, begins_with_declarer, behind_heap, behind_ref, called, is_one_of,
-    items_at, out_of, printers, wholes,
+    before_out, begins_in_heap, begins_with_declarer, behind_heap, behind_proc, behind_ref, called,
+    is_one_of, items_at, out_of, printers, wholes,
 };
 pub use runs::first_unready;

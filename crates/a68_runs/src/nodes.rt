@@ -131,6 +131,19 @@ pub fn behind_ref(modes: &Modes, mode: ModeId) -> ModeId
     }
 }
 
+/// The mode of what a procedure of this mode yields; VOID for another mode.
+pub fn behind_proc(modes: &Modes, mode: ModeId) -> ModeId
+    ensures { result ≡ made.behind_proc (shape_at modes.now mode) }
+{
+    if mode >= modes.len() {
+        return 0;
+    }
+    match modes.shape(mode) {
+        Shape::Proc { result, .. } => *result,
+        _ => 0,
+    }
+}
+
 /// The tags that print.
 pub fn printers() -> &'static [&'static str]
     ensures { map (λ word. word.now) result.now ≡ made.printers }

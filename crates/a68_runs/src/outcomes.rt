@@ -8,7 +8,7 @@ ghost use Rattle.a68_modes.specs.Nodes.{shape_at};
 
 use crate::constants::standard_of;
 use crate::loops::only_id;
-use crate::nodes::behind_ref;
+use crate::nodes::{behind_proc, behind_ref};
 use a68_annot::{Annotated, Note};
 use a68_modes::{ModeId, Shape};
 use a68_tree::{Node, NodeId, NodeKind};
@@ -18,6 +18,20 @@ pub fn asks_value(program: &Annotated, note: &Note) -> bool
     ensures { result ≡ runs.asks_value program.now note.now }
 {
     !program.modes.is_void(note.goal)
+}
+
+/// Does the construct of a node yield a value before its coercions?
+pub fn yields_value(program: &Annotated, note: &Note) -> bool
+    ensures { result ≡ runs.yields_value program.now note.now }
+{
+    !program.modes.is_void(note.mode)
+}
+
+/// Does a routine of this mode yield a value?
+pub fn proc_yields(program: &Annotated, mode: ModeId) -> bool
+    ensures { result ≡ runs.proc_yields program.now mode }
+{
+    !program.modes.is_void(behind_proc(&program.modes, mode))
 }
 
 // Is a mode a union?

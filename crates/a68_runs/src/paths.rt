@@ -3,7 +3,7 @@ ghost use Rattle.std.specs.Prelude.{◌≡◌};
 ghost use Rattle.a68_runs.specs.Runs as runs;
 ghost use Rattle.a68_runs.specs.Unready as unready;
 
-use crate::nodes::behind_ref;
+use crate::nodes::{behind_proc, behind_ref};
 use a68_annot::Note;
 use a68_modes::{Coercion, ModeId, Modes};
 
@@ -29,6 +29,13 @@ fn behind(modes: &Modes, mode: ModeId, coercion: Coercion) -> Option<Between>
             } else {
                 None
             }
+        }
+        Coercion::Deproc => {
+            let to = behind_proc(modes, mode);
+            Some(Between {
+                mode: to,
+                left: !modes.is_void(to),
+            })
         }
         Coercion::Unite(from) => Some(Between {
             mode: from,

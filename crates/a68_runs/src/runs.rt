@@ -22,7 +22,8 @@ use crate::nodes::{
 };
 use crate::outcomes::{
     all_leave, are_phrases, are_values, asks_value, if_so, is_outcome, is_skipped, last_outcome,
-    leaves, names_int, only_outcome, outcome, outcome_by, refers_to_plain,
+    leaves, names_int, only_outcome, outcome, outcome_by, proc_yields, refers_to_plain,
+    yields_value,
 };
 use crate::paths::path_leaves;
 use a68_acts::is_update;
@@ -45,7 +46,7 @@ fn has_value(text: &[u8]) -> bool
 
 // Does an operator yield at once, or is it combined with assignation to a name of INT, whatever the modes?
 fn applies(row: u32) -> bool
-    ensures { result ≡ is_well_made [] 0 (does.Apply row) }
+    ensures { result ≡ is_well_made [] 0 0 (does.Apply row) }
 {
     (1 <= row && row <= 5) || (7 <= row && row <= 23) || (26 <= row && row <= 33)
 }
@@ -57,17 +58,23 @@ fn suits(program: &Annotated, row: u32, parts: &[NodeId]) -> bool
     !is_update(row) || names_int(program, parts)
 }
 
-// Does a formula run: its operator, on as many values as it takes?
-fn formula_runs(program: &Annotated, op: Option<u32>, parts: &[NodeId]) -> bool
-    ensures { result ≡ runs.formula_runs program.now op parts.now }
+// Does a formula run: a standard operator, on as many values as it takes?
+fn formula_runs(program: &Annotated, row: u32, parts: &[NodeId]) -> bool
+    ensures { result ≡ runs.formula_runs program.now row parts.now }
 {
-    match op {
-        Some(row) => {
-            applies(row)
-                && are_values(program, operands_of(row) as usize, parts)
-                && suits(program, row, parts)
-        }
-        None => false,
+    applies(row)
+        && are_values(program, operands_of(row) as usize, parts)
+        && suits(program, row, parts)
+}
+
+// What a formula leaves: a value, or what the routine yields that its operator stands for.
+fn formula_leaves(program: &Annotated, note: &Note, parts: &[NodeId]) -> Option<bool>
+    ensures { result ≡ runs.formula_leaves program.now (runs.yields_value program.now note.now) note.now.op note.now.definition parts.now }
+{
+    match (note.op, note.definition) {
+        (Some(row), _) => if_so(formula_runs(program, row, parts), true),
+        (None, Some(_)) => if_so(all_leave(program, true, parts), yields_value(program, note)),
+        (None, None) => None,
     }
 }
 
@@ -81,19 +88,30 @@ fn source_runs(program: &Annotated, parts: &[NodeId]) -> bool
     parts.len() == 2 && leaves(program, true, parts[1])
 }
 
+// Does a routine text that stands without a declarer before it leave a value?
+fn routine_runs(program: &Annotated, parts: &[NodeId]) -> bool
+    ensures { result ≡ runs.routine_runs program.now parts.now }
+{
+    parts.len() == 1 && leaves(program, true, parts[0])
+}
+
 // Does a variable run: its declarer, and its source?
 fn variable_runs(program: &Annotated, id: NodeId, parts: &[NodeId]) -> bool
     requires { AllBetween id (length program.now.tree.nodes) parts.now }
     ensures { result ≡ runs.variable_runs program.now parts.now }
 {
     let rest = behind_heap(begins_in_heap(program, id, parts), parts);
-    begins_with_declarer(program, id, rest) && source_runs(program, rest)
+    if begins_with_declarer(program, id, rest) {
+        source_runs(program, rest)
+    } else {
+        routine_runs(program, rest)
+    }
 }
 
-// What a call leaves: none of print and write, a value of whole.
-fn call_leaves(program: &Annotated, id: NodeId, parts: &[NodeId]) -> Option<bool>
+// What a call leaves: none of print and write, a value of whole, and what a routine yields.
+fn call_leaves(program: &Annotated, id: NodeId, yields: bool, parts: &[NodeId]) -> Option<bool>
     requires { AllBetween id (length program.now.tree.nodes) parts.now }
-    ensures { result ≡ runs.call_leaves program.now parts.now }
+    ensures { result ≡ runs.call_leaves program.now yields parts.now }
 {
     if parts.len() == 0 {
         return None;
@@ -105,7 +123,7 @@ fn call_leaves(program: &Annotated, id: NodeId, parts: &[NodeId]) -> Option<bool
     } else if is_one_of(wholes(), name) {
         if_so(are_values(program, 2, rest), true)
     } else {
-        None
+        if_so(all_leave(program, true, parts), yields)
     }
 }
 
@@ -237,14 +255,21 @@ fn leaves_as(program: &Annotated, id: NodeId, node: &Node, note: &Note) -> Optio
         NodeKind::Denotation => if_so(has_value(program.tree.spelling(node.name)), true),
         NodeKind::Skip => if_so(is_skipped(program, note.goal), asked),
         NodeKind::Nil | NodeKind::Tag => Some(true),
-        NodeKind::Monadic | NodeKind::Dyadic => if_so(formula_runs(program, note.op, parts), true),
+        NodeKind::RoutineText => if_so(
+            is_outcome(
+                proc_yields(program, note.mode),
+                last_outcome(program, parts),
+            ),
+            true,
+        ),
+        NodeKind::Monadic | NodeKind::Dyadic => formula_leaves(program, note, parts),
         NodeKind::Assignation => if_so(
             refers_to_plain(program, note.mode) && are_values(program, 2, parts),
             true,
         ),
         NodeKind::Identity => if_so(are_values(program, 2, parts), true),
         NodeKind::Generator => if_so(refers_to_plain(program, note.mode), true),
-        NodeKind::IdentityDefinition => {
+        NodeKind::IdentityDefinition | NodeKind::OpDefinition => {
             if_so(is_outcome(true, last_outcome(program, parts)), false)
         }
         NodeKind::Variable => if_so(
@@ -253,7 +278,7 @@ fn leaves_as(program: &Annotated, id: NodeId, node: &Node, note: &Note) -> Optio
         ),
         NodeKind::ModeDefinition | NodeKind::Priority => Some(false),
         NodeKind::Joined => if_so(all_leave(program, false, parts), false),
-        NodeKind::Call => call_leaves(program, id, parts),
+        NodeKind::Call => call_leaves(program, id, yields_value(program, note), parts),
         NodeKind::Cast => last_outcome(program, parts),
         NodeKind::Collateral => if_so(
             program.modes.is_void(note.goal) && all_leave(program, false, parts),

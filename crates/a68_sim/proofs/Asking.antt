@@ -13,6 +13,7 @@ use Rattle.a68_elab.specs.Rows.{Then, goes, acts, meets}
 use Rattle.a68_strand.specs.Machine.{State, stack_of, exec, at_end, does_one, silently, told_by, place_at}
 use Rattle.a68_strand.specs.declared.ask.Stance.{Stance}
 use Rattle.a68_strand.specs.declared.ask.Stance.TheVariants.{Idle, Asking, Failed}
+use Rattle.a68_stack.specs.Values.{callers}
 use Rattle.a68_stack.specs.declared.stack.Item.{Item}
 use Rattle.a68_values.specs.declared.chain.Environ.{Environ}
 
@@ -41,18 +42,18 @@ ask code st = ask_in code st.stance st
 -- the instruction at the strand's place
 abbrev found : Code → State → Option Instr → Option (Then State)
 found code st o =
-    option_map (seen code) (if at_end (option_map (λ instr. instr.does) o) then None else Some (does_one code.modes (option_map (λ instr. instr.does) o) st))
+    option_map (seen code) (if at_end (option_map (λ instr. instr.does) o) then None else Some (does_one code (option_map (λ instr. instr.does) o) st))
 
 pub at_instr : (code : Code) (k p : ℕ) (items : List Item) (ch : List Environ) (d : Does) → slice_get code.list k ≡ Some (record { place = p; does = d })
-    → at_end (Some d) ≡ false → ask code (idle k items ch) ≡ Some (seen code (exec code.modes d (idle k items ch)))
+    → at_end (Some d) ≡ false → ask code (idle k items ch) ≡ Some (seen code (exec code d (idle k items ch)))
 at_instr code k p items ch d h e =
-    ap (found code (idle k items ch)) h ∙ ap (λ (x : Bool). option_map (seen code) (if x then None else Some (exec code.modes d (idle k items ch)))) e
+    ap (found code (idle k items ch)) h ∙ ap (λ (x : Bool). option_map (seen code) (if x then None else Some (exec code d (idle k items ch)))) e
 
 -- the strand is at the end
 pub at_end_asks : (code : Code) (k p : ℕ) (items : List Item) (ch : List Environ) → slice_get code.list k ≡ Some (record { place = p; does = does.End })
     → silently code Idle (idle k items ch) ≡ None
 at_end_asks code k p items ch h =
-    ap (λ (o : Option Instr). if at_end (option_map (λ instr. instr.does) o) then None else Some (does_one code.modes (option_map (λ instr. instr.does) o) (idle k items ch))) h
+    ap (λ (o : Option Instr). if at_end (option_map (λ instr. instr.does) o) then None else Some (does_one code (option_map (λ instr. instr.does) o) (idle k items ch))) h
 
 pub place_is : (code : Code) (k p : ℕ) (d : Does) → slice_get code.list k ≡ Some (record { place = p; does = d }) → place_at code.list k ≡ p
 place_is code k p d h = ap (λ (o : Option Instr). option_map_or (λ instr. instr.place) o 0) h
@@ -71,8 +72,10 @@ pub record Back (code : Code) (at to : ℕ) : Type 0 where
   pub leaves : suc at < behind
   pub inside : behind < length code.list
 
--- a strand that goes on silently goes forward, but for the end of a loop
-abbrev pub Forth : Code → ℕ → Then State → Type 0
-Forth code at (goes st) = (at < st.at) ⊎ Back code at st.at
-Forth code at (acts place w k) = ⊤
-Forth code at (meets why place) = ⊤
+-- A strand that goes on silently goes forward in its activation, but for the end of a loop; or it comes back from its
+-- activation.
+abbrev pub Forth : Code → State → Then State → Type 0
+Forth code from (goes st) =
+    ((callers st.stack.items ≡ callers from.stack.items) × ((from.at < st.at) ⊎ Back code from.at st.at)) ⊎ (callers from.stack.items ≡ suc (callers st.stack.items))
+Forth code from (acts place w k) = ⊤
+Forth code from (meets why place) = ⊤

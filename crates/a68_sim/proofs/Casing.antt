@@ -34,7 +34,7 @@ prints place n = operation place print collateral (number place n and_tree no_tr
 
 -- CASE 2 IN print(1), print(2) OUT print(3) ESAC
 abbrev program : Program
-program = record { place = 0; tree = cases 0 (number 5 2) (prints 10 1 and_tree prints 20 2 and_tree no_trees) (prints 30 3); modes = standard_shapes }
+program = record { place = 0; tree = cases 0 (number 5 2) (prints 10 1 and_tree prints 20 2 and_tree no_trees) (prints 30 3); texts = []; modes = standard_shapes }
 
 abbrev code : Code
 code = record {
@@ -48,6 +48,7 @@ code = record {
 translates : Translates program code
 translates = record {
   end = 10;
+  last = 11;
   stands = (
     1,
     2,
@@ -118,6 +119,7 @@ abbrev turning : Program
 turning = record {
   place = 0;
   tree = loop 0 (number 0 1 and_tree number 0 1 and_tree number 3 2 and_tree no_trees) true false no_test (operation 8 (skip 0) serial no_trees);
+  texts = [];
   modes = standard_shapes;
 }
 
@@ -133,6 +135,7 @@ turning_code = record {
 turning_translates : Translates turning turning_code
 turning_translates = record {
   end = 11;
+  last = 12;
   stands = (
     3,
     4,
@@ -194,6 +197,7 @@ unlimited = record {
   place = 0;
   tree =
       loop 0 (operation 5 (skip 1) serial no_trees and_tree number 0 1 and_tree operation 13 (skip 1) serial no_trees and_tree no_trees) true false no_test (operation 21 (skip 0) serial no_trees);
+  texts = [];
   modes = standard_shapes;
 }
 
@@ -209,6 +213,7 @@ unlimited_code = record {
 unlimited_translates : Translates unlimited unlimited_code
 unlimited_translates = record {
   end = 11;
+  last = 12;
   stands = (
     3,
     4,

@@ -58,6 +58,7 @@ abbrev program : Program
 program = record {
   place = 0;
   tree = range 6 6 1 false (phrases 6 (declaration and_tree counting and_tree no_trees) (operation 48 print collateral (its_value 54 and_tree no_trees)));
+  texts = [];
   modes = standard_shapes;
 }
 
@@ -83,6 +84,7 @@ code = record {
 translates : Translates program code
 translates = record {
   end = 30;
+  last = 31;
   stands = (
     1,
     29,

@@ -86,6 +86,7 @@ translates : Translates program code
 unfolding tree_at
 translates = record {
   end = 9;
+  last = 10;
   stands = (
     1,
     8,
@@ -207,6 +208,7 @@ unset_translates : Translates unset_program unset_code
 unfolding tree_at
 unset_translates = record {
   end = 7;
+  last = 8;
   stands = (
     1,
     6,
@@ -281,6 +283,7 @@ newer_translates : Translates newer_program newer_code
 unfolding tree_at
 newer_translates = record {
   end = 6;
+  last = 7;
   stands = (
     0,
     refl,

@@ -1,29 +1,34 @@
 -- What the machine does next, the term follows: the trees, then the terms.
-use Rattle.std.proofs.Common.{◌≡◌, ℕ, suc, Bool, true, false, List, [], ◌∷◌, None, Some, refl, sym, ap, ◌∙◌, subst}
+use Rattle.std.proofs.Common.{◌≡◌, ℕ, suc, arith, Bool, true, false, List, [], ◌∷◌, None, Some, refl, sym, ap, ◌∙◌, subst}
+use Rattle.std.specs.Prelude.{slice_get}
 use Rattle.std.specs.declared.option.Option.{Option}
-use Rattle.a68_acts.specs.declared.operation.Doing.{Doing}
 use Rattle.a68_acts.specs.declared.want.Reply.{Reply}
 use Rattle.a68_acts.specs.declared.want.Reply.TheVariants as reply
 use Rattle.a68_acts.specs.declared.want.Want.TheVariants as want
 use Rattle.a68_code.specs.declared.code.Code.{Code}
+use Rattle.a68_code.specs.declared.code.RoutineEntrance.{RoutineEntrance}
 use Rattle.a68_code.specs.declared.does.Does.TheVariants as does
 use Rattle.a68_elab.specs.Positions.{within, OpensIn, in_this, past}
-use Rattle.a68_elab.specs.Rows.{meets, acts, within_frame}
-use Rattle.a68_elab.specs.Terms.{only, Job, operating, resuming, gathering, preceding, ending, ranged, choosing, casing, chosen, limiting, counting, stepping, turning, opening, naming, indexing, ranging, testing, running, advancing, quitting, leaving, Term, todo, part, yielded, Terms, no_terms, ◌and_term◌, todos, order_of}
-use Rattle.a68_elab.specs.Trees.{Tree, Trees, operation, together, phrases, range, choice, cases, loop, unbuilt, Turns, no_trees, ◌and_tree◌, count, Order, Program}
+use Rattle.a68_elab.specs.Rows.{meets, acts, within_frame, body_in}
+use Rattle.a68_elab.specs.Terms.{only, Job, operating, resuming, gathering, preceding, ending, ranged, choosing, casing, chosen, limiting, counting, stepping, turning, opening, naming, indexing, ranging, testing, running, advancing, quitting, leaving, calling, entering, binding, inside, Term, todo, part, yielded, Terms, no_terms, ◌and_term◌, todos, order_of}
+use Rattle.a68_elab.specs.Trees.{Tree, Trees, operation, together, phrases, range, choice, cases, loop, call, unbuilt, Turns, no_trees, ◌and_tree◌, count, Order, Body, Program}
 use Rattle.a68_gen.specs.Stretches.{Has, Stands, StandAll, leave}
+use Rattle.a68_sim.proofs.Calling.{calling_done, entering_done, binding_one, inside_done}
 use Rattle.a68_sim.proofs.Asking.{idle, at_instr, place_is, is_inside}
 use Rattle.a68_gen.proofs.Forward.{next_is}
 use Rattle.a68_sim.proofs.Jobs.{Done, row_done, misled_sim, operating_done, resuming_done, gathering_done, ending_done, ranged_done, choosing_done, casing_done, chosen_done, limiting_done, counting_done, stepping_done, turning_done, opening_done, naming_done, indexing_done, ranging_done, testing_done, running_done, advancing_done, quitting_done, leaving_done}
+use Rattle.a68_sim.proofs.Routines.{TextsStand, Found}
 use Rattle.a68_sim.proofs.Quiet.{still, quiet_in, Hole, moves_in, Progress, moves, finishes, progress_after, progress_row, moves_act, moves_fault}
-use Rattle.a68_sim.proofs.Relation.{doing_of, count_terms, AllTodo, posed, parts_give, inner, OperationAt, LoopAt, Tail, Begins, DoesParts, Sim, yields, left, does_yields, does_todos, does_first, same_count, left_none, todos_all, count_todos}
-use Rattle.a68_strand.specs.Machine.{State, asks_for, told_by}
+use Rattle.a68_sim.proofs.Relation.{Pose, pose_of, ready, count_terms, AllTodo, posed, parts_give, inner, OperationAt, LoopAt, Tail, Begins, DoesParts, Sim, yields, left, does_yields, does_todos, does_first, same_count, count_yields, left_none, todos_all, count_todos}
+use Rattle.a68_strand.specs.Machine.{State, asks_for, begins_body, told_by}
 use Rattle.a68_strand.specs.declared.ask.Stance.TheVariants.{Asking}
 use Rattle.a68_strand.specs.declared.ask.Waiting.TheVariants as waiting
 use Rattle.a68_stack.specs.declared.stack.Item.{Item}
+use Rattle.a68_stack.specs.declared.stack.Item.TheVariants as item
 use Rattle.a68_values.specs.Content.{Content}
 use Rattle.a68_values.specs.declared.act.FaultKind.TheVariants as fault
 use Rattle.a68_values.specs.declared.chain.Environ.{Environ}
+use Rattle.a68_values.specs.declared.plain.Routine.{Routine}
 
 opens_yields : (u u' : Term) (o : Order) (acc : List Content) (ts ts' : Terms) → OpensIn u u' 0 0 o ts ts' → OpensIn u u' 0 0 o (yields acc ts) (yields acc ts')
 opens_yields u u' o [] ts ts' x = x
@@ -35,22 +40,22 @@ in_part job ch acc ts t = part job ch (yields acc (t and_term ts))
 part_hole : (job : Job) (ch : List Environ) (acc : List Content) (ts : Terms) → Hole (in_part job ch acc ts)
 part_hole job ch acc ts = record { opens = λ u u' t t' o. within (opens_yields u u' (order_of job) acc (t and_term ts) (t' and_term ts) (in_this o)) }
 
-module _ (program : Program) (code : Code) (same : code.modes ≡ program.modes) where
+module _ (program : Program) (code : Code) (same : code.modes ≡ program.modes) (texts : TextsStand program code) where
   -- a part that is done or that is at work: the whole follows it, and goes on behind it where it yields
   from_part : (job : Job) (ch : List Environ) (acc : List Content) (ts : Terms) (t : Term) (m k b : ℕ) (base : List Item) (home : List Environ) (g : Bool) (st : State)
-      → doing_of job ≡ None → AllTodo code (parts_give job g) ts m k ch → Tail code job (count_terms (yields acc (t and_term ts))) ch k b home g
-      → ((v : Content) → st ≡ idle m (left (parts_give job g) (v ∷ acc) (inner job base)) ch → Tail code job (count_terms (yields (v ∷ acc) ts)) ch k b home g
+      → pose_of job ≡ ready → AllTodo code (parts_give job g) ts m k ch → Tail code job (count_terms (yields acc (t and_term ts))) ch k b home g
+      → ((v : Content) → st ≡ idle m (left (parts_give job g) (v ∷ acc) (inner job b home base)) ch → Tail code job (count_terms (yields (v ∷ acc) ts)) ch k b home g
       → Progress program code (Sim code b base home g) (part job ch (yields (v ∷ acc) ts)) st)
-      → Progress program code (Sim code m (left (parts_give job g) acc (inner job base)) ch (parts_give job g)) t st
+      → Progress program code (Sim code m (left (parts_give job g) acc (inner job b home base)) ch (parts_give job g)) t st
       → Progress program code (Sim code b base home g) (in_part job ch acc ts t) st
   from_part job ch acc ts t m k b base home g st none all tail rest (moves x) =
-      moves (moves_in program code (in_part job ch acc ts) (part_hole job ch acc ts) (Sim code m (left (parts_give job g) acc (inner job base)) ch (parts_give job g)) (Sim code b base home g) to t st x)
+      moves (moves_in program code (in_part job ch acc ts) (part_hole job ch acc ts) (Sim code m (left (parts_give job g) acc (inner job b home base)) ch (parts_give job g)) (Sim code b base home g) to t st x)
     where
-      to : (u : Term) (s : State) → Sim code m (left (parts_give job g) acc (inner job base)) ch (parts_give job g) u s → Sim code b base home g (in_part job ch acc ts u) s
+      to : (u : Term) (s : State) → Sim code m (left (parts_give job g) acc (inner job b home base)) ch (parts_give job g) u s → Sim code b base home g (in_part job ch acc ts u) s
       to u s sim = (
         k,
-        does_yields code acc (u and_term ts) k (inner job base) ch (parts_give job g) (doing_of job) s
-            (does_first code u ts m k (left (parts_give job g) acc (inner job base)) ch (parts_give job g) (doing_of job) s none all sim),
+        does_yields code acc (u and_term ts) k (inner job b home base) ch (parts_give job g) (pose_of job) s
+            (does_first code u ts m k (left (parts_give job g) acc (inner job b home base)) ch (parts_give job g) (pose_of job) s none all sim),
         subst (λ n. Tail code job n ch k b home g) (same_count acc (t and_term ts) (u and_term ts) refl) tail,
       )
   from_part job ch acc ts t m k b base home g st none all tail rest (finishes v q s) =
@@ -161,21 +166,55 @@ module _ (program : Program) (code : Code) (same : code.modes ≡ program.modes)
         progress_row program code _ _ _ st refl
         (trees_progress controls (counting l) c [] s.a z.0 b base home g st refl z.14 (s.state ∙ ap (λ x. idle s.a base x) (sym s.chain))
         (z.12, s.chain, count_todos controls c ∙ z.13, z.2, counter, x) (counting_done program code b base home g l c z.0))
+    tree_progress (call p yields no_trees) c b base home g st s = absurd s.stands
+    tree_progress (call p yields (primary and_tree parts)) c b base home g st s =
+        let z = s.stands in
+        progress_row program code _ _ _ st refl
+        (trees_progress (primary and_tree parts) (calling p yields) c [] s.a z.0 b base home g st refl z.2 (s.state ∙ ap (λ x. idle s.a base x) (sym s.chain))
+        (z.1, s.chain, count parts, count_todos (primary and_tree parts) c, z.3) (calling_done program code texts b base home g p yields c z.0))
     tree_progress unbuilt c b base home g st s = absurd s.stands
 
     -- parts that are reached, behind those that have yielded
     trees_progress : (trees : Trees) (job : Job) (ch : List Environ) (acc : List Content) (a k b : ℕ) (base : List Item) (home : List Environ) (g : Bool) (st : State)
-        → doing_of job ≡ None → StandAll code (parts_give job g) trees a k → st ≡ idle a (left (parts_give job g) acc (inner job base)) ch
+        → pose_of job ≡ ready → StandAll code (parts_give job g) trees a k → st ≡ idle a (left (parts_give job g) acc (inner job b home base)) ch
         → Tail code job (count_terms (yields acc (todos trees ch))) ch k b home g → Done program code job ch k b base home g
         → Progress program code (Sim code b base home g) (part job ch (yields acc (todos trees ch))) st
     trees_progress no_trees job ch acc a k b base home g st none stands e tail done =
-        let items = left (parts_give job g) acc (inner job base) in
-        moved _ _ st (posed (doing_of job) k items ch (parts_give job g))
-        (e ∙ ap (λ n. idle n items ch) stands ∙ ap (λ (d : Option Doing). posed d k items ch (parts_give job g)) (sym none)) (done acc tail)
+        let items = left (parts_give job g) acc (inner job b home base) in
+        moved _ _ st (posed code (pose_of job) k items ch (parts_give job g))
+        (e ∙ ap (λ n. idle n items ch) stands ∙ ap (λ (d : Pose). posed code d k items ch (parts_give job g)) (sym none)) (done acc tail)
     trees_progress (tree and_tree trees) job ch acc a k b base home g st none stands e tail done =
         from_part job ch acc (todos trees ch) (todo tree ch) stands.0 k b base home g st none (todos_all code (parts_give job g) trees stands.0 k ch stands.2) tail
         (λ v e2 tail2. trees_progress trees job ch (v ∷ acc) stands.0 k b base home g st none stands.2 e2 tail2 done)
-        (tree_progress tree ch stands.0 (left (parts_give job g) acc (inner job base)) ch (parts_give job g) st (record { a = a; stands = stands.1; chain = refl; state = e }))
+        (tree_progress tree ch stands.0 (left (parts_give job g) acc (inner job b home base)) ch (parts_give job g) st (record { a = a; stands = stands.1; chain = refl; state = e }))
+
+  -- all parameters are bound: the body begins, where it is there
+  binding_last : (p : ℕ) (q : Routine) (from : List Environ) (slot : ℕ) (ch : List Environ) (k b : ℕ) (base : List Item) (home : List Environ) (g : Bool)
+      → Done program code (binding p q from slot []) ch k b base home g
+  binding_last p q from slot ch k b base home g (v ∷ acc) tail = absurd (omega (arith, tail.0, count_yields (v ∷ acc) no_terms))
+  binding_last p q from slot ch k b base home g [] tail =
+      by_text (slice_get program.texts q.text) refl (slice_get code.texts q.text) refl (texts.each q.text)
+    where
+      items : List Item
+      items = item.Caller (record { to = b; chain = home }) ∷ base
+
+      t : Term
+      t = part (binding p q from slot []) ch no_terms
+
+      by_text : (o : Option Body) → slice_get program.texts q.text ≡ o → (o2 : Option RoutineEntrance) → slice_get code.texts q.text ≡ o2 → Found code o o2
+          → Progress program code (Sim code b base home g) t (begins_body (idle k items ch) o2)
+      by_text None is None is2 found =
+          moves_fault program code _ t _ fault.Kind p (ap (λ (o : Option Body). Some (body_in p from ch o)) is) (ap (λ x. Some (meets fault.Kind x)) (place_is code k p tail.3 tail.4.0))
+          (is_inside code k p tail.3 tail.4.0)
+      by_text None is (Some e) is2 found = absurd found
+      by_text (Some body) is None is2 found = absurd found
+      by_text (Some body) is (Some e) is2 found =
+          let gives : g ≡ body.yields = sym (tail.2 e is2) ∙ found.yields in
+          progress_row program code _ t (part (inside body.place body.yields from) ch (only (todo body.tree ch))) _ (ap (λ (o : Option Body). Some (body_in p from ch o)) is)
+          (from_part (inside body.place body.yields from) ch [] no_terms (todo body.tree ch) found.end found.end b base home g (idle e.at items ch) refl refl (gives, tail.1, refl, found.return)
+          (λ v there last. moved _ _ _ _ there (inside_done program code b base home g body.place body.yields from ch found.end (v ∷ []) last))
+          (tree_progress body.tree ch found.end items ch g (idle e.at items ch)
+          (record { a = e.at; stands = subst (λ (x : Bool). Stands code x body.tree e.at found.end) (sym gives) found.stands; chain = refl; state = refl })))
 
   -- what comes next once the parts at hand have yielded
   all_done : (job : Job) (ch : List Environ) (k b : ℕ) (base : List Item) (home : List Environ) (g : Bool) → Done program code job ch k b base home g
@@ -201,25 +240,30 @@ module _ (program : Program) (code : Code) (same : code.modes ≡ program.modes)
   all_done (advancing n c l) ch k b base home g = advancing_done program code b base home g n c l ch k
   all_done (quitting n p c) ch k b base home g = quitting_done program code b base home g n p c ch k
   all_done (leaving c) ch k b base home g = leaving_done program code b base home g c ch k
+  all_done (calling p yields) ch k b base home g = calling_done program code texts b base home g p yields ch k
+  all_done (entering p q vs) ch k b base home g = entering_done program code texts b base home g p q vs ch k
+  all_done (binding p q from slot []) ch k b base home g = binding_last p q from slot ch k b base home g
+  all_done (binding p q from slot (v ∷ vs)) ch k b base home g = binding_one program code texts b base home g p q from slot v vs ch k
+  all_done (inside p yields from) ch k b base home g = inside_done program code b base home g p yields from ch k
 
   -- what comes next for parts at hand
   parts_progress : (ts : Terms) (job : Job) (ch : List Environ) (acc : List Content) (k b : ℕ) (base : List Item) (home : List Environ) (g : Bool) (st : State)
-      → DoesParts code ts k (left (parts_give job g) acc (inner job base)) ch (parts_give job g) (doing_of job) st → Tail code job (count_terms (yields acc ts)) ch k b home g
+      → DoesParts code ts k (left (parts_give job g) acc (inner job b home base)) ch (parts_give job g) (pose_of job) st → Tail code job (count_terms (yields acc ts)) ch k b home g
       → Progress program code (Sim code b base home g) (part job ch (yields acc ts)) st
   parts_progress no_terms job ch acc k b base home g st does tail = moved _ _ st _ does (all_done job ch k b base home g acc tail)
   parts_progress (yielded v and_term ts) job ch acc k b base home g st does tail = parts_progress ts job ch (v ∷ acc) k b base home g st does tail
   parts_progress (todo tree c and_term ts) job ch acc k b base home g st does tail =
       from_part job ch acc ts (todo tree c) does.0 k b base home g st does.1 does.2 tail
       (λ v e tail2. parts_progress ts job ch (v ∷ acc) k b base home g st
-      (subst (λ (d : Option Doing). DoesParts code ts k (left (parts_give job g) (v ∷ acc) (inner job base)) ch (parts_give job g) d st) (sym does.1)
-      (does_todos code ts does.0 k (left (parts_give job g) (v ∷ acc) (inner job base)) ch (parts_give job g) st does.2 e)) tail2)
-      (tree_progress tree c does.0 (left (parts_give job g) acc (inner job base)) ch (parts_give job g) st does.3)
+      (subst (λ (d : Pose). DoesParts code ts k (left (parts_give job g) (v ∷ acc) (inner job b home base)) ch (parts_give job g) d st) (sym does.1)
+      (does_todos code ts does.0 k (left (parts_give job g) (v ∷ acc) (inner job b home base)) ch (parts_give job g) st does.2 e)) tail2)
+      (tree_progress tree c does.0 (left (parts_give job g) acc (inner job b home base)) ch (parts_give job g) st does.3)
   parts_progress (part job2 c ps and_term ts) job ch acc k b base home g st does tail =
       from_part job ch acc ts (part job2 c ps) does.0 k b base home g st does.1 does.2 tail
       (λ v e tail2. parts_progress ts job ch (v ∷ acc) k b base home g st
-      (subst (λ (d : Option Doing). DoesParts code ts k (left (parts_give job g) (v ∷ acc) (inner job base)) ch (parts_give job g) d st) (sym does.1)
-      (does_todos code ts does.0 k (left (parts_give job g) (v ∷ acc) (inner job base)) ch (parts_give job g) st does.2 e)) tail2)
-      (parts_progress ps job2 c [] does.3 does.0 (left (parts_give job g) acc (inner job base)) ch (parts_give job g) st does.4 does.5)
+      (subst (λ (d : Pose). DoesParts code ts k (left (parts_give job g) (v ∷ acc) (inner job b home base)) ch (parts_give job g) d st) (sym does.1)
+      (does_todos code ts does.0 k (left (parts_give job g) (v ∷ acc) (inner job b home base)) ch (parts_give job g) st does.2 e)) tail2)
+      (parts_progress ps job2 c [] does.3 does.0 (left (parts_give job g) acc (inner job b home base)) ch (parts_give job g) st does.4 does.5)
 
   -- what comes next for any term
   pub term_progress : (t : Term) (b : ℕ) (base : List Item) (home : List Environ) (g : Bool) (st : State) → Sim code b base home g t st

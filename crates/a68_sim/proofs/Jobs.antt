@@ -30,7 +30,7 @@ use Rattle.a68_sim.proofs.Asking.{idle, seen, ask, at_instr, place_is, does_is, 
 use Rattle.a68_gen.proofs.Forward.{next_is, forward, forward_index, forward_leaves, forward_arms, forward_test}
 use Rattle.a68_sim.proofs.Operating.{exec_of, not_end, operation_begins, operation_goes_on}
 use Rattle.a68_sim.proofs.Quiet.{progress_row, still, quietly, outwards, Progress, moves, finishes, moves_on, moves_act, moves_fault}
-use Rattle.a68_sim.proofs.Relation.{drops, bit_of, doing_of, push, count_terms, posed, parts_give, inner, LoopAt, Tail, Sim, yields, left, onto, size, values_yields, pops_left, count_yields, left_none, does_yields}
+use Rattle.a68_sim.proofs.Relation.{drops, bit_of, pose_of, ready, push, callers_left, count_terms, posed, parts_give, inner, LoopAt, Tail, Sim, yields, left, onto, size, values_yields, pops_left, count_yields, left_none, does_yields}
 use Rattle.a68_strand.specs.Machine.{leaves_at, does_leave, State, exec, follows, fails, goes_on, goes_to, branches, chooses as goes_by, with_counter, told_by, asks_for}
 use Rattle.a68_stack.specs.Values.{pop_values}
 use Rattle.a68_strand.specs.declared.ask.Stance.TheVariants.{Asking}
@@ -51,10 +51,10 @@ abbrev pub Done : Program → Code → Job → List Environ → ℕ → ℕ → 
 Done program code job ch k b base home g =
     (acc : List Content) → Tail code job (count_terms (yields acc no_terms)) ch k b home g
     → Progress program code (Sim code b base home g) (part job ch (yields acc no_terms))
-    (posed (doing_of job) k (left (parts_give job g) acc (inner job base)) ch (parts_give job g))
+    (posed code (pose_of job) k (left (parts_give job g) acc (inner job b home base)) ch (parts_give job g))
 
 -- a list of parts has another length
-two_or_more : (v w : Content) (acc : List Content) → count_terms (yields (v ∷ (w ∷ acc)) no_terms) ≡ 1 → ⊥
+pub two_or_more : (v w : Content) (acc : List Content) → count_terms (yields (v ∷ (w ∷ acc)) no_terms) ≡ 1 → ⊥
 two_or_more v w acc e = absurd (omega (arith, e, count_yields (v ∷ (w ∷ acc)) no_terms))
 
 -- a reply to another act
@@ -90,7 +90,7 @@ module _ (program : Program) (code : Code) where
   leaves_frame p k b true false (x ∷ (o ∷ outer)) base home t v eg has ec e = absurd (cc)
   leaves_frame p k b false false (x ∷ (o ∷ outer)) base home t v eg has ec e =
       moves_on program code _ t _ _ (idle (suc k) base (o ∷ outer)) e (at_instr code k p base (x ∷ (o ∷ outer)) (leave false) has.0 refl)
-      (is_inside code k p (leave false) has.0) (inl (omega arith))
+      (is_inside code k p (leave false) has.0) (inl (refl, inl (omega arith)))
       (ap (λ n. idle n base (o ∷ outer)) (next_is k b has.1) ∙ ap (λ c. idle b base c) ec)
   leaves_frame p k b true true (x ∷ (o ∷ outer)) base home t v eg has ec e =
       by_test (nat_lt o.scope (scope_of v)) e (at_instr code k p (item.Value v ∷ base) (x ∷ (o ∷ outer)) (leave true) has.0 refl)
@@ -105,7 +105,7 @@ module _ (program : Program) (code : Code) where
           moves_fault program code _ t _ fault.Scope p e (a ∙ ap (λ x. Some (meets fault.Scope x)) (place_is code k p (leave true) has.0))
           (is_inside code k p (leave true) has.0)
       by_test false e a =
-          moves_on program code _ t _ _ (idle (suc k) (item.Value v ∷ base) (o ∷ outer)) e a (is_inside code k p (leave true) has.0) (inl (omega arith))
+          moves_on program code _ t _ _ (idle (suc k) (item.Value v ∷ base) (o ∷ outer)) e a (is_inside code k p (leave true) has.0) (inl (refl, inl (omega arith)))
           (ap (λ n. idle n (item.Value v ∷ base) (o ∷ outer)) (next_is k b has.1) ∙ ap (λ c. idle b (item.Value v ∷ base) c) ec)
 
   -- an enquiry is tested
@@ -120,8 +120,8 @@ module _ (program : Program) (code : Code) where
 
       by_answer : (answer : Result Bool FaultKind) → row program t ≡ Some (goes_with p f answer) → ask code st ≡ Some (seen code (branches st x items answer))
           → Progress program code (Sim code b base home g) t st
-      by_answer (Ok true) e a = moves_on program code _ t _ _ (idle (suc k) items ch) e a (is_inside code k p (does.Unless x) h) (inl (omega arith)) (keeps true)
-      by_answer (Ok false) e a = moves_on program code _ t _ _ (idle x items ch) e a (is_inside code k p (does.Unless x) h) (inl less) (keeps false)
+      by_answer (Ok true) e a = moves_on program code _ t _ _ (idle (suc k) items ch) e a (is_inside code k p (does.Unless x) h) (inl (refl, inl (omega arith))) (keeps true)
+      by_answer (Ok false) e a = moves_on program code _ t _ _ (idle x items ch) e a (is_inside code k p (does.Unless x) h) (inl (refl, inl less)) (keeps false)
       by_answer (Err why) e a =
           moves_fault program code _ t _ why p e (a ∙ ap (λ x. Some (meets why x)) (place_is code k p (does.Unless x) h)) (is_inside code k p (does.Unless x) h)
 
@@ -141,12 +141,12 @@ module _ (program : Program) (code : Code) where
         let en : n ≡ size acc = omega (arith, count_yields acc no_terms) in
         let pop : pop_values n (left true acc base) [] ≡ Some (onto acc [], base) =
         ap (λ x. pop_values x (left true acc base) []) en ∙ pops_left acc base [] in
-        let done : exec code.modes (does_of op n) st ≡ follows st g base (start program.modes op ch (onto acc [])) =
-        exec_of code.modes op n st at.enough
+        let done : exec code (does_of op n) st ≡ follows st g base (start program.modes op ch (onto acc [])) =
+        exec_of code op n st at.enough
         ∙ ap (λ x. option_map_or (λ popped. follows st (leaves code.modes op) popped.1 (start code.modes op ch popped.0)) x (fails st fault.Kind)) pop
         ∙ ap (λ x. follows st x base (start code.modes op ch (onto acc []))) (sym at.gives)
         ∙ ap (λ (modes : List Shape). follows st g base (start modes op ch (onto acc []))) same in
-        operation_begins program code same b base home g p op n k ch (left true acc base) _ (start program.modes op ch (onto acc [])) at tail.1
+        operation_begins program code same b base home g p op n k ch (left true acc base) _ (start program.modes op ch (onto acc [])) at tail.1 (sym (callers_left true acc base))
         (row_done program (operating p op o) ch acc)
         (at_instr code k p (left true acc base) ch (does_of op n) at.has.0 (not_end op n) ∙ ap (λ s. Some (seen code s)) done)
 
@@ -234,7 +234,7 @@ module _ (program : Program) (code : Code) where
         by_result (Ok n) is e a =
             let y = arm_sim p ch tail.0 arms out tail.4 tail.2 tail.3 tail.6 tail.7 n (case_within (count arms) v n is) in
             let z = y.1 in let w = tail.5.1 in
-            moves_on program code _ t _ _ (idle (slice_index_or (with_last tail.4 tail.3) n 0) base ch) e a (is_inside code k p (does.Case (with_last tail.4 tail.3)) tail.5.0) (inl (omega arith)) y.0
+            moves_on program code _ t _ _ (idle (slice_index_or (with_last tail.4 tail.3) n 0) base ch) e a (is_inside code k p (does.Case (with_last tail.4 tail.3)) tail.5.0) (inl (refl, inl (omega arith))) y.0
         by_result (Err why) is e a =
             moves_fault program code _ t _ why p e (a ∙ ap (λ x. Some (meets why x)) (place_is code k p (does.Case (with_last tail.4 tail.3)) tail.5.0))
             (is_inside code k p (does.Case (with_last tail.4 tail.3)) tail.5.0)
@@ -252,7 +252,7 @@ module _ (program : Program) (code : Code) where
         by_place (inr jump) =
             moves_on program code _ _ _ _ (idle b (push g v base) ch) (row_done program chosen ch (v ∷ []))
             (at_instr code k jump.0 (push g v base) ch (does.Jump b) jump.2.0 refl) (is_inside code k jump.0 (does.Jump b) jump.2.0)
-            (inl jump.3) (ap (λ c. idle b (push g v base) c) tail.0)
+            (inl (refl, inl jump.3)) (ap (λ c. idle b (push g v base) c) tail.0)
 
     -- TO is looked at alone
     pub limiting_done : (l : Turns) (ch : List Environ) (k : ℕ) → Done program code (limiting l) ch k b base home g
@@ -275,7 +275,7 @@ module _ (program : Program) (code : Code) where
             → ask code st ≡ Some (seen code (follows st true (item.Value by ∷ (item.Value from ∷ base)) (yielding res))) → Progress program code (Sim code b base home g) t st
         by_result (Ok v) e a =
             let items = item.Value v ∷ (item.Value by ∷ (item.Value from ∷ base)) in
-            moves_on program code _ t _ _ (idle (suc k) items ch) e a (is_inside code k l.place (does.Apply 26) tail.5.0) (inl (omega arith))
+            moves_on program code _ t _ _ (idle (suc k) items ch) e a (is_inside code k l.place (does.Apply 26) tail.5.0) (inl (refl, inl (omega arith)))
             (tail.3, ap (λ n. idle n items ch) (next_is k tail.3 tail.5.1), (tail.0, tail.1, refl, tail.4, tail.6, tail.7))
         by_result (Err why) e a =
             moves_fault program code _ t _ why l.place e (a ∙ ap (λ x. Some (meets why x)) (place_is code k l.place (does.Apply 26) tail.5.0)) (is_inside code k l.place (does.Apply 26) tail.5.0)
@@ -298,7 +298,7 @@ module _ (program : Program) (code : Code) where
         by_result : (res : Result Counter FaultKind) → row program t ≡ Some (goes_with l.place (λ c. part (stepping c l) ch no_terms) res)
             → ask code st ≡ Some (seen code (with_counter st base res)) → Progress program code (Sim code b base home g) t st
         by_result (Ok c) e a =
-            moves_on program code _ t _ _ (idle (suc k) (item.Counter c ∷ base) ch) e a (is_inside code k l.place does.Counter tail.4.0) (inl (omega arith))
+            moves_on program code _ t _ _ (idle (suc k) (item.Counter c ∷ base) ch) e a (is_inside code k l.place does.Counter tail.4.0) (inl (refl, inl (omega arith)))
             (tail.3, ap (λ n. idle n (item.Counter c ∷ base) ch) (next_is k tail.3 tail.4.1), (tail.0, tail.1, tail.5))
         by_result (Err why) e a =
             moves_fault program code _ t _ why l.place e (a ∙ ap (λ x. Some (meets why x)) (place_is code k l.place does.Counter tail.4.0)) (is_inside code k l.place does.Counter tail.4.0)
@@ -323,12 +323,12 @@ module _ (program : Program) (code : Code) where
             → Progress program code (Sim code b base home g) (part (stepping c l) ch (yields acc no_terms)) (idle k (item.Counter c ∷ base) ch)
         by_test true e a =
             let x = tail.2 in
-            moves_on program code _ _ _ _ (idle (suc k) (item.Counter c ∷ base) ch) e a (is_inside code k l.place (does.Step x.e) x.step.0) (inl (omega arith))
+            moves_on program code _ _ _ _ (idle (suc k) (item.Counter c ∷ base) ch) e a (is_inside code k l.place (does.Step x.e) x.step.0) (inl (refl, inl (omega arith)))
             (x.t', ap (λ n. idle n (item.Counter c ∷ base) ch) (next_is k x.t' x.step.1), (tail.0, tail.1, k, x, refl))
         by_test false e a =
             let x = tail.2 in
             moves_on program code _ _ _ _ (idle x.e (item.Counter c ∷ base) ch) e a (is_inside code k l.place (does.Step x.e) x.step.0)
-            (inl (in_loop l k x).0) (x.e, refl, (tail.0, tail.1, l.place, inl x.forget))
+            (inl (refl, inl (in_loop l k x).0)) (x.e, refl, (tail.0, tail.1, l.place, inl x.forget))
 
     -- a turn: the test, or at once the body
     turn_sim : (c : Counter) (l : Turns) (test : Test) → l.test ≡ test → (ch : List Environ) → g ≡ false → drops (bit_of l.counts) ch ≡ home → (t : ℕ) (x : LoopAt code l t b)
@@ -435,7 +435,7 @@ module _ (program : Program) (code : Code) where
         let items = item.Value (plain (value.Int c.at)) ∷ (item.Counter c ∷ base) in
         on_bare (naming c l) ch k acc (item.Counter c ∷ base)
         (moves_on program code _ _ _ _ (idle (suc k) items ch) (row_done program (naming c l) ch acc)
-        (at_instr code k l.place (item.Counter c ∷ base) ch does.Index tail.6.0 refl) (is_inside code k l.place does.Index tail.6.0) (inl (omega arith))
+        (at_instr code k l.place (item.Counter c ∷ base) ch does.Index tail.6.0 refl) (is_inside code k l.place does.Index tail.6.0) (inl (refl, inl (omega arith)))
         (tail.5, ap (λ n. idle n items ch) (next_is k tail.5 tail.6.1), (tail.0, tail.1, tail.2, tail.3, tail.4, tail.7)))
 
     pub indexing_done : (c : Counter) (l : Turns) (ch : List Environ) (k : ℕ) → Done program code (indexing c l) ch k b base home g
@@ -507,7 +507,7 @@ module _ (program : Program) (code : Code) where
         (is_inside code k p (does.Leave 0) has.0)
     goes_outwards t p k k2 items f (x ∷ (o ∷ outer)) has e keeps =
         moves_on program code _ _ _ _ (idle (suc k) items (o ∷ outer)) e (at_instr code k p items (x ∷ (o ∷ outer)) (does.Leave 0) has.0 refl) (is_inside code k p (does.Leave 0) has.0)
-        (inl (omega arith)) (subst (λ (y : ℕ). Sim code b base home g (f (o ∷ outer)) (idle y items (o ∷ outer))) (sym (next_is k k2 has.1)) keeps)
+        (inl (refl, inl (omega arith))) (subst (λ (y : ℕ). Sim code b base home g (f (o ∷ outer)) (idle y items (o ∷ outer))) (sym (next_is k k2 has.1)) keeps)
 
     pub advancing_done : (j : ℕ) (c : Counter) (l : Turns) (ch : List Environ) (k : ℕ) → Done program code (advancing j c l) ch k b base home g
     advancing_done (suc j) c l ch k acc tail =
@@ -544,10 +544,10 @@ module _ (program : Program) (code : Code) where
             → ask code st ≡ Some (seen code (option_map_or (λ next. goes_to st tail.2 (item.Counter next ∷ base)) o (goes_on st (item.Counter c ∷ base))))
             → Progress program code (Sim code b base home g) (part (advancing zero c l) ch (yields acc no_terms)) st
         by_next (Some next) e a =
-            moves_on program code _ _ _ _ (idle tail.2 (item.Counter next ∷ base) ch) e a (is_inside code k l.place (does.Advance tail.2) advance.0) (inr back)
+            moves_on program code _ _ _ _ (idle tail.2 (item.Counter next ∷ base) ch) e a (is_inside code k l.place (does.Advance tail.2) advance.0) (inl (refl, inr back))
             (tail.2, refl, (tail.0, tail.1, tail.3))
         by_next None e a =
-            moves_on program code _ _ _ _ (idle (suc k) (item.Counter c ∷ base) ch) e a (is_inside code k l.place (does.Advance tail.2) advance.0) (inl (omega arith))
+            moves_on program code _ _ _ _ (idle (suc k) (item.Counter c ∷ base) ch) e a (is_inside code k l.place (does.Advance tail.2) advance.0) (inl (refl, inl (omega arith)))
             (tail.3.v, ap (λ n. idle n (item.Counter c ∷ base) ch) (next_is k tail.3.v advance.1), (tail.0, tail.1, l.place, inr (tail.3.e, tail.3.f, tail.3.jump, (let y = (in_loop l tail.2 tail.3).2 in let z = advance.1 in let w = tail.4 in omega arith), tail.3.forget)))
 
     pub running_done : (c : Counter) (l : Turns) (ch : List Environ) (k : ℕ) → Done program code (running c l) ch k b base home g
@@ -566,7 +566,7 @@ module _ (program : Program) (code : Code) where
             → Progress program code (Sim code b base home g) (part (leaving c) ch (yields acc no_terms)) (idle k (item.Counter c ∷ base) ch)
         by_place (inl forget) =
             moves_on program code _ _ _ _ (idle (suc k) base ch) (row_done program (leaving c) ch acc)
-            (at_instr code k tail.2 (item.Counter c ∷ base) ch does.Forget forget.0 refl) (is_inside code k tail.2 does.Forget forget.0) (inl (omega arith))
+            (at_instr code k tail.2 (item.Counter c ∷ base) ch does.Forget forget.0 refl) (is_inside code k tail.2 does.Forget forget.0) (inl (refl, inl (omega arith)))
             (ap (λ n. idle n base ch) (next_is k b forget.1) ∙ ap (λ x. idle b base x) tail.1 ∙ ap (λ (x : Bool). idle b (push x void base) home) (sym tail.0))
         by_place (inr jump) = moves (record {
           what = goes (idle jump.0 (item.Counter c ∷ base) ch);
@@ -576,12 +576,12 @@ module _ (program : Program) (code : Code) where
             still,
             (
               jump.0,
-              does_yields code acc no_terms jump.0 (item.Counter c ∷ base) ch false None _ (ap (λ s. idle jump.0 s ch) (sym (left_none acc (item.Counter c ∷ base)))),
+              does_yields code acc no_terms jump.0 (item.Counter c ∷ base) ch false ready _ (ap (λ s. idle jump.0 s ch) (sym (left_none acc (item.Counter c ∷ base)))),
               (tail.0, tail.1, tail.2, inl jump.4),
             ),
           );
           inside = is_inside code k tail.2 (does.Jump jump.0) jump.2.0;
-          forth = inl jump.3;
+          forth = inl (refl, inl jump.3);
         })
 
     pub quitting_done : (j p : ℕ) (c : Counter) (ch : List Environ) (k : ℕ) → Done program code (quitting j p c) ch k b base home g

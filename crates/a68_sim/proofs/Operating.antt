@@ -2,7 +2,7 @@
 use Rattle.std.proofs.Common.{◌≡◌, ℕ, suc, arith, Bool, true, false, List, [], Some, refl, sym, ap, ◌∙◌, inl}
 use Rattle.std.specs.Option.{option_map_or}
 use Rattle.std.specs.declared.option.Option.{Option}
-use Rattle.a68_acts.specs.Operations.{Operation, constant, skip, nil, tag, make, heap, bind, deref, store, apply, same, unite, drop, print, whole, leaves, resumed}
+use Rattle.a68_acts.specs.Operations.{Operation, constant, skip, nil, routine, tag, make, heap, bind, deref, store, apply, same, unite, drop, print, whole, leaves, resumed}
 use Rattle.a68_acts.specs.declared.operation.Doing.{Doing}
 use Rattle.a68_acts.specs.declared.operation.Doing.TheVariants as doing
 use Rattle.a68_acts.specs.declared.operation.Next.{Next}
@@ -22,10 +22,11 @@ use Rattle.a68_modes.specs.declared.shape.Shape.{Shape}
 use Rattle.a68_sim.proofs.Asking.{idle, seen, ask, place_is, does_is, is_inside}
 use Rattle.a68_gen.proofs.Forward.{next_is}
 use Rattle.a68_sim.proofs.Quiet.{still, quietly, Progress, finishes, moves_on, moves_act, moves_fault}
-use Rattle.a68_sim.proofs.Relation.{push, OperationAt, Continues, Sim}
+use Rattle.a68_sim.proofs.Relation.{push, callers_push, OperationAt, Continues, Sim}
 use Rattle.a68_strand.specs.Machine.{State, exec, operation_of, controls, operates, follows, at_end, does_leave, leaves_at, asks_for, told_by}
 use Rattle.a68_strand.specs.declared.ask.Stance.TheVariants.{Asking}
 use Rattle.a68_strand.specs.declared.ask.Waiting.TheVariants as waiting
+use Rattle.a68_stack.specs.Values.{callers}
 use Rattle.a68_stack.specs.declared.stack.Item.{Item}
 use Rattle.a68_values.specs.Content.{Content}
 use Rattle.a68_values.specs.declared.chain.Environ.{Environ}
@@ -35,6 +36,7 @@ operation_is : (op : Operation) (n : ℕ) → operation_of (does_of op n) ≡ So
 operation_is (constant v) n = refl
 operation_is (skip m) n = refl
 operation_is nil n = refl
+operation_is (routine text distance) n = refl
 operation_is (tag hops slot) n = refl
 operation_is (make m bounds) n = refl
 operation_is (heap m bounds) n = refl
@@ -49,10 +51,10 @@ operation_is print n = refl
 operation_is whole n = refl
 
 -- the instruction of an operation does it
-pub exec_of : (modes : List Shape) (op : Operation) (n : ℕ) (st : State) → takes (does_of op n) ≡ n → exec modes (does_of op n) st ≡ operates modes st op n
-exec_of modes op n st e =
-    ap (λ (o : Option Operation). option_map_or (λ found. operates modes st found (takes (does_of op n))) o (controls (does_of op n) st)) (operation_is op n)
-    ∙ ap (operates modes st op) e
+pub exec_of : (code : Code) (op : Operation) (n : ℕ) (st : State) → takes (does_of op n) ≡ n → exec code (does_of op n) st ≡ operates code.modes st op n
+exec_of code op n st e =
+    ap (λ (o : Option Operation). option_map_or (λ found. operates code.modes st found (takes (does_of op n))) o (controls code.texts (does_of op n) st)) (operation_is op n)
+    ∙ ap (operates code.modes st op) e
 
 -- the end has no operation
 is_no_end : (d : Does) (op : Operation) → operation_of d ≡ Some op → at_end (Some d) ≡ false
@@ -101,18 +103,18 @@ module _ (program : Program) (code : Code) (same : code.modes ≡ program.modes)
 
   -- an operation of which all parts have yielded
   pub operation_begins : (p : ℕ) (op : Operation) (n k : ℕ) (ch : List Environ) (items : List Item) (t : Term) (d : Doing) → OperationAt code p op n k b g → ch ≡ home
-      → row program t ≡ Some (rows.operates program.modes p ch d) → ask code (idle k items ch) ≡ Some (seen code (follows (idle k items ch) g base d))
+      → callers base ≡ callers items → row program t ≡ Some (rows.operates program.modes p ch d) → ask code (idle k items ch) ≡ Some (seen code (follows (idle k items ch) g base d))
       → Progress program code (Sim code b base home g) t (idle k items ch)
-  operation_begins p op n k ch items t (doing.Yields v) at ec e a =
+  operation_begins p op n k ch items t (doing.Yields v) at ec calls e a =
       moves_on program code _ t _ _ (idle (suc k) (push g v base) ch) e (a ∙ ap (λ s. Some (seen code s)) (yields_is (idle k items ch) g base v))
-      (is_inside code k p (does_of op n) at.has.0) (inl (omega arith))
+      (is_inside code k p (does_of op n) at.has.0) (inl (callers_push g v base ∙ calls, inl (omega arith)))
       (ap (λ x. idle x (push g v base) ch) (next_is k b at.has.1) ∙ ap (λ c. idle b (push g v base) c) ec)
-  operation_begins p op n k ch items t (doing.Asks w next) at ec e a =
+  operation_begins p op n k ch items t (doing.Asks w next) at ec calls e a =
       let st = asks_for (idle k items ch) base (Asking w (waiting.Operation next)) in
       moves_act program code _ t _ p w _ (told_by code st (waiting.Operation next)) e
       (a ∙ ap (λ x. Some (acts x w (told_by code st (waiting.Operation next)))) (place_is code k p (does_of op n) at.has.0))
       (is_inside code k p (does_of op n) at.has.0) (λ r. told_continues p op n k ch items w next at ec r)
-  operation_begins p op n k ch items t (doing.Meets why) at ec e a =
+  operation_begins p op n k ch items t (doing.Meets why) at ec calls e a =
       moves_fault program code _ t _ why p e (a ∙ ap (λ x. Some (meets why x)) (place_is code k p (does_of op n) at.has.0))
       (is_inside code k p (does_of op n) at.has.0)
 

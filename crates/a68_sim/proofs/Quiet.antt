@@ -63,7 +63,7 @@ pub record Moves (program : Program) (code : Code) (K : Term → State → Type 
   pub asks : ask code st ≡ Some what
   pub follows : Follows program K t what
   pub inside : st.at < length code.list
-  pub forth : Forth code st.at what
+  pub forth : Forth code st what
 
 follows_in : (program : Program) (f : Term → Term) → Hole f → (K L : Term → State → Type 0) → ((t : Term) (st : State) → K t st → L (f t) st)
     → (t : Term) (what : Then State) → Follows program K t what → Follows program L (f t) what
@@ -106,7 +106,7 @@ progress_row program code K t t' st e = progress_after program code K t t' st (q
 
 -- the strand goes on, and t does by its rule
 pub moves_on : (program : Program) (code : Code) (K : Term → State → Type 0) (t t' : Term) (st st' : State) → row program t ≡ Some (goes t')
-    → ask code st ≡ Some (goes st') → st.at < length code.list → Forth code st.at (goes st') → K t' st' → Progress program code K t st
+    → ask code st ≡ Some (goes st') → st.at < length code.list → Forth code st (goes st') → K t' st' → Progress program code K t st
 moves_on program code K t t' st st' e asks inside forth keeps =
     moves (record { what = goes st'; asks = asks; follows = (t', quietly here e still, keeps); inside = inside; forth = forth })
 

@@ -1,26 +1,27 @@
 -- The relation between a strand's state and the term that it does.
-use Rattle.std.proofs.Common.{◌≡◌, ◌<◌, ◌⊎◌, ◌+◌, ℕ, zero, suc, arith, Bool, true, false, List, [], ◌∷◌, None, Some, refl, sym, ap, ◌∙◌, subst}
+use Rattle.std.proofs.Common.{◌≡◌, ◌<◌, ◌⊎◌, ◌+◌, ℕ, zero, suc, arith, Bool, true, false, List, [], ◌∷◌, Some, refl, sym, ap, ◌∙◌, subst}
 use Rattle.std.specs.Option.{option_map}
-use Rattle.std.specs.Prelude.{slice_get, if◌then◌else◌}
-use Rattle.std.specs.declared.option.Option.{Option}
+use Rattle.std.specs.Prelude.{slice_get, reverse, if◌then◌else◌}
 use Rattle.a68_acts.specs.Operations.{Operation, leaves}
 use Rattle.a68_acts.specs.declared.operation.Doing.{Doing}
 use Rattle.a68_acts.specs.declared.operation.Doing.TheVariants as doing
 use Rattle.a68_code.specs.Flow.{takes}
 use Rattle.a68_code.specs.declared.code.Code.{Code}
+use Rattle.a68_code.specs.declared.code.RoutineEntrance.{RoutineEntrance}
 use Rattle.a68_code.specs.declared.does.Does.{Does}
 use Rattle.a68_code.specs.declared.does.Does.TheVariants as does
-use Rattle.a68_elab.specs.Terms.{Job, operating, resuming, gathering, preceding, ending, ranged, choosing, casing, chosen, limiting, counting, stepping, turning, opening, naming, indexing, ranging, testing, running, advancing, quitting, leaving, Term, todo, part, yielded, Terms, no_terms, ◌and_term◌, todos, values}
+use Rattle.a68_elab.specs.Terms.{Job, operating, resuming, gathering, preceding, ending, ranged, choosing, casing, chosen, limiting, counting, stepping, turning, opening, naming, indexing, ranging, testing, running, advancing, quitting, leaving, calling, entering, binding, inside, Term, todo, part, yielded, Terms, no_terms, ◌and_term◌, todos, values}
 use Rattle.a68_elab.specs.Trees.{Tree, Turns, depth, Trees, no_trees, ◌and_tree◌, count}
 use Rattle.a68_gen.specs.Stretches.{Indexes, Leaves, Has, Stands, StandAll, StandArms, Tests, with_last, does_of, leave}
 use Rattle.a68_sim.proofs.Asking.{idle}
 use Rattle.a68_sim.proofs.Quiet.{outwards}
-use Rattle.a68_strand.specs.Machine.{State, follows}
-use Rattle.a68_stack.specs.Values.{pop_values}
+use Rattle.a68_strand.specs.Machine.{State, follows, enters_body, binds}
+use Rattle.a68_stack.specs.Values.{callers, pop_values}
 use Rattle.a68_stack.specs.declared.stack.Item.{Item}
 use Rattle.a68_stack.specs.declared.stack.Item.TheVariants as item
 use Rattle.a68_values.specs.Content.{Content, plain}
 use Rattle.a68_values.specs.declared.plain.Plain.TheVariants as value
+use Rattle.a68_values.specs.declared.plain.Routine.{Routine}
 use Rattle.a68_values.specs.declared.chain.Environ.{Environ}
 
 -- pushed where a value is left
@@ -39,14 +40,27 @@ AllTodo code g (todo tree c and_term ts) a b ch = (m : ℕ) × Stands code g tre
 AllTodo code g (part job c ps and_term ts) a b ch = ⊥
 AllTodo code g (yielded v and_term ts) a b ch = ⊥
 
-abbrev pub doing_of : Job → Option Doing
-doing_of (resuming p d) = Some d
-doing_of _ = None
+-- how a strand stands that has done the parts at hand
+pub data Pose : Type 0 where
+  -- before an instruction
+  ready : Pose
+  -- in the midst of an operation
+  midst : (d : Doing) → Pose
+  -- in the midst of a call: before the frame of the routine, which has these parameters, and in it, with these left
+  enters : (r : Routine) (parameters : List Content) → Pose
+  binds_from : (text slot : ℕ) (left : List Content) → Pose
 
--- a strand before an instruction, or in the midst of an operation
-abbrev pub posed : Option Doing → ℕ → List Item → List Environ → Bool → State
-posed None k base ch g = idle k base ch
-posed (Some d) k base ch g = follows (idle k [] ch) g base d
+abbrev pub pose_of : Job → Pose
+pose_of (resuming p d) = midst d
+pose_of (entering p r vs) = enters r vs
+pose_of (binding p r from slot vs) = binds_from r.text slot vs
+pose_of _ = ready
+
+abbrev pub posed : Code → Pose → ℕ → List Item → List Environ → Bool → State
+posed code ready k base ch g = idle k base ch
+posed code (midst d) k base ch g = follows (idle k [] ch) g base d
+posed code (enters r vs) k base ch g = enters_body (idle k base ch) r (record { slot = 0; left = reverse vs }) ch
+posed code (binds_from text slot vs) k base ch g = binds code.texts (idle k base ch) text slot vs ch
 
 -- whether the parts at hand leave values, where the whole does so or not
 abbrev pub parts_give : Job → Bool → Bool
@@ -60,22 +74,26 @@ parts_give chosen g = g
 parts_give (limiting l) g = true
 parts_give (counting l) g = true
 parts_give (testing c l) g = true
+parts_give (calling p yields) g = true
+parts_give (inside p yields from) g = g
 parts_give _ g = false
 
--- the stack on which the parts at hand are done
-abbrev pub inner : Job → List Item → List Item
-inner (stepping c l) base = item.Counter c ∷ base
-inner (turning c l) base = item.Counter c ∷ base
-inner (opening c l) base = item.Counter c ∷ base
-inner (naming c l) base = item.Counter c ∷ base
-inner (indexing c l) base = item.Value (plain (value.Int c.at)) ∷ (item.Counter c ∷ base)
-inner (ranging c l at slots test) base = item.Counter c ∷ base
-inner (testing c l) base = item.Counter c ∷ base
-inner (running c l) base = item.Counter c ∷ base
-inner (advancing n c l) base = item.Counter c ∷ base
-inner (quitting n p c) base = item.Counter c ∷ base
-inner (leaving c) base = item.Counter c ∷ base
-inner _ base = base
+-- the stack on which the parts at hand are done, where the whole ends at b in the chain home
+abbrev pub inner : Job → ℕ → List Environ → List Item → List Item
+inner (stepping c l) b home base = item.Counter c ∷ base
+inner (turning c l) b home base = item.Counter c ∷ base
+inner (opening c l) b home base = item.Counter c ∷ base
+inner (naming c l) b home base = item.Counter c ∷ base
+inner (indexing c l) b home base = item.Value (plain (value.Int c.at)) ∷ (item.Counter c ∷ base)
+inner (ranging c l at slots test) b home base = item.Counter c ∷ base
+inner (testing c l) b home base = item.Counter c ∷ base
+inner (running c l) b home base = item.Counter c ∷ base
+inner (advancing n c l) b home base = item.Counter c ∷ base
+inner (quitting n p c) b home base = item.Counter c ∷ base
+inner (leaving c) b home base = item.Counter c ∷ base
+inner (binding p r from slot vs) b home base = item.Caller (record { to = b; chain = home }) ∷ base
+inner (inside p yields from) b home base = item.Caller (record { to = b; chain = home }) ∷ base
+inner _ b home base = base
 
 -- the instruction of an operation, from k up to b
 pub record OperationAt (code : Code) (p : ℕ) (op : Operation) (n : ℕ) (k b : ℕ) (g : Bool) : Type 0 where
@@ -119,6 +137,10 @@ drops (suc n) ch = drops n (outwards ch)
 abbrev pub bit_of : Bool → ℕ
 bit_of c = if c then 1 else 0
 
+-- the body of the routine's text leaves a value or none, as `g` says
+abbrev pub Fits : Code → Routine → Bool → Type 0
+Fits code r g = (e : RoutineEntrance) → slice_get code.texts r.text ≡ Some e → e.yields ≡ g
+
 -- what stands behind the parts at hand, of which there are n, from k up to the end b of the whole
 abbrev pub Tail : Code → Job → ℕ → List Environ → ℕ → ℕ → List Environ → Bool → Type 0
 Tail code (operating p op o) n ch k b home g = OperationAt code p op n k b g × (ch ≡ home)
@@ -152,6 +174,11 @@ Tail code (advancing j c l) n ch k b home g = (g ≡ false) × (drops j ch ≡ h
 Tail code (quitting j p c) n ch k b home g = (g ≡ false) × (drops j ch ≡ home) × (e : ℕ) × Leaves code p j k e × Has code p does.Forget e b
 Tail code (leaving c) n ch k b home g =
     (g ≡ false) × (ch ≡ home) × (p : ℕ) × (Has code p does.Forget k b ⊎ ((e f : ℕ) × Has code p (does.Jump e) k f × (k < e) × Has code p does.Forget e b))
+Tail code (calling p yields) n ch k b home g = (g ≡ yields) × (ch ≡ home) × (j : ℕ) × (n ≡ suc j) × Has code p (does.Call j yields) k b
+Tail code (entering p r vs) n ch k b home g = (n ≡ 0) × (ch ≡ home) × Fits code r g × (d : Does) × Has code p d k b
+Tail code (binding p r from slot vs) n ch k b home g = (n ≡ 0) × (from ≡ home) × Fits code r g × (d : Does) × Has code p d k b
+Tail code (inside p yields from) n ch k b home g =
+    (g ≡ yields) × (from ≡ home) × (n ≡ 1) × (slice_get code.list k ≡ Some (record { place = p; does = does.Return }))
 
 -- the strand is about to begin a tree
 pub record Begins (code : Code) (tree : Tree) (c : List Environ) (b : ℕ) (base : List Item) (home : List Environ) (g : Bool) (st : State) : Type 0 where
@@ -161,12 +188,12 @@ pub record Begins (code : Code) (tree : Tree) (c : List Environ) (b : ℕ) (base
   pub state : st ≡ idle a base home
 
 -- the strand does the parts, from the first unfinished one on; behind them is k
-abbrev pub DoesParts : Code → Terms → ℕ → List Item → List Environ → Bool → Option Doing → State → Type 0
-DoesParts code no_terms k base ch g d st = st ≡ posed d k base ch g
+abbrev pub DoesParts : Code → Terms → ℕ → List Item → List Environ → Bool → Pose → State → Type 0
+DoesParts code no_terms k base ch g d st = st ≡ posed code d k base ch g
 DoesParts code (yielded v and_term ts) k base ch g d st = DoesParts code ts k (push g v base) ch g d st
-DoesParts code (todo tree c and_term ts) k base ch g d st = (m : ℕ) × (d ≡ None) × AllTodo code g ts m k ch × Begins code tree c m base ch g st
+DoesParts code (todo tree c and_term ts) k base ch g d st = (m : ℕ) × (d ≡ ready) × AllTodo code g ts m k ch × Begins code tree c m base ch g st
 DoesParts code (part job c ps and_term ts) k base ch g d st =
-    (m : ℕ) × (d ≡ None) × AllTodo code g ts m k ch × (k2 : ℕ) × DoesParts code ps k2 (inner job base) c (parts_give job g) (doing_of job) st
+    (m : ℕ) × (d ≡ ready) × AllTodo code g ts m k ch × (k2 : ℕ) × DoesParts code ps k2 (inner job m ch base) c (parts_give job g) (pose_of job) st
     × Tail code job (count_terms ps) c k2 m ch g
 
 -- The strand does the term: once that has yielded, the strand is at b, in the chain home, and what it leaves is on base.
@@ -174,7 +201,7 @@ abbrev pub Sim : Code → ℕ → List Item → List Environ → Bool → Term �
 Sim code b base home g (todo tree c) st = Begins code tree c b base home g st
 Sim code b base home g (yielded v) st = st ≡ idle b (push g v base) home
 Sim code b base home g (part job c ps) st =
-    (k : ℕ) × DoesParts code ps k (inner job base) c (parts_give job g) (doing_of job) st × Tail code job (count_terms ps) c k b home g
+    (k : ℕ) × DoesParts code ps k (inner job b home base) c (parts_give job g) (pose_of job) st × Tail code job (count_terms ps) c k b home g
 
 -- yielded parts in front, the last one first
 abbrev pub yields : List Content → Terms → Terms
@@ -190,24 +217,24 @@ abbrev pub onto : List Content → List Content → List Content
 onto [] vs = vs
 onto (v ∷ acc) vs = onto acc (v ∷ vs)
 
-pub does_yields : (code : Code) (acc : List Content) (ts : Terms) (k : ℕ) (base : List Item) (ch : List Environ) (g : Bool) (d : Option Doing) (st : State)
+pub does_yields : (code : Code) (acc : List Content) (ts : Terms) (k : ℕ) (base : List Item) (ch : List Environ) (g : Bool) (d : Pose) (st : State)
     → DoesParts code ts k (left g acc base) ch g d st → DoesParts code (yields acc ts) k base ch g d st
 does_yields code [] ts k base ch g d st x = x
 does_yields code (v ∷ acc) ts k base ch g d st x = does_yields code acc (yielded v and_term ts) k base ch g d st x
 
 -- the parts of which the first has just been reached
 pub does_todos : (code : Code) (ts : Terms) (a k : ℕ) (base : List Item) (ch : List Environ) (g : Bool) (st : State) → AllTodo code g ts a k ch
-    → st ≡ idle a base ch → DoesParts code ts k base ch g None st
+    → st ≡ idle a base ch → DoesParts code ts k base ch g ready st
 does_todos code no_terms a k base ch g st all e = e ∙ ap (λ n. idle n base ch) all
 does_todos code (todo tree c and_term ts) a k base ch g st all e =
     (all.0, refl, all.3, record { a = a; stands = all.1; chain = all.2; state = e })
 does_todos code (part job c ps and_term ts) a k base ch g st all e = absurd all
 does_todos code (yielded v and_term ts) a k base ch g st all e = absurd all
 
-pub does_first : (code : Code) (t : Term) (ts : Terms) (m k : ℕ) (base : List Item) (ch : List Environ) (g : Bool) (d : Option Doing) (st : State) → d ≡ None
+pub does_first : (code : Code) (t : Term) (ts : Terms) (m k : ℕ) (base : List Item) (ch : List Environ) (g : Bool) (d : Pose) (st : State) → d ≡ ready
     → AllTodo code g ts m k ch → Sim code m base ch g t st → DoesParts code (t and_term ts) k base ch g d st
 does_first code (yielded v) ts m k base ch g d st none all s =
-    subst (λ (x : Option Doing). DoesParts code ts k (push g v base) ch g x st) (sym none) (does_todos code ts m k (push g v base) ch g st all s)
+    subst (λ (x : Pose). DoesParts code ts k (push g v base) ch g x st) (sym none) (does_todos code ts m k (push g v base) ch g st all s)
 does_first code (todo tree c) ts m k base ch g d st none all s = (m, none, all, s)
 does_first code (part job c ps) ts m k base ch g d st none all s = (m, none, all, s.0, s.1, s.2)
 
@@ -243,3 +270,11 @@ todos_all code g (tree and_tree trees) a b ch s = (s.0, s.1, refl, todos_all cod
 pub count_todos : (trees : Trees) (ch : List Environ) → count_terms (todos trees ch) ≡ count trees
 count_todos no_trees ch = refl
 count_todos (tree and_tree trees) ch = ap (λ n. suc n) (count_todos trees ch)
+
+pub callers_push : (g : Bool) (v : Content) (base : List Item) → callers (push g v base) ≡ callers base
+callers_push true v base = refl
+callers_push false v base = refl
+
+pub callers_left : (g : Bool) (acc : List Content) (base : List Item) → callers (left g acc base) ≡ callers base
+callers_left g [] base = refl
+callers_left g (v ∷ acc) base = callers_push g v (left g acc base) ∙ callers_left g acc base

@@ -1,5 +1,6 @@
 -- A strand runs its silent instructions, and the term follows.
-use Rattle.std.proofs.Common.{◌≡◌, ◌<◌, ◌≤◌, ◌⊎◌, ◌+◌, ℕ, zero, suc, arith, Bool, true, false, List, [], length, None, Some, refl, sym, ap, ◌∙◌, subst, inl, inr}
+use Rattle.std.proofs.Common.{◌≡◌, ◌<◌, ◌≤◌, ◌⊎◌, ◌+◌, ◌*◌, ℕ, zero, suc, arith, Bool, true, false, List, [], length, None, Some, refl, sym, ap, ◌∙◌, subst, inl, inr}
+use Rattle.std.proofs.Math.Nat.{mul-suc}
 use Rattle.std.proofs.lemmas.Option.{same_Some}
 use Rattle.std.specs.Option.{option_map, option_map_or}
 use Rattle.std.specs.Prelude.{slice_get, if◌then◌else◌}
@@ -19,8 +20,9 @@ use Rattle.a68_sim.proofs.Asking.{idle, seen_in, seen, at_end_asks, Forth}
 use Rattle.a68_sim.proofs.Follow.{term_progress}
 use Rattle.a68_sim.proofs.Quiet.{Quiet, still, quiet_on, Follows, Progress, moves, finishes, Moves}
 use Rattle.a68_sim.proofs.Relation.{Sim}
+use Rattle.a68_sim.proofs.Routines.{TextsStand}
 use Rattle.a68_strand.specs.Machine.{State, Stack, at_end, does_one, silently, settle_in, steps, goes_on, goes_to, fails, told_by, place_at}
-use Rattle.a68_stack.specs.Values.{top_counter}
+use Rattle.a68_stack.specs.Values.{callers, top_counter}
 use Rattle.a68_strand.specs.declared.ask.Stance.{Stance}
 use Rattle.a68_strand.specs.declared.ask.Stance.TheVariants.{Idle, Asking, Failed}
 use Rattle.a68_strand.specs.declared.ask.Waiting.{Waiting}
@@ -32,55 +34,82 @@ use Rattle.a68_values.specs.declared.chain.Environ.{Environ}
 abbrev pub state : ℕ → Stack → List Environ → Stance → State
 state at stack ch stance = record { at = at; stack = stack; chain = ch; stance = stance }
 
+-- so many silent steps are enough, where the list is so long and so many calls are open
+abbrev pub rooms : (long calls : ℕ) → ℕ
+rooms long calls = long * (1 + calls)
+
+-- a call that is open has as many steps as the list is long
+one_room : (long calls : ℕ) → rooms long (suc calls) ≡ rooms long calls + long
+one_room long calls = let e : 1 + suc calls ≡ suc (1 + calls) = omega arith in ap (λ n. long * n) e ∙ mul-suc long (1 + calls)
+
+at_least : (long calls : ℕ) → long ≤ rooms long calls
+at_least long zero = let e : 1 + zero ≡ suc zero = omega arith in let x = ap (λ n. long * n) e ∙ mul-suc long zero in omega (arith, x)
+at_least long (suc calls) = omega (arith, one_room long calls)
+
 module _ (code : Code) where
-  -- n steps are enough from a place: it lies so far from the end of the list; or it is the Step to which the end of a
-  -- loop has gone back, and the loop is left so far from the end; or it is a Turn
-  pub record AtStep (n at : ℕ) : Type 0 where
+  abbrev L : ℕ
+  L = length code.list
+
+  -- n steps are enough from a place, where so many calls are open: it lies so far from the end of the list; or it is the
+  -- Step to which the end of a loop has gone back, and the loop is left so far from the end; or it is a Turn
+  pub record AtStep (n calls at : ℕ) : Type 0 where
     pub behind : ℕ
     pub step : does_at code.list at ≡ Some (does.Step behind)
     pub turn : does_at code.list (suc at) ≡ Some does.Turn
     pub inside : behind < length code.list
-    pub enough : length code.list < n + behind
+    pub enough : rooms L calls < n + behind
 
-  abbrev pub Enough : ℕ → ℕ → Type 0
-  Enough n at = (length code.list ≤ n + at) ⊎ (AtStep n at ⊎ ((does_at code.list at ≡ Some does.Turn) × (0 < n)))
+  abbrev pub EnoughOf : ℕ → ℕ → ℕ → Type 0
+  EnoughOf n calls at = (rooms L calls ≤ n + at) ⊎ (AtStep n calls at ⊎ ((does_at code.list at ≡ Some does.Turn) × (0 < n)))
 
-  some_left : (at : ℕ) → Enough 0 at → at < length code.list → ⊥
-  some_left at (inl far) inside = absurd (omega arith)
-  some_left at (inr (inl s)) inside = let a = s.inside in let b = s.enough in absurd (omega arith)
-  some_left at (inr (inr t)) inside = let b = t.1 in absurd (omega arith)
+  abbrev pub Enough : ℕ → State → Type 0
+  Enough n st = EnoughOf n (callers st.stack.items) st.at
+
+  some_left : (calls at : ℕ) → EnoughOf 0 calls at → at < L → ⊥
+  some_left calls at (inl far) inside = let a = at_least L calls in absurd (omega arith)
+  some_left calls at (inr (inl s)) inside = let a = s.inside in let b = s.enough in let c = at_least L calls in absurd (omega arith)
+  some_left calls at (inr (inr t)) inside = let b = t.1 in absurd (omega arith)
 
   -- the next step at an instruction
   abbrev stepped : State → Option Does → Option State
-  stepped st o = if at_end o then None else Some (does_one code.modes o st)
+  stepped st o = if at_end o then None else Some (does_one code o st)
+
+  by_calls : (n calls others at : ℕ) → others ≡ calls → EnoughOf n calls at → EnoughOf n others at
+  by_calls n calls others at e x = subst (λ (y : ℕ). EnoughOf n y at) (sym e) x
 
   -- a silent step leaves enough
-  enough_left : (n at : ℕ) (stack : Stack) (ch : List Environ) (next : State) → Enough (suc n) at → silently code Idle (state at stack ch Idle) ≡ Some next
-      → next.stance ≡ Idle → Forth code at (goes next) → Enough n next.at
-  enough_left n at stack ch next (inl far) e idles (inl on) = inl (omega arith)
-  enough_left n at stack ch next (inl far) e idles (inr back) =
-      let a = back.leaves in inr (inl (record { behind = back.behind; step = back.step; turn = back.turn; inside = back.inside; enough = omega arith }))
-  enough_left n at stack ch next (inr (inr t)) e idles forth =
+  enough_left : (n at : ℕ) (stack : Stack) (ch : List Environ) (next : State) → at < L → Enough (suc n) (state at stack ch Idle)
+      → silently code Idle (state at stack ch Idle) ≡ Some next → next.stance ≡ Idle → Forth code (state at stack ch Idle) (goes next) → Enough n next
+  enough_left n at stack ch next inside (inl far) e idles (inl (same, inl on)) = by_calls n (callers stack.items) (callers next.stack.items) next.at same (inl (omega arith))
+  enough_left n at stack ch next inside (inl far) e idles (inl (same, inr back)) =
+      let a = back.leaves in
+      by_calls n (callers stack.items) (callers next.stack.items) next.at same
+      (inr (inl (record { behind = back.behind; step = back.step; turn = back.turn; inside = back.inside; enough = omega arith })))
+  enough_left n at stack ch next inside (inl far) e idles (inr out) =
+      let x : rooms L (suc (callers next.stack.items)) ≤ suc n + at = subst (λ (y : ℕ). rooms L y ≤ suc n + at) out far in
+      let y = one_room L (callers next.stack.items) in
+      inl (omega arith)
+  enough_left n at stack ch next inside (inr (inr t)) e idles forth =
       let x = sym (ap (stepped (state at stack ch Idle)) t.0) ∙ e in
       let y = same_Some _ next x in
       let z = ap (λ (s : State). s.stance) y ∙ idles in
       absurd (cc)
-  enough_left n at stack ch next (inr (inl s)) e idles forth = by_counter (top_counter stack.items) (sym (ap (stepped st) s.step) ∙ e)
+  enough_left n at stack ch next inside (inr (inl s)) e idles forth = by_counter (top_counter stack.items) (sym (ap (stepped st) s.step) ∙ e)
     where
       st : State
       st = state at stack ch Idle
 
-      by_test : (c : Counter) (x : Bool) → Some (if x then goes_on st stack.items else goes_to st s.behind stack.items) ≡ Some next → Enough n next.at
+      by_test : (c : Counter) (x : Bool) → Some (if x then goes_on st stack.items else goes_to st s.behind stack.items) ≡ Some next → Enough n next
       by_test c true q =
-          let y = ap (λ (s : State). s.at) (same_Some _ next q) in
-          let a = s.inside in let b = s.enough in
-          subst (Enough n) y (inr (inr (s.turn, omega arith)))
+          let y = same_Some _ next q in
+          let a = s.inside in let b = s.enough in let m = at_least L (callers stack.items) in
+          subst (λ (z : State). Enough n z) y (inr (inr (s.turn, omega arith)))
       by_test c false q =
-          let y = ap (λ (s : State). s.at) (same_Some _ next q) in
+          let y = same_Some _ next q in
           let b = s.enough in
-          subst (Enough n) y (inl (omega arith))
+          subst (λ (z : State). Enough n z) y (inl (omega arith))
 
-      by_counter : (o : Option Counter) → Some (steps st s.behind o) ≡ Some next → Enough n next.at
+      by_counter : (o : Option Counter) → Some (steps st s.behind o) ≡ Some next → Enough n next
       by_counter None q = let z = ap (λ (s : State). s.stance) (same_Some _ next q) ∙ idles in absurd (cc)
       by_counter (Some c) q = by_test c (has_turn c) q
 
@@ -93,7 +122,7 @@ SettledIn program code K (Failed why) t st = (t' : Term) × Quiet program t t' �
 abbrev pub Settled : Program → Code → (Term → State → Type 0) → Term → State → Type 0
 Settled program code K t st = SettledIn program code K st.stance t st
 
-module _ (program : Program) (code : Code) (same : code.modes ≡ program.modes) (b p : ℕ) (home : List Environ) (end : slice_get code.list b ≡ Some (record { place = p; does = does.End })) where
+module _ (program : Program) (code : Code) (same : code.modes ≡ program.modes) (texts : TextsStand program code) (b p : ℕ) (home : List Environ) (end : slice_get code.list b ≡ Some (record { place = p; does = does.End })) where
   abbrev K : Term → State → Type 0
   K = Sim code b [] home false
 
@@ -123,8 +152,8 @@ module _ (program : Program) (code : Code) (same : code.modes ≡ program.modes)
   by_next n t at stack ch (Failed why) f more = subst (Comes t) (sym (stays_failed n at stack ch why)) (t, still, f)
 
   by_stance : (n : ℕ) (t : Term) (at : ℕ) (stack : Stack) (ch : List Environ) (stance : Stance)
-      → Enough code n at → Moves program code K t (state at stack ch stance)
-      → ((k : ℕ) (t' : Term) (next : State) → n ≡ suc k → K t' next → Enough code k next.at → Comes t' (settle_in k code next))
+      → Enough code n (state at stack ch stance) → Moves program code K t (state at stack ch stance)
+      → ((k : ℕ) (t' : Term) (next : State) → n ≡ suc k → K t' next → Enough code k next → Comes t' (settle_in k code next))
       → Comes t (settle_in n code (state at stack ch stance))
   by_stance n t at stack ch (Asking w wait) enough m more =
       subst (Comes t) (sym (stays_asking n at stack ch w wait))
@@ -136,30 +165,30 @@ module _ (program : Program) (code : Code) (same : code.modes ≡ program.modes)
       st : State
       st = state at stack ch Idle
 
-      by_step : (n : ℕ) → Enough code n at → (o : Option State) → silently code Idle st ≡ o → option_map (seen code) o ≡ Some m.what
-          → ((k : ℕ) (t' : Term) (next : State) → n ≡ suc k → K t' next → Enough code k next.at → Comes t' (settle_in k code next))
+      by_step : (n : ℕ) → Enough code n st → (o : Option State) → silently code Idle st ≡ o → option_map (seen code) o ≡ Some m.what
+          → ((k : ℕ) (t' : Term) (next : State) → n ≡ suc k → K t' next → Enough code k next → Comes t' (settle_in k code next))
           → Comes t (settle_in n code st)
       by_step n enough None e a more = absurd (cc)
-      by_step zero enough (Some next) e a more = absurd (some_left code at enough m.inside)
+      by_step zero enough (Some next) e a more = absurd (some_left code (callers stack.items) at enough m.inside)
       by_step (suc k) enough (Some next) e a more =
           let w : seen code next ≡ m.what = same_Some _ m.what a in
           subst (λ (o : Option State). Comes t (option_map_or (settle_in k code) o st)) (sym e)
           (by_next k t next.at next.stack next.chain next.stance (subst (Follows program K t) (sym w) m.follows)
           (λ t' idles kt. more k t' next refl kt
-          (enough_left code k at stack ch next enough e idles (subst (Forth code at) (sym w ∙ ap (λ (md : Stance). seen_in code md next) idles) m.forth))))
+          (enough_left code k at stack ch next m.inside enough e idles (subst (Forth code st) (sym w ∙ ap (λ (md : Stance). seen_in code md next) idles) m.forth))))
 
-  by_progress : (n : ℕ) (t : Term) (st : State) → Enough code n st.at → Progress program code K t st
-      → ((k : ℕ) (t' : Term) (next : State) → n ≡ suc k → K t' next → Enough code k next.at → Comes t' (settle_in k code next))
+  by_progress : (n : ℕ) (t : Term) (st : State) → Enough code n st → Progress program code K t st
+      → ((k : ℕ) (t' : Term) (next : State) → n ≡ suc k → K t' next → Enough code k next → Comes t' (settle_in k code next))
       → Comes t (settle_in n code st)
   by_progress n t st enough (moves m) more = by_stance n t st.at st.stack st.chain st.stance enough m more
   by_progress n t st enough (finishes v q k) more =
       subst (Comes t) (sym (ap (settle_in n code) k ∙ settle_end n)) (yielded v, q, (v, still))
 
   -- a strand settles, and the term follows it
-  pub settle_follows : (n : ℕ) (t : Term) (st : State) → K t st → Enough code n st.at → Comes t (settle_in n code st)
+  pub settle_follows : (n : ℕ) (t : Term) (st : State) → K t st → Enough code n st → Comes t (settle_in n code st)
   settle_follows zero t st k enough =
-      by_progress zero t st enough (term_progress program code same t b [] home false st k) (λ j t' next e kt left. absurd (omega (arith, e)))
+      by_progress zero t st enough (term_progress program code same texts t b [] home false st k) (λ j t' next e kt left. absurd (omega (arith, e)))
   settle_follows (suc n) t st k enough =
-      by_progress (suc n) t st enough (term_progress program code same t b [] home false st k)
+      by_progress (suc n) t st enough (term_progress program code same texts t b [] home false st k)
       (λ j t' next e kt left. let same_n : n ≡ j = omega (arith, e) in
-      subst (λ (x : ℕ). Enough code x next.at → Comes t' (settle_in x code next)) same_n (settle_follows n t' next kt) left)
+      subst (λ (x : ℕ). Enough code x next → Comes t' (settle_in x code next)) same_n (settle_follows n t' next kt) left)

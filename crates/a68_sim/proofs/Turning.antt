@@ -37,6 +37,7 @@ program = record {
       loop 0 (number 0 1 and_tree number 0 1 and_tree number 9 2 and_tree no_trees) true true
       (while_in 17 1 (phrases 17 (operation 17 (bind 0) serial (operation 25 (tag 1 0) serial no_trees and_tree no_trees) and_tree no_trees) (operation 28 (constant yes_it_is) serial no_trees)))
       (operation 36 drop serial (operation 36 (tag 0 0) serial no_trees and_tree no_trees));
+  texts = [];
   modes = standard_shapes;
 }
 
@@ -54,6 +55,7 @@ code = record {
 translates : Translates program code
 translates = record {
   end = 24;
+  last = 25;
   stands = (
     3,
     4,

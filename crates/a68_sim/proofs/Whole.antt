@@ -15,10 +15,12 @@ use Rattle.a68_elab.specs.Rows.{Then, acts, meets, row}
 use Rattle.a68_elab.specs.Terms.{Term, todo, yielded}
 use Rattle.a68_elab.specs.Trees.{Program}
 use Rattle.a68_gen.specs.Stretches.{Translates}
+use Rattle.a68_stack.specs.Values.{callers}
 use Rattle.a68_sim.proofs.Asking.{idle}
 use Rattle.a68_sim.proofs.Quiet.{Quiet, still, quiet_elaborates, ActsNext}
 use Rattle.a68_sim.proofs.Relation.{Sim}
-use Rattle.a68_sim.proofs.Settling.{state, SettledIn, Settled, settle_follows}
+use Rattle.a68_sim.proofs.Routines.{TextsStand, texts_stand}
+use Rattle.a68_sim.proofs.Settling.{rooms, state, SettledIn, Settled, settle_follows}
 use Rattle.a68_acts.specs.Does.{refused}
 use Rattle.a68_strand.specs.Ends.{HasEnded, fault_in, fault_of, CanAct}
 use Rattle.a68_strand.specs.Ends as run
@@ -53,7 +55,7 @@ is_unended program t x what o v e = by_spot o.spot 0 t (o.put o.spot) (o.opens o
 abbrev world : Store → State → World
 world store st = record { store = store; strands = st ∷ [] }
 
-module _ (program : Program) (code : Code) (same : code.modes ≡ program.modes) (b p : ℕ) (home : List Environ) (end : slice_get code.list b ≡ Some (record { place = p; does = does.End })) where
+module _ (program : Program) (code : Code) (same : code.modes ≡ program.modes) (texts : TextsStand program code) (b p : ℕ) (home : List Environ) (end : slice_get code.list b ≡ Some (record { place = p; does = does.End })) where
   abbrev K : Term → State → Type 0
   K = Sim code b [] home false
 
@@ -70,7 +72,7 @@ module _ (program : Program) (code : Code) (same : code.modes ≡ program.modes)
   told_follows t store next at stack ch w wait act r d s =
       let f : ActsNext program K t (place_at code.list at) w (told_by code (state at stack ch (Asking w wait)) wait) = s in
       let told = told_by code (state at stack ch (Asking w wait)) wait r in
-      let later = settle_follows program code same b p home end (length code.list) (f.open_at.put (f.next r)) told (f.keeps r) (inl (omega arith)) in
+      let later = settle_follows program code same texts b p home end (rooms (length code.list) (callers told.stack.items)) (f.open_at.put (f.next r)) told (f.keeps r) (inl (omega arith)) in
       (later.0, later.2, λ es t2 s2 e. quiet_elaborates f.quiet (by_act (f.open_at.opens (f.next r)) f.open_at.is d (quiet_elaborates later.1 e)))
 
   abbrev Runs : List Entry → Term → World → World → Type 0
@@ -179,15 +181,16 @@ module _ (program : Program) (code : Code) (same : code.modes ≡ program.modes)
 pub law : (program : Program) (code : Code) (fuel : ℕ) (kept : Kept) → Translates program code → RunOf code fuel kept → Permitted program fuel kept
 unfolding settle
 law program code fuel kept tr r =
+    let texts = texts_stand program code tr in
     let home : List Environ = record { frame = 0; scope = 0 } ∷ [] in
     let b = tr.end in
     let p = program.place in
-    let first = settle_follows program code tr.modes b p home tr.ends.0 (length code.list) (todo program.tree home) (idle 0 [] home)
+    let first = settle_follows program code tr.modes texts b p home tr.ends.0 (rooms (length code.list) 0) (todo program.tree home) (idle 0 [] home)
     (record { a = 0; stands = tr.stands; chain = refl; state = refl }) (inl (omega arith)) in
-    let all = follow_run program code tr.modes b p home tr.ends.0 kept.journal.entries first.0 (opening code) r.world (settle code (beginning 0 home), refl, first.2) r.runs in
+    let all = follow_run program code tr.modes texts b p home tr.ends.0 kept.journal.entries first.0 (opening code) r.world (settle code (beginning 0 home), refl, first.2) r.runs in
     let far = all.2 in
     let st = far.0 in
-    let last = ends_too program code tr.modes b p home tr.ends.0 fuel (length kept.journal.entries) all.0 r.world.store st.at st.stack st.chain kept.journal.entries st.stance kept.end refl far.2
+    let last = ends_too program code tr.modes texts b p home tr.ends.0 fuel (length kept.journal.entries) all.0 r.world.store st.at st.stack st.chain kept.journal.entries st.stance kept.end refl far.2
     (subst (λ (w : World). run.EndsWith code fuel kept.journal.entries w kept.end) far.1 r.ends) in
     record {
       term = last.0;

@@ -40,3 +40,4 @@ is_plain (item.Value (structure parts)) p e = let bad : ◌≡◌ {A = Option Pl
 is_plain (item.Value (row bounds parts)) p e = let bad : ◌≡◌ {A = Option Plain} None (Some p) = e in cc
 is_plain (item.Value (united mode inner)) p e = let bad : ◌≡◌ {A = Option Plain} None (Some p) = e in cc
 is_plain (item.Counter c) p e = let bad : ◌≡◌ {A = Option Plain} None (Some p) = e in cc
+is_plain (item.Caller c) p e = let bad : ◌≡◌ {A = Option Plain} None (Some p) = e in cc

@@ -1,6 +1,8 @@
 //! The stack of a strand.
 #![tactic(auto)]
 
+mod caller;
 mod stack;
 
+pub use caller::Caller;
 pub use stack::{Item, Stack};

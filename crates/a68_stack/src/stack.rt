@@ -3,35 +3,43 @@ ghost use Rattle.std.specs.Prelude.{◌≡◌, [], ◌∷◌, ◌++◌, None, So
 ghost use Rattle.std.specs.Option.{option_map};
 ghost use Rattle.a68_values.specs.Content.{Content, plain, scope_of};
 ghost use Rattle.a68_stack.specs.declared.stack.Item.{Item};
-ghost use Rattle.a68_stack.specs.Values.{plain_in, pop_values, top_counter, top_plain, top_two, top_value};
+ghost use Rattle.a68_stack.specs.Values.{callers, is_caller, plain_in, pop_values, top_counter, top_plain, top_two, top_value};
 
+use crate::Caller;
 use a68_acts::Counter;
 use a68_base::NoMemory;
 use a68_values::{Plain, Value, Values};
 use std::alloc::Global;
 use std::marker::Model;
 
-/// What stands on a stack: a value, or the counter of a loop.
+/// What stands on a stack: a value, the counter of a loop, or the caller of the activation whose items stand above it.
 #[derive(Drop)]
 pub enum Item {
     Value(Value),
     Counter(Counter),
+    Caller(Caller),
 }
 
 /// A stack. Contracts see the list of its items, the topmost first.
 pub struct Stack {
     items: Vec<Item>,
+    // How many callers stand on it, so that nobody has to count them.
+    open_calls: usize,
 }
 
 impl Drop for Stack {
     fn drop(self) {
-        let Stack { items: _ } = self;
+        let Stack {
+            items: _,
+            open_calls: _,
+        } = self;
     }
 }
 
 impl Model for Stack {
     ghost use Rattle.std.specs.Coded.{coded_list};
-    ghost use Rattle.std.specs.Prelude.{List, reverse};
+    ghost use Rattle.std.specs.Prelude.{◌≡◌, List, reverse};
+    ghost use Rattle.a68_stack.specs.Values.{callers};
     ghost use Rattle.a68_stack.specs.declared.stack.Item.{Item};
     ghost use Rattle.a68_stack.specs.contracts.stack.Item as item;
 
@@ -40,6 +48,8 @@ impl Model for Stack {
     ghost coded = { coded_list item.the_row.coded };
 
     ghost view = { λ stack. reverse stack.items.items };
+
+    ghost invariant = { λ stack. stack.open_calls ≡ callers (reverse stack.items.items) };
 }
 
 // The plain value that an item is.
@@ -49,8 +59,16 @@ fn plain_in(item: &Item) -> Option<Plain>
 {
     match item {
         Item::Value(value) => value.plain(),
-        Item::Counter(_) => None,
+        Item::Counter(_) | Item::Caller(_) => None,
     }
+}
+
+// Is it a caller?
+#[inline(always)]
+fn is_caller(item: &Item) -> bool
+    ensures { result ≡ is_caller item.now }
+{
+    matches!(item, Item::Caller(_))
 }
 
 impl Stack {
@@ -60,6 +78,7 @@ impl Stack {
     {
         Stack {
             items: Vec::new(alloc),
+            open_calls: 0,
         }
     }
 
@@ -68,6 +87,7 @@ impl Stack {
         ensures { self.new ≡ [] }
     {
         self.items.clear();
+        self.open_calls = 0;
     }
 
     /// Puts an item on top.
@@ -75,8 +95,20 @@ impl Stack {
         ensures ok { OnOk result (self.new ≡ item ∷ self.old) }
         ensures err { OnErr result (self.new ≡ self.old) }
     {
+        let calls = is_caller(&item);
         self.items.push(item)?;
+        if calls {
+            self.open_calls += 1;
+        }
         Ok(())
+    }
+
+    /// How many callers stand on it.
+    #[inline(always)]
+    pub fn callers(&self) -> usize
+        ensures { result ≡ callers self.now }
+    {
+        self.open_calls
     }
 
     /// Puts a value on top.
@@ -85,7 +117,8 @@ impl Stack {
         ensures ok { OnOk result (self.new ≡ Item.Value value ∷ self.old) }
         ensures err { OnErr result (self.new ≡ self.old) }
     {
-        self.push(Item::Value(value))
+        self.items.push(Item::Value(value))?;
+        Ok(())
     }
 
     /// Puts a plain value on top.
@@ -103,7 +136,11 @@ impl Stack {
     pub fn pop(&mut self) -> Option<Item>
         ensures { MatchOption result ((self.old ≡ []) × (self.new ≡ [])) (λ item. self.old ≡ item ∷ self.new) }
     {
-        self.items.pop()
+        let item = self.items.pop();
+        if let Some(Item::Caller(_)) = &item {
+            self.open_calls -= 1;
+        }
+        item
     }
 
     /// Takes the topmost item off where it is a plain value; elsewhere the stack stays.
@@ -169,7 +206,7 @@ impl Stack {
     pub fn pop_value(&mut self) -> Option<Value>
         ensures { MatchOption result (pop_values 1 self.old [] ≡ None) (λ value. pop_values 1 self.old [] ≡ Some (value ∷ [], self.new)) }
     {
-        match self.items.pop() {
+        match self.pop() {
             Some(Item::Value(value)) => Some(value),
             _ => None,
         }
@@ -186,7 +223,7 @@ impl Stack {
 
     /// Takes the topmost values off, so many, the topmost first; none where there are fewer, and then items may be
     /// gone.
-    pub fn pop_many(&mut self, alloc: Global, count: u32) -> Result<Option<Values>, NoMemory>
+    pub fn pop_many(&mut self, alloc: Global, count: usize) -> Result<Option<Values>, NoMemory>
         ensures { IfOk result (λ popped. MatchOption popped (pop_values count self.old [] ≡ None) (λ values. pop_values count self.old [] ≡ Some (reverse values, self.new))) }
     {
         let mut items = Vec::new(alloc);

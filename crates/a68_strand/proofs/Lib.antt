@@ -1,3 +1,4 @@
 pub mod Making
 pub mod Settling
+pub mod Taking
 pub mod Yielding

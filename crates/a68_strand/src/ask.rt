@@ -1,6 +1,27 @@
 //! What a strand asks, and what it waits for.
 use a68_acts::{Next, Want};
-use a68_values::{FaultKind, Plain};
+use a68_values::{FaultKind, Plain, Routine, Values};
+use std::marker::Model;
+
+/// The parameters of a call that are not bound yet, the next one last, and the slot to which that is bound.
+#[derive(Drop)]
+pub struct Parameters {
+    pub slot: u32,
+    pub left: Values,
+}
+
+impl Model for Parameters {
+    ghost use Rattle.std.specs.Prelude.{◌+◌, ◌<◌, ◌^◌, length};
+    ghost use Rattle.a68_strand.specs.Left.{Left, left_code};
+
+    ghost Value = { Left };
+
+    ghost coded = { left_code };
+
+    ghost view = { λ parameters. let x : Left = record { slot = parameters.slot; left = parameters.left } in x };
+
+    ghost invariant = { λ parameters. parameters.slot + length parameters.left < 2 ^ 32 };
+}
 
 /// What a strand that has asked for an act does with the reply.
 #[derive(Drop)]
@@ -11,6 +32,12 @@ pub enum Waiting {
     Frame,
     /// It goes on with the next instruction.
     Turn,
+    /// It enters a frame for the routine that it calls.
+    Called(Routine, Parameters),
+    /// It stands in the frame of the routine text of this number, and binds the next parameter.
+    Entered(u32, Parameters),
+    /// It binds the next parameter; behind the last one the body of the routine text of this number begins.
+    Bound(u32, Parameters),
 }
 
 /// What a strand is about.

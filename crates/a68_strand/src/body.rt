@@ -1,6 +1,6 @@
 //! Where a strand stands.
 ghost use Rattle.std.specs.Prelude.{IsTrue};
-ghost use Rattle.a68_strand.specs.Room.{has_room};
+ghost use Rattle.a68_stack.specs.Room.{has_room};
 
 use crate::{Ask, Waiting};
 use a68_stack::Stack;

@@ -9,7 +9,8 @@ mod control;
 mod exec;
 mod instructions;
 mod reply;
+mod routines;
 mod strand;
 
-pub use ask::{Ask, PlainReply, Stance, Waiting};
+pub use ask::{Ask, Parameters, PlainReply, Stance, Waiting};
 pub use strand::Strand;

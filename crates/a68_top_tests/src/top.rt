@@ -235,6 +235,38 @@ const PRINTING: &[(&str, &str)] = &[
         "BEGIN print(0-9223372036854775807)END",
         "-9223372036854775807",
     ),
+    (
+        "( PROC fact = (INT n) INT: (n = 0 | 1 | n * fact(n - 1)); print(fact(20)) )",
+        "+2432902008176640000",
+    ),
+    ("( PROC p = VOID: print(\"x\"); p; p )", "xx"),
+    (
+        "( PRIO MAX = 9; OP MAX = (INT a, b) INT: (a > b | a | b); print(3 MAX 5 + 1) )",
+        "                  +6",
+    ),
+    (
+        "( INT x = 1; PROC f = INT: x; ( INT x = 2; print(f + x + 4) ) )",
+        SEVEN,
+    ),
+    ("( PROC INT p := INT: 7; print(p) )", SEVEN),
+    ("( PROC p := INT: 7; print(p) )", SEVEN),
+    (
+        "( PROC (INT) INT f; f := (INT n) INT: n + 1; print(f(6)) )",
+        SEVEN,
+    ),
+    (
+        "( PROC f = (INT a, b) INT: 10 * a + b; print(whole(f(2, 3), 0)) )",
+        "23",
+    ),
+    (
+        "( PROC f = (REF INT x) VOID: x := x + 1; INT y := 6; f(y); print(y) )",
+        SEVEN,
+    ),
+    (
+        "( PROC twice = (PROC (INT) INT f, INT n) INT: f(f(n)); print(twice((INT n) INT: n + 2, 3)) )",
+        SEVEN,
+    ),
+    ("( OP - = (BOOL b) BOOL: NOT b; print(- FALSE) )", "T"),
 ];
 
 #[test]
@@ -261,11 +293,6 @@ const REFUSED: &[(&str, u8, &str)] = &[
     ("BEGIN print(1) END CO", 1, "a68: refused S1 at byte 19\n"),
     ("BEGIN print(#)#1)", 1, "a68: refused S6 at byte 17\n"),
     ("( [1 : 2] INT a; SKIP )", 1, "a68: refused X0 at byte 14\n"),
-    (
-        "( PROC p = VOID: SKIP; SKIP )",
-        1,
-        "a68: refused X0 at byte 11\n",
-    ),
     (
         "( print(1); PAR (SKIP, SKIP); [] INT a = 1; SKIP )",
         1,
@@ -307,6 +334,22 @@ const REFUSED: &[(&str, u8, &str)] = &[
         3,
         "a68: fault Nil at byte 26\n",
     ),
+    (
+        "( PROC fact = (INT n) INT: (n = 0 | 1 | n * fact(n - 1)); print(fact(21)) )",
+        3,
+        "a68: fault Overflow at byte 40\n",
+    ),
+    (
+        "( PROC INT p; ( INT x = 1; p := INT: x ); SKIP )",
+        3,
+        "a68: fault Scope at byte 27\n",
+    ),
+    (
+        "( PROC f = REF INT: LOC INT := 3; print(f) )",
+        3,
+        "a68: fault Scope at byte 11\n",
+    ),
+    ("( PROC INT p; print(p) )", 3, "a68: fault Unset at byte 20\n"),
     ("BEGIN print(1);", 1, "a68: refused S6 at byte 15\n"),
     ("BEGIN print(1 +) END", 1, "a68: refused S6 at byte 15\n"),
     ("BEGIN print(1x) END", 1, "a68: refused S5 at byte 12\n"),
@@ -491,6 +534,20 @@ const RUNS: &[(&str, &str, u8, (&str, &str), usize)] = &[
         0,
         ("                  +5", ""),
         10,
+    ),
+    (
+        "( PROC f = (INT a) INT: a; print(f(7)) )",
+        "8",
+        0,
+        (SEVEN, ""),
+        8,
+    ),
+    (
+        "( PROC f = (INT a) INT: a; print(f(7)) )",
+        "6",
+        5,
+        ("", SPENT),
+        6,
     ),
 ];
 

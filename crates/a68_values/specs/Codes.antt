@@ -1,4 +1,3 @@
--- Inner: the headline does not rest on this file.
 -- How the logic tells values apart: a code for each, which is one to one.
 use Rattle.std.specs.Prelude.{◌≡◌, ℕ, ℤ, pos, List, Bool, true, false, cond, ◌==◌, refl}
 use Rattle.std.proofs.Common.{ap, arith}

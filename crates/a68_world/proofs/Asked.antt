@@ -4,7 +4,7 @@ use Rattle.std.specs.Prelude.{None, Some, Ok, Err, slice_get, reverse, nat_lt, �
 use Rattle.std.specs.Option.{option_map_or}
 use Rattle.std.specs.declared.option.Option.{Option}
 use Rattle.std.specs.declared.result.Result.{Result}
-use Rattle.a68_acts.specs.Operations.{Operation, constant, skip, nil, tag, make, heap, bind, deref, store, apply, same, unite, drop, print, whole, start, resumed, skipped, fetched, making, given, assigned, yielding, is_update, updating, put, is_same, related, printing, print_next, worded, whole_of}
+use Rattle.a68_acts.specs.Operations.{Operation, constant, skip, nil, routine, tag, make, heap, bind, deref, store, apply, same, unite, drop, print, whole, start, resumed, skipped, routine_of, fetched, making, given, assigned, yielding, is_update, updating, put, is_same, related, printing, print_next, worded, whole_of}
 use Rattle.a68_acts.specs.declared.operation.Doing.{Doing}
 use Rattle.a68_acts.specs.declared.operation.Doing.TheVariants.{Yields, Asks, Meets}
 use Rattle.a68_acts.specs.declared.operation.Next.{Next}
@@ -93,6 +93,11 @@ whole-below : (n : ℕ) (v w : Content) → DoingBelow n (whole_of v w)
 whole-below n (plain (value.Int v)) (plain (value.Int w)) = worded-below n (whole_number v w)
 whole-below n v w = choose-below n (is_unset v || is_unset w) (Meets fault.Unset) (Meets fault.Kind) tt tt
 
+routine-below : (n t : ℕ) (d : Option ℕ) (chain : List Environ) (e : Environ) → DoingBelow n (routine_of t d chain e)
+routine-below n t None chain e = tt
+routine-below n t (Some d) chain e =
+    option-below n (λ (o : Environ). Yields (plain (value.Routine (record { text = t; frame = e.frame; scope = o.scope })))) (slice_get chain d) (Meets fault.Kind) (λ o. tt) tt
+
 pub start-below : (n : ℕ) (modes : List Shape) (op : Operation) (chain : List Environ) (vs : List Content) → DoingBelow n (start modes op chain vs)
 unfolding start
 start-below n modes (constant v) chain [] = tt
@@ -100,6 +105,8 @@ start-below n modes (skip m) chain [] = skipped-below n modes m
 start-below n modes (tag hops slot) chain [] =
     option-below n (λ (e : Environ). Asks (want.Look e.frame slot) next.Value) (slice_get chain hops) (Meets fault.Kind) (λ e. tt) tt
 start-below n modes nil chain [] = tt
+start-below n modes (routine t d) chain [] =
+    option-below n (routine_of t d chain) (slice_get chain 0) (Meets fault.Kind) (λ e. routine-below n t d chain e) tt
 start-below n modes (make m k) chain [] =
     option-below n (λ (e : Environ). making modes m e.scope) (slice_get chain 0) (Meets fault.Kind) (λ e. making-below n modes m e.scope) tt
 start-below n modes (heap m k) chain [] = making-below n modes m 0

@@ -18,9 +18,11 @@ use Rattle.a68_modes.proofs.modes.Modes.TheSendSync as modes
 use Rattle.a68_store.specs.contracts.frame.Frame as frame
 use Rattle.a68_store.specs.contracts.store.Store as store
 use Rattle.a68_strand.specs.contracts.ask.Ask as ask
+use Rattle.a68_strand.specs.contracts.ask.Parameters as parameters
 use Rattle.a68_strand.specs.contracts.ask.Waiting as waiting
 use Rattle.a68_strand.specs.contracts.body.About as about
 use Rattle.a68_strand.specs.contracts.body.Body as body
+use Rattle.a68_stack.specs.contracts.caller.Caller as caller
 use Rattle.a68_stack.specs.contracts.stack.Item as item
 use Rattle.a68_stack.specs.contracts.stack.Stack as stack
 use Rattle.a68_strand.specs.contracts.strand.Strand as strand
@@ -88,8 +90,11 @@ store_send = search (sendable, crosses, frame_send, held.the_send) depth 20
 
 -- ---- the strand
 
+caller_send : IsSend caller.the_row
+caller_send = search (sendable, crosses, chain.the_send) depth 20
+
 item_send : IsSend item.the_row
-item_send = search (sendable, crosses, value_send) depth 20
+item_send = search (sendable, crosses, value_send, caller_send) depth 20
 
 stack_send : IsSend stack.the_row
 stack_send = search (sendable, crosses, item_send) depth 20
@@ -109,8 +114,11 @@ parts_row_send = let p = holes_send member-Values in let v = holes_send member-V
 next_send : IsSend (next.the_field).row
 next_send = search (sendable, crosses, parts_row_send) depth 20
 
+parameters_send : IsSend parameters.the_row
+parameters_send = search (sendable, crosses, parts_row_send) depth 20
+
 waiting_send : IsSend (waiting.the_field).row
-waiting_send = search (sendable, crosses, next_send) depth 20
+waiting_send = search (sendable, crosses, next_send, parameters_send) depth 20
 
 about_send : IsSend (about.the_field).row
 about_send = search (sendable, crosses, ask_send, waiting_send) depth 20

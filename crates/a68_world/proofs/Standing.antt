@@ -81,7 +81,7 @@ made-sound code fuel journal store strand end m valid short some little =
       shows = λ e. shows;
       few = rw (m.store_is, m.items) (omega arith);
       frames = rw m.store_is opening-frames;
-      strand = λ e. rw (m.store_is, m.settled.state) (settle-below 1 code (beginning 0 (record { frame = 0; scope = 0 } ∷ [])) (record { chain = (omega arith, tt); stance = tt }));
+      strand = λ e. rw (m.store_is, m.settled.state) (settle-below 1 code (beginning 0 (record { frame = 0; scope = 0 } ∷ [])) (record { chain = (omega arith, tt); items = tt; stance = tt }));
     }
 
 pub made-is : (code : Code) (fuel : ℕ) (journal : Vec Entry Global) (store : Store) (strand : Strand) (end : Option End) → Made code fuel journal store strand end

@@ -8,6 +8,8 @@ use Rattle.a68_acts.specs.declared.want.Reply.{Reply}
 use Rattle.a68_acts.specs.declared.want.Reply.TheVariants as reply
 use Rattle.a68_acts.specs.declared.want.Want.{Want}
 use Rattle.a68_acts.specs.declared.want.Want.TheVariants as want
+use Rattle.a68_stack.specs.declared.stack.Item.{Item}
+use Rattle.a68_stack.specs.declared.stack.Item.TheVariants as item
 use Rattle.a68_strand.specs.Machine.{State}
 use Rattle.a68_strand.specs.declared.ask.Stance.{Stance}
 use Rattle.a68_strand.specs.declared.ask.Stance.TheVariants.{Asking}
@@ -39,7 +41,15 @@ abbrev pub ReplyBelow : ℕ → Reply → Type 0
 ReplyBelow n (reply.Frame chain) = ChainBelow n chain
 ReplyBelow n _ = ⊤
 
--- the strand stands in frames of such scopes, and asks for none of a greater one
+-- so are those of the chains to which the open calls go back
+abbrev pub ItemsBelow : ℕ → List Item → Type 0
+ItemsBelow n [] = ⊤
+ItemsBelow n (item.Value v ∷ items) = ItemsBelow n items
+ItemsBelow n (item.Counter c ∷ items) = ItemsBelow n items
+ItemsBelow n (item.Caller c ∷ items) = ChainBelow n c.chain × ItemsBelow n items
+
+-- the strand stands in frames of such scopes, goes back to none of others, and asks for none of a greater one
 pub record StateBelow (n : ℕ) (st : State) : Type 0 where
   pub chain : ChainBelow n st.chain
+  pub items : ItemsBelow n st.stack.items
   pub stance : StanceBelow n st.stance

@@ -2,11 +2,12 @@ use Rattle.std.proofs.Common.{◌≡◌, ◌⊎◌, ℕ, Bool, List, Option, ◌
 use Rattle.std.specs.Option.{is_some, option_map, option_map_or}
 use Rattle.std.proofs.lemmas.List.{drop_all, nil_from_length}
 use Rattle.std.proofs.lemmas.Option.{same_Some}
+use Rattle.a68_annot.specs.declared.annotated.Annotated.{Annotated}
 use Rattle.a68_code.specs.declared.does.Does.TheVariants as does
 use Rattle.a68_elab.proofs.Nodes.{tree_of_nodes, behind_is}
 use Rattle.a68_gen.proofs.Linking.{case_is, enquiry_is, link_behind}
 use Rattle.a68_elab.specs.Made as made
-use Rattle.a68_elab.specs.Trees.{Tree, Test, while_in, no_trees, unbuilt, ◌and_tree◌, count}
+use Rattle.a68_elab.specs.Trees.{Tree, Test, while_in, unbuilt, ◌and_tree◌, count}
 use Rattle.a68_elab.specs.Made.{behind, tree_at, trees_at, behind_ref}
 use Rattle.a68_gen.specs.Coercing.{coercions}
 use Rattle.a68_gen.specs.Listing.{instr, limits, opens, stretch, stretches, test_stretch}
@@ -14,16 +15,19 @@ use Rattle.a68_gen.specs.Loops.{asked, unless_at}
 use Rattle.a68_code.specs.declared.code.Instr.{Instr}
 use Rattle.a68_gen.specs.Writing.{aim_all, ran_out, Writes}
 use Rattle.a68_gen.specs.Numbers.{put_all}
+use Rattle.a68_gen.specs.Sources.{assigned_tree}
+use Rattle.a68_modes.specs.declared.shape.Shape.{Shape}
 use Rattle.a68_gen.specs.Chains.{enquiry_tree, Finishes, IsOpen, IsWhole, link_tree, other_tree, shuts}
 use Rattle.a68_gen.specs.declared.ends.Opened.{Opened}
 use Rattle.a68_gen.proofs.Chaining.{open_more}
-use Rattle.a68_gen.proofs.Constructs.{coerced_list, coerced_unbuilt, part-cons, one_part, two_parts, rest_parts, some_parts, definition_whole, last_is, count_trees, new_does, plain_serial, framed_serial, declared_plain, declared_none, declared_other, declared_set, only_none, control_list, three_list, phrases_whole, asked_whole, unless_stands, test_is}
+use Rattle.a68_gen.proofs.Constructs.{coerced_list, coerced_unbuilt, part-cons, one_part, rest_parts, some_parts, definition_whole, last_is, count_trees, new_does, plain_serial, framed_serial, declared_plain, declared_none, begun_none, begun_tree, declared_tree, assigned_list, applied_list, call_list, only_none, control_list, three_list, phrases_whole, asked_whole, unless_stands, test_is}
 use Rattle.a68_runs.proofs.Between.{between-each, between-above}
 use Rattle.a68_gen.proofs.Numbering.{ArmsAhead, arm_end, arm_writes, arms_on, case_framed, case_writes}
+use Rattle.a68_gen.proofs.Ordered.{all-before}
 use Rattle.a68_gen.proofs.Jumping.{link_all, link_jump, loop_all}
 use Rattle.a68_gen.proofs.Writing.{and_behind, had_not, is_written, drop_next, nothing-written, writes-as}
 use Rattle.a68_gen.proofs.rows.+units.Goals as goal
-use Rattle.std.specs.Prelude.{not, pos, if◌then◌else◌}
+use Rattle.std.specs.Prelude.{not, pos, false, IfSome, if◌then◌else◌}
 use Rattle.a68_acts.specs.Operations.{constant, skip}
 use Rattle.a68_tree.specs.declared.node.Node.{Node}
 use Rattle.a68_values.specs.Content.{plain}
@@ -43,8 +47,42 @@ unit-returns t c =
     let node = c.node-node.result.now in
     let tree = tree_of_nodes c.args.program.now c.args.id node note c.node-node.ensures.is c.note-note.ensures in
     let path = coercions c.args.program.now.modes node.span.from note.mode note.path in
+    let coerced : Writes c.construct.new.out.stop c.coerce.new.out.stop c.construct.new.out.list c.coerce.new.out.list path = rw c.modes.ensures at c.coerce.ensures in
     rw (tree, coerced_list c.args.program.now.modes node.span.from note.mode (length c.args.out.now.list) note.path _ (sym c.are_built.ensures ∙ c.if-not-are_built.false))
-    (and_behind c.args.out.now.stop c.construct.new.out.stop c.coerce.new.out.stop c.args.out.now.list c.construct.new.out.list c.coerce.new.out.list _ (λ n. path) c.construct.ensures c.coerce.ensures)
+    (and_behind c.args.out.now.stop c.construct.new.out.stop c.coerce.new.out.stop c.args.out.now.list c.construct.new.out.list c.coerce.new.out.list _ (λ n. path) c.construct.ensures coerced)
+
+pub unit-construct-requires : goal.unit-construct-requires
+unit-construct-requires t c =
+    let begins = all-before c.args.program.now.tree.nodes c.args.id c.node-node.result.now c.node-node.ensures.is in
+    (omega arith, (c.requires, (c.node-node.ensures.behind, (c.node-node.ensures.named, begins))))
+
+pub applied-returns-in-Ok : goal.applied-returns-in-Ok
+applied-returns-in-Ok t c =
+    let f = behind c.args.id (tree_at c.args.program.now) in
+    let ids = c.args.parts.now in
+    let place = c.args.place in
+    let note = c.args.note.now in
+    let yields = not (is_void (shape_at c.args.program.now.modes note.mode)) in
+    let tag_first = instr place (does.Tag note.step.hops note.step.slot) ∷ [] in
+    let w0 = c.args.out.now in
+    let w1 = c.emit.new.self in
+    let w2 = c.operation.new.out in
+    let behind_tag : Writes w1.stop w2.stop w1.list w2.list (stretches (trees_at f ids) (length w1.list) ++ instr place (does.Call c.in-Ok.count yields) ∷ []) =
+    subst (λ (b : Bool). Writes w1.stop w2.stop w1.list w2.list (stretches (trees_at f ids) (length w1.list) ++ instr place (does.Call c.in-Ok.count (not b)) ∷ [])) c.is_void-gives.ensures c.operation.ensures in
+    writes-as w0.stop w2.stop w0.list w2.list _ _ (applied_list f ids place note.step.hops note.step.slot c.in-Ok.count (length w0.list) yields c.in-Ok.ensures.1)
+    (and_behind w0.stop w1.stop w2.stop w0.list w1.list w2.list tag_first (λ n. stretches (trees_at f ids) n ++ instr place (does.Call c.in-Ok.count yields) ∷ []) c.emit.ensures behind_tag)
+
+pub routine-returns-in-Ok : goal.routine-returns-in-Ok
+routine-returns-in-Ok t c =
+    let f = behind c.args.id (tree_at c.args.program.now) in
+    let ids = c.args.parts.now in
+    let place = c.args.place in
+    let yields = not (is_void (shape_at c.args.program.now.modes c.args.note.now.mode)) in
+    let w0 = c.args.out.now in
+    let w1 = c.operation.new.out in
+    let all : Writes w0.stop w1.stop w0.list w1.list (stretches (trees_at f ids) (length w0.list) ++ instr place (does.Call c.in-Ok.count yields) ∷ []) =
+    subst (λ (b : Bool). Writes w0.stop w1.stop w0.list w1.list (stretches (trees_at f ids) (length w0.list) ++ instr place (does.Call c.in-Ok.count (not b)) ∷ [])) c.is_void-gives.ensures c.operation.ensures in
+    writes-as w0.stop w1.stop w0.list w1.list _ _ (call_list f ids place c.in-Ok.count (length w0.list) yields c.requires.some c.in-Ok.ensures.1) all
 
 pub write_part-unit-requires : goal.write_part-unit-requires
 write_part-unit-requires t c = let less = c.requires.0 in (omega arith, c.requires.1)
@@ -107,63 +145,78 @@ definition-returns t c =
     (and_behind c.args.out.now.stop c.last.new.out.stop c.emit.new.self.stop c.args.out.now.list c.last.new.out.list c.emit.new.self.list (stretch u at)
     (λ n. instr c.args.place (does.Bind c.args.note.now.step.slot) ∷ []) c.last.ensures c.emit.ensures)
 
-pub declared-write_part-requires : goal.declared-write_part-requires
-declared-write_part-requires t c =
-    let b = between-each c.args.id (length c.args.program.now.tree.nodes) 1 c.args.parts.now c.requires (omega arith) in
+pub assigned-returns : goal.assigned-returns
+assigned-returns t c =
+    let f = behind c.args.id (tree_at c.args.program.now) in
+    let mode = c.behind_ref-mode.result in
+    let place = c.args.place in
+    let slot = c.args.note.now.step.slot in
+    let source = f c.args.source in
+    let w0 = c.args.out.now in
+    let w1 = c.emit.new.self in
+    let w2 = c.write_part.new.out in
+    let w3 = c.emit-2.new.self in
+    let w4 = c.emit-3.new.self in
+    let store = instr place (does.Store mode) in
+    let bind = instr place (does.Bind slot) in
+    let new : Writes w0.stop w1.stop w0.list w1.list (instr place (new_does c.args.in_heap mode) ∷ []) = rw c.new_name.ensures at c.emit.ensures in
+    let w24 = and_behind w2.stop w3.stop w4.stop w2.list w3.list w4.list (store ∷ []) (λ n. bind ∷ []) c.emit-2.ensures c.emit-3.ensures in
+    let w14 = and_behind w1.stop w2.stop w4.stop w1.list w2.list w4.list (stretch source (length w1.list)) (λ n. store ∷ bind ∷ []) c.write_part.ensures w24 in
+    let w04 = and_behind w0.stop w1.stop w4.stop w0.list w1.list w4.list (instr place (new_does c.args.in_heap mode) ∷ []) (λ n. stretch source n ++ store ∷ bind ∷ []) new w14 in
+    let all = writes-as w0.stop w4.stop w0.list w4.list _ _ (assigned_list c.args.in_heap place mode slot (length w0.list) source) w04 in
+    let is : mode ≡ behind_ref (shape_at c.args.program.now.modes c.args.note.now.mode) = c.behind_ref-mode.ensures ∙ ap (λ (ms : List Shape). behind_ref (shape_at ms c.args.note.now.mode)) c.modes.ensures in
+    subst (λ (m : ℕ). Writes w0.stop w4.stop w0.list w4.list (stretch (assigned_tree c.args.in_heap place m slot source) (length w0.list))) is all
+
+pub begun-returns-then-parts-ne1 : goal.begun-returns-then-parts-ne1
+begun-returns-then-parts-ne1 t c =
+    let f = behind c.args.id (tree_at c.args.program.now) in
+    subst (λ (u : Tree). Writes c.args.out.now.stop c.unbuilt.new._out.stop c.args.out.now.list c.unbuilt.new._out.list (stretch u (length c.args.out.now.list)))
+    (begun_none f c.args.in_heap false c.args.place _ c.args.note.now.step.slot c.args.parts.now refl (λ e. absurd (omega arith))) c.unbuilt.ensures
+
+pub begun-assigned-requires : goal.begun-assigned-requires
+begun-assigned-requires t c =
+    let b = between-each c.args.id (length c.args.program.now.tree.nodes) 0 c.args.parts.now c.requires (omega arith) in
     let below = b.0 in
     (omega arith, b)
 
-pub declared-returns-then-not-begins_with_declarer : goal.declared-returns-then-not-begins_with_declarer
-declared-returns-then-not-begins_with_declarer t c =
+pub begun-returns : goal.begun-returns
+begun-returns t c =
     let f = behind c.args.id (tree_at c.args.program.now) in
-    subst (λ (u : Tree). Writes c.args.out.now.stop c.unbuilt.new._out.stop c.args.out.now.list c.unbuilt.new._out.list (stretch u (length c.args.out.now.list)))
-    (declared_other f c.args.in_heap _ c.args.place _ c.args.note.now.step.slot c.args.parts.now (sym c.begins_with_declarer.ensures ∙ c.if-not-begins_with_declarer.true)) c.unbuilt.ensures
+    subst (λ (u : Tree). Writes c.args.out.now.stop c.assigned.new.out.stop c.args.out.now.list c.assigned.new.out.list (stretch u (length c.args.out.now.list)))
+    (begun_tree f c.args.in_heap false c.args.place _ c.args.note.now.step.slot c.args.parts.now refl (omega arith)) c.assigned.ensures
+
+pub declared-assigned-requires : goal.declared-assigned-requires
+declared-assigned-requires t c =
+    let b = between-each c.args.id (length c.args.program.now.tree.nodes) 1 c.args.parts.now c.requires (omega arith) in
+    let below = b.0 in
+    (omega arith, b)
 
 pub declared-returns-then-parts-eq1 : goal.declared-returns-then-parts-eq1
 declared-returns-then-parts-eq1 t c =
     let mode = c.behind_ref-mode.result in
     let slot = c.args.note.now.step.slot in
-    let begins : made.begins_with made.is_declarer c.args.program.now c.args.parts.now ≡ true = sym c.begins_with_declarer.ensures ∙ c.if-not-begins_with_declarer.false in
-    let first : Writes c.args.out.now.stop c.emit.new.self.stop c.args.out.now.list c.emit.new.self.list (instr c.args.place (new_does c.args.in_heap mode) ∷ []) = rw c.new_name.ensures at c.emit.ensures in
-    rw (← c.behind_ref-mode.ensures) (writes-as c.args.out.now.stop c.emit-then-parts-eq1.new.self.stop c.args.out.now.list c.emit-then-parts-eq1.new.self.list _ _
-    (declared_plain (behind c.args.id (tree_at c.args.program.now)) c.args.in_heap _ c.args.place mode slot (length c.args.out.now.list) c.args.parts.now begins (omega arith))
-    (and_behind c.args.out.now.stop c.emit.new.self.stop c.emit-then-parts-eq1.new.self.stop c.args.out.now.list c.emit.new.self.list c.emit-then-parts-eq1.new.self.list
-    (instr c.args.place (new_does c.args.in_heap mode) ∷ []) (λ n. instr c.args.place (does.Bind slot) ∷ []) first c.emit-then-parts-eq1.ensures))
+    let w0 = c.args.out.now in
+    let w1 = c.emit.new.self in
+    let w2 = c.emit-then-parts-eq1.new.self in
+    let place = c.args.place in
+    let f = behind c.args.id (tree_at c.args.program.now) in
+    let first : Writes w0.stop w1.stop w0.list w1.list (instr place (new_does c.args.in_heap mode) ∷ []) = rw c.new_name.ensures at c.emit.ensures in
+    let all = writes-as w0.stop w2.stop w0.list w2.list _ _ (declared_plain f c.args.in_heap true place mode slot (length w0.list) c.args.parts.now refl (omega arith))
+    (and_behind w0.stop w1.stop w2.stop w0.list w1.list w2.list (instr place (new_does c.args.in_heap mode) ∷ []) (λ n. instr place (does.Bind slot) ∷ []) first c.emit-then-parts-eq1.ensures) in
+    let is : mode ≡ behind_ref (shape_at c.args.program.now.modes c.args.note.now.mode) = c.behind_ref-mode.ensures ∙ ap (λ (ms : List Shape). behind_ref (shape_at ms c.args.note.now.mode)) c.modes.ensures in
+    subst (λ (m : ℕ). Writes w0.stop w2.stop w0.list w2.list (stretch (made.variable_of (made.new_name c.args.in_heap place m) true place m slot (trees_at f c.args.parts.now)) (length w0.list))) is all
 
 pub declared-returns-then-parts-ne2 : goal.declared-returns-then-parts-ne2
 declared-returns-then-parts-ne2 t c =
     let f = behind c.args.id (tree_at c.args.program.now) in
-    subst (λ (u : Tree). Writes c.args.out.now.stop c.unbuilt-then-parts-ne2.new._out.stop c.args.out.now.list c.unbuilt-then-parts-ne2.new._out.list (stretch u (length c.args.out.now.list)))
-    (declared_none f c.args.in_heap _ c.args.place _ c.args.note.now.step.slot c.args.parts.now (sym c.begins_with_declarer.ensures ∙ c.if-not-begins_with_declarer.false)
-    (λ e. absurd (omega arith)) (λ e. absurd (omega arith))) c.unbuilt-then-parts-ne2.ensures
+    subst (λ (u : Tree). Writes c.args.out.now.stop c.unbuilt.new._out.stop c.args.out.now.list c.unbuilt.new._out.list (stretch u (length c.args.out.now.list)))
+    (declared_none f c.args.in_heap true c.args.place _ c.args.note.now.step.slot c.args.parts.now refl (λ e. absurd (omega arith)) (λ e. absurd (omega arith))) c.unbuilt.ensures
 
 pub declared-returns : goal.declared-returns
 declared-returns t c =
-    let two = two_parts c.args.parts.now (omega arith) in
     let f = behind c.args.id (tree_at c.args.program.now) in
-    let mode = c.behind_ref-mode.result in
-    let place = c.args.place in
-    let slot = c.args.note.now.step.slot in
-    let first = f (get_or c.args.parts.now 0 0) in
-    let source = f (get_or c.args.parts.now 1 0) in
-    let w0 = c.args.out.now in
-    let w1 = c.emit-2.new.self in
-    let w2 = c.write_part.new.out in
-    let w3 = c.emit-3.new.self in
-    let w4 = c.emit-4.new.self in
-    let store = instr place (does.Store mode) in
-    let bind = instr place (does.Bind slot) in
-    let begins : made.begins_with made.is_declarer c.args.program.now c.args.parts.now ≡ true = sym c.begins_with_declarer.ensures ∙ c.if-not-begins_with_declarer.false in
-    let new : Writes w0.stop w1.stop w0.list w1.list (instr place (new_does c.args.in_heap mode) ∷ []) = rw c.new_name-2.ensures at c.emit-2.ensures in
-    let w24 = and_behind w2.stop w3.stop w4.stop w2.list w3.list w4.list (store ∷ []) (λ n. bind ∷ []) c.emit-3.ensures c.emit-4.ensures in
-    let w14 = and_behind w1.stop w2.stop w4.stop w1.list w2.list w4.list (stretch source (length w1.list)) (λ n. store ∷ bind ∷ []) c.write_part.ensures w24 in
-    let w04 = and_behind w0.stop w1.stop w4.stop w0.list w1.list w4.list (instr place (new_does c.args.in_heap mode) ∷ []) (λ n. stretch source n ++ store ∷ bind ∷ []) new w14 in
-    let all : Writes w0.stop w4.stop w0.list w4.list (stretch (made.variable_of (made.new_name c.args.in_heap place mode) (made.begins_with made.is_declarer c.args.program.now c.args.parts.now) place mode slot (first and_tree (source and_tree no_trees))) (length w0.list)) =
-    writes-as w0.stop w4.stop w0.list w4.list _ _ (declared_set c.args.in_heap _ place mode slot (length w0.list) first source begins) w04 in
-    let whole : Writes w0.stop w4.stop w0.list w4.list (stretch (made.variable_of (made.new_name c.args.in_heap place mode) (made.begins_with made.is_declarer c.args.program.now c.args.parts.now) place mode slot (trees_at f c.args.parts.now)) (length w0.list)) =
-    subst (λ (ids : List ℕ). Writes w0.stop w4.stop w0.list w4.list (stretch (made.variable_of (made.new_name c.args.in_heap place mode) (made.begins_with made.is_declarer c.args.program.now c.args.parts.now) place mode slot (trees_at f ids)) (length w0.list)))
-    (sym two) all in
-    rw (← c.behind_ref-mode.ensures) whole
+    subst (λ (u : Tree). Writes c.args.out.now.stop c.assigned.new.out.stop c.args.out.now.list c.assigned.new.out.list (stretch u (length c.args.out.now.list)))
+    (declared_tree f c.args.in_heap true c.args.place _ c.args.note.now.step.slot c.args.parts.now refl (omega arith)) c.assigned.ensures
 
 pub prints-returns-in-Ok : goal.prints-returns-in-Ok
 prints-returns-in-Ok t c =
@@ -405,8 +458,13 @@ case-returns t c =
     let all = case_framed w0.stop w1.stop w2.stop w3.stop w0.list w1.list w2.list w3.list node.span.from note.slots place yields
     (made.phrases_of node.span.from (trees_at (behind enquiry (tree_at a)) c.parts-phrases.result.now)) (trees_at (behind id (tree_at a)) units)
     (option_map_or (tree_at a) other (made.left_out place goal_mode)) c.enquire.ensures c.choose.ensures shut in
+    let rest = take (length ids - 1) (drop 1 ids) in
+    let units_are : units ≡ made.before_out a rest = c.before_out-units.ensures.parts ∙ ap (λ (x : Annotated). made.before_out x rest) c.annotated.ensures in
+    let other_is : other ≡ made.out_of a rest = c.out_of-other.ensures.out ∙ ap (λ (x : Annotated). made.out_of x rest) c.annotated-2.ensures in
+    let other_within : IfSome other (λ p. (id < p) × (p < length a.tree.nodes)) =
+    subst (λ (x : Annotated). IfSome other (λ p. (id < p) × (p < length x.tree.nodes))) c.annotated-2.ensures c.out_of-other.ensures.within in
     let same = case_is a id place goal_mode yields enquiry (take (length ids - 1) (drop 1 ids)) c.parts-phrases.result.now units other node note c.node.ensures.is c.note.ensures c.parts-phrases.ensures.is
-    c.parts-phrases.ensures.behind below c.before_out-units.ensures.parts c.out_of-other.ensures.out c.out_of-other.ensures.within in
+    c.parts-phrases.ensures.behind below units_are other_is other_within in
     let whole = ap (λ (l : List ℕ). made.case_of a (behind id (tree_at a)) place goal_mode yields l) (sym (rest_parts ids (omega arith))) in
     subst (λ (u : Tree). Writes w0.stop w3.stop w0.list w3.list (stretch u (length w0.list))) (same ∙ whole) all
 
@@ -515,4 +573,7 @@ repeat-returns t c =
     c.count.ensures c.len-step.ensures.long c.turn.ensures c.test-unless.ensures.writes c.test-unless.ensures.unless c.body.ensures (c.depth-frames.ensures.frames f) c.leave_frames.ensures
     (ap (λ n. n + 2) c.len-quit.ensures.long) refl c.patch.ensures.list c.patch.ensures.stop c.patch_some.ensures.list c.patch_some.ensures.stop
     c.emit.ensures c.emit-2.ensures c.leave_frames-2.ensures c.emit-3.ensures in
-    subst (λ (u : Tree). Writes w0.stop w11.stop w0.list w11.list (stretch u (length w0.list))) (sym (c.loop_parts-parts.ensures.is f c.args.place)) all
+    let is : made.loop_of c.args.program.now f c.args.place c.args.parts.now ≡ made.loop_by c.args.program.now f c.args.place l.counts l.from l.by l.to l.test l.body =
+    subst (λ (x : Annotated). made.loop_of x f c.args.place c.args.parts.now ≡ made.loop_by x f c.args.place l.counts l.from l.by l.to l.test l.body) c.annotated.ensures
+    (c.loop_parts-parts.ensures.is f c.args.place) in
+    subst (λ (u : Tree). Writes w0.stop w11.stop w0.list w11.list (stretch u (length w0.list))) (sym is) all

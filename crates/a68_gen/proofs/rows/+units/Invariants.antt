@@ -43,7 +43,22 @@ abbrev pub decreases-write_link : goal.decreases-write_link
 decreases-write_link l = 8 * (length l.program.now.tree.nodes - l.link.now.id) + 2
 
 abbrev pub decreases-formula : goal.decreases-formula
-decreases-formula l = 8 * (length l.program.now.tree.nodes - l.id) + 3
+decreases-formula l = 8 * (length l.program.now.tree.nodes - l.id) + 5
+
+abbrev pub decreases-declared_formula : goal.decreases-declared_formula
+decreases-declared_formula l = 8 * (length l.program.now.tree.nodes - l.id) + 4
+
+abbrev pub decreases-applied : goal.decreases-applied
+decreases-applied l = 8 * (length l.program.now.tree.nodes - l.id) + 3
+
+abbrev pub decreases-routine : goal.decreases-routine
+decreases-routine l = 8 * (length l.program.now.tree.nodes - l.id) + 3
+
+abbrev pub decreases-assigned : goal.decreases-assigned
+decreases-assigned l = 8 * (length l.program.now.tree.nodes - l.id) + 1
+
+abbrev pub decreases-begun : goal.decreases-begun
+decreases-begun l = 8 * (length l.program.now.tree.nodes - l.id) + 3
 
 abbrev pub decreases-operation : goal.decreases-operation
 decreases-operation l = 8 * (length l.program.now.tree.nodes - l.id) + 2

@@ -1,4 +1,4 @@
-use Rattle.a68_gen.proofs.Fitting.{whole-fits}
+use Rattle.a68_gen.proofs.Fitting.{texts-fit, whole-fits}
 use Rattle.a68_gen.proofs.Refusing.{all-run, finds, refused-so, runs-so}
 use Rattle.a68_gen.proofs.translate.generate.Goals as goal
 
@@ -13,6 +13,18 @@ code_of-requires-clause-modes c =
     let a = c.args.program.now in
     let found = c.first_unready.ensures in
     (whole-fits a found.there found.nodes (all-run a c.first_unready.result c.in-None.is found.least) c.root-root.ensures.within).operands
+
+pub code_of-requires-clause-texts : goal.code_of-requires-clause-texts
+code_of-requires-clause-texts c =
+    let a = c.args.program.now in
+    let found = c.first_unready.ensures in
+    (texts-fit a found.there found.nodes (all-run a c.first_unready.result c.in-None.is found.least)).fits
+
+pub code_of-requires-clause-text_modes : goal.code_of-requires-clause-text_modes
+code_of-requires-clause-text_modes c =
+    let a = c.args.program.now in
+    let found = c.first_unready.ensures in
+    (texts-fit a found.there found.nodes (all-run a c.first_unready.result c.in-None.is found.least)).operands
 
 pub returns-in-None-clause-runs : goal.returns-in-None-clause-runs
 returns-in-None-clause-runs c =

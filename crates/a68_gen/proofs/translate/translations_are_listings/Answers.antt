@@ -1,10 +1,13 @@
-use Rattle.a68_gen.proofs.Listed.{listed, one_code, not_short}
+use Rattle.a68_gen.proofs.Listed.{listed, one_code, not_short, texts_listed}
 use Rattle.a68_gen.proofs.Places.{refused_by}
 use Rattle.a68_gen.proofs.Refusing.{no-code, one-refusal, refused-within}
 use Rattle.a68_gen.proofs.translate.translations_are_listings.Goals as goal
 
 pub returns-clause-list : goal.returns-clause-list
 returns-clause-list c = listed
+
+pub returns-clause-texts : goal.returns-clause-texts
+returns-clause-texts c = texts_listed
 
 pub returns-clause-code : goal.returns-clause-code
 returns-clause-code c = one_code
