@@ -349,7 +349,11 @@ const REFUSED: &[(&str, u8, &str)] = &[
         3,
         "a68: fault Scope at byte 11\n",
     ),
-    ("( PROC INT p; print(p) )", 3, "a68: fault Unset at byte 20\n"),
+    (
+        "( PROC INT p; print(p) )",
+        3,
+        "a68: fault Unset at byte 20\n",
+    ),
     ("BEGIN print(1);", 1, "a68: refused S6 at byte 15\n"),
     ("BEGIN print(1 +) END", 1, "a68: refused S6 at byte 15\n"),
     ("BEGIN print(1x) END", 1, "a68: refused S5 at byte 12\n"),
