@@ -1,4 +1,6 @@
 pub mod Choosing
-pub mod Making
+pub mod Parts
 pub mod Printing
+pub mod Skipping
+pub mod Taking
 pub mod Waiting

@@ -3,7 +3,7 @@ use Rattle.std.proofs.Common.{◌≡◌, ◌+◌, ℕ, Bool, true, false, subst,
 use Rattle.std.specs.Option.{option_map_or}
 use Rattle.std.specs.Prelude.{None, Some, slice_get, nat_lt, if◌then◌else◌}
 use Rattle.std.specs.declared.option.Option.{Option}
-use Rattle.a68_acts.specs.Does.{Outcome, waits, bound, looked, does}
+use Rattle.a68_acts.specs.Does.{Outcome, waits, bound, looked, is_closed, does}
 use Rattle.a68_acts.specs.Store.{Store, Frame, counted, slot_weight, most_counted, most_printed}
 use Rattle.a68_acts.specs.declared.want.Want.{Want}
 use Rattle.a68_acts.specs.declared.want.Want.TheVariants as want
@@ -37,7 +37,7 @@ does-answers (want.Enter outer scope slots) s =
     option-answers _ (slice_get s.frames outer) _ (λ frame. if-answers (nat_lt most_counted (counted s + slots)) _ _ tt tt) tt
 does-answers (want.Bind f i v) s = option-answers _ (slice_get s.frames f) _ (λ frame. bound-answers s f i frame v (slice_get frame.slots i)) tt
 does-answers (want.Look f i) s = option-answers _ (slice_get s.frames f) _ (λ frame. looked-answers s f i (slice_get frame.slots i)) tt
-does-answers (want.Make plan) s = if-answers plan.shifted _ _ tt (if-answers (nat_lt most_counted (counted s + length plan.cells)) _ _ tt tt)
+does-answers (want.Make plan) s = if-answers (is_closed plan) _ _ (if-answers (nat_lt most_counted (counted s + length plan.cells)) _ _ tt tt) tt
 does-answers (want.Fetch c) s = option-answers _ (slice_get s.cells c) _ (λ held. tt) tt
 does-answers (want.Assign c held) s = option-answers _ (slice_get s.cells c) _ (λ old. tt) tt
 does-answers (want.Print text) s = if-answers (nat_lt most_printed (length s.text + length text)) _ _ tt tt

@@ -1,4 +1,7 @@
 pub mod Does
+pub mod Fetching
 pub mod Keeping
+pub mod Members
 pub mod Operations
+pub mod Steps
 pub mod Store

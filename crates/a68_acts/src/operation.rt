@@ -1,5 +1,5 @@
 //! Operations between two of their acts.
-use crate::Want;
+use crate::{Left, Steps, Want};
 use a68_values::{FaultKind, Name, Value, Values};
 
 /// How an operation goes on.
@@ -31,6 +31,8 @@ pub enum Next {
     Made { scope: u32 },
     /// It prints these items, the next one last, and yields nothing.
     Printing(Values),
+    /// It goes on with these steps, of which the first one has asked for the act, over these values.
+    Steps(Steps, Left),
 }
 
 /// A loop's counter: what it counts now, what each turn adds, and the limit where there is one (Report, 3.5).

@@ -1,5 +1,6 @@
 //! Operations on the values of their parts.
 ghost use Rattle.std.specs.Prelude.{◌≡◌, ◌<◌, [], ◌∷◌, length, reverse, List, IfOk, Ok};
+ghost use Rattle.a68_acts.specs.Fetching as fetching;
 ghost use Rattle.a68_acts.specs.Operations as operations;
 ghost use Rattle.a68_acts.specs.Operations.{make, yielding};
 ghost use Rattle.a68_modes.specs.Nodes.{shape_at};
@@ -9,6 +10,7 @@ ghost use Rattle.a68_ops.specs.Printed.{item_text, whole as whole_number};
 ghost use Rattle.a68_values.specs.Content.{plain};
 ghost use Rattle.a68_values.specs.declared.plain.Plain.TheVariants as value_of;
 
+use crate::going::stepped;
 use crate::{Counter, Doing, Next, Reply, Want};
 use a68_base::{NoMemory, Text};
 use a68_layout::{LayoutStop, plan};
@@ -17,56 +19,10 @@ use a68_ops::{OpStop, apply, is_unset, item_text, text_value, updated, whole};
 use a68_values::{Chain, FaultKind, Held, Name, Plain, Routine, Value, ValueNode, Values};
 use std::alloc::Global;
 
-/// The value of SKIP.
-pub fn skipped(modes: &Modes, mode: ModeId) -> Doing
-    ensures { result ≡ operations.skipped modes.now mode }
-{
-    if modes.is_void(mode) {
-        Doing::Yields(Value {
-            node: ValueNode::Void,
-        })
-    } else if modes.is_plain(mode) {
-        Doing::Yields(Value::of(Plain::Unset))
-    } else {
-        Doing::Meets(FaultKind::Kind)
-    }
-}
-
-// A value that fits one cell given to a name.
-fn given(name: Name, held: Plain) -> Doing
-    ensures { result ≡ operations.given name (plain held) }
-{
-    if held.scope() > name.scope {
-        return Doing::Meets(FaultKind::Scope);
-    }
-    let cell = name.cell;
-    let held = Held::Plain(held);
-    Doing::Asks(Want::Assign { cell, held }, Next::Name(name))
-}
-
-/// A value assigned to a name.
-pub fn assigned(modes: &Modes, mode: ModeId, name: &Value, value: &Value) -> Doing
-    ensures { result ≡ operations.assigned modes.now mode name.now value.now }
-{
-    match (&name.node, &value.node) {
-        (ValueNode::Plain(Plain::Unset), _) => Doing::Meets(FaultKind::Unset),
-        (ValueNode::Plain(Plain::Nil), ValueNode::Plain(_)) if modes.is_plain(mode) => {
-            Doing::Meets(FaultKind::Nil)
-        }
-        (ValueNode::Plain(Plain::Name(name)), ValueNode::Plain(held)) if modes.is_plain(mode) => {
-            given(*name, *held)
-        }
-        _ => Doing::Meets(FaultKind::Kind),
-    }
-}
-
 // A new name for a value of the mode, of a scope.
 fn making(alloc: Global, modes: &Modes, mode: ModeId, scope: u32) -> Result<Doing, NoMemory>
     ensures { IfOk result (λ doing. doing ≡ operations.making modes.now mode scope) }
 {
-    if mode >= modes.len() {
-        return Ok(Doing::Meets(FaultKind::Kind));
-    }
     match plan(alloc, modes, mode, &[]) {
         Ok(plan) => Ok(Doing::Asks(Want::Make(plan), Next::Made { scope })),
         Err(LayoutStop::Fault(kind)) => Ok(Doing::Meets(kind)),
@@ -142,7 +98,7 @@ pub fn related(negated: u32, left: &Value, right: &Value) -> Doing
 
 // Is the mode a union?
 fn is_union(modes: &Modes, mode: ModeId) -> bool
-    ensures { result ≡ operations.is_union (shape_at modes.now mode) }
+    ensures { result ≡ fetching.is_union (shape_at modes.now mode) }
 {
     mode < modes.len() && matches!(modes.shape(mode), Shape::Union(_))
 }
@@ -287,6 +243,7 @@ pub fn resumed(alloc: Global, modes: &Modes, next: Next, reply: Reply) -> Result
             Doing::Yields(Value::of(Plain::Name(Name { cell, scope })))
         }
         (Next::Printing(left), Reply::Go) => print_next(alloc, left)?,
+        (Next::Steps(steps, left), reply) => stepped(alloc, modes, steps, left, reply)?,
         (next, reply) => {
             drop(next);
             drop(reply);

@@ -26,6 +26,8 @@ use std::alloc::Global;
 /// | Store | mode | name, value | name | Assign | |
 /// | Apply | row | operands | value | Fetch, then Assign, for rows 1 to 5 | a row of the table of operators |
 /// | Same | 0 or 1 | name, name | truth value | | whether the names refer to the same; the other way round for 1 |
+/// | Compose | count | the fields | structure | | |
+/// | Select | mode, field | structure or name | value or name | | a field, or the name of one; the mode is that of what it is selected from |
 /// | Unite | mode | value | value | | a value of the mode united; one that is united already stays |
 /// | Drop | | value | | | |
 /// | Print | count | the items | | Print | one for each item in order |
@@ -59,6 +61,8 @@ pub enum Does {
     Store(u32),
     Apply(u32),
     Same(u32),
+    Compose(u32),
+    Select { mode: u32, field: u32 },
     Unite(u32),
     Drop,
     Print(u32),
@@ -97,6 +101,8 @@ impl Drop for Does {
             | Does::Store(_)
             | Does::Apply(_)
             | Does::Same(_)
+            | Does::Compose(_)
+            | Does::Select { mode: _, field: _ }
             | Does::Unite(_)
             | Does::Drop
             | Does::Print(_)
@@ -149,6 +155,11 @@ impl Does {
             Does::Store(mode) => Does::Store(*mode),
             Does::Apply(row) => Does::Apply(*row),
             Does::Same(negated) => Does::Same(*negated),
+            Does::Compose(count) => Does::Compose(*count),
+            Does::Select { mode, field } => Does::Select {
+                mode: *mode,
+                field: *field,
+            },
             Does::Unite(mode) => Does::Unite(*mode),
             Does::Drop => Does::Drop,
             Does::Print(count) => Does::Print(*count),

@@ -21,13 +21,14 @@ impl Does {
         ensures { result ≡ is_well_made modes.now texts count self.now }
     {
         match self {
-            Does::Skip(mode) => modes.is_void(*mode) || modes.is_plain(*mode),
             Does::Routine { text, .. } => (*text as usize) < texts,
             Does::Leave(one) | Does::Same(one) => *one <= 1,
             Does::Make { mode, bounds } | Does::Heap { mode, bounds } => {
-                modes.is_plain(*mode) && *bounds == 0
+                *mode < modes.len() && *bounds == 0
             }
-            Does::Deref(mode) | Does::Store(mode) => modes.is_plain(*mode),
+            Does::Skip(mode) | Does::Deref(mode) | Does::Store(mode) => *mode < modes.len(),
+            Does::Compose(fields) => *fields > 0,
+            Does::Select { mode, .. } => *mode < modes.len(),
             Does::Apply(row) => {
                 (1 <= *row && *row <= 5) || (7 <= *row && *row <= 23) || (26 <= *row && *row <= 33)
             }
@@ -47,9 +48,10 @@ impl Does {
             Does::Store(_) | Does::Same(_) | Does::Whole => 2,
             Does::Apply(row) => operands_of(*row) as usize,
             Does::Bind(_) | Does::Deref(_) | Does::Unite(_) | Does::Drop => 1,
+            Does::Select { .. } => 1,
             Does::Unless(_) | Does::Case(_) | Does::Index | Does::Step(_) => 1,
             Does::Advance(_) | Does::Forget => 1,
-            Does::Leave(count) | Does::Print(count) => *count as usize,
+            Does::Leave(count) | Does::Print(count) | Does::Compose(count) => *count as usize,
             Does::Make { bounds, .. } | Does::Heap { bounds, .. } => *bounds as usize,
             Does::Call { count, .. } => *count as usize + 1,
             _ => 0,

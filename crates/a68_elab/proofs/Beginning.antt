@@ -14,6 +14,7 @@ use Rattle.a68_modes.specs.Nodes.{shape_at, is_void}
 use Rattle.a68_modes.specs.declared.coercion.Coercion.{Coercion}
 use Rattle.a68_modes.specs.declared.coercion.Coercion.TheVariants as coercion
 use Rattle.a68_modes.specs.declared.shape.Shape.{Shape}
+use Rattle.a68_modes.specs.declared.shape.Shape.TheVariants as shape
 use Rattle.a68_tree.specs.declared.kind.NodeKind.{NodeKind}
 use Rattle.a68_tree.specs.declared.kind.NodeKind.TheVariants as kind
 use Rattle.a68_tree.specs.declared.node.Node.{Node}
@@ -65,9 +66,10 @@ module _ (end : ℕ) where
       either_begins (is_one_of printers (called a primary)) _ _ (p, trees_begin f (items_at a ids) h)
       (either_begins (is_one_of wholes (called a primary)) _ _ (p, trees_begin f ids h) (p, (h primary, trees_begin f ids h)))
 
-  collateral_begins : (none : Bool) (ts : Trees) → AllBeginBy end ts → BeginsBy end (made.collateral_of none ts)
-  collateral_begins true ts b = b
-  collateral_begins false ts b = tt
+  collateral_begins : (s : Shape) (place : ℕ) (ts : Trees) → place ≤ end → AllBeginBy end ts → BeginsBy end (made.collateral_of s place ts)
+  collateral_begins shape.Void place ts p b = b
+  collateral_begins (shape.Struct fields) place ts p b = (p, b)
+  collateral_begins _ place ts p b = tt
 
   framed_begins : (place out slots : ℕ) (yields : Bool) (t : Tree) → place ≤ end → out ≤ end → BeginsBy end t → BeginsBy end (made.framed place out slots yields t)
   framed_begins place out zero yields t p q b = b
@@ -173,7 +175,8 @@ module _ (end : ℕ) where
   construct_begins a f node note kind.Joined p h all = trees_begin f node.parts h
   construct_begins a f node note kind.Call p h all = call_begins a f node.span.from (not (is_void (shape_at a.modes note.mode))) node.parts p h
   construct_begins a f node note kind.Cast p h all = last_begins (trees_at f node.parts) (trees_begin f node.parts h)
-  construct_begins a f node note kind.Collateral p h all = collateral_begins (is_void (shape_at a.modes note.goal)) (trees_at f node.parts) (trees_begin f node.parts h)
+  construct_begins a f node note kind.Collateral p h all = collateral_begins (shape_at a.modes note.goal) node.span.from (trees_at f node.parts) p (trees_begin f node.parts h)
+  construct_begins a f node note kind.Selection p h all = (p, (last_begins (trees_at f node.parts) (trees_begin f node.parts h), tt))
   construct_begins a f node note kind.Serial p h all =
       serial_begins node.span.from note.slots (not (is_void (shape_at a.modes note.goal))) (trees_at f node.parts) p (trees_begin f node.parts h)
   construct_begins a f node note kind.Closed p h all = only_begins (trees_at f node.parts) (trees_begin f node.parts h)

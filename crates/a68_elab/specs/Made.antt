@@ -2,12 +2,12 @@
 use Rattle.std.specs.Prelude.{ℕ, zero, suc, pos, max, Bool, true, false, not, ◌&&◌, List, [], ◌∷◌, ◌++◌, length, map, None, Some, codes, slice_get, nat_eq, nat_lt, if◌then◌else◌}
 use Rattle.std.specs.Option.{is_some, option_map_or, option_and_then}
 use Rattle.std.specs.declared.option.Option.{Option}
-use Rattle.a68_acts.specs.Operations.{Operation, constant, skip, nil, routine, tag, make, heap, bind, deref, store, apply, same, unite, drop, print, whole}
+use Rattle.a68_acts.specs.Operations.{Operation, constant, skip, nil, routine, tag, make, heap, bind, deref, store, apply, same, compose, select, unite, drop, print, whole, fields_of}
 use Rattle.a68_annot.specs.declared.annotated.Annotated.{Annotated}
 use Rattle.a68_annot.specs.declared.note.Note.{Note}
 use Rattle.a68_base.specs.Tables.{is_listed}
 use Rattle.a68_elab.specs.Constants.{value_in, standard_in}
-use Rattle.a68_elab.specs.Trees.{collateral, serial, Tree, Trees, operation, together, phrases, range, choice, cases, loop, call, unbuilt, Test, no_test, while_in, no_trees, ◌and_tree◌, Body, Program}
+use Rattle.a68_elab.specs.Trees.{collateral, serial, Tree, Trees, operation, together, phrases, range, choice, cases, loop, call, unbuilt, Test, no_test, while_in, no_trees, ◌and_tree◌, count, Body, Program}
 use Rattle.a68_modes.specs.Nodes.{shape_at, is_void}
 use Rattle.a68_modes.specs.declared.coercion.Coercion.{Coercion}
 use Rattle.a68_modes.specs.declared.coercion.Coercion.TheVariants as coercion
@@ -329,10 +329,30 @@ formula_by place yields note (Some row) ts = operation place (apply row) collate
 abbrev pub formula : (place : ℕ) (yields : Bool) → Note → Trees → Tree
 formula place yields note ts = formula_by place yields note note.op ts
 
--- a collateral clause: of VOID its parts alone (Report, 3.3); displays are not built yet
-abbrev pub collateral_of : (is_void : Bool) → Trees → Tree
-collateral_of true ts = together ts
-collateral_of false ts = unbuilt
+-- a collateral clause: of VOID its parts alone, of a structure the structure of their values (Report, 3.3); displays of rows
+-- are not built yet
+abbrev pub collateral_of : Shape → (place : ℕ) → Trees → Tree
+collateral_of shape.Void place ts = together ts
+collateral_of (shape.Struct fields) place ts = operation place (compose (count ts)) collateral ts
+collateral_of s place ts = unbuilt
+
+-- the place of a field among those of a structure, by the number of its tag; that behind them where there is none
+abbrev pub field_in : (name : ℕ) → List (ℕ × ℕ) → ℕ
+field_in name [] = 0
+field_in name (field ∷ fields) = if nat_eq field.0 name then 0 else suc (field_in name fields)
+
+abbrev pub fields_at : List Shape → (mode : ℕ) → List (ℕ × ℕ)
+fields_at modes m = option_map_or (λ fields. fields) (fields_of modes (shape_at modes m)) []
+
+-- the mode that is asked of the first of these nodes
+abbrev pub first_goal : Annotated → List ℕ → ℕ
+first_goal a [] = 0
+first_goal a (id ∷ ids) = option_map_or (λ (n : Note). n.goal) (slice_get a.notes id) 0
+
+-- a selection: a field of the structure that its part yields, or the name of a field of the one to which that refers
+-- (Report, 5.3.1)
+abbrev pub selection_of : List Shape → (place mode name : ℕ) → Trees → Tree
+selection_of modes place m name ts = operation place (select m (field_in name (fields_at modes m))) serial (only (last_tree ts))
 
 -- 1 where an identity relation is negated
 abbrev pub negated : Bool → ℕ
@@ -395,7 +415,8 @@ made a f node note kind.Priority = together no_trees
 made a f node note kind.Joined = together (trees_at f node.parts)
 made a f node note kind.Call = call_of a f node.span.from (not (is_void (shape_at a.modes note.mode))) node.parts
 made a f node note kind.Cast = last_tree (trees_at f node.parts)
-made a f node note kind.Collateral = collateral_of (is_void (shape_at a.modes note.goal)) (trees_at f node.parts)
+made a f node note kind.Collateral = collateral_of (shape_at a.modes note.goal) node.span.from (trees_at f node.parts)
+made a f node note kind.Selection = selection_of a.modes node.span.from (first_goal a node.parts) node.name (trees_at f node.parts)
 made a f node note kind.Serial = serial_of node.span.from note.slots (not (is_void (shape_at a.modes note.goal))) (trees_at f node.parts)
 made a f node note kind.Closed = only_of (trees_at f node.parts)
 made a f node note kind.Out = only_of (trees_at f node.parts)

@@ -10,13 +10,15 @@ use Rattle.a68_annot.specs.declared.annotated.Annotated.{Annotated}
 use Rattle.a68_annot.specs.declared.note.Note.{Note}
 use Rattle.a68_tree.specs.declared.node.Node.{Node}
 use Rattle.a68_code.specs.declared.code.Instr.{Instr}
-use Rattle.a68_acts.specs.Operations.{bind, tag, Operation}
+use Rattle.a68_acts.specs.Operations.{bind, tag, compose, select, Operation}
 use Rattle.a68_code.specs.declared.does.Does.{Does}
 use Rattle.a68_code.specs.declared.does.Does.TheVariants as does
 use Rattle.a68_elab.specs.Made as made
 use Rattle.a68_elab.specs.Made.{coerced, behind_proc, behind_ref, leaf, only, trees_at, all_but_last, last_tree}
-use Rattle.a68_elab.specs.Trees.{Tree, Trees, operation, serial, choice, call, unbuilt, no_trees, ◌and_tree◌, count}
+use Rattle.a68_elab.specs.Trees.{Tree, Trees, operation, together, collateral, serial, choice, call, unbuilt, no_trees, ◌and_tree◌, count}
 use Rattle.a68_gen.specs.Coercing.{coercions, are_built}
+use Rattle.a68_gen.specs.Forms.{form_of}
+use Rattle.a68_gen.specs.declared.single.Form.TheVariants as form
 use Rattle.a68_gen.specs.Listing.{instr, opens, size, sizes, stretch, stretches, test_stretch}
 use Rattle.a68_gen.specs.Loops.{asked, unless_at}
 use Rattle.a68_gen.specs.Sources.{assigned_tree}
@@ -26,6 +28,7 @@ use Rattle.a68_modes.specs.Nodes.{shape_at, is_void}
 use Rattle.a68_modes.specs.declared.coercion.Coercion.{Coercion}
 use Rattle.a68_modes.specs.declared.coercion.Coercion.TheVariants as coercion
 use Rattle.a68_modes.specs.declared.shape.Shape.{Shape}
+use Rattle.a68_modes.specs.declared.shape.Shape.TheVariants as shape
 
 -- ---- units
 
@@ -110,6 +113,27 @@ new_does in_heap mode = if in_heap then does.Heap mode 0 else does.Make mode 0
 pub new_list : (in_heap : Bool) (place mode at : ℕ) → stretch (made.new_name in_heap place mode) at ≡ instr place (new_does in_heap mode) ∷ []
 new_list true place mode at = refl
 new_list false place mode at = refl
+
+-- ---- structures
+
+-- a collateral clause of a mode, by what that is
+pub void_collateral : (s : Shape) (place : ℕ) (ts : Trees) → form_of s ≡ form.Void → made.collateral_of s place ts ≡ together ts
+void_collateral shape.Void place ts e = refl
+void_collateral (shape.Struct fields) place ts e = absurd (cc)
+void_collateral _ place ts e = absurd (cc)
+
+pub structure_collateral : (s : Shape) (place : ℕ) (ts : Trees) → form_of s ≡ form.Structure → made.collateral_of s place ts ≡ operation place (compose (count ts)) collateral ts
+structure_collateral shape.Void place ts e = absurd (cc)
+structure_collateral (shape.Struct fields) place ts e = refl
+structure_collateral _ place ts e = absurd (cc)
+
+pub other_collateral : (s : Shape) (place : ℕ) (ts : Trees) → form_of s ≡ form.Other → made.collateral_of s place ts ≡ unbuilt
+other_collateral shape.Void place ts e = absurd (cc)
+other_collateral (shape.Struct fields) place ts e = absurd (cc)
+other_collateral _ place ts e = refl
+
+pub select_whole : (place mode field at : ℕ) (t : Tree) → stretch t at ++ instr place (does.Select mode field) ∷ [] ≡ stretch (operation place (select mode field) serial (only t)) at
+select_whole place mode field at t = ap (λ l. l ++ instr place (does.Select mode field) ∷ []) (sym (append-nil (stretch t at)))
 
 -- ---- serial clauses
 

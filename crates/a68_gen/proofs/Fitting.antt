@@ -1,11 +1,11 @@
 -- A program whose nodes all run fits what is taken of its trees.
 use Rattle.std.proofs.Common.{◌≡◌, ℕ, zero, suc, ◌+◌, ◌<◌, ◌≤◌, Bool, true, false, List, [], ◌∷◌, ◌++◌, length, length-append, get_or, refl, sym, ◌∙◌, ap, subst, arith, None, Some, slice_get, take}
-use Rattle.std.proofs.lemmas.Bool.{false≢true, eqb-true, eq-eqb, lt-ltb}
+use Rattle.std.proofs.lemmas.Bool.{false≢true, eqb-true, eq-eqb, lt-ltb, ltb-true, ltb-false}
 use Rattle.std.proofs.lemmas.Option.{same_Some, slice_get_within}
 use Rattle.std.specs.Option.{is_some, option_and_then, option_map_or}
-use Rattle.std.specs.Prelude.{IsTrue, not, pos, nat_eq, map, ◌-◌, ◌&&◌, ◌||◌, ◌==◌, if◌then◌else◌, slice_index_or}
+use Rattle.std.specs.Prelude.{IsTrue, not, pos, nat_eq, map, nat_lt, ◌-◌, ◌&&◌, ◌||◌, ◌==◌, if◌then◌else◌, slice_index_or}
 use Rattle.std.specs.declared.option.Option.{Option}
-use Rattle.a68_acts.specs.Operations.{Operation, constant, skip, nil, routine, tag, make, heap, bind, deref, store, apply, same, unite, drop, print, whole, leaves}
+use Rattle.a68_acts.specs.Operations.{Operation, constant, skip, nil, routine, tag, make, heap, bind, deref, store, apply, same, compose, select, fields_of, unite, drop, print, whole, leaves}
 use Rattle.a68_annot.specs.declared.annotated.Annotated.{Annotated}
 use Rattle.a68_annot.specs.declared.note.Note.{Note}
 use Rattle.a68_code.specs.Flow.{takes}
@@ -14,17 +14,20 @@ use Rattle.a68_code.specs.declared.does.Does.TheVariants as does
 use Rattle.a68_elab.proofs.Nodes.{behind_is, tree_of_nodes}
 use Rattle.a68_elab.specs.Constants.{value_in}
 use Rattle.a68_elab.specs.Made as made
-use Rattle.a68_elab.specs.Made.{all_but_last, before_out, behind, behind_all, behind_heap, behind_proc, behind_ref, begins_with, body_of, called, coerced, if_first, is_by, is_collateral, is_declarer, is_for, is_from, is_heap, is_one_of, is_out, is_routine_text, is_to, is_while, isnt, items_at, kind_at, last_id, last_tree, leaf, mode_of, new_name, only, only_id, out_of, parts_at, past, printers, program_of, spelling_of, standard_of, tag_of, text_among, text_number, texts_before, texts_in, tree_at, trees_at, wholes}
+use Rattle.a68_elab.specs.Made.{all_but_last, before_out, behind, behind_all, behind_heap, behind_proc, behind_ref, begins_with, body_of, called, coerced, field_in, fields_at, first_goal, if_first, is_by, is_collateral, is_declarer, is_for, is_from, is_heap, is_one_of, is_out, is_routine_text, is_to, is_while, isnt, items_at, kind_at, last_id, last_tree, leaf, mode_of, new_name, only, only_id, out_of, parts_at, past, printers, program_of, spelling_of, standard_of, tag_of, text_among, text_number, texts_before, texts_in, tree_at, trees_at, wholes}
 use Rattle.a68_elab.specs.Trees.{Order, collateral, serial, Tree, Trees, operation, together, call, unbuilt, no_trees, ◌and_tree◌, count, Test, Body}
 use Rattle.a68_gen.proofs.Constructs.{count_trees}
 use Rattle.a68_gen.proofs.Ordered.{all-before}
 use Rattle.a68_gen.specs.Fits.{Fits, AllFit, TestFits, TextsFit}
 use Rattle.a68_gen.specs.Operands.{FitsModes, FitAll, TestFitsModes, TextsFitModes}
-use Rattle.a68_runs.specs.Runs.{AllRun, agrees, agrees_at, all_leave, are_phrases, are_values, asks, asks_value, body_runs, call_leaves, case_runs, choice_runs, control_runs, declared_leaves, enquiry_runs, formula_leaves, formula_runs, if_so, is_outcome, is_skipped, is_whole, last_outcome, leaves_as, left_by, loop_by_runs, loop_runs, only_outcome, out_runs, outcome, outcome_at, outcome_by, path_leaves, proc_yields, refers_to_plain, routine_runs, runs, source_runs, suits, test_runs, variable_runs, yields_value}
+use Rattle.a68_runs.specs.Runs.{AllRun, agrees, agrees_at, all_leave, are_phrases, are_values, asks, asks_value, body_runs, call_leaves, case_runs, choice_runs, collateral_leaves, control_runs, declared_leaves, enquiry_runs, formula_leaves, formula_runs, if_so, is_outcome, is_skipped, is_whole, last_outcome, leaves_as, left_by, loop_by_runs, loop_runs, only_outcome, out_runs, outcome, outcome_at, outcome_by, path_leaves, proc_yields, refers_to_cells, routine_runs, runs, selects, source_runs, suits, test_runs, variable_runs, yields_value}
 use Rattle.a68_gen.specs.Stretches.{does_of}
 use Rattle.a68_runs.proofs.Between.{between-above}
 use Rattle.a68_runs.specs.Unready.{AreThere, IsThere}
-use Rattle.a68_modes.specs.Nodes.{shape_at, is_plain, is_void, HoldsNodes, standard_shapes}
+use Rattle.a68_layout.proofs.Naming.{named-within}
+use Rattle.a68_layout.proofs.Shaping.{no-shape}
+use Rattle.a68_layout.specs.Widths.{can_be_named}
+use Rattle.a68_modes.specs.Nodes.{shape_at, is_void, HoldsNodes, standard_shapes}
 use Rattle.a68_modes.specs.declared.coercion.Coercion.{Coercion}
 use Rattle.a68_modes.specs.declared.coercion.Coercion.TheVariants as coercion
 use Rattle.a68_modes.specs.declared.shape.Shape.{Shape}
@@ -85,6 +88,38 @@ then-is : {X : Type 0} (o : Option X) (f : X → Option Bool) (left : Bool) → 
 then-is (Some x) f left e = (x, refl, e)
 then-is None f left e = absurd (cc)
 
+-- ---- modes that are there
+
+module _ (ms : List Shape) where
+  named-there : (m : ℕ) → IsTrue (can_be_named ms m) → IsTrue (nat_lt m (length ms))
+  named-there m named = lt-ltb m (length ms) (named-within ms m named)
+
+  void-there : (m : ℕ) → IsTrue (is_void (shape_at ms m)) → IsTrue (nat_lt m (length ms))
+  void-there m void = go (nat_lt m (length ms)) refl
+    where
+      go : (b : Bool) → nat_lt m (length ms) ≡ b → IsTrue (nat_lt m (length ms))
+      go true is = is
+      go false is = absurd (false≢true (sym (ap (λ (s : Shape). is_void s) (no-shape ms m (ltb-false m (length ms) is))) ∙ void))
+
+  skipped-there : (m : ℕ) → IsTrue (is_void (shape_at ms m) || can_be_named ms m) → IsTrue (nat_lt m (length ms))
+  skipped-there m skipped = go (is_void (shape_at ms m)) refl skipped
+    where
+      go : (b : Bool) → is_void (shape_at ms m) ≡ b → IsTrue (b || can_be_named ms m) → IsTrue (nat_lt m (length ms))
+      go true is w = void-there m is
+      go false is w = named-there m w
+
+  -- a mode that has fields, or is that of a name of a structure
+  selected-there : (m k : ℕ) → IsTrue (nat_lt k (length (fields_at ms m))) → IsTrue (nat_lt m (length ms))
+  selected-there m k some = go (nat_lt m (length ms)) refl
+    where
+      go : (b : Bool) → nat_lt m (length ms) ≡ b → IsTrue (nat_lt m (length ms))
+      go true is = is
+      go false is =
+          let none : length (fields_at ms m) ≡ 0 =
+          ap (λ (s : Shape). length (option_map_or (λ (fields : List (ℕ × ℕ)). fields) (fields_of ms s) [])) (no-shape ms m (ltb-false m (length ms) is)) in
+          let less = ltb-true k (length (fields_at ms m)) some in
+          absurd (omega (arith, none, less))
+
 -- ---- trees that fit
 
 -- the tree fits in both ways
@@ -125,8 +160,8 @@ module _ (ms : List Shape) (texts : ℕ) where
   coerced-fits place mode left wanted [] t e a = subst (λ b. IsFit ms texts b t) (same_Some left wanted e) a
   coerced-fits place mode true wanted (coercion.Deref ∷ path) t e a =
       let m = behind_ref (shape_at ms mode) in
-      let p = where-so (is_plain (shape_at ms m)) (path_leaves ms m true path) wanted e in
-      coerced-fits place m true wanted path _ p.1 (fit-one true place (deref m) serial t refl refl p.0 a)
+      let p = where-so (can_be_named ms m) (path_leaves ms m true path) wanted e in
+      coerced-fits place m true wanted path _ p.1 (fit-one true place (deref m) serial t refl refl (named-there ms m p.0) a)
   coerced-fits place mode true wanted (coercion.Deproc ∷ path) t e a =
       let m = behind_proc (shape_at ms mode) in
       let yields = not (is_void (shape_at ms m)) in
@@ -152,7 +187,7 @@ module _ (ms : List Shape) (texts : ℕ) where
   tag-fits place (Some v) hops slot = fit-none true place (constant v) serial refl refl refl
   tag-fits place None hops slot = fit-none true place (tag hops slot) serial refl refl refl
 
-  new-fits : (in_heap : Bool) (place mode : ℕ) → IsTrue (is_plain (shape_at ms mode)) → IsFit ms texts true (new_name in_heap place mode)
+  new-fits : (in_heap : Bool) (place mode : ℕ) → IsTrue (nat_lt mode (length ms)) → IsFit ms texts true (new_name in_heap place mode)
   new-fits true place mode p = fit-none true place (heap mode 0) serial refl refl (both _ true p refl)
   new-fits false place mode p = fit-none true place (make mode 0) serial refl refl (both _ true p refl)
 
@@ -252,7 +287,7 @@ module _ (a : Annotated) (id end : ℕ) (f : ℕ → Tree) (given : Given a id f
   definition-fits place slot ids b e =
       fit-one a.modes (texts_of a) false place (bind slot) serial _ refl refl refl (last-fits true ids b (wanted-is true (last_outcome a ids) e))
 
-  declared-fits : (in_heap begins : Bool) (place mode slot : ℕ) (ids : List ℕ) → AllBetween id end ids → IsTrue (is_plain (shape_at a.modes mode))
+  declared-fits : (in_heap begins : Bool) (place mode slot : ℕ) (ids : List ℕ) → AllBetween id end ids → IsTrue (nat_lt mode (length a.modes))
       → IsTrue (if begins then source_runs a ids else routine_runs a ids) → IsFit a.modes (texts_of a) false (made.variable_of (new_name in_heap place mode) begins place mode slot (trees_at f ids))
   declared-fits in_heap false place mode slot [] b p e = absurd (false≢true e)
   declared-fits in_heap false place mode slot (s ∷ []) b p e =
@@ -272,7 +307,7 @@ module _ (a : Annotated) (id end : ℕ) (f : ℕ → Tree) (given : Given a id f
   behind-between true (x ∷ xs) b = b.2
   behind-between false ids b = b
 
-  variable-fits : (place mode slot : ℕ) (ids : List ℕ) → AllBetween id end ids → IsTrue (is_plain (shape_at a.modes mode)) → IsTrue (variable_runs a ids)
+  variable-fits : (place mode slot : ℕ) (ids : List ℕ) → AllBetween id end ids → IsTrue (nat_lt mode (length a.modes)) → IsTrue (variable_runs a ids)
       → IsFit a.modes (texts_of a) false (made.variable a f place mode slot ids)
   variable-fits place mode slot ids b p e =
       let in_heap = begins_with is_heap a ids in
@@ -312,18 +347,37 @@ module _ (a : Annotated) (id end : ℕ) (f : ℕ → Tree) (given : Given a id f
   -- the part for no number, or the skip in its place
   out-fits : (place goal : ℕ) (ids : List ℕ) → AllBetween id end ids → IsTrue (out_runs a goal (not (is_void (shape_at a.modes goal))) (out_of a ids))
       → IsFit a.modes (texts_of a) (not (is_void (shape_at a.modes goal))) (option_map_or f (out_of a ids) (made.left_out place goal))
-  out-fits place goal [] b e = fit-none a.modes (texts_of a) (not (is_void (shape_at a.modes goal))) place (skip goal) serial refl refl e
+  out-fits place goal [] b e = fit-none a.modes (texts_of a) (not (is_void (shape_at a.modes goal))) place (skip goal) serial refl refl (skipped-there a.modes goal e)
   out-fits place goal (x ∷ []) b e = go (is_out (kind_at a x)) e
     where
       go : (t : Bool) → IsTrue (out_runs a goal (not (is_void (shape_at a.modes goal))) (if t then Some x else None))
           → IsFit a.modes (texts_of a) (not (is_void (shape_at a.modes goal))) (option_map_or f (if t then Some x else None) (made.left_out place goal))
       go true e = given x (not (is_void (shape_at a.modes goal))) b.0 e
-      go false e = fit-none a.modes (texts_of a) (not (is_void (shape_at a.modes goal))) place (skip goal) serial refl refl e
+      go false e = fit-none a.modes (texts_of a) (not (is_void (shape_at a.modes goal))) place (skip goal) serial refl refl (skipped-there a.modes goal e)
   out-fits place goal (x ∷ (y ∷ ids)) b e = out-fits place goal (y ∷ ids) b.2 e
 
-  collateral-fits : (is_none : Bool) (ids : List ℕ) → AllBetween id end ids → IsTrue (is_none && all_leave a false ids) → IsFit a.modes (texts_of a) false (made.collateral_of is_none (trees_at f ids))
-  collateral-fits true ids b e = let all = all-fit false ids b e in record { fits = (refl, all.fits); operands = all.operands }
-  collateral-fits false ids b e = absurd (false≢true e)
+  collateral-fits : (place : ℕ) (left : Bool) (s : Shape) (ids : List ℕ) → AllBetween id end ids → collateral_leaves a s ids ≡ Some left
+      → IsFit a.modes (texts_of a) left (made.collateral_of s place (trees_at f ids))
+  collateral-fits place left shape.Void ids b e =
+      let all = all-fit false ids b (so-holds (all_leave a false ids) false left e) in
+      record { fits = (sym (so-is (all_leave a false ids) false left e), all.fits); operands = all.operands }
+  collateral-fits place left (shape.Struct fields) ids b e =
+      let ts = trees_at f ids in
+      let test = nat_lt 0 (length ids) && all_leave a true ids in
+      let holds = so-holds test true left e in
+      let all = all-fit true ids b (second (nat_lt 0 (length ids)) (all_leave a true ids) holds) in
+      let some : IsTrue (nat_lt 0 (count ts)) = subst (λ (n : ℕ). IsTrue (nat_lt 0 n)) (sym (count_trees f ids)) (first (nat_lt 0 (length ids)) (all_leave a true ids) holds) in
+      subst (λ (g : Bool). IsFit a.modes (texts_of a) g (operation place (compose (count ts)) collateral ts)) (so-is test true left e)
+      (fit-all a.modes (texts_of a) (count ts) true place (compose (count ts)) collateral ts refl refl refl some all)
+  collateral-fits place left _ ids b e = absurd (cc)
+
+  selection-fits : (place name : ℕ) (ids : List ℕ) → AllBetween id end ids → IsTrue (selects a name ids && is_outcome true (last_outcome a ids))
+      → IsFit a.modes (texts_of a) true (made.selection_of a.modes place (first_goal a ids) name (trees_at f ids))
+  selection-fits place name ids b e =
+      let m = first_goal a ids in
+      let there = selected-there a.modes m (field_in name (fields_at a.modes m)) (first (selects a name ids) (is_outcome true (last_outcome a ids)) e) in
+      fit-one a.modes (texts_of a) true place (select m (field_in name (fields_at a.modes m))) serial _ refl refl there
+      (last-fits true ids b (wanted-is true (last_outcome a ids) (second (selects a name ids) (is_outcome true (last_outcome a ids)) e)))
 
 -- ---- loops
 
@@ -369,6 +423,14 @@ int-is nodes h = go nodes h.standard
     go (x ∷ []) e = absurd (cc)
     go (x ∷ (y ∷ l)) e = ap (λ (k : List Shape). slice_index_or k 1 shape.Blank) e
 
+int-there : (nodes : List Shape) → HoldsNodes nodes → IsTrue (nat_lt 1 (length nodes))
+int-there nodes h = go nodes h.standard
+  where
+    go : (l : List Shape) → take 13 l ≡ standard_shapes → IsTrue (nat_lt 1 (length l))
+    go [] e = absurd (cc)
+    go (x ∷ []) e = absurd (cc)
+    go (x ∷ (y ∷ l)) e = lt-ltb 1 (length (x ∷ (y ∷ l))) (omega arith)
+
 -- WHILE, if any, fits in both ways
 record IsTestFit (modes : List Shape) (texts : ℕ) (t : Test) : Type 0 where
   pub fits : TestFits modes t
@@ -409,7 +471,7 @@ module _ (a : Annotated) (there : AreThere a (length a.tree.nodes)) (nodes : Hol
   skip-int-fits : (place : ℕ) → IsFit a.modes (texts_of a) true (leaf place (skip 1))
   skip-int-fits place =
       let is = int-is a.modes nodes in
-      fit-none a.modes (texts_of a) true place (skip 1) serial (sym (ap (λ (s : Shape). not (is_void s)) is)) refl (ap (λ (s : Shape). is_void s || is_plain s) is)
+      fit-none a.modes (texts_of a) true place (skip 1) serial (sym (ap (λ (s : Shape). not (is_void s)) is)) refl (int-there a.modes nodes)
 
   loop-by-fits : (place : ℕ) (counts : Bool) (from by to test body : Option ℕ) → IsBehind id from → IsBehind id by → IsBehind id to → IsBehind id test → IsBehind id body
       → IsTrue (loop_by_runs a from by to test body) → IsFit a.modes (texts_of a) false (made.loop_by a f place counts from by to test body)
@@ -474,7 +536,7 @@ module _ (a : Annotated) (there : AreThere a (length a.tree.nodes)) (nodes : Hol
       let skipped = first (is_skipped a goal) (asks a q && is_outcome wanted (outcome a t)) e in
       let rest = second (is_skipped a goal) (asks a q && is_outcome wanted (outcome a t)) e in
       let y = given t wanted b.2.0 (second (asks a q) (is_outcome wanted (outcome a t)) rest) in
-      let z = fit-none a.modes (texts_of a) wanted place (skip goal) serial refl refl skipped in
+      let z = fit-none a.modes (texts_of a) wanted place (skip goal) serial refl refl (skipped-there a.modes goal skipped) in
       with-enquiry-fits q place wanted _ b.0 (first (asks a q) (is_outcome wanted (outcome a t)) rest)
       (λ u x. record { fits = (x.fits, y.fits, z.fits); operands = (x.operands, y.operands, z.operands) })
   choice-fits place goal (q ∷ (t ∷ (o ∷ []))) b e =
@@ -523,7 +585,7 @@ module _ (a : Annotated) (there : AreThere a (length a.tree.nodes)) (nodes : Hol
       → leaves_as a node note k ≡ Some left → IsFit a.modes (texts_of a) left (made.made a f node note k)
   made-fits node note left kind.Denotation r b e = by-so _ true left _ e (denoted-fits a.modes (texts_of a) node.span.from (option_and_then value_in (spelling_of a node)))
   made-fits node note left kind.Skip r b e =
-      by-so (is_skipped a note.goal) (asks_value a note) left _ e (λ w. fit-none a.modes (texts_of a) (asks_value a note) node.span.from (skip note.goal) serial refl refl w)
+      by-so (is_skipped a note.goal) (asks_value a note) left _ e (λ w. fit-none a.modes (texts_of a) (asks_value a note) node.span.from (skip note.goal) serial refl refl (skipped-there a.modes note.goal w))
   made-fits node note left kind.Nil r b e =
       subst (λ g. IsFit a.modes (texts_of a) g (leaf node.span.from nil)) (same_Some true left e) (fit-none a.modes (texts_of a) true node.span.from nil serial refl refl refl)
   made-fits node note left kind.Tag r b e =
@@ -537,23 +599,27 @@ module _ (a : Annotated) (there : AreThere a (length a.tree.nodes)) (nodes : Hol
   made-fits node note left kind.Dyadic r b e =
       formula-fits a id (length a.tree.nodes) f given node.span.from (yields_value a note) left note note.op node.parts b e
   made-fits node note left kind.Assignation r b e =
-      by-so (refers_to_plain a note.mode && are_values a 2 node.parts) true left _ e
+      by-so (refers_to_cells a note.mode && are_values a 2 node.parts) true left _ e
       (λ h. values-fit a id (length a.tree.nodes) f given 2 true node.span.from (store (behind_ref (shape_at a.modes note.mode))) collateral node.parts b
-      (second (refers_to_plain a note.mode) (are_values a 2 node.parts) h) refl refl (first (refers_to_plain a note.mode) (are_values a 2 node.parts) h))
+      (second (refers_to_cells a note.mode) (are_values a 2 node.parts) h) refl refl
+      (named-there a.modes (behind_ref (shape_at a.modes note.mode)) (first (refers_to_cells a note.mode) (are_values a 2 node.parts) h)))
   made-fits node note left kind.Identity r b e =
       by-so (are_values a 2 node.parts) true left _ e
       (λ h. values-fit a id (length a.tree.nodes) f given 2 true node.span.from (same (made.negated (is_one_of isnt (spelling_of a node)))) collateral node.parts b h refl refl
       (negated-fits a.modes (texts_of a) (is_one_of isnt (spelling_of a node))))
   made-fits node note left kind.Generator r b e =
-      by-so (refers_to_plain a note.mode) true left _ e (new-fits a.modes (texts_of a) (is_one_of made.heaps (spelling_of a node)) node.span.from (behind_ref (shape_at a.modes note.mode)))
+      by-so (refers_to_cells a note.mode) true left _ e
+      (λ h. new-fits a.modes (texts_of a) (is_one_of made.heaps (spelling_of a node)) node.span.from (behind_ref (shape_at a.modes note.mode))
+      (named-there a.modes (behind_ref (shape_at a.modes note.mode)) h))
   made-fits node note left kind.OpDefinition r b e =
       by-so (is_outcome true (last_outcome a node.parts)) false left _ e (definition-fits a id (length a.tree.nodes) f given node.span.from note.step.slot node.parts b)
   made-fits node note left kind.IdentityDefinition r b e =
       by-so (is_outcome true (last_outcome a node.parts)) false left _ e (definition-fits a id (length a.tree.nodes) f given node.span.from note.step.slot node.parts b)
   made-fits node note left kind.Variable r b e =
-      by-so (refers_to_plain a note.mode && variable_runs a node.parts) false left _ e
+      by-so (refers_to_cells a note.mode && variable_runs a node.parts) false left _ e
       (λ h. variable-fits a id (length a.tree.nodes) f given node.span.from (behind_ref (shape_at a.modes note.mode)) note.step.slot node.parts b
-      (first (refers_to_plain a note.mode) (variable_runs a node.parts) h) (second (refers_to_plain a note.mode) (variable_runs a node.parts) h))
+      (named-there a.modes (behind_ref (shape_at a.modes note.mode)) (first (refers_to_cells a note.mode) (variable_runs a node.parts) h))
+      (second (refers_to_cells a note.mode) (variable_runs a node.parts) h))
   made-fits node note left kind.ModeDefinition r b e = nothing-fits left e
   made-fits node note left kind.Priority r b e = nothing-fits left e
   made-fits node note left kind.Joined r b e =
@@ -562,8 +628,10 @@ module _ (a : Annotated) (there : AreThere a (length a.tree.nodes)) (nodes : Hol
   made-fits node note left kind.Call r b e = call-fits node.span.from (yields_value a note) left node.parts b e
   made-fits node note left kind.Cast r b e = last-fits a id (length a.tree.nodes) f given left node.parts b e
   made-fits node note left kind.Collateral r b e =
-      by-so (is_void (shape_at a.modes note.goal) && all_leave a false node.parts) false left _ e
-      (collateral-fits a id (length a.tree.nodes) f given (is_void (shape_at a.modes note.goal)) node.parts b)
+      collateral-fits a id (length a.tree.nodes) f given node.span.from left (shape_at a.modes note.goal) node.parts b e
+  made-fits node note left kind.Selection r b e =
+      by-so (selects a node.name node.parts && is_outcome true (last_outcome a node.parts)) true left _ e
+      (selection-fits a id (length a.tree.nodes) f given node.span.from node.name node.parts b)
   made-fits node note left kind.Serial r b e =
       by-so (are_phrases a (asks_value a note) node.parts) (asks_value a note) left _ e
       (serial-fits a id (length a.tree.nodes) f given (asks_value a note) node.span.from note.slots node.parts b)

@@ -7,7 +7,7 @@ use Rattle.std.specs.List.{All, Contains}
 use Rattle.std.specs.Option.{option_map}
 use Rattle.std.specs.Prelude.{not, ◌&&◌, if◌then◌else◌}
 use Rattle.std.specs.declared.option.Option.{Option}
-use Rattle.a68_acts.specs.Operations.{Operation, constant, skip, nil, routine, tag, make, heap, bind, deref, store, apply, same, unite, drop, print, whole, leaves}
+use Rattle.a68_acts.specs.Operations.{Operation, constant, skip, nil, routine, tag, make, heap, bind, deref, store, apply, same, compose, select, unite, drop, print, whole, leaves}
 use Rattle.a68_code.specs.Flow.{does_at, takes, landings, one_if, MayMeet}
 use Rattle.a68_code.specs.Flow as flow
 use Rattle.a68_code.specs.Operands.{is_well_made}
@@ -59,6 +59,8 @@ straight list modes texts c k (deref m) n = record { lands = refl; ordered = tt;
 straight list modes texts c k (store m) n = record { lands = refl; ordered = tt; made = refl; left = refl }
 straight list modes texts c k (apply r) n = record { lands = refl; ordered = tt; made = refl; left = refl }
 straight list modes texts c k (same negated) n = record { lands = refl; ordered = tt; made = refl; left = refl }
+straight list modes texts c k (compose fields) n = record { lands = refl; ordered = tt; made = refl; left = refl }
+straight list modes texts c k (select m field) n = record { lands = refl; ordered = tt; made = refl; left = refl }
 straight list modes texts c k (unite m) n = record { lands = refl; ordered = tt; made = refl; left = refl }
 straight list modes texts c k drop n = record { lands = refl; ordered = tt; made = refl; left = refl }
 straight list modes texts c k print n = record { lands = refl; ordered = tt; made = refl; left = refl }

@@ -1,6 +1,7 @@
 pub mod Chains
 pub mod Coercing
 pub mod Fits
+pub mod Forms
 pub mod Listing
 pub mod Loops
 pub mod Numbers

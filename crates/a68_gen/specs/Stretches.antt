@@ -1,6 +1,6 @@
 -- Translation: which instructions a construct becomes, and where they stand.
 use Rattle.std.specs.Prelude.{◌≡◌, ℕ, zero, suc, ◌+◌, Bool, true, false, List, [], ◌∷◌, length, Some, slice_get, if◌then◌else◌}
-use Rattle.a68_acts.specs.Operations.{Operation, constant, skip, nil, routine, tag, make, heap, bind, deref, store, apply, same, unite, drop, print, whole, leaves}
+use Rattle.a68_acts.specs.Operations.{Operation, constant, skip, nil, routine, tag, make, heap, bind, deref, store, apply, same, compose, select, unite, drop, print, whole, leaves}
 use Rattle.a68_code.specs.Flow.{takes}
 use Rattle.a68_code.specs.declared.code.Code.{Code}
 use Rattle.a68_code.specs.declared.code.RoutineEntrance.{RoutineEntrance}
@@ -22,6 +22,8 @@ does_of (deref mode) n = does.Deref mode
 does_of (store mode) n = does.Store mode
 does_of (apply row) n = does.Apply row
 does_of (same negated) n = does.Same negated
+does_of (compose count) n = does.Compose count
+does_of (select mode field) n = does.Select mode field
 does_of (unite mode) n = does.Unite mode
 does_of drop n = does.Drop
 does_of print n = does.Print n

@@ -25,7 +25,10 @@ use crate::emit::{push_int, zeros};
 use crate::ends::{Opened, close_all, keep, keep_open, shut};
 use crate::loops::{depth, leave_frames, limit, open, turn};
 use crate::numbered::Numbered;
-use crate::single::{denotation, generator, leave, new_name, nothing, same, store, tag, unbuilt};
+use crate::single::{
+    Form, denotation, field, form_at, generator, leave, mode_in_front, new_name, nothing, same,
+    store, tag, unbuilt,
+};
 use crate::writer::Writer;
 use a68_annot::Note;
 use a68_code::{Does, Places};
@@ -113,7 +116,8 @@ fn construct(
         NodeKind::Variable => variable(alloc, program, id, parts, place, note, out),
         NodeKind::ModeDefinition | NodeKind::Priority => nothing(out),
         NodeKind::Joined => all(alloc, program, id, parts, out),
-        NodeKind::Collateral => collateral(alloc, program, id, parts, note, out),
+        NodeKind::Collateral => collateral(alloc, program, id, parts, place, note, out),
+        NodeKind::Selection => selection(alloc, program, id, parts, place, node.name, out),
         NodeKind::Call => call(alloc, program, id, parts, place, note, out),
         NodeKind::Cast => last(alloc, program, id, parts, out),
         NodeKind::Serial => serial(alloc, program, id, parts, place, note, out),
@@ -373,24 +377,70 @@ fn variable(
     }
 }
 
-// A collateral clause of VOID: [parts].
+// [parts] Compose: a structure. There is no memory for more parts than an instruction can tell.
+#[cycle(units)]
+fn structure(
+    alloc: Global,
+    program: &Numbered,
+    id: NodeId,
+    parts: &[NodeId],
+    place: u32,
+    out: &mut Writer,
+)
+    requires { AllBetween id (length program.now.tree.nodes) parts.now }
+    ensures { let parts = trees_at (behind id (tree_at program.now)) parts.now in
+        Wrote out.old out.new (stretch (trees.operation place (operations.compose (trees.count parts)) trees.collateral parts) (length out.old.list)) }
+{
+    match u32::try_from(parts.len()) {
+        Ok(count) => operation(alloc, program, id, parts, place, Does::Compose(count), out),
+        Err(_) => out.run_out(),
+    }
+}
+
+// A collateral clause: of VOID [parts], of a structure [parts] Compose.
 #[cycle(units)]
 fn collateral(
     alloc: Global,
     program: &Numbered,
     id: NodeId,
     parts: &[NodeId],
+    place: u32,
     note: &Note,
     out: &mut Writer,
 )
     requires { AllBetween id (length program.now.tree.nodes) parts.now }
-    ensures { Wrote out.old out.new (stretch (made.collateral_of (is_void (shape_at program.now.modes note.now.goal)) (trees_at (behind id (tree_at program.now)) parts.now))
+    ensures { Wrote out.old out.new (stretch (made.collateral_of (shape_at program.now.modes note.now.goal) place (trees_at (behind id (tree_at program.now)) parts.now))
         (length out.old.list)) }
 {
-    if program.is_void(note.goal) {
-        all(alloc, program, id, parts, out);
-    } else {
-        unbuilt(out);
+    match form_at(program, note.goal) {
+        Form::Void => all(alloc, program, id, parts, out),
+        Form::Structure => structure(alloc, program, id, parts, place, out),
+        Form::Other => unbuilt(out),
+    }
+}
+
+// [structure] Select: a field, or the name of one. There is no memory for more fields than an instruction can tell.
+#[cycle(units)]
+fn selection(
+    alloc: Global,
+    program: &Numbered,
+    id: NodeId,
+    parts: &[NodeId],
+    place: u32,
+    name: u32,
+    out: &mut Writer,
+)
+    requires { AllBetween id (length program.now.tree.nodes) parts.now }
+    ensures { Wrote out.old out.new (stretch (made.selection_of program.now.modes place (made.first_goal program.now parts.now) name
+        (trees_at (behind id (tree_at program.now)) parts.now)) (length out.old.list)) }
+{
+    let mode = mode_in_front(program, parts);
+    match u32::try_from(field(program, mode, name)) {
+        Ok(field) => {
+            last(alloc, program, id, parts, out);
+            out.emit(place, Does::Select { mode, field });
+        }
+        Err(_) => out.run_out(),
     }
 }
 

@@ -4,6 +4,7 @@ ghost use Rattle.std.specs.Prelude.{◌≡◌, ◌<◌, not, length, map, if◌t
 ghost use Rattle.a68_elab.specs.Constants.{value_in};
 ghost use Rattle.a68_elab.specs.Made as made;
 ghost use Rattle.a68_elab.specs.Trees as trees;
+ghost use Rattle.a68_gen.specs.Forms.{form_of};
 ghost use Rattle.a68_gen.specs.Listing.{stretch};
 ghost use Rattle.a68_gen.specs.Stretches.{does_of};
 ghost use Rattle.a68_gen.specs.Writers.{Wrote};
@@ -13,9 +14,9 @@ use crate::numbered::Numbered;
 use crate::writer::Writer;
 use a68_annot::Note;
 use a68_code::Does;
-use a68_modes::ModeId;
-use a68_runs::{behind_ref, is_one_of, standard_of, value_in};
-use a68_tree::Node;
+use a68_modes::{ModeId, Shape};
+use a68_runs::{behind_ref, field_in, fields_at, first_goal, is_one_of, standard_of, value_in};
+use a68_tree::{Node, NodeId};
 use a68_values::Value;
 use std::alloc::Global;
 
@@ -80,6 +81,41 @@ pub fn leave(program: &Numbered, note: &Note) -> Does
     } else {
         Does::Leave(1)
     }
+}
+
+/// What a mode is, as far as a collateral clause asks.
+pub enum Form {
+    Void,
+    Structure,
+    Other,
+}
+
+/// What a mode is: VOID, a structure, or neither.
+pub fn form_at(program: &Numbered, mode: ModeId) -> Form
+    ensures { result ≡ form_of (shape_at program.now.modes mode) }
+{
+    if mode >= program.modes().len() {
+        return Form::Other;
+    }
+    match program.modes().shape(mode) {
+        Shape::Void => Form::Void,
+        Shape::Struct(_) => Form::Structure,
+        _ => Form::Other,
+    }
+}
+
+/// The mode that is asked of the first of these nodes.
+pub fn mode_in_front(program: &Numbered, parts: &[NodeId]) -> ModeId
+    ensures { result ≡ made.first_goal program.now parts.now }
+{
+    first_goal(program.annotated(), parts)
+}
+
+/// The place of the field of that tag, in a structure of that mode or in one to which a name of that mode refers.
+pub fn field(program: &Numbered, mode: ModeId, name: u32) -> usize
+    ensures { result ≡ made.field_in name (made.fields_at program.now.modes mode) }
+{
+    field_in(name, fields_at(program.modes(), mode))
 }
 
 // The words and marks that negate an identity relation.

@@ -1,18 +1,21 @@
 -- The cells of a name.
-use Rattle.std.specs.Prelude.{◌≡◌, ℕ, ℤ, true, List, [], ◌∷◌, None, Some, if◌then◌else◌}
-use Rattle.std.specs.declared.option.Option.{Option}
-use Rattle.a68_modes.specs.Nodes.{shape_at, is_plain}
+use Rattle.std.specs.Prelude.{ℕ, ℤ, false, List, [], ◌∷◌, replicate, Ok, Err, nat_lt, if◌then◌else◌}
+use Rattle.std.specs.declared.result.Result.{Result}
 use Rattle.a68_modes.specs.declared.shape.Shape.{Shape}
-use Rattle.a68_values.specs.declared.held.Held.{Held}
+use Rattle.a68_values.specs.declared.act.FaultKind.{FaultKind}
+use Rattle.a68_values.specs.declared.act.FaultKind.TheVariants as fault
 use Rattle.a68_values.specs.declared.held.Held.TheVariants.{Plain}
 use Rattle.a68_values.specs.declared.plain.Plain.TheVariants.{Unset}
+use Rattle.a68_layout.specs.Widths.{most_cells, cells_of, has_cells}
+use Rattle.a68_layout.specs.declared.types.Plan.{Plan}
 
--- How many cells a value of a mode takes as a part of another: one where it is plain. The other modes do not run yet.
-pub data IsWidth (modes : List Shape) : (mode width : ℕ) → Type 0 where
-  one : {mode : ℕ} → is_plain (shape_at modes mode) ≡ true → IsWidth modes mode 1
+-- so many cells to which nothing is assigned yet
+abbrev pub unset_cells : ℕ → Plan
+unset_cells n = record { cells = replicate n (Plain Unset); shifted = false }
 
--- The cells of a new name of a mode with these bounds, where nothing is assigned yet. The modes that are not plain do
--- not run yet.
-abbrev pub new_cells : List Shape → (mode : ℕ) → List ℤ → Option (List Held)
-new_cells modes mode [] = if is_plain (shape_at modes mode) then Some (Plain Unset ∷ []) else None
-new_cells modes mode (b ∷ bs) = None
+-- The cells of a new name of a mode with these bounds, where nothing is assigned yet: Cells where there are more than
+-- there may be. No mode that runs yet has bounds.
+unfoldable pub planned : List Shape → (mode : ℕ) → List ℤ → Result Plan FaultKind
+planned modes m [] =
+    if nat_lt most_cells (cells_of modes m) then Err fault.Cells else (if has_cells modes m then Ok (unset_cells (cells_of modes m)) else Err fault.Kind)
+planned modes m (b ∷ bs) = Err fault.Kind

@@ -1,44 +1,128 @@
-//! The cells of a new name.
-ghost use Rattle.std.specs.Prelude.{◌≡◌, ◌<◌, true, false, None, Some, length, IfOk, IsErrOf};
-ghost use Rattle.a68_values.specs.declared.act.FaultKind.{FaultKind};
-ghost use Rattle.a68_modes.specs.Nodes.{shape_at, is_plain};
-ghost use Rattle.a68_layout.specs.Plans.{IsWidth, new_cells};
+//! How many cells a mode takes.
+ghost use Rattle.std.specs.Prelude.{◌≡◌, ◌≤◌, ◌<◌, ◌+◌, min, IfOk, MatchOption};
+ghost use Rattle.a68_layout.specs.Widths as widths;
+ghost use Rattle.a68_layout.specs.Widths.{most_cells, width_within, width_of_fields, has_cells_within, fields_have_cells};
 
-use crate::{LayoutStop, Plan};
-use a68_base::NoMemory;
-use a68_modes::{ModeId, Modes};
-use a68_values::{Cells, FaultKind, Held, Plain};
-use std::alloc::Global;
+use a68_base::{MOST_COUNTED, NoMemory};
+use a68_modes::{ModeId, Modes, Shape};
 
-/// How many cells a value of the mode takes as a part of another. It asks for a plain mode: the others do not run yet.
-pub fn cells_of(modes: &Modes, mode: ModeId) -> Result<u32, NoMemory>
-    requires there { mode < length modes.now }
-    requires plain { is_plain (shape_at modes.now mode) ≡ true }
-    ensures { IfOk result (λ width. IsWidth modes.now mode width) }
+// Counts on from a number by the cells of a value of a mode, up to one more than there may be. Structures lie at most
+// so deep in it.
+#[cycle(width)]
+fn count_on(modes: &Modes, depth: u32, mode: ModeId, counted: u32) -> u32
+    requires { counted ≤ most_cells + 1 }
+    ensures { result ≡ min (most_cells + 1) (counted + width_within depth modes.now mode) }
 {
-    let is_plain = modes.is_plain(mode);
-    prove!(is_plain);
-    Ok(1)
+    if counted > MOST_COUNTED {
+        return counted;
+    }
+    if depth == 0 {
+        return counted + 1;
+    }
+    if mode >= modes.len() {
+        return counted + 1;
+    }
+    match modes.shape(mode) {
+        Shape::Struct(fields) => count_fields(modes, depth - 1, &fields.items, counted),
+        Shape::Same(mode) => count_on(modes, depth - 1, *mode, counted),
+        _ => counted + 1,
+    }
 }
 
-/// The cells of a new name of the mode with these bounds, a lower and an upper one for each dimension of each row in
-/// it. The fault Kind, and no other, comes exactly where no such name runs yet: where the mode is not plain or has
-/// bounds.
-pub fn plan(alloc: Global, modes: &Modes, mode: ModeId, bounds: &[i64]) -> Result<Plan, LayoutStop>
-    requires there { mode < length modes.now }
-    ensures cells { IfOk result (λ plan. new_cells modes.now mode bounds.now ≡ Some plan.cells) }
-    ensures unshifted { IfOk result (λ plan. plan.shifted ≡ false) }
-    ensures fault { (kind : FaultKind) → IsErrOf result (LayoutStop.Fault kind) → (kind ≡ FaultKind.Kind) × (new_cells modes.now mode bounds.now ≡ None) }
+#[cycle(width)]
+fn count_fields(modes: &Modes, depth: u32, fields: &[(u32, ModeId)], counted: u32) -> u32
+    requires { counted ≤ most_cells + 1 }
+    ensures { result ≡ min (most_cells + 1) (counted + width_of_fields (width_within depth modes.now) fields.now) }
 {
-    if !bounds.is_empty() || !modes.is_plain(mode) {
-        return Err(LayoutStop::Fault(FaultKind::Kind));
+    let mut counted = counted;
+    for field in fields {
+        counted = count_on(modes, depth, field.1, counted);
     }
-    let mut items = Vec::new(alloc);
-    if items.push(Held::Plain(Plain::Unset)).is_err() {
-        return Err(LayoutStop::NoMemory);
+    counted
+}
+
+// The cells of a value of the mode, and one more than there may be where they are more.
+#[tactic(auto, unfolding(crate::specs::Widths::cells_of))]
+pub fn width(modes: &Modes, mode: ModeId) -> u32
+    ensures { result ≡ widths.cells_of modes.now mode }
+{
+    count_on(modes, modes.len(), mode, 0)
+}
+
+/// How many cells values of the modes of these fields take together, and one more than there may be where they are more.
+/// Structures are looked at down to this depth. It takes no memory.
+pub fn fields_width(modes: &Modes, depth: u32, fields: &[(u32, ModeId)]) -> u32
+    ensures { result ≡ min (most_cells + 1) (width_of_fields (width_within depth modes.now) fields.now) }
+{
+    count_fields(modes, depth, fields, 0)
+}
+
+/// The cell behind those of a value of the mode that begins at this cell; none where that is above the most cells that
+/// there may be. It takes no memory.
+#[tactic(auto, unfolding(crate::specs::Widths::cells_of))]
+pub fn end_of(modes: &Modes, mode: ModeId, cell: u32) -> Option<u32>
+    ensures { MatchOption result (most_cells < cell + widths.cells_of modes.now mode)
+        (λ end. (cell + widths.cells_of modes.now mode ≤ most_cells) × (end ≤ most_cells) × (end ≡ cell + widths.width_of modes.now mode)) }
+{
+    let width = width(modes, mode);
+    if cell > MOST_COUNTED || width > MOST_COUNTED - cell {
+        return None;
     }
-    Ok(Plan {
-        cells: Cells { items },
-        shifted: false,
-    })
+    Some(cell + width)
+}
+
+/// How many cells a value of the mode takes as a part of another; one more than there may be where it is more. It takes
+/// no memory.
+pub fn cells_of(modes: &Modes, mode: ModeId) -> Result<u32, NoMemory>
+    ensures { IfOk result (λ width. width ≡ widths.cells_of modes.now mode) }
+{
+    let width = width(modes, mode);
+    Ok(width)
+}
+
+// Has a value of the mode cells, where structures lie at most so deep in it?
+#[cycle(stored)]
+fn is_stored(modes: &Modes, depth: u32, mode: ModeId) -> bool
+    ensures { result ≡ has_cells_within depth modes.now mode }
+{
+    if depth == 0 {
+        return false;
+    }
+    if mode >= modes.len() {
+        return false;
+    }
+    match modes.shape(mode) {
+        Shape::Struct(fields) => are_stored(modes, depth - 1, &fields.items),
+        Shape::Same(mode) => is_stored(modes, depth - 1, *mode),
+        Shape::Union(_) => true,
+        shape => shape.is_plain(),
+    }
+}
+
+#[cycle(stored)]
+fn are_stored(modes: &Modes, depth: u32, fields: &[(u32, ModeId)]) -> bool
+    ensures { result ≡ fields_have_cells (has_cells_within depth modes.now) fields.now }
+{
+    for field in fields {
+        if !is_stored(modes, depth, field.1) {
+            return false;
+        }
+    }
+    true
+}
+
+/// May a name refer to values of the mode? It takes no memory.
+#[tactic(auto, unfolding(crate::specs::Widths::has_cells))]
+pub fn has_cells(modes: &Modes, mode: ModeId) -> bool
+    ensures { result ≡ widths.has_cells modes.now mode }
+{
+    is_stored(modes, modes.len(), mode)
+}
+
+/// May a value of the mode have a name: has it cells, or more than there may be, which is a fault? The cells are counted
+/// first and no further than there may be, so it never looks at more fields than that. It takes no memory.
+pub fn can_be_named(modes: &Modes, mode: ModeId) -> bool
+    ensures { result ≡ widths.can_be_named modes.now mode }
+{
+    width(modes, mode) > MOST_COUNTED || has_cells(modes, mode)
 }

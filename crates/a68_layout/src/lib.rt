@@ -2,7 +2,9 @@
 #![tactic(auto)]
 
 mod cells;
+mod plans;
 mod types;
 
-pub use cells::{cells_of, plan};
+pub use cells::{can_be_named, cells_of, end_of, fields_width, has_cells};
+pub use plans::plan;
 pub use types::{LayoutStop, Plan};

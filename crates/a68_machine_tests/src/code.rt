@@ -47,20 +47,31 @@ const CASES: &str = "\
 - SKIP of VOID leaves nothing | Skip 0, Drop, End
 + SKIP of INT | Skip 1, Drop, End
 + SKIP of REF INT | Skip 9, Drop, End
-- SKIP of layout | Skip 6, Drop, End
-- SKIP of a row | Skip 7, Drop, End
-- SKIP of a union | Skip 8, Drop, End
++ SKIP of layout | Skip 6, Drop, End
++ SKIP of a row | Skip 7, Drop, End
++ SKIP of a union | Skip 8, Drop, End
 - a mode that is not there | Skip 13, Drop, End
 + a cell of INT | Make 1 0, Drop, End
-- a cell of VOID | Make 0 0, Drop, End
++ a cell of VOID | Make 0 0, Drop, End
 - a cell with a bound | Push, Make 1 1, Drop, End
-- a row is fetched | Push, Deref 7, Drop, End
-- a row is assigned | Push, Push, Store 7, Drop, End
++ a row is fetched | Push, Deref 7, Drop, End
+- a mode that is not there is fetched | Push, Deref 13, Drop, End
++ a row is assigned | Push, Push, Store 7, Drop, End
+- a mode that is not there is assigned | Push, Push, Store 13, Drop, End
 + a cell of INT that stays | Heap 1 0, Drop, End
-- a cell of a row that stays | Heap 7 0, Drop, End
++ a cell of a row that stays | Heap 7 0, Drop, End
+- a cell of a mode that is not there | Make 13 0, Drop, End
+- a cell that stays of a mode that is not there | Heap 13 0, Drop, End
 + whether two names are the same | Nil, Nil, Same 1, Drop, End
 - a relation of one name | Nil, Same 0, Drop, End
 - a relation negated twice | Nil, Nil, Same 2, Drop, End
++ a structure | Push, Push, Compose 2, Drop, End
+- a field too few | Push, Compose 2, Drop, End
+- a structure without a field | Compose 0, Drop, End
+- a structure leaves one value | Push, Push, Compose 2, Drop, Drop, End
++ a field is selected | Push, Select 12 1, Drop, End
+- a field of a mode that is not there | Push, Select 13 0, Drop, End
+- a field of nothing | Select 12 0, Drop, End
 + a number as a text | Push, Push, Whole, Drop, End
 + an item of a union | Push, Unite 1, Print 1, End
 + a value is kept | Enter 0, Push, Leave 1, Drop, End

@@ -1,9 +1,13 @@
 //! Codes by their instructions in words: a name and at most two numbers each, with commas between. A Case has any
 //! number of them, and a Routine of scope 0 has - for its second one. Text is no instruction but the entrance of a routine
 //! text, with 1 where its body leaves a value.
+ghost use Rattle.std.specs.Prelude.{◌<◌, length};
+ghost use Rattle.a68_modes.specs.Nodes.{IsWithin};
+
+use crate::table::holds;
 use a68_base::find;
 use a68_code::{Code, Does, Instr, Instrs, Places, RoutineEntrance, Routines};
-use a68_modes::Modes;
+use a68_modes::{Fields, Modes, Shape};
 use a68_values::{Plain, Value};
 use std::alloc::Global;
 use std::panic::Expect;
@@ -35,6 +39,8 @@ enum Form {
     Nil,
     Heap,
     Same,
+    Compose,
+    Select,
     Unite,
     Whole,
     Call,
@@ -66,6 +72,8 @@ const FORMS: &[(&str, Form)] = &[
     ("Nil", Form::Nil),
     ("Heap", Form::Heap),
     ("Same", Form::Same),
+    ("Compose", Form::Compose),
+    ("Select", Form::Select),
     ("Unite", Form::Unite),
     ("Whole", Form::Whole),
     ("Call", Form::Call),
@@ -107,6 +115,11 @@ fn instruction(form: Form, one: u32, two: u32) -> Does {
             bounds: two,
         },
         Form::Same => Does::Same(one),
+        Form::Compose => Does::Compose(one),
+        Form::Select => Does::Select {
+            mode: one,
+            field: two,
+        },
         Form::Unite => Does::Unite(one),
         Form::Whole => Does::Whole,
         Form::Call => Does::Call {
@@ -191,9 +204,38 @@ fn instructions(rt: &impl Abort, alloc: Global, ops: &str) -> Instrs {
     Instrs { items }
 }
 
+// Each mode within the shape is there.
+fn parts_are_there(rt: &impl Abort, alloc: Global, modes: &Modes, shape: &Shape)
+    ensures { IsWithin (length modes.now) shape.now }
+{
+    let parts = shape.parts(alloc).expect(rt, "memory");
+    for part in &parts.items {
+        holds(rt, *part < modes.len(), "a mode that is there");
+    }
+}
+
+fn add(rt: &impl Abort, alloc: Global, modes: &mut Modes, shape: Shape) {
+    parts_are_there(rt, alloc, modes, &shape);
+    modes.add(shape).expect(rt, "a node");
+}
+
+/// The standard modes; behind them 13 is STRUCT (INT x, y), and 14 REF 13.
+pub fn modes_with_pair(rt: &impl Abort, alloc: Global) -> Modes {
+    let mut modes = Modes::new(alloc).expect(rt, "memory");
+    let items = vec![in alloc; (0, 1), (0, 1)].expect(rt, "memory");
+    add(rt, alloc, &mut modes, Shape::Struct(Fields { items }));
+    add(rt, alloc, &mut modes, Shape::Ref(13));
+    modes
+}
+
 /// The code of these instructions over the standard modes. The number of an instruction is its place.
 pub fn code_of(rt: &impl Abort, alloc: Global, ops: &str) -> Code {
     let modes = Modes::new(alloc).expect(rt, "memory");
+    code_over(rt, alloc, modes, ops)
+}
+
+/// The same over these modes.
+pub fn code_over(rt: &impl Abort, alloc: Global, modes: Modes, ops: &str) -> Code {
     let list = instructions(rt, alloc, ops);
     let texts = texts(rt, alloc, ops);
     Code { list, texts, modes }

@@ -132,6 +132,54 @@ fn cells(rt: HostRuntime) {
     drop(store);
 }
 
+// New cells for a union whose member is planned to lie so many cells behind the first one.
+fn make_shifted(
+    rt: &impl Abort,
+    alloc: Global,
+    store: &mut Store,
+    behind: u32,
+) -> Result<u32, StoreStop> {
+    let member = Held::Member {
+        mode: 1,
+        base: behind,
+    };
+    let items = vec![in alloc; member, Held::Plain(Plain::Unset)].expect(rt, "memory");
+    let plan = Plan {
+        cells: Cells { items },
+        shifted: true,
+    };
+    let made = store.make(alloc, &plan);
+    drop(plan);
+    made
+}
+
+// The third cell names the fourth one.
+fn names_the_last(rt: &impl Abort, alloc: Global, store: &Store) {
+    holds(rt, store.cells() == 4, "four cells");
+    let held = store.fetch(alloc, 2).expect(rt, "memory");
+    holds(
+        rt,
+        matches!(&held, Held::Member { mode: 1, base: 3 }),
+        "the member's cell",
+    );
+    drop(held);
+}
+
+// The cells that a plan names are counted from its first one; a plan names no cells behind its own.
+#[test]
+fn shifted_plans(rt: HostRuntime) {
+    let alloc = rt.alloc();
+    let mut store = Store::new(alloc).expect(&rt, "memory");
+    let first = make_shifted(&rt, alloc, &mut store, 1);
+    let second = make_shifted(&rt, alloc, &mut store, 1);
+    let beyond = make_shifted(&rt, alloc, &mut store, 3);
+    holds(&rt, (first, second) == (Ok(0), Ok(2)), "two plans");
+    let kind = Err(StoreStop::Fault(FaultKind::Kind));
+    holds(&rt, beyond == kind, "a cell that is not planned");
+    names_the_last(&rt, alloc, &store);
+    drop(store);
+}
+
 // A piece that is printed stands from one byte to another.
 fn prints(rt: &impl Abort, store: &mut Store, piece: &[u8], from: u32, to: u32) {
     let printed = store.print(piece).ok().expect(rt, "a span");

@@ -4,7 +4,7 @@ ghost use Rattle.a68_stack.specs.Room.{has_room};
 ghost use Rattle.a68_strand.specs.Room.{brings_room};
 ghost use Rattle.a68_strand.specs.Strands.{wants};
 
-use crate::codes::code_of;
+use crate::codes::{code_of, code_over, modes_with_pair};
 use crate::table::{agrees, cut, holds};
 use a68_acts::Reply;
 use a68_base::find;
@@ -295,4 +295,85 @@ fn calls_no_other_value(rt: HostRuntime) {
     run(&rt, alloc, "Skip 1, Call 0 0, End", "", "Unset at 1");
     let ops = "Text 3 0, Routine 0 -, Call 0 1, End, Return";
     run(&rt, alloc, ops, "", "Kind at 1");
+}
+
+// A run over the standard modes and STRUCT (INT x, y), which is 13; REF 13 is 14.
+fn run_with_pair(rt: &impl Abort, alloc: Global, ops: &str, acts: &str, end: &str) {
+    let code = code_over(rt, alloc, modes_with_pair(rt, alloc), ops);
+    let mut strand = begun(rt, alloc, &code);
+    goes_on(rt, alloc, &code, &mut strand, acts, end);
+    drop(strand);
+    drop(code);
+}
+
+// The first value that was pushed is the first field.
+#[test]
+fn composes_and_selects(rt: HostRuntime) {
+    let alloc = rt.alloc();
+    let first = "Push 7, Push 9, Compose 2, Select 13 0, Print 1, End";
+    let acts = "Print \"                  +7\" = Go";
+    run_with_pair(&rt, alloc, first, acts, "End");
+    let second = "Push 7, Push 9, Compose 2, Select 13 1, Print 1, End";
+    let acts = "Print \"                  +9\" = Go";
+    run_with_pair(&rt, alloc, second, acts, "End");
+}
+
+/// A structure of two cells is assigned and fetched, field by field; each cell is told to hold 5.
+const ASSIGNED: &str =
+    "Make 13 0, Push 7, Push 9, Compose 2, Store 13, Deref 13, Select 13 1, Print 1, End";
+
+const FIELDS: &str = "\
+Make 2 = Base
+Assign 7 Int(7) = Go
+Assign 8 Int(9) = Go
+Fetch 7 = Held
+Fetch 8 = Held
+Print \"                  +5\" = Go
+";
+
+#[test]
+fn stores_and_fetches_structures(rt: HostRuntime) {
+    run_with_pair(&rt, rt.alloc(), ASSIGNED, FIELDS, "End");
+}
+
+/// The name of the second field is that of the cell behind the first one.
+const NAMED: &str = "Make 13 0, Select 14 1, Deref 1, Print 1, End";
+
+const FETCHED: &str = "\
+Make 2 = Base
+Fetch 8 = Held
+Print \"                  +5\" = Go
+";
+
+#[test]
+fn selects_names(rt: HostRuntime) {
+    run_with_pair(&rt, rt.alloc(), NAMED, FETCHED, "End");
+}
+
+// Nothing is selected from what is no structure, nor a field that is not there.
+#[test]
+fn selects_nothing_else(rt: HostRuntime) {
+    let alloc = rt.alloc();
+    run_with_pair(
+        &rt,
+        alloc,
+        "Push 5, Select 13 0, Drop, End",
+        "",
+        "Kind at 1",
+    );
+    run_with_pair(
+        &rt,
+        alloc,
+        "Skip 1, Select 14 0, Drop, End",
+        "",
+        "Unset at 1",
+    );
+    run_with_pair(&rt, alloc, "Nil, Select 14 0, Drop, End", "", "Nil at 1");
+    run_with_pair(
+        &rt,
+        alloc,
+        "Skip 13, Select 13 2, Drop, End",
+        "",
+        "Kind at 1",
+    );
 }

@@ -122,6 +122,11 @@ const LISTINGS: &[(&str, &str)] = &[
         "( CASE 1 IN print(1), print(2) OUSE 2 IN print(3), print(4) ESAC )",
         "7 Push 1;2 Case 2 6 10;18 Push 1;18 Unite 1;12 Print 1;2 Jump 21;28 Push 2;28 Unite 1;22 Print 1;2 Jump 21;36 Push 2;31 Case 12 16 20;47 Push 3;47 Unite 1;41 Print 1;31 Jump 21;57 Push 4;57 Unite 1;51 Print 1;31 Jump 21;31 Skip;0 End",
     ),
+    // A structure, whose second field is selected; its mode is the first that the text adds to those of the standard environ.
+    (
+        "( STRUCT (INT a, b) s = (1, 2); print(b OF s) )",
+        "2 Enter 1;25 Push 1;28 Push 2;24 Compose 2;20 Bind;43 Tag;38 Select 13 1;38 Unite 1;32 Print 1;2 Leave;0 End",
+    ),
 ];
 
 fn tree_of(rt: &impl Abort, alloc: Global, text: &str) -> Tree {
@@ -159,6 +164,8 @@ fn told(does: &Does) -> (&'static str, u32, u32) {
         Does::Store(mode) => ("Store", *mode, 0),
         Does::Apply(row) => ("Apply", *row, 0),
         Does::Same(negated) => ("Same", *negated, 0),
+        Does::Compose(count) => ("Compose", *count, 0),
+        Does::Select { mode, field } => ("Select", *mode, *field),
         Does::Unite(mode) => ("Unite", *mode, 0),
         Does::Drop => ("Drop", 0, 0),
         Does::Print(count) => ("Print", *count, 0),

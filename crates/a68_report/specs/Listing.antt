@@ -5,7 +5,7 @@ use Rattle.a68_code.specs.Flow.{one_if}
 use Rattle.a68_code.specs.declared.code.Code.{Code}
 use Rattle.a68_code.specs.declared.code.Instr.{Instr}
 use Rattle.a68_code.specs.declared.does.Does.{Does}
-use Rattle.a68_code.specs.declared.does.Does.TheVariants.{Push, Skip, Nil, Routine, Tag, Enter, Leave, Bind, Make, Heap, Deref, Store, Apply, Same, Unite, Drop, Print, Whole, Call, Return, Jump, Unless, Case, Counter, Index, Step, Turn, Advance, Forget, End}
+use Rattle.a68_code.specs.declared.does.Does.TheVariants.{Push, Skip, Nil, Routine, Tag, Enter, Leave, Bind, Make, Heap, Deref, Store, Apply, Same, Compose, Select, Unite, Drop, Print, Whole, Call, Return, Jump, Unless, Case, Counter, Index, Step, Turn, Advance, Forget, End}
 use Rattle.a68_report.specs.Constants.{constant}
 use Rattle.a68_report.specs.Names.{name_of}
 use Rattle.a68_report.specs.Put.{behind, number, listed}
@@ -30,6 +30,8 @@ operands (Deref mode) = number mode
 operands (Store mode) = number mode
 operands (Apply row) = number row
 operands (Same negated) = number negated
+operands (Compose count) = number count
+operands (Select mode field) = number mode ++ number field
 operands (Unite mode) = number mode
 operands (Print count) = number count
 operands (Call count gives) = number count ++ number (one_if gives)

@@ -1,7 +1,7 @@
 -- The names of the instructions (own).
 use Rattle.std.specs.Prelude.{ℕ, List, codes}
 use Rattle.a68_code.specs.declared.does.Does.{Does}
-use Rattle.a68_code.specs.declared.does.Does.TheVariants.{Push, Skip, Nil, Routine, Tag, Enter, Leave, Bind, Make, Heap, Deref, Store, Apply, Same, Unite, Drop, Print, Whole, Call, Return, Jump, Unless, Case, Counter, Index, Step, Turn, Advance, Forget, End}
+use Rattle.a68_code.specs.declared.does.Does.TheVariants.{Push, Skip, Nil, Routine, Tag, Enter, Leave, Bind, Make, Heap, Deref, Store, Apply, Same, Compose, Select, Unite, Drop, Print, Whole, Call, Return, Jump, Unless, Case, Counter, Index, Step, Turn, Advance, Forget, End}
 
 abbrev pub name_of : Does → List ℕ
 name_of (Push value) = codes "Push"
@@ -18,6 +18,8 @@ name_of (Deref mode) = codes "Deref"
 name_of (Store mode) = codes "Store"
 name_of (Apply row) = codes "Apply"
 name_of (Same negated) = codes "Same"
+name_of (Compose count) = codes "Compose"
+name_of (Select mode field) = codes "Select"
 name_of (Unite mode) = codes "Unite"
 name_of Drop = codes "Drop"
 name_of (Print count) = codes "Print"

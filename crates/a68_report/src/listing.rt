@@ -52,6 +52,10 @@ fn put_operands(text: &mut Text, does: &Does) -> Result<(), NoMemory>
         | Does::Heap {
             mode: one,
             bounds: other,
+        }
+        | Does::Select {
+            mode: one,
+            field: other,
         } => put_pair(text, *one, *other),
         Does::Skip(number)
         | Does::Enter(number)
@@ -61,6 +65,7 @@ fn put_operands(text: &mut Text, does: &Does) -> Result<(), NoMemory>
         | Does::Store(number)
         | Does::Apply(number)
         | Does::Same(number)
+        | Does::Compose(number)
         | Does::Unite(number)
         | Does::Print(number)
         | Does::Jump(number)

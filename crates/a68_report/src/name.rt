@@ -23,6 +23,8 @@ pub fn name_of(does: &Does) -> &'static str
         Does::Store(_) => "Store",
         Does::Apply(_) => "Apply",
         Does::Same(_) => "Same",
+        Does::Compose(_) => "Compose",
+        Does::Select { .. } => "Select",
         Does::Unite(_) => "Unite",
         Does::Drop => "Drop",
         Does::Print(_) => "Print",

@@ -7,10 +7,14 @@ mod acts;
 #[cfg(test)]
 mod layout;
 #[cfg(test)]
+mod modes;
+#[cfg(test)]
 mod operations;
 #[cfg(test)]
 mod ops;
 mod shown;
+#[cfg(test)]
+mod structures;
 #[cfg(test)]
 mod table;
 #[cfg(test)]

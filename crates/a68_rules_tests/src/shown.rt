@@ -1,6 +1,6 @@
 //! Values, acts and operations in words.
 use a68_acts::{Doing, Next, Want};
-use a68_values::{Held, Plain, Value};
+use a68_values::{Held, Plain, Value, ValueNode, Values};
 use std::alloc::Global;
 use std::fmt::Debug;
 use std::string::String;
@@ -8,6 +8,42 @@ use std::string::String;
 /// A value that fits one cell; Unset where it is none.
 pub fn plain(value: &Value) -> Plain {
     value.plain().unwrap_or(Plain::Unset)
+}
+
+// Makes a text grow by a value that is made of others: a structure in brackets, a united value behind its mode.
+#[cycle(telling)]
+fn tell(text: &mut String, value: &Value) -> Option<()> {
+    match &value.node {
+        ValueNode::Structure(parts) => tell_parts(text, parts),
+        ValueNode::United { mode, value } => {
+            write!(text, "{mode}: ").ok()?;
+            tell(text, value)
+        }
+        _ => {
+            let held = plain(value);
+            write!(text, "{held:?}").ok()
+        }
+    }
+}
+
+#[cycle(telling)]
+fn tell_parts(text: &mut String, parts: &Values) -> Option<()> {
+    text.push('(').ok()?;
+    let mut is_first = true;
+    for part in &parts.items {
+        if !is_first {
+            text.push(' ').ok()?;
+        }
+        is_first = false;
+        tell(text, part)?;
+    }
+    text.push(')').ok()
+}
+
+fn yielded(alloc: Global, value: &Value) -> Option<String> {
+    let mut text = String::new(alloc);
+    tell(&mut text, value)?;
+    Some(text)
 }
 
 /// What a cell holds, where it is a plain value.
@@ -84,6 +120,10 @@ fn printing(alloc: Global, bytes: &[u8]) -> Option<String> {
 pub fn act(alloc: Global, want: &Want) -> Option<String> {
     match want {
         Want::Print(text) => printing(alloc, &text.items),
+        Want::Assign {
+            cell,
+            held: Held::Member { mode, base },
+        } => format!(in alloc; "Assign {cell} Member {mode} {base}").ok(),
         _ => in_words(alloc, &parts(want)),
     }
 }
@@ -99,7 +139,7 @@ fn asking(alloc: Global, want: &Want, next: &Next) -> Option<String> {
 /// Tells what comes of an operation; none where memory runs out.
 pub fn doing(alloc: Global, doing: &Doing) -> Option<String> {
     match doing {
-        Doing::Yields(value) => format!(in alloc; "{:?}", plain(value)).ok(),
+        Doing::Yields(value) => yielded(alloc, value),
         Doing::Asks(want, next) => asking(alloc, want, next),
         Doing::Meets(kind) => format!(in alloc; "{kind:?}").ok(),
     }

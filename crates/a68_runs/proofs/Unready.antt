@@ -9,7 +9,8 @@ use Rattle.a68_elab.specs.Made.{behind_proc, behind_ref}
 use Rattle.a68_runs.specs.Runs.{are_phrases, is_outcome, last_outcome, outcome, path_leaves, runs}
 use Rattle.a68_runs.specs.Unready.{AreThere, IsThere, IsUnreadyBefore, behind, is_earlier, one_more, with_node}
 use Rattle.a68_runs.specs.declared.paths.Between.{Between}
-use Rattle.a68_modes.specs.Nodes.{shape_at, is_plain, is_void}
+use Rattle.a68_layout.specs.Widths.{can_be_named}
+use Rattle.a68_modes.specs.Nodes.{shape_at, is_void}
 use Rattle.a68_modes.specs.declared.coercion.Coercion.{Coercion}
 use Rattle.a68_modes.specs.declared.coercion.Coercion.TheVariants as coercion
 use Rattle.a68_modes.specs.declared.shape.Shape.{Shape}
@@ -32,7 +33,7 @@ module _ (modes : List Shape) (path : List Coercion) where
   deref-on m false next e = absurd (cc)
 
   value-on : (mode : ℕ) (next : Between) (c : Coercion) → behind modes mode c ≡ Some next → path_leaves modes mode true (c ∷ path) ≡ path_leaves modes next.mode next.left path
-  value-on mode next coercion.Deref e = deref-on (behind_ref (shape_at modes mode)) (is_plain (shape_at modes (behind_ref (shape_at modes mode)))) next e
+  value-on mode next coercion.Deref e = deref-on (behind_ref (shape_at modes mode)) (can_be_named modes (behind_ref (shape_at modes mode))) next e
   value-on mode next coercion.Deproc e = next-is (record { mode = behind_proc (shape_at modes mode); left = not (is_void (shape_at modes (behind_proc (shape_at modes mode)))) }) next e
   value-on mode next (coercion.Unite from) e = next-is (record { mode = from; left = true }) next e
   value-on mode next coercion.Drop e = next-is (record { mode = 0; left = false }) next e
@@ -43,7 +44,7 @@ module _ (modes : List Shape) (path : List Coercion) where
   deref-stops m false e = refl
 
   value-stops : (mode : ℕ) (c : Coercion) → behind modes mode c ≡ None → path_leaves modes mode true (c ∷ path) ≡ None
-  value-stops mode coercion.Deref e = deref-stops (behind_ref (shape_at modes mode)) (is_plain (shape_at modes (behind_ref (shape_at modes mode)))) e
+  value-stops mode coercion.Deref e = deref-stops (behind_ref (shape_at modes mode)) (can_be_named modes (behind_ref (shape_at modes mode))) e
   value-stops mode coercion.Deproc e = absurd (cc)
   value-stops mode (coercion.Unite from) e = absurd (cc)
   value-stops mode coercion.Drop e = absurd (cc)

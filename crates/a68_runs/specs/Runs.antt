@@ -1,5 +1,5 @@
 -- Which programs run: a rule for each node by itself, of its kind, its note and what its parts leave (own).
-use Rattle.std.specs.Prelude.{◌≡◌, ◌<◌, ℕ, Bool, true, false, not, ◌&&◌, ◌||◌, ◌==◌, List, [], ◌∷◌, length, None, Some, slice_get, nat_eq, if◌then◌else◌}
+use Rattle.std.specs.Prelude.{◌≡◌, ◌<◌, ℕ, Bool, true, false, not, ◌&&◌, ◌||◌, ◌==◌, nat_lt, List, [], ◌∷◌, length, None, Some, slice_get, nat_eq, if◌then◌else◌}
 use Rattle.std.specs.List.{list_all}
 use Rattle.std.specs.Option.{is_some, option_map_or, option_and_then}
 use Rattle.std.specs.declared.option.Option.{Option}
@@ -10,11 +10,13 @@ use Rattle.a68_code.specs.Flow.{takes}
 use Rattle.a68_code.specs.Operands.{is_well_made}
 use Rattle.a68_code.specs.declared.does.Does.TheVariants as does
 use Rattle.a68_elab.specs.Constants.{value_in}
-use Rattle.a68_elab.specs.Made.{before_out, behind_heap, behind_proc, behind_ref, begins_with, called, if_first, is_by, is_declarer, is_for, is_from, is_heap, is_one_of, is_to, is_while, items_at, only_id, out_of, parts_at, past, printers, spelling_of, standard_of, wholes}
-use Rattle.a68_modes.specs.Nodes.{shape_at, is_plain, is_void}
+use Rattle.a68_elab.specs.Made.{before_out, behind_heap, field_in, fields_at, first_goal, behind_proc, behind_ref, begins_with, called, if_first, is_by, is_declarer, is_for, is_from, is_heap, is_one_of, is_to, is_while, items_at, only_id, out_of, parts_at, past, printers, spelling_of, standard_of, wholes}
+use Rattle.a68_layout.specs.Widths.{can_be_named}
+use Rattle.a68_modes.specs.Nodes.{shape_at, is_void}
 use Rattle.a68_modes.specs.declared.coercion.Coercion.{Coercion}
 use Rattle.a68_modes.specs.declared.coercion.Coercion.TheVariants as coercion
 use Rattle.a68_modes.specs.declared.shape.Shape.{Shape}
+use Rattle.a68_modes.specs.declared.shape.Shape.TheVariants as shape
 use Rattle.a68_tree.specs.declared.kind.NodeKind.{NodeKind}
 use Rattle.a68_tree.specs.declared.kind.NodeKind.TheVariants as kind
 use Rattle.a68_tree.specs.declared.node.Node.{Node}
@@ -124,11 +126,11 @@ are_phrases a wanted (id ∷ (i ∷ ids)) = is_outcome false (outcome a id) && a
 
 -- the skip of a mode runs
 abbrev pub is_skipped : Annotated → (mode : ℕ) → Bool
-is_skipped a mode = is_void (shape_at a.modes mode) || is_plain (shape_at a.modes mode)
+is_skipped a mode = is_void (shape_at a.modes mode) || can_be_named a.modes mode
 
--- what a name of a mode refers to fits one cell
-abbrev pub refers_to_plain : Annotated → (mode : ℕ) → Bool
-refers_to_plain a mode = is_plain (shape_at a.modes (behind_ref (shape_at a.modes mode)))
+-- what a name of a mode refers to has cells
+abbrev pub refers_to_cells : Annotated → (mode : ℕ) → Bool
+refers_to_cells a mode = can_be_named a.modes (behind_ref (shape_at a.modes mode))
 
 -- ---- what is asked of a node of a kind
 
@@ -186,6 +188,16 @@ call_leaves a yields (primary ∷ ids) =
 -- whether a routine of this mode yields a value
 abbrev pub proc_yields : Annotated → (mode : ℕ) → Bool
 proc_yields a mode = not (is_void (shape_at a.modes (behind_proc (shape_at a.modes mode))))
+
+-- a field of that tag is there (Report, 5.3.1)
+abbrev pub selects : Annotated → (name : ℕ) → List ℕ → Bool
+selects a name ids = nat_lt (field_in name (fields_at a.modes (first_goal a ids))) (length (fields_at a.modes (first_goal a ids)))
+
+-- a collateral clause of VOID, or a structure of as many values as there are parts (Report, 3.3)
+abbrev pub collateral_leaves : Annotated → Shape → List ℕ → Option Bool
+collateral_leaves a shape.Void ids = if_so (all_leave a false ids) false
+collateral_leaves a (shape.Struct fields) ids = if_so (nat_lt 0 (length ids) && all_leave a true ids) true
+collateral_leaves a s ids = None
 
 -- ---- choices (Report, 3.4)
 
@@ -253,18 +265,19 @@ leaves_as a node note kind.Tag = Some true
 leaves_as a node note kind.RoutineText = if_so (is_outcome (proc_yields a note.mode) (last_outcome a node.parts)) true
 leaves_as a node note kind.Monadic = formula_leaves a (yields_value a note) note.op note.definition node.parts
 leaves_as a node note kind.Dyadic = formula_leaves a (yields_value a note) note.op note.definition node.parts
-leaves_as a node note kind.Assignation = if_so (refers_to_plain a note.mode && are_values a 2 node.parts) true
+leaves_as a node note kind.Assignation = if_so (refers_to_cells a note.mode && are_values a 2 node.parts) true
 leaves_as a node note kind.Identity = if_so (are_values a 2 node.parts) true
-leaves_as a node note kind.Generator = if_so (refers_to_plain a note.mode) true
+leaves_as a node note kind.Generator = if_so (refers_to_cells a note.mode) true
 leaves_as a node note kind.OpDefinition = if_so (is_outcome true (last_outcome a node.parts)) false
 leaves_as a node note kind.IdentityDefinition = if_so (is_outcome true (last_outcome a node.parts)) false
-leaves_as a node note kind.Variable = if_so (refers_to_plain a note.mode && variable_runs a node.parts) false
+leaves_as a node note kind.Variable = if_so (refers_to_cells a note.mode && variable_runs a node.parts) false
 leaves_as a node note kind.ModeDefinition = Some false
 leaves_as a node note kind.Priority = Some false
 leaves_as a node note kind.Joined = if_so (all_leave a false node.parts) false
 leaves_as a node note kind.Call = call_leaves a (yields_value a note) node.parts
 leaves_as a node note kind.Cast = last_outcome a node.parts
-leaves_as a node note kind.Collateral = if_so (is_void (shape_at a.modes note.goal) && all_leave a false node.parts) false
+leaves_as a node note kind.Collateral = collateral_leaves a (shape_at a.modes note.goal) node.parts
+leaves_as a node note kind.Selection = if_so (selects a node.name node.parts && is_outcome true (last_outcome a node.parts)) true
 leaves_as a node note kind.Serial = if_so (are_phrases a (asks_value a note) node.parts) (asks_value a note)
 leaves_as a node note kind.Closed = only_outcome a node.parts
 leaves_as a node note kind.Out = only_outcome a node.parts
@@ -282,7 +295,7 @@ abbrev pub path_leaves : List Shape → (mode : ℕ) → (left : Bool) → List 
 path_leaves modes mode left [] = Some left
 path_leaves modes mode true (coercion.Deref ∷ path) =
     let m = behind_ref (shape_at modes mode) in
-    if is_plain (shape_at modes m) then path_leaves modes m true path else None
+    if can_be_named modes m then path_leaves modes m true path else None
 path_leaves modes mode true (coercion.Deproc ∷ path) =
     let m = behind_proc (shape_at modes mode) in
     path_leaves modes m (not (is_void (shape_at modes m))) path

@@ -7,7 +7,8 @@ use Rattle.a68_annot.specs.declared.note.Note.{Note}
 use Rattle.a68_elab.specs.Made.{behind_proc, behind_ref}
 use Rattle.a68_runs.specs.Runs.{runs}
 use Rattle.a68_runs.specs.declared.paths.Between.{Between}
-use Rattle.a68_modes.specs.Nodes.{shape_at, is_plain, is_void}
+use Rattle.a68_layout.specs.Widths.{can_be_named}
+use Rattle.a68_modes.specs.Nodes.{shape_at, is_void}
 use Rattle.a68_modes.specs.declared.coercion.Coercion.{Coercion}
 use Rattle.a68_modes.specs.declared.coercion.Coercion.TheVariants as coercion
 use Rattle.a68_modes.specs.declared.shape.Shape.{Shape}
@@ -31,7 +32,7 @@ AreThere a count = (id : ℕ) → id < count → IsThere a id
 abbrev pub behind : List Shape → (mode : ℕ) → Coercion → Option Between
 behind modes mode coercion.Deref =
     let m = behind_ref (shape_at modes mode) in
-    if is_plain (shape_at modes m) then Some (record { mode = m; left = true }) else None
+    if can_be_named modes m then Some (record { mode = m; left = true }) else None
 behind modes mode coercion.Deproc =
     let m = behind_proc (shape_at modes mode) in
     Some (record { mode = m; left = not (is_void (shape_at modes m)) })

@@ -2,6 +2,7 @@
 #![tactic(auto)]
 
 mod constants;
+mod fields;
 mod loops;
 mod nodes;
 mod outcomes;
@@ -9,6 +10,7 @@ mod paths;
 mod runs;
 
 pub use constants::{standard_of, value_in};
+pub use fields::{field_in, fields_at, first_goal};
 pub use loops::{LoopParts, loop_parts, only_id};
 pub use nodes::{
     before_out, begins_in_heap, begins_with_declarer, behind_heap, behind_proc, behind_ref, called,

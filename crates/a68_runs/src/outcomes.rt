@@ -10,6 +10,7 @@ use crate::constants::standard_of;
 use crate::loops::only_id;
 use crate::nodes::{behind_proc, behind_ref};
 use a68_annot::{Annotated, Note};
+use a68_layout::can_be_named;
 use a68_modes::{ModeId, Shape};
 use a68_tree::{Node, NodeId, NodeKind};
 
@@ -169,14 +170,14 @@ pub fn are_phrases(program: &Annotated, wanted: bool, ids: &[NodeId]) -> bool
 pub fn is_skipped(program: &Annotated, mode: ModeId) -> bool
     ensures { result ≡ runs.is_skipped program.now mode }
 {
-    program.modes.is_void(mode) || program.modes.is_plain(mode)
+    program.modes.is_void(mode) || can_be_named(&program.modes, mode)
 }
 
-/// Does what a name of a mode refers to fit one cell?
-pub fn refers_to_plain(program: &Annotated, mode: ModeId) -> bool
-    ensures { result ≡ runs.refers_to_plain program.now mode }
+/// Has what a name of a mode refers to cells?
+pub fn refers_to_cells(program: &Annotated, mode: ModeId) -> bool
+    ensures { result ≡ runs.refers_to_cells program.now mode }
 {
-    program.modes.is_plain(behind_ref(&program.modes, mode))
+    can_be_named(&program.modes, behind_ref(&program.modes, mode))
 }
 
 // Is a node asked for a name of INT?

@@ -5,6 +5,7 @@ ghost use Rattle.a68_runs.specs.Unready as unready;
 
 use crate::nodes::{behind_proc, behind_ref};
 use a68_annot::Note;
+use a68_layout::can_be_named;
 use a68_modes::{Coercion, ModeId, Modes};
 
 /// What stands between two coercions: the mode behind the first, and whether a value is left.
@@ -21,7 +22,7 @@ fn behind(modes: &Modes, mode: ModeId, coercion: Coercion) -> Option<Between>
     match coercion {
         Coercion::Deref => {
             let to = behind_ref(modes, mode);
-            if modes.is_plain(to) {
+            if can_be_named(modes, to) {
                 Some(Between {
                     mode: to,
                     left: true,

@@ -9,12 +9,13 @@ ghost use Rattle.a68_runs.specs.Loops.{AreWithin};
 ghost use Rattle.a68_runs.specs.Runs as runs;
 ghost use Rattle.a68_runs.specs.Unready as unready;
 ghost use Rattle.a68_runs.specs.Unready.{AreThere, IsThere};
-ghost use Rattle.a68_modes.specs.Nodes.{HoldsNodes};
+ghost use Rattle.a68_modes.specs.Nodes.{HoldsNodes, shape_at};
 ghost use Rattle.a68_ranges.specs.Indexed.{IsLeast};
 ghost use Rattle.a68_ranges.specs.Nodes.{place_at};
 ghost use Rattle.a68_tree.specs.Trees.{AllBetween};
 
 use crate::constants::{is_quoted, truths};
+use crate::fields::{field_in, fields_at, first_goal};
 use crate::loops::{LoopParts, loop_parts, only_id};
 use crate::nodes::{
     before_out, begins_in_heap, begins_with_declarer, behind_heap, called, is_one_of, items_at,
@@ -22,7 +23,7 @@ use crate::nodes::{
 };
 use crate::outcomes::{
     all_leave, are_phrases, are_values, asks_value, if_so, is_outcome, is_skipped, last_outcome,
-    leaves, names_int, only_outcome, outcome, outcome_by, proc_yields, refers_to_plain,
+    leaves, names_int, only_outcome, outcome, outcome_by, proc_yields, refers_to_cells,
     yields_value,
 };
 use crate::paths::path_leaves;
@@ -31,7 +32,7 @@ use a68_annot::{Annotated, Note};
 use a68_base::find;
 use a68_code::operands_of;
 use a68_denote::{bits_of, int_of};
-use a68_modes::ModeId;
+use a68_modes::{ModeId, Shape};
 use a68_tree::{Node, NodeId, NodeKind};
 
 // Does a spelling stand for a value?
@@ -124,6 +125,28 @@ fn call_leaves(program: &Annotated, id: NodeId, yields: bool, parts: &[NodeId]) 
         if_so(are_values(program, 2, rest), true)
     } else {
         if_so(all_leave(program, true, parts), yields)
+    }
+}
+
+// Is a field of that tag there?
+fn selects(program: &Annotated, name: u32, parts: &[NodeId]) -> bool
+    ensures { result ≡ runs.selects program.now name parts.now }
+{
+    let fields = fields_at(&program.modes, first_goal(program, parts));
+    field_in(name, fields) < fields.len()
+}
+
+// What a collateral clause of a mode leaves: nothing of VOID, else a structure of the values of its parts.
+fn collateral_leaves(program: &Annotated, mode: ModeId, parts: &[NodeId]) -> Option<bool>
+    ensures { result ≡ runs.collateral_leaves program.now (shape_at program.now.modes mode) parts.now }
+{
+    if mode >= program.modes.len() {
+        return None;
+    }
+    match program.modes.shape(mode) {
+        Shape::Void => if_so(all_leave(program, false, parts), false),
+        Shape::Struct(_) => if_so(parts.len() > 0 && all_leave(program, true, parts), true),
+        _ => None,
     }
 }
 
@@ -264,25 +287,26 @@ fn leaves_as(program: &Annotated, id: NodeId, node: &Node, note: &Note) -> Optio
         ),
         NodeKind::Monadic | NodeKind::Dyadic => formula_leaves(program, note, parts),
         NodeKind::Assignation => if_so(
-            refers_to_plain(program, note.mode) && are_values(program, 2, parts),
+            refers_to_cells(program, note.mode) && are_values(program, 2, parts),
             true,
         ),
         NodeKind::Identity => if_so(are_values(program, 2, parts), true),
-        NodeKind::Generator => if_so(refers_to_plain(program, note.mode), true),
+        NodeKind::Generator => if_so(refers_to_cells(program, note.mode), true),
         NodeKind::IdentityDefinition | NodeKind::OpDefinition => {
             if_so(is_outcome(true, last_outcome(program, parts)), false)
         }
         NodeKind::Variable => if_so(
-            refers_to_plain(program, note.mode) && variable_runs(program, id, parts),
+            refers_to_cells(program, note.mode) && variable_runs(program, id, parts),
             false,
         ),
         NodeKind::ModeDefinition | NodeKind::Priority => Some(false),
         NodeKind::Joined => if_so(all_leave(program, false, parts), false),
         NodeKind::Call => call_leaves(program, id, yields_value(program, note), parts),
         NodeKind::Cast => last_outcome(program, parts),
-        NodeKind::Collateral => if_so(
-            program.modes.is_void(note.goal) && all_leave(program, false, parts),
-            false,
+        NodeKind::Collateral => collateral_leaves(program, note.goal, parts),
+        NodeKind::Selection => if_so(
+            selects(program, node.name, parts) && is_outcome(true, last_outcome(program, parts)),
+            true,
         ),
         NodeKind::Serial => if_so(are_phrases(program, asked, parts), asked),
         NodeKind::Closed | NodeKind::Out | NodeKind::From | NodeKind::By | NodeKind::To => {

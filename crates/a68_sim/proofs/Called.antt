@@ -15,6 +15,8 @@ use Rattle.a68_elab.specs.Positions.{here, within, in_this, beside}
 use Rattle.a68_elab.specs.Terms.{todo, yielded}
 use Rattle.a68_elab.specs.Trees.{Tree, operation, phrases, range, choice, call, no_trees, ◌and_tree◌, collateral, serial, Program}
 use Rattle.a68_gen.specs.Stretches.{Translates}
+use Rattle.a68_layout.specs.Plans.{planned}
+use Rattle.a68_layout.specs.Widths.{cells_of, has_cells}
 use Rattle.a68_modes.specs.Nodes.{standard_shapes}
 use Rattle.a68_sim.proofs.Examples.{instr, entry, whole, digit_text, printed_digit, not_ended}
 use Rattle.a68_sim.proofs.Whole.{law}
@@ -363,7 +365,7 @@ newer_world = record {
 }
 
 newer_ran : RunOf newer_code 100 newer_kept
-unfolding does settle start resumed chain_of item_text applied called
+unfolding does settle start resumed chain_of item_text applied called planned cells_of has_cells
 newer_ran = record {
   world = newer_world;
   runs = (refl, (refl, (refl, (refl, (refl, (refl, refl))))));

@@ -27,7 +27,7 @@ use Rattle.a68_sim.proofs.Routines.{TextsStand, yields_of, called_entrance}
 use Rattle.a68_strand.specs.Machine.{State, enters_body, begins_body, binds, into_routine, exec, fails, told_by, asks_for}
 use Rattle.a68_strand.specs.Machine as machine
 use Rattle.a68_stack.specs.Values.{pop_values}
-use Rattle.a68_strand.specs.Left.{Left}
+use Rattle.a68_strand.specs.Unbound.{Unbound}
 use Rattle.a68_strand.specs.declared.ask.Stance.{Stance}
 use Rattle.a68_strand.specs.declared.ask.Stance.TheVariants.{Asking}
 use Rattle.a68_strand.specs.declared.ask.Waiting.TheVariants as waiting
@@ -40,7 +40,7 @@ use Rattle.a68_values.specs.declared.chain.Environ.{Environ}
 use Rattle.a68_values.specs.declared.plain.Routine.{Routine}
 
 -- what a strand asked before makes no difference
-same_enters : (st : State) (stance : Stance) (q : Routine) (ps : Left) (c : List Environ)
+same_enters : (st : State) (stance : Stance) (q : Routine) (ps : Unbound) (c : List Environ)
     → enters_body (record st { stance = stance }) q ps c ≡ enters_body st q ps c
 same_enters st stance q ps [] = refl
 same_enters st stance q ps (e ∷ outer) = refl
@@ -55,7 +55,7 @@ same_binds texts st stance text slot [] c = same_begins st stance (slice_get tex
 same_binds texts st stance text slot (v ∷ vs) [] = refl
 same_binds texts st stance text slot (v ∷ vs) (e ∷ outer) = refl
 
-abbrev first_parameters : List Content → Left
+abbrev first_parameters : List Content → Unbound
 first_parameters vs = record { slot = 0; left = reverse vs }
 
 abbrev caller : ℕ → List Environ → Item
@@ -157,7 +157,7 @@ module _ (program : Program) (code : Code) (texts : TextsStand program code) (b 
       items : List Item
       items = caller b home ∷ base
 
-      rest : Left
+      rest : Unbound
       rest = record { slot = suc slot; left = reverse vs }
 
       st : State

@@ -2,6 +2,8 @@
 use Rattle.std.proofs.Common.{◌≡◌, ℕ, pos, false, List, [], ◌∷◌, ◌++◌, Some, refl, sym, subst, arith}
 use Rattle.a68_acts.specs.Does.{does}
 use Rattle.a68_acts.specs.Operations.{constant, skip, tag, make, bind, deref, store, apply, drop, print, start, resumed, tested, counter_of, has_turn, advanced}
+use Rattle.a68_layout.specs.Plans.{planned}
+use Rattle.a68_layout.specs.Widths.{cells_of, has_cells}
 use Rattle.a68_ops.specs.Printed.{item_text, whole_text}
 use Rattle.a68_acts.specs.Store.{Store, standard_frame, chain_of}
 use Rattle.a68_acts.specs.declared.operation.Next.TheVariants as next
@@ -217,7 +219,7 @@ prints_three =
     (sym printed_three) (refl, refl)
 
 ran : RunOf code 1000 kept
-unfolding does settle start resumed chain_of item_text tested counter_of has_turn advanced applied
+unfolding does settle start resumed chain_of item_text tested counter_of has_turn advanced applied planned cells_of has_cells
 ran = record {
   world = record { store = last_store; strands = last_state ∷ [] };
   runs = (refl, (refl, (refl, (refl, (refl, (refl, (refl, (refl, (refl, (refl, (refl, (refl, (refl, (refl, (refl, (refl, (refl, (refl, (refl, (refl, (refl, (refl, (refl, (refl, (refl, (refl, (refl, (refl, (refl, (refl, prints_three))))))))))))))))))))))))))))));

@@ -2,7 +2,7 @@
 use Rattle.std.proofs.Common.{◌≡◌, ℕ, suc, arith, Bool, true, false, List, [], Some, refl, sym, ap, ◌∙◌, inl}
 use Rattle.std.specs.Option.{option_map_or}
 use Rattle.std.specs.declared.option.Option.{Option}
-use Rattle.a68_acts.specs.Operations.{Operation, constant, skip, nil, routine, tag, make, heap, bind, deref, store, apply, same, unite, drop, print, whole, leaves, resumed}
+use Rattle.a68_acts.specs.Operations.{Operation, constant, skip, nil, routine, tag, make, heap, bind, deref, store, apply, same, compose, select, unite, drop, print, whole, leaves, resumed}
 use Rattle.a68_acts.specs.declared.operation.Doing.{Doing}
 use Rattle.a68_acts.specs.declared.operation.Doing.TheVariants as doing
 use Rattle.a68_acts.specs.declared.operation.Next.{Next}
@@ -45,6 +45,8 @@ operation_is (deref m) n = refl
 operation_is (store m) n = refl
 operation_is (apply r) n = refl
 operation_is (same negated) n = refl
+operation_is (compose fields) n = refl
+operation_is (select m field) n = refl
 operation_is (unite m) n = refl
 operation_is drop n = refl
 operation_is print n = refl

@@ -3,6 +3,7 @@
 
 mod chains;
 mod frame;
+mod plans;
 mod stop;
 mod store;
 mod weight;

@@ -1,5 +1,5 @@
 //! The store.
-ghost use Rattle.std.specs.Prelude.{◌≡◌, ◌<◌, ◌-◌, ◌^◌, [], false, None, Some, length, replicate, slice_get, slice_set, vec_len, IfOk, IfSome, OnOk};
+ghost use Rattle.std.specs.Prelude.{◌≡◌, ◌<◌, ◌+◌, ◌-◌, ◌^◌, [], true, None, Some, length, map, replicate, slice_get, slice_set, vec_len, IfOk, IfSome, OnOk};
 ghost use Rattle.std.specs.Option.{option_copied, option_map_or};
 ghost use Rattle.a68_acts.specs.Does.{does, did, refused};
 ghost use Rattle.a68_acts.specs.Store.{opening_store};
@@ -8,6 +8,7 @@ ghost use Rattle.a68_store.specs.Frames.{HasSlot, frame_of, plain_bound, plain_h
 
 use crate::chains::chain_behind;
 use crate::frame::Frame;
+use crate::plans::{cells_from, is_closed};
 use crate::stop::StoreStop;
 use crate::weight::{slot_weight, weight};
 use a68_acts::{Reply, Want};
@@ -104,26 +105,6 @@ fn plain_of(held: &Held) -> Option<Plain>
         Held::Rows(_) => None,
         Held::Member { .. } => None,
     }
-}
-
-// Equal held values put where there are none.
-fn add_copies(alloc: Global, copies: &mut Vec<Held>, cells: &[Held]) -> Result<(), NoMemory>
-    requires { copies.old.items ≡ [] }
-    ensures { OnOk result (copies.new.items ≡ cells.now) }
-{
-    for held in cells {
-        copies.push(held.copy(alloc)?)?;
-    }
-    Ok(())
-}
-
-// Equal held values.
-fn copies(alloc: Global, cells: &[Held]) -> Result<Vec<Held>, NoMemory>
-    ensures { IfOk result (λ copies. copies.items ≡ cells.now) }
-{
-    let mut copies = Vec::with_capacity(alloc, cells.len())?;
-    add_copies(alloc, &mut copies, cells)?;
-    Ok(copies)
 }
 
 #[tactic(auto, unfolding(a68_acts::specs::Does::does))]
@@ -237,16 +218,18 @@ impl Store {
 
     /// New cells, as planned. The number of the first comes back.
     pub fn make(&mut self, alloc: Global, plan: &Plan) -> Result<u32, StoreStop>
-        requires { plan.now.shifted ≡ false }
         ensures { DoesAct result (λ base. Act.Make base (length plan.now.cells)) (λ base. Reply.Base base)
             (does (Want.Make plan.now) self.old) self.old self.new }
     {
+        if !is_closed(plan) {
+            return Err(StoreStop::Fault(FaultKind::Kind));
+        }
         let base = self.cells.len() as u32;
         let count = plan.cells.items.len();
         if count > (MOST_COUNTED - self.counted) as usize {
             return Err(StoreStop::Fault(FaultKind::Cells));
         }
-        let mut fresh = copies(alloc, &plan.cells.items)?;
+        let mut fresh = cells_from(alloc, base, plan)?;
         self.cells.append(&mut fresh)?;
         self.counted += count as u32;
         Ok(base)
@@ -338,7 +321,7 @@ impl Store {
     fn fault_of_make(&self, plan: &Plan) -> Option<FaultKind>
         ensures { result ≡ refused (does (Want.Make plan.now) self.now) }
     {
-        if plan.shifted {
+        if !is_closed(plan) {
             return Some(FaultKind::Kind);
         }
         if plan.cells.items.len() > (MOST_COUNTED - self.counted) as usize {

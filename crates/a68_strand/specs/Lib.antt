@@ -1,7 +1,7 @@
 pub mod Bodies
 pub mod Cyclic
 pub mod Ends
-pub mod Left
+pub mod Unbound
 pub mod Machine
 pub mod Replies
 pub mod Room

@@ -12,13 +12,13 @@ pub struct Parameters {
 
 impl Model for Parameters {
     ghost use Rattle.std.specs.Prelude.{◌+◌, ◌<◌, ◌^◌, length};
-    ghost use Rattle.a68_strand.specs.Left.{Left, left_code};
+    ghost use Rattle.a68_strand.specs.Unbound.{Unbound, unbound_code};
 
-    ghost Value = { Left };
+    ghost Value = { Unbound };
 
-    ghost coded = { left_code };
+    ghost coded = { unbound_code };
 
-    ghost view = { λ parameters. let x : Left = record { slot = parameters.slot; left = parameters.left } in x };
+    ghost view = { λ parameters. let x : Unbound = record { slot = parameters.slot; left = parameters.left } in x };
 
     ghost invariant = { λ parameters. parameters.slot + length parameters.left < 2 ^ 32 };
 }

@@ -1,5 +1,5 @@
 -- Values as contracts see them: trees of contents.
-use Rattle.std.specs.Prelude.{ℕ, ℤ, ◌+◌, ◌≤◌, max, List, [], ◌∷◌, None, Some}
+use Rattle.std.specs.Prelude.{ℕ, ℤ, ◌+◌, ◌≤◌, max, Bool, true, false, List, [], ◌∷◌, None, Some}
 use Rattle.std.specs.declared.option.Option.{Option}
 use Rattle.std.proofs.Common.{arith}
 use denote.Param.Weighed.{most}
@@ -25,6 +25,14 @@ mutual
 abbrev pub as_plain : Content → Option Plain
 as_plain (plain p) = Some p
 as_plain _ = None
+
+abbrev pub is_structure : Content → Bool
+is_structure (structure parts) = true
+is_structure _ = false
+
+abbrev pub is_united : Content → Bool
+is_united (united mode inner) = true
+is_united _ = false
 
 infixr 50 ◌and_part◌
 abbrev pub contents_of : List Content → Contents

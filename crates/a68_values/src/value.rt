@@ -2,8 +2,9 @@
 //!
 //! Drops that are written by hand are proved once, in their crate; a derived one is proved anew in each crate that lets
 //! such a value go.
-ghost use Rattle.std.specs.Prelude.{◌≡◌, None, IfOk, MatchOption};
-ghost use Rattle.a68_values.specs.Content.{as_plain, plain, scope_of, newest_scope};
+ghost use Rattle.std.specs.Prelude.{◌≡◌, false, None, IfOk, MatchOption};
+ghost use Rattle.a68_values.specs.Content.{as_plain, is_structure, is_united, plain, structure, united, contents_of, scope_of, newest_scope};
+ghost use Rattle.a68_values.specs.Nodes.{content_of};
 
 use crate::{Layout, Plain};
 use a68_base::NoMemory;
@@ -87,6 +88,42 @@ impl Drop for Values {
     }
 }
 
+impl ValueNode {
+    // The parts of the structure that it is.
+    fn into_parts(self) -> Option<Values>
+        ensures { MatchOption result (is_structure (content_of self) ≡ false) (λ parts. content_of self ≡ structure (contents_of parts)) }
+    {
+        match self {
+            ValueNode::Structure(parts) => Some(parts),
+            ValueNode::Void
+            | ValueNode::Plain(_)
+            | ValueNode::Layout(_)
+            | ValueNode::Row {
+                bounds: _,
+                parts: _,
+            }
+            | ValueNode::United { mode: _, value: _ } => None,
+        }
+    }
+
+    // The value that is united in it, with its mode.
+    fn into_member(self) -> Option<(u32, Value)>
+        ensures { MatchOption result (is_united (content_of self) ≡ false) (λ member. content_of self ≡ united member.0 member.1) }
+    {
+        match self {
+            ValueNode::United { mode, value } => Some((mode, Box::into_inner(value))),
+            ValueNode::Void
+            | ValueNode::Plain(_)
+            | ValueNode::Layout(_)
+            | ValueNode::Structure(_)
+            | ValueNode::Row {
+                bounds: _,
+                parts: _,
+            } => None,
+        }
+    }
+}
+
 impl Model for Value {
     ghost use Rattle.a68_values.specs.Codes.{content_code};
     ghost use Rattle.a68_values.specs.Content.{Content, size_of};
@@ -155,6 +192,22 @@ impl Value {
             ValueNode::Plain(held) => Some(*held),
             _ => None,
         }
+    }
+
+    /// The parts of the structure that it is; none where it is another.
+    pub fn into_parts(self) -> Option<Values>
+        ensures { MatchOption result (is_structure self ≡ false) (λ parts. self ≡ structure (contents_of parts)) }
+    {
+        let Value { node } = self;
+        node.into_parts()
+    }
+
+    /// The value that is united in it, with its mode; none where it is another.
+    pub fn into_member(self) -> Option<(u32, Value)>
+        ensures { MatchOption result (is_united self ≡ false) (λ member. self ≡ united member.0 member.1) }
+    {
+        let Value { node } = self;
+        node.into_member()
     }
 
     /// An equal value. A plain one takes no memory.

@@ -4,7 +4,7 @@ use Rattle.std.specs.Prelude.{⊤, None, Some, slice_get, slice_set, nat_eq, nat
 use Rattle.std.specs.Option.{option_map_or}
 use Rattle.std.proofs.Math.ListN.{length-set}
 use Rattle.std.specs.declared.option.Option.{Option}
-use Rattle.a68_acts.specs.Does.{Outcome, did, refuses, waits, does, entered, bound, looked, made, within_count}
+use Rattle.a68_acts.specs.Does.{Outcome, did, refuses, waits, does, entered, bound, looked, made, within_count, cells_from, is_closed}
 use Rattle.a68_acts.specs.Store.{Store, Frame, chain_step, chain_within, chain_of, counted, slot_weight, most_counted, most_printed}
 use Rattle.a68_acts.specs.declared.want.Reply.{Reply}
 use Rattle.a68_acts.specs.declared.want.Reply.TheVariants as reply
@@ -133,11 +133,12 @@ look-in : (s : Store) (f i : ℕ) (o : Option Frame) → FramesBelow (length s.f
 look-in s f i None p = tt
 look-in s f i (Some frame) p = look-room s f i (slice_get frame.slots i) p
 
-make-in : (s : Store) (plan : Plan) (b : Bool) → FramesBelow (length s.frames) s.frames → RoomBehind (length s.frames) (if b then refuses fault.Kind else made s plan)
-make-in s plan true p = tt
-make-in s plan false p =
-    counted-room (length s.frames) (counted s + length plan.cells) (did (act.Make (length s.cells) (length plan.cells)) (reply.Base (length s.cells)) (record s { cells = s.cells ++ plan.cells }))
-    (same-room s (reply.Base (length s.cells)) (record s { cells = s.cells ++ plan.cells }) p refl tt)
+make-in : (s : Store) (plan : Plan) (b : Bool) → FramesBelow (length s.frames) s.frames → RoomBehind (length s.frames) (if b then made s plan else refuses fault.Kind)
+make-in s plan false p = tt
+make-in s plan true p =
+    let cells = s.cells ++ cells_from (length s.cells) plan in
+    counted-room (length s.frames) (counted s + length plan.cells) (did (act.Make (length s.cells) (length plan.cells)) (reply.Base (length s.cells)) (record s { cells = cells }))
+    (same-room s (reply.Base (length s.cells)) (record s { cells = cells }) p refl tt)
 
 fetch-in : (s : Store) (c : ℕ) (o : Option Held) → FramesBelow (length s.frames) s.frames
     → RoomBehind (length s.frames) (option_map_or (λ held. did (act.Fetch c) (reply.Held held) s) o (refuses fault.Kind))
@@ -160,7 +161,7 @@ unfolding does
 does-room (want.Enter outer scope slots) s p q = enter-in s outer scope slots (slice_get s.frames outer) p q
 does-room (want.Bind f i v) s p q = bind-in s f i v (slice_get s.frames f) p refl
 does-room (want.Look f i) s p q = look-in s f i (slice_get s.frames f) p
-does-room (want.Make plan) s p q = make-in s plan plan.shifted p
+does-room (want.Make plan) s p q = make-in s plan (is_closed plan) p
 does-room (want.Fetch c) s p q = fetch-in s c (slice_get s.cells c) p
 does-room (want.Assign c held) s p q = assign-in s c held (slice_get s.cells c) p
 does-room (want.Print text) s p q = print-in s text (nat_lt most_printed (length s.text + length text)) p

@@ -23,7 +23,7 @@ use Rattle.a68_strand.specs.Machine.{State, stack_of, goes_on, goes_to, fails, f
 use Rattle.a68_stack.specs.Room.{has_room}
 use Rattle.a68_strand.specs.Room.{brings_room}
 use Rattle.a68_stack.specs.Values.{callers, pop_values, top_counter, top_value}
-use Rattle.a68_strand.specs.Left.{Left}
+use Rattle.a68_strand.specs.Unbound.{Unbound}
 use Rattle.a68_strand.specs.declared.ask.Stance.{Stance}
 use Rattle.a68_strand.specs.declared.ask.Stance.TheVariants.{Idle, Asking, Failed}
 use Rattle.a68_strand.specs.declared.ask.Waiting.{Waiting}
@@ -163,7 +163,7 @@ calls-below n texts st gives None p i = failed n st fault.Kind p
 calls-below n texts st gives (Some ([], items)) p i = failed n st fault.Kind p
 calls-below n texts st gives (Some (v ∷ vs, items)) p i = calling-below n st items vs (called (map (λ (e : RoutineEntrance). e.yields) texts) gives v) p i
 
-enters_body-below : (n : ℕ) (st : State) (r : Routine) (ps : Left) (chain : List Environ) → Stands n st → ChainBelow n chain → StateBelow n (enters_body st r ps chain)
+enters_body-below : (n : ℕ) (st : State) (r : Routine) (ps : Unbound) (chain : List Environ) → Stands n st → ChainBelow n chain → StateBelow n (enters_body st r ps chain)
 enters_body-below n st r ps [] p q = failed n st fault.Kind p
 enters_body-below n st r ps (e ∷ outer) p q = record { chain = p.0; items = p.1; stance = omega (arith, q.0) }
 

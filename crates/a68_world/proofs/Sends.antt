@@ -5,6 +5,9 @@ use denote.Model.Marks.{tied_send}
 use denote.Model.Goals.{send, has_of, part_has}
 use Rattle.std.proofs.Crossing.{crosses}
 use Rattle.a68_acts.specs.contracts.operation.Next as next
+use Rattle.a68_acts.specs.contracts.step.Left as left
+use Rattle.a68_acts.specs.contracts.step.Step as step
+use Rattle.a68_acts.specs.contracts.step.Steps as steps
 use Rattle.a68_acts.specs.contracts.want.Want as want
 use Rattle.a68_base.proofs.text.Text.TheSendSync as text
 use Rattle.a68_code.proofs.code.Routines.TheSendSync as routines
@@ -111,8 +114,17 @@ ask_send = search (sendable, crosses, want_send) depth 20
 parts_row_send : IsSend parts.the_row
 parts_row_send = let p = holes_send member-Values in let v = holes_send member-Value in search (sendable, crosses) depth 20
 
+step_row_send : IsSend step.the_row
+step_row_send = search (sendable, crosses, value_send, held.the_field_send) depth 60
+
+steps_send : IsSend steps.the_row
+steps_send = search (sendable, crosses, step_row_send) depth 20
+
+left_send : IsSend left.the_row
+left_send = search (sendable, crosses, value_send) depth 20
+
 next_send : IsSend (next.the_field).row
-next_send = search (sendable, crosses, parts_row_send) depth 20
+next_send = search (sendable, crosses, parts_row_send, steps_send, left_send) depth 40
 
 parameters_send : IsSend parameters.the_row
 parameters_send = search (sendable, crosses, parts_row_send) depth 20

@@ -7,7 +7,7 @@ use Rattle.a68_code.specs.declared.does.Does.TheVariants as does
 use Rattle.a68_elab.proofs.Nodes.{tree_of_nodes, behind_is}
 use Rattle.a68_gen.proofs.Linking.{case_is, enquiry_is, link_behind}
 use Rattle.a68_elab.specs.Made as made
-use Rattle.a68_elab.specs.Trees.{Tree, Test, while_in, unbuilt, ◌and_tree◌, count}
+use Rattle.a68_elab.specs.Trees.{Tree, Test, operation, serial, while_in, unbuilt, ◌and_tree◌, count}
 use Rattle.a68_elab.specs.Made.{behind, tree_at, trees_at, behind_ref}
 use Rattle.a68_gen.specs.Coercing.{coercions}
 use Rattle.a68_gen.specs.Listing.{instr, limits, opens, stretch, stretches, test_stretch}
@@ -20,7 +20,7 @@ use Rattle.a68_modes.specs.declared.shape.Shape.{Shape}
 use Rattle.a68_gen.specs.Chains.{enquiry_tree, Finishes, IsOpen, IsWhole, link_tree, other_tree, shuts}
 use Rattle.a68_gen.specs.declared.ends.Opened.{Opened}
 use Rattle.a68_gen.proofs.Chaining.{open_more}
-use Rattle.a68_gen.proofs.Constructs.{coerced_list, coerced_unbuilt, part-cons, one_part, rest_parts, some_parts, definition_whole, last_is, count_trees, new_does, plain_serial, framed_serial, declared_plain, declared_none, begun_none, begun_tree, declared_tree, assigned_list, applied_list, call_list, only_none, control_list, three_list, phrases_whole, asked_whole, unless_stands, test_is}
+use Rattle.a68_gen.proofs.Constructs.{coerced_list, coerced_unbuilt, part-cons, one_part, rest_parts, some_parts, definition_whole, last_is, count_trees, new_does, plain_serial, framed_serial, declared_plain, declared_none, begun_none, begun_tree, declared_tree, assigned_list, applied_list, call_list, void_collateral, structure_collateral, other_collateral, select_whole, only_none, control_list, three_list, phrases_whole, asked_whole, unless_stands, test_is}
 use Rattle.a68_runs.proofs.Between.{between-each, between-above}
 use Rattle.a68_gen.proofs.Numbering.{ArmsAhead, arm_end, arm_writes, arms_on, case_framed, case_writes}
 use Rattle.a68_gen.proofs.Ordered.{all-before}
@@ -28,7 +28,7 @@ use Rattle.a68_gen.proofs.Jumping.{link_all, link_jump, loop_all}
 use Rattle.a68_gen.proofs.Writing.{and_behind, had_not, is_written, drop_next, nothing-written, writes-as}
 use Rattle.a68_gen.proofs.rows.+units.Goals as goal
 use Rattle.std.specs.Prelude.{not, pos, false, IfSome, if◌then◌else◌}
-use Rattle.a68_acts.specs.Operations.{constant, skip}
+use Rattle.a68_acts.specs.Operations.{constant, select, skip}
 use Rattle.a68_tree.specs.declared.node.Node.{Node}
 use Rattle.a68_values.specs.Content.{plain}
 use Rattle.a68_values.specs.declared.plain.Plain.TheVariants as value
@@ -226,6 +226,50 @@ prints-returns-in-Ok t c =
     let w1 = c.operation.new.out in
     let many : c.in-Ok.count ≡ count ts = c.in-Ok.ensures.1 ∙ sym (count_trees f c.args.items.now) in
     subst (λ (n : ℕ). Writes w0.stop w1.stop w0.list w1.list (stretches ts (length w0.list) ++ instr c.args.place (does.Print n) ∷ [])) many c.operation.ensures
+
+pub structure-returns-in-Ok : goal.structure-returns-in-Ok
+structure-returns-in-Ok t c =
+    let f = behind c.args.id (tree_at c.args.program.now) in
+    let ts = trees_at f c.args.parts.now in
+    let w0 = c.args.out.now in
+    let w1 = c.operation.new.out in
+    let many : c.in-Ok.count ≡ count ts = c.in-Ok.ensures.1 ∙ sym (count_trees f c.args.parts.now) in
+    subst (λ (n : ℕ). Writes w0.stop w1.stop w0.list w1.list (stretches ts (length w0.list) ++ instr c.args.place (does.Compose n) ∷ [])) many c.operation.ensures
+
+pub collateral-returns-in-Void : goal.collateral-returns-in-Void
+collateral-returns-in-Void t c =
+    let ts = trees_at (behind c.args.id (tree_at c.args.program.now)) c.args.parts.now in
+    let is = void_collateral (shape_at c.args.program.now.modes c.args.note.now.goal) c.args.place ts (sym c.form_at.ensures ∙ c.in-Void.is) in
+    rw is c.all.ensures
+
+pub collateral-returns-in-Structure : goal.collateral-returns-in-Structure
+collateral-returns-in-Structure t c =
+    let ts = trees_at (behind c.args.id (tree_at c.args.program.now)) c.args.parts.now in
+    let is = structure_collateral (shape_at c.args.program.now.modes c.args.note.now.goal) c.args.place ts (sym c.form_at.ensures ∙ c.in-Structure.is) in
+    rw is c.structure.ensures
+
+pub collateral-returns-in-Other : goal.collateral-returns-in-Other
+collateral-returns-in-Other t c =
+    let ts = trees_at (behind c.args.id (tree_at c.args.program.now)) c.args.parts.now in
+    let is = other_collateral (shape_at c.args.program.now.modes c.args.note.now.goal) c.args.place ts (sym c.form_at.ensures ∙ c.in-Other.is) in
+    rw is c.unbuilt.ensures
+
+pub selection-returns-in-Ok : goal.selection-returns-in-Ok
+selection-returns-in-Ok t c =
+    let a = c.args.program.now in
+    let u = made.last_tree (trees_at (behind c.args.id (tree_at a)) c.args.parts.now) in
+    let place = c.args.place in
+    let mode = c.mode_in_front-mode.result in
+    let w0 = c.args.out.now in
+    let w1 = c.last.new.out in
+    let w2 = c.emit.new.self in
+    let at = length w0.list in
+    let all = writes-as w0.stop w2.stop w0.list w2.list _ _ (select_whole place mode c.in-Ok.field at u)
+    (and_behind w0.stop w1.stop w2.stop w0.list w1.list w2.list (stretch u at) (λ n. instr place (does.Select mode c.in-Ok.field) ∷ []) c.last.ensures c.emit.ensures) in
+    let field_is : c.in-Ok.field ≡ made.field_in c.args.name (made.fields_at a.modes mode) = c.in-Ok.ensures.1 ∙ c.field.ensures in
+    let by_field = subst (λ (k : ℕ). Writes w0.stop w2.stop w0.list w2.list (stretch (operation place (select mode k) serial (made.only u)) at)) field_is all in
+    subst (λ (m : ℕ). Writes w0.stop w2.stop w0.list w2.list (stretch (operation place (select m (made.field_in c.args.name (made.fields_at a.modes m))) serial (made.only u)) at))
+    c.mode_in_front-mode.ensures by_field
 
 pub serial-returns-then-parts-eq0 : goal.serial-returns-then-parts-eq0
 serial-returns-then-parts-eq0 t c = rw (nil_from_length c.args.parts.now (omega arith)) c.unbuilt.ensures

@@ -84,6 +84,12 @@ decreases-declared l = 8 * (length l.program.now.tree.nodes - l.id) + 3
 abbrev pub decreases-collateral : goal.decreases-collateral
 decreases-collateral l = 8 * (length l.program.now.tree.nodes - l.id) + 5
 
+abbrev pub decreases-structure : goal.decreases-structure
+decreases-structure l = 8 * (length l.program.now.tree.nodes - l.id) + 3
+
+abbrev pub decreases-selection : goal.decreases-selection
+decreases-selection l = 8 * (length l.program.now.tree.nodes - l.id) + 3
+
 abbrev pub decreases-prints : goal.decreases-prints
 decreases-prints l = 8 * (length l.program.now.tree.nodes - l.id) + 3
 
