@@ -1,4 +1,3 @@
--- Inner: the headline does not rest on this file.
 -- The members of unions.
 use Rattle.std.specs.Prelude.{ℕ, suc, List, [], ◌∷◌, None, Some, Ok, Err, nat_eq, if◌then◌else◌}
 use Rattle.std.specs.Option.{option_map, option_map_or}

@@ -2,7 +2,7 @@
 ghost use Rattle.std.specs.Prelude.{◌≡◌, ◌==◌, [], ◌∷◌, length, OnOk, OnErr, MatchOption};
 
 use a68_base::NoMemory;
-use a68_values::{Held, Value};
+use a68_values::{Bounds, Held, Name, Value, Values};
 use std::alloc::Global;
 use std::marker::Model;
 
@@ -10,21 +10,61 @@ use std::marker::Model;
 #[derive(Drop)]
 pub enum Step {
     /// It leaves what this cell holds.
-    Fetch { cell: u32 },
+    Fetch {
+        cell: u32,
+    },
+    /// It leaves the row, of elements of this mode, whose descriptor this cell holds.
+    FetchRow {
+        of: u32,
+        cell: u32,
+    },
     /// It leaves what the union of this cell holds.
-    FetchUnion { cell: u32 },
+    FetchUnion {
+        cell: u32,
+    },
     /// It makes a structure of the last so many values.
-    Structure { count: usize },
+    Structure {
+        count: usize,
+    },
+    /// It makes a row with these bounds of the last so many values.
+    Row {
+        bounds: Bounds,
+        count: usize,
+    },
     /// It unites the last value.
-    Unite { mode: u32 },
+    Unite {
+        mode: u32,
+    },
     /// It leaves this value.
     Leave(Value),
     /// It gives a cell this to hold.
-    Assign { cell: u32, held: Held },
+    Assign {
+        cell: u32,
+        held: Held,
+    },
     /// It waits until the cell has it.
     Assigned,
     /// It assigns a value of this mode to the name of a union.
-    AssignUnion { cell: u32, mode: u32, value: Value },
+    AssignUnion {
+        cell: u32,
+        mode: u32,
+        value: Value,
+    },
+    /// It assigns a row with these bounds and parts to the name of a row of elements of this mode.
+    AssignRow {
+        of: u32,
+        flex: bool,
+        cell: u32,
+        bounds: Bounds,
+        parts: Values,
+    },
+    /// It assigns what the operator of this row makes of the last value and the operand to the name of the text that the
+    /// last value is.
+    Update {
+        row: u32,
+        name: Name,
+        operand: Value,
+    },
     /// It meets the fault Kind.
     Stray,
 }

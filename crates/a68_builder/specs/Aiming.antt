@@ -3,13 +3,14 @@ use Rattle.std.specs.Prelude.{ℕ, List, length, slice_get, slice_set}
 use Rattle.std.specs.Option.{option_map_or}
 use Rattle.a68_code.specs.declared.code.Instr.{Instr}
 use Rattle.a68_code.specs.declared.does.Does.{Does}
-use Rattle.a68_code.specs.declared.does.Does.TheVariants.{Jump, Unless, Case, Step, Advance}
+use Rattle.a68_code.specs.declared.does.Does.TheVariants.{Jump, Unless, Case, Member, Step, Advance}
 
 -- how many places an instruction names
 abbrev pub names : Does → ℕ
 names (Jump to) = 1
 names (Unless to) = 1
 names (Case places) = length places
+names (Member mode places whole) = length places
 names (Step to) = 1
 names (Advance to) = 1
 names _ = 0
@@ -19,6 +20,7 @@ abbrev pub aimed : Does → (which to : ℕ) → Does
 aimed (Jump place) which to = Jump to
 aimed (Unless place) which to = Unless to
 aimed (Case places) which to = Case (slice_set places which to)
+aimed (Member mode places whole) which to = Member mode (slice_set places which to) whole
 aimed (Step place) which to = Step to
 aimed (Advance place) which to = Advance to
 aimed does which to = does

@@ -48,6 +48,7 @@ fn names(does: &Does) -> usize
     match does {
         Does::Jump(_) | Does::Unless(_) | Does::Step(_) | Does::Advance(_) => 1,
         Does::Case(places) => places.items.len(),
+        Does::Member { places, .. } => places.items.len(),
         _ => 0,
     }
 }
@@ -63,6 +64,7 @@ fn aim(does: &mut Does, which: usize, to: u32)
         Does::Step(place) => *place = to,
         Does::Advance(place) => *place = to,
         Does::Case(places) => places.items[which] = to,
+        Does::Member { places, .. } => places.items[which] = to,
         _ => {}
     }
 }

@@ -1,5 +1,5 @@
 -- Entrances, one after another.
-use Rattle.std.proofs.Common.{◌≡◌, ◌<◌, ◌+◌, ◌++◌, ◌∙◌, ℕ, zero, suc, Bool, List, [], ◌∷◌, length, take, get_or, refl, sym, ap, arith}
+use Rattle.std.proofs.Common.{◌≡◌, ◌<◌, ◌+◌, ◌++◌, ◌∙◌, ℕ, Bool, List, [], ◌∷◌, length, take, get_or, refl, sym, ap}
 use Rattle.std.proofs.lemmas.List.{append-nil, append_assoc, take_more}
 use Rattle.a68_code.specs.Flow.{entrance_if, entrances_in}
 use Rattle.a68_code.specs.declared.code.RoutineEntrance.{RoutineEntrance}

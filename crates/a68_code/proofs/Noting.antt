@@ -1,12 +1,14 @@
 -- How the walk's table grows, a place at a time.
-use Rattle.std.proofs.Common.{◌≡◌, ◌<◌, ◌⊎◌, ◌++◌, ℕ, zero, suc, List, [], ◌∷◌, length, get_or, set, replicate, refl, sym, ap, ◌∙◌, arith, subst, inl, inr, Some, None, ⊎_elim, get_or-set_same, get_or-set_other, length-set, length-append}
+use Rattle.std.proofs.Common.{◌≡◌, ◌<◌, ◌⊎◌, ◌+◌, ◌++◌, ℕ, zero, suc, List, [], ◌∷◌, length, take, map, get_or, set, replicate, refl, sym, ap, ◌∙◌, arith, subst, inl, inr, Some, None, ⊎_elim, get_or-set_same, get_or-set_other, length-set, length-append}
 use Rattle.std.specs.List.{Contains}
-use Rattle.std.proofs.lemmas.List.Elements.{Contains-push_cases, Contains-push, Contains-append_left}
+use Rattle.std.proofs.lemmas.List.Elements.{Contains-push_cases, Contains-push, Contains-append_left, Contains-get_or}
 use Rattle.std.proofs.lemmas.Bool.{cases_eq}
-use Rattle.a68_code.specs.Walk.{Heights, Places, Knows, unknown, Notes, NotesAll}
+use Rattle.std.proofs.lemmas.List.{map_more}
+use Rattle.a68_code.proofs.Mapping.{contains_map, from_map}
+use Rattle.a68_code.specs.Walk.{Heights, Places, Knows, unknown, Notes, NotesAll, Clashes, AnyClashes}
 
 -- one place more, which had the height
-again : (ps : List ℕ) (to h : ℕ) (H : Heights) (T : Places) (H1 : Heights) (T1 : Places) → NotesAll ps h H T H1 T1 → Knows H1 to h → NotesAll (ps ++ to ∷ []) h H T H1 T1
+again : (ps : Places) (to h : ℕ) (H : Heights) (T : Places) (H1 : Heights) (T1 : Places) → NotesAll ps H T H1 T1 → Knows H1 to h → NotesAll (ps ++ (to, h) ∷ []) H T H1 T1
 again ps to h H T H1 T1 v is = record {
   long = v.long;
   kept = v.kept;
@@ -14,8 +16,8 @@ again ps to h H T H1 T1 v is = record {
   noted = v.noted;
   fewer = v.fewer;
   turns = v.turns;
-  all = λ x i. ⊎_elim (λ j. v.all x j) (λ e. subst (λ (p : ℕ). Knows H1 p h) e is) (Contains-push_cases ps to x i);
-  only = λ x k g. ⊎_elim inl (λ j. inr (Contains-append_left ps (to ∷ []) x j.0, j.1, j.2, j.3)) (v.only x k g);
+  all = λ x k i. ⊎_elim (λ j. v.all x k j) (λ e. subst (λ (q : ℕ × ℕ). Knows H1 q.0 q.1) e is) (Contains-push_cases ps (to, h) (x, k) i);
+  only = λ x k g. ⊎_elim inl (λ j. inr (Contains-append_left ps ((to, h) ∷ []) (x, k) j.0, j.1, j.2)) (v.only x k g);
 }
 
 pub unknown_less : (H : Heights) (p h : ℕ) → p < length H → get_or H p None ≡ None → suc (unknown (set H p (Some h))) ≡ unknown H
@@ -30,7 +32,7 @@ unknown-replicate zero = refl
 unknown-replicate (suc n) = ap suc (unknown-replicate n)
 
 -- one place more, which had none
-module _ (ps : List ℕ) (to h : ℕ) (H : Heights) (T : Places) (H1 : Heights) (T1 : Places) (v : NotesAll ps h H T H1 T1) (lt : to < length H1) (none : get_or H1 to None ≡ None) where
+module _ (ps : Places) (to h : ℕ) (H : Heights) (T : Places) (H1 : Heights) (T1 : Places) (v : NotesAll ps H T H1 T1) (lt : to < length H1) (none : get_or H1 to None ≡ None) where
   H2 : Heights
   H2 = set H1 to (Some h)
 
@@ -60,21 +62,44 @@ module _ (ps : List ℕ) (to h : ℕ) (H : Heights) (T : Places) (H1 : Heights) 
   in_end : (x k : ℕ) → x ≡ to → k ≡ h → Contains (T1 ++ (to, h) ∷ []) (x, k)
   in_end x k e f = let same : ◌≡◌ {A = ℕ × ℕ} (to, h) (x, k) = cc in subst (Contains (T1 ++ (to, h) ∷ [])) same (Contains-push T1 (to, h))
 
-  in_places : (x : ℕ) → x ≡ to → Contains (ps ++ to ∷ []) x
-  in_places x e = subst (Contains (ps ++ to ∷ [])) (sym e) (Contains-push ps to)
+  in_places : (x k : ℕ) → x ≡ to → k ≡ h → Contains (ps ++ (to, h) ∷ []) (x, k)
+  in_places x k e f = let same : ◌≡◌ {A = ℕ × ℕ} (to, h) (x, k) = cc in subst (Contains (ps ++ (to, h) ∷ [])) same (Contains-push ps (to, h))
 
-  first : NotesAll (ps ++ to ∷ []) h H T (set H1 to (Some h)) (T1 ++ (to, h) ∷ [])
+  first : NotesAll (ps ++ (to, h) ∷ []) H T (set H1 to (Some h)) (T1 ++ (to, h) ∷ [])
   first = record {
     long = length-set H1 to (Some h) ∙ v.long;
     kept = λ x k g. still x k (v.kept x k g);
-    all = λ x i. ⊎_elim (λ j. still x h (v.all x j)) (λ e. subst (λ (p : ℕ). Knows (set H1 to (Some h)) p h) e now) (Contains-push_cases ps to x i);
-    only = λ x k g. ⊎_elim (λ old. ⊎_elim inl (λ j. inr (Contains-append_left ps (to ∷ []) x j.0, j.1, Contains-append_left T1 ((to, h) ∷ []) (x, k) j.2, less)) (v.only x k old)) (λ new. inr (in_places x new.0, new.1, in_end x k new.0 new.1, less)) (was x k g);
+    all = λ x k i. ⊎_elim (λ j. still x k (v.all x k j)) (λ e. subst (λ (q : ℕ × ℕ). Knows (set H1 to (Some h)) q.0 q.1) e now) (Contains-push_cases ps (to, h) (x, k) i);
+    only = λ x k g. ⊎_elim (λ old. ⊎_elim inl (λ j. inr (Contains-append_left ps ((to, h) ∷ []) (x, k) j.0, Contains-append_left T1 ((to, h) ∷ []) (x, k) j.1, less)) (v.only x k old)) (λ new. inr (in_places x k new.0 new.1, in_end x k new.0 new.1, less)) (was x k g);
     onward = λ x k i. Contains-append_left T1 ((to, h) ∷ []) (x, k) (v.onward x k i);
     noted = λ x k i. ⊎_elim (λ j. ⊎_elim inl (λ g. inr (still x k g)) (v.noted x k j)) (λ e. inr (let a : to ≡ x = ap (λ (q : ℕ × ℕ). q.0) e in let b : h ≡ k = ap (λ (q : ℕ × ℕ). q.1) e in subst (λ (p : ℕ). Knows (set H1 to (Some h)) x p) b (subst (λ (p : ℕ). Knows (set H1 to (Some h)) p h) a now))) (Contains-push_cases T1 (to, h) (x, k) i);
     fewer = let a = less in omega arith;
     turns = let a = unknown_less H1 to h lt none in let b = v.turns in omega (arith, length-append T1 ((to, h) ∷ []));
   }
 
-pub notes_more : (ps : List ℕ) (to h : ℕ) (H : Heights) (T : Places) (H1 : Heights) (T1 : Places) (H2 : Heights) (T2 : Places) → NotesAll ps h H T H1 T1 → Notes to h H1 T1 H2 T2 → NotesAll (ps ++ to ∷ []) h H T H2 T2
+pub notes_more : (ps : Places) (to h : ℕ) (H : Heights) (T : Places) (H1 : Heights) (T1 : Places) (H2 : Heights) (T2 : Places) → NotesAll ps H T H1 T1 → Notes to h H1 T1 H2 T2 → NotesAll (ps ++ (to, h) ∷ []) H T H2 T2
 notes_more ps to h H T H1 T1 H2 T2 v (inl n) = rw (n.1, n.2) (again ps to h H T H1 T1 v n.0)
 notes_more ps to h H T H1 T1 H2 T2 v (inr n) = rw (n.2, n.3) (first ps to h H T H1 T1 v n.0 n.1)
+
+-- places that are noted one after another, each with its height
+module _ (height_of : ℕ → ℕ) (H : Heights) (T : Places) (H1 : Heights) (T1 : Places) where
+  -- one place more
+  pub maps_more : (H2 : Heights) (T2 : Places) (places : List ℕ) (k : ℕ) → k < length places → NotesAll (map (λ (to : ℕ). (to, height_of to)) (take k places)) H T H1 T1
+      → Notes (get_or places k 0) (height_of (get_or places k 0)) H1 T1 H2 T2 → NotesAll (map (λ (to : ℕ). (to, height_of to)) (take (k + 1) places)) H T H2 T2
+  maps_more H2 T2 places k lt v n =
+      rw (map_more {Y = ℕ × ℕ} (λ (to : ℕ). (to, height_of to)) places k 0 lt) (notes_more _ (get_or places k 0) (height_of (get_or places k 0)) _ _ _ _ _ _ v n)
+
+  -- one of these places clashes
+  pub clash_from : (places : List ℕ) (k : ℕ) → k < length places → NotesAll (map (λ (to : ℕ). (to, height_of to)) (take k places)) H T H1 T1
+      → Clashes (get_or places k 0) (height_of (get_or places k 0)) H1 → AnyClashes (map (λ (to : ℕ). (to, height_of to)) places) H
+  clash_from places k lt v c = (get_or places k 0, height_of (get_or places k 0), contains_map (λ (to : ℕ). (to, height_of to)) places (get_or places k 0) (Contains-get_or places k 0 lt), before c)
+    where
+      new : (to other : ℕ) → Contains {X = ℕ × ℕ} (map (λ (x : ℕ). (x, height_of x)) (take k places)) (to, other) → other ≡ height_of to
+      new to other i =
+          let w = from_map (λ (x : ℕ). (x, height_of x)) (take k places) (to, other) i in
+          let here : to ≡ w.0 = ap (λ (q : ℕ × ℕ). q.0) w.2 in
+          ap (λ (q : ℕ × ℕ). q.1) w.2 ∙ sym (ap height_of here)
+
+      before : Clashes (get_or places k 0) (height_of (get_or places k 0)) H1 → Clashes (get_or places k 0) (height_of (get_or places k 0)) H
+      before (inl past) = inl (let l = v.long in omega arith)
+      before (inr (other, knows, differs)) = ⊎_elim (λ old. inr (other, old, differs)) (λ n. absurd (differs (new _ other n.0))) (v.only _ other knows)

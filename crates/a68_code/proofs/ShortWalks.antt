@@ -13,7 +13,7 @@ use Rattle.a68_code.specs.Valid.{IsValid}
 use Rattle.a68_code.specs.declared.code.Code.{Code}
 use Rattle.a68_code.specs.declared.code.Instr.{Instr}
 use Rattle.a68_code.specs.declared.does.Does.{Does}
-use Rattle.a68_code.specs.declared.does.Does.TheVariants.{Jump, Unless, Case, Step, Turn, Advance, Return, End}
+use Rattle.a68_code.specs.declared.does.Does.TheVariants.{Jump, Unless, Case, Member, Step, Turn, Advance, Return, End}
 
 -- a way leads from one place over so many instructions, none of which is a Turn, to another
 pub data Walks (list : List Instr) : ℕ → ℕ → ℕ → Type 0 where
@@ -123,14 +123,15 @@ ahead list at = (length list - at) + opens list at at
 -- the next place, or the landing place of an instruction that has one
 abbrev Landing : ℕ → ℕ → Does → Type 0
 Landing at to does =
-    (to ≡ at + 1) ⊎ ((does ≡ Jump to) ⊎ ((does ≡ Unless to) ⊎ ((does ≡ Step to) ⊎ ((does ≡ Advance to) ⊎ ((places : List ℕ) × (does ≡ Case places) × Contains places to)))))
+    (to ≡ at + 1) ⊎ ((does ≡ Jump to) ⊎ ((does ≡ Unless to) ⊎ ((does ≡ Step to) ⊎ ((does ≡ Advance to) ⊎ (((places : List ℕ) × (does ≡ Case places) × Contains places to) ⊎ ((mode : ℕ) × (places whole : List ℕ) × (does ≡ Member mode places whole) × Contains places to))))))
 
 landing_cases : (at to : ℕ) (does : Does) → Contains (landings at does) to → Landing at to does
 landing_cases at to (Jump x) i = inr (inl (ap (λ (n : ℕ). Jump n) (only x to i)))
 landing_cases at to (Unless x) i = ⊎_elim (λ e. inl (sym e)) (λ e. inr (inr (inl (ap (λ (n : ℕ). Unless n) e)))) (either (at + 1) x to i)
 landing_cases at to (Step x) i = ⊎_elim (λ e. inl (sym e)) (λ e. inr (inr (inr (inl (ap (λ (n : ℕ). Step n) e))))) (either (at + 1) x to i)
 landing_cases at to (Advance x) i = ⊎_elim (λ e. inl (sym e)) (λ e. inr (inr (inr (inr (inl (ap (λ (n : ℕ). Advance n) e)))))) (either (at + 1) x to i)
-landing_cases at to (Case places) i = inr (inr (inr (inr (inr (places, refl, i)))))
+landing_cases at to (Case places) i = inr (inr (inr (inr (inr (inl (places, refl, i))))))
+landing_cases at to (Member mode places whole) i = inr (inr (inr (inr (inr (inr (mode, places, whole, refl, i))))))
 landing_cases at to Return i = absurd (let h = i.1 in omega arith)
 landing_cases at to End i = absurd (let h = i.1 in omega arith)
 landing_cases at to _ i = inl (sym (only (at + 1) to i))
@@ -227,9 +228,12 @@ module _ (code : Code) (valid : IsValid code) where
     this (inr (inr (inl u))) = jumps (ordered (Unless to) u) (inside_from (made (Unless to) u)) (no_end to at does is (λ x e. cc))
     this (inr (inr (inr (inl s)))) = jumps (ordered (Step to) s) (inside_from (made (Step to) s)) (no_end_behind to at to (is ∙ ap (λ (d : Does). Some d) s) (omega arith))
     this (inr (inr (inr (inr (inl a))))) = short.1 at (is ∙ ap (λ (d : Does). Some d) a)
-    this (inr (inr (inr (inr (inr (places, e, i)))))) =
+    this (inr (inr (inr (inr (inr (inl (places, e, i))))))) =
         jumps (ltb-true at to (all_in (λ x. nat_lt at x) places to (ordered (Case places) e) i))
         (inside_from (all_in (λ x. nat_lt x (length code.list)) places to (all_second _ _ (made (Case places) e)) i)) (no_end to at does is (λ x f. cc))
+    this (inr (inr (inr (inr (inr (inr (mode, places, whole, e, i))))))) =
+        jumps (ltb-true at to (all_in (λ x. nat_lt at x) places to (ordered (Member mode places whole) e) i))
+        (inside_from (all_in (λ x. nat_lt x (length code.list)) places to (all_second _ _ (all_second _ _ (made (Member mode places whole) e))) i)) (no_end to at does is (λ x f. cc))
 
     -- the step at which the walk stands leads behind the end that goes back to it
     behind_end : Landing at to does → (advance : ℕ) → does_at code.list advance ≡ Some (Advance at) → suc (suc count) ≤ ahead code.list advance
@@ -259,7 +263,8 @@ module _ (code : Code) (valid : IsValid code) where
             let rest = short.0 in
             omega arith
         go (inr (inr (inr (inr (inl a))))) = let e : Advance to ≡ Step l.behind = sym a ∙ step in absurd (cc)
-        go (inr (inr (inr (inr (inr (places, f, i)))))) = let e : Case places ≡ Step l.behind = sym f ∙ step in absurd (cc)
+        go (inr (inr (inr (inr (inr (inl (places, f, i))))))) = let e : Case places ≡ Step l.behind = sym f ∙ step in absurd (cc)
+        go (inr (inr (inr (inr (inr (inr (mode, places, whole, f, i))))))) = let e : Member mode places whole ≡ Step l.behind = sym f ∙ step in absurd (cc)
 
   short_walk : {at count end : ℕ} → Walks code.list at count end → Short at count
   short_walk stands = (omega arith, λ advance is. some_ahead advance _ is)

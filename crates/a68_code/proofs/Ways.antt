@@ -1,21 +1,23 @@
 -- What the walk keeps, and why it decides.
-use Rattle.std.proofs.Common.{◌≡◌, ◌<◌, ◌≤◌, ◌⊎◌, ◌++◌, ◌+◌, ℕ, Bool, true, false, cond, List, [], ◌∷◌, IsTrue, length, get_or, set, replicate, sym, ap, ◌∙◌, arith, subst, inl, inr, Option, Some, None, ⊎_elim, get_or-set_same, get_or-set_other, length-set}
+use Rattle.std.proofs.Common.{◌≡◌, ◌<◌, ◌≤◌, ◌⊎◌, ◌++◌, ◌+◌, ℕ, Bool, true, false, cond, List, [], ◌∷◌, IsTrue, length, get_or, replicate, sym, ap, ◌∙◌, arith, subst, inl, inr, Option, Some, None, ⊎_elim}
 use Rattle.std.proofs.lemmas.List.{length-replicate, get_or-replicate, get_or_past, nil_from_length}
 use Rattle.std.proofs.lemmas.Option.{none-some, same_Some}
-use Rattle.std.proofs.lemmas.Bool.{cases_eq, cases_lt}
+use Rattle.std.proofs.lemmas.Bool.{cases_lt}
 use Rattle.std.specs.List.{Contains}
 use Rattle.std.proofs.lemmas.List.Elements.{Contains-push_cases, Contains-push, Contains-append_left}
 use Rattle.a68_modes.specs.declared.shape.Shape.{Shape}
-use Rattle.a68_code.specs.Flow.{does_at, takes, leaves, landings, entrances, Reaches, MayMeet}
+use Rattle.std.specs.Prelude.{◌||◌, nat_eq}
+use Rattle.a68_code.specs.Flow.{does_at, takes, leaves, leaves_to, last_place, landings, entrances, Reaches, MayMeet}
 use Rattle.a68_code.specs.Flow.Reaches.{begins, goes_on}
 use Rattle.a68_code.specs.Operands.{is_well_made}
 use Rattle.a68_modes.specs.Nodes.{shape_at, is_void}
 use Rattle.a68_code.specs.Valid.{IsValid}
-use Rattle.a68_code.specs.Walk.{Heights, Places, Knows, unknown, FitsAt, NotesAll, AnyClashes, GoesOn, Fails, AreHeights, Agree, AllAgree}
-use Rattle.a68_code.proofs.Noting.{unknown_less, unknown-replicate}
+use Rattle.a68_code.proofs.Mapping.{contains_map, from_map}
+use Rattle.a68_code.specs.Walk.{Heights, Places, Knows, ways, at_height, unknown, FitsAt, NotesAll, AnyClashes, GoesOn, Fails, AreHeights, Agree, AllAgree}
+use Rattle.a68_code.proofs.Noting.{unknown-replicate}
 use Rattle.a68_code.specs.declared.code.Code.{Code}
 use Rattle.a68_code.specs.declared.does.Does.{Does}
-use Rattle.a68_code.specs.declared.does.Does.TheVariants.{Skip, Leave, Call}
+use Rattle.a68_code.specs.declared.does.Does.TheVariants.{Apply, Skip, Leave, Call, Member}
 use Rattle.a68_code.specs.declared.owner.Owner.{Owner}
 use Rattle.a68_code.specs.declared.owner.Owner.TheVariants as owner
 
@@ -27,7 +29,7 @@ pub record Passed (code : Code) (whose : Owner) (heights : Heights) (at height :
   pub meets : MayMeet whose does height
   pub below : ℕ
   pub finds : below + takes does ≡ height
-  pub onward : (to : ℕ) → Contains (landings at does) to → Knows heights to (below + leaves code.modes does)
+  pub onward : (to : ℕ) → Contains (landings at does) to → Knows heights to (below + leaves_to code.modes does to)
 
 pub record Halfway (code : Code) (whose : Owner) (heights : Heights) (todo : Places) : Type 0 where
   pub long : length heights ≡ length code.list
@@ -50,6 +52,27 @@ taken_within code whose heights todo rest at height e h = let k = within_table h
 pub taken_small : (code : Code) (whose : Owner) (heights : Heights) (todo rest : Places) (at height : ℕ) → todo ≡ rest ++ (at, height) ∷ [] → Halfway code whose heights todo → height < length code.list
 taken_small code whose heights todo rest at height e h = let k = h.small at height (taken code whose heights todo rest at height e h) in let l = h.long in omega arith
 
+-- a place among those where the machine goes on stands among the ways with its height
+pub way_to : (modes : List Shape) (at : ℕ) (does : Does) (below to : ℕ) → Contains (landings at does) to → Contains (ways modes at does below) (to, below + leaves_to modes does to)
+way_to modes at does below to i = contains_map (λ (x : ℕ). (x, below + leaves_to modes does x)) (landings at does) to i
+
+-- and what stands among the ways is one of these
+way_from : (modes : List Shape) (at : ℕ) (does : Does) (below to height : ℕ) → Contains (ways modes at does below) (to, height)
+    → Contains (landings at does) to × (height ≡ below + leaves_to modes does to)
+way_from modes at does below to height i =
+    let w = from_map (λ (x : ℕ). (x, below + leaves_to modes does x)) (landings at does) (to, height) i in
+    let here : to ≡ w.0 = ap (λ (q : ℕ × ℕ). q.0) w.2 in
+    (subst (Contains (landings at does)) (sym here) w.1, ap (λ (q : ℕ × ℕ). q.1) w.2 ∙ ap (λ (x : ℕ). below + leaves_to modes does x) (sym here))
+
+-- nowhere does an instruction leave more values than it leaves at most
+leaves_to_most : (modes : List Shape) (does : Does) (to : ℕ) → leaves_to modes does to ≤ leaves modes does
+leaves_to_most modes (Member mode places whole) to = most (nat_eq to (last_place places))
+  where
+    most : (b : Bool) → cond b 0 1 ≤ 1
+    most true = omega arith
+    most false = omega arith
+leaves_to_most modes does to = omega arith
+
 -- and the walk goes on from it
 module _ (code : Code) (whose : Owner) (heights : Heights) (todo rest : Places) (at height : ℕ) (does : Does)
     (e : todo ≡ rest ++ (at, height) ∷ []) (h : Halfway code whose heights todo) (is : does_at code.list at ≡ Some does) where
@@ -59,17 +82,23 @@ module _ (code : Code) (whose : Owner) (heights : Heights) (todo rest : Places) 
   here : Knows heights at height
   here = taken code whose heights todo rest at height e h
 
-  onward : (below to : ℕ) → below + takes does ≡ height → Contains (landings at does) to → Reaches code whose to (below + leaves code.modes does)
+  onward : (below to : ℕ) → below + takes does ≡ height → Contains (landings at does) to → Reaches code whose to (below + leaves_to code.modes does to)
   onward below to finds i = goes_on below (subst (λ (n : ℕ). Reaches code whose at n) (sym finds) (h.sound at height here)) is i
+
+  led : (below : ℕ) → below + takes does ≡ height → (x k : ℕ) → Contains (ways code.modes at does below) (x, k) → Reaches code whose x k
+  led below finds x k i = let w = way_from code.modes at does below x k i in subst (λ (n : ℕ). Reaches code whose x n) (sym w.1) (onward below x finds w.0)
+
+  leaving_few : (below x k : ℕ) → Contains (ways code.modes at does below) (x, k) → k ≤ below + leaves code.modes does
+  leaving_few below x k i = let w = way_from code.modes at does below x k i in let e = w.1 in let m = leaves_to_most code.modes does x in omega arith
 
   pub halfway_on : (heights' : Heights) (todo' : Places) → leaves code.modes does ≤ takes does + 1 → GoesOn code.modes whose at does height heights rest heights' todo' → Halfway code whose heights' todo'
   halfway_on heights' todo' one (meets, (below, finds, v)) = record {
     long = v.long ∙ h.long;
     first = λ x i. v.kept x 0 (h.first x i);
-    sound = λ x k g. ⊎_elim (λ old. h.sound x k old) (λ new. subst (λ (n : ℕ). Reaches code whose x n) (sym new.1) (onward below x finds new.0)) (v.only x k g);
+    sound = λ x k g. ⊎_elim (λ old. h.sound x k old) (λ new. led below finds x k new.0) (v.only x k g);
     noted = λ x k i. ⊎_elim (λ old. v.kept x k (h.noted x k (before x k old))) (λ g. g) (v.noted x k i);
-    closed = λ x k g. ⊎_elim (λ old. was x k (h.closed x k old)) (λ new. inl new.2) (v.only x k g);
-    small = λ x k g. ⊎_elim (λ old. let a = h.small x k old in let b = v.fewer in let c = v.long in omega arith) (λ new. let a = h.small at height here in let b = new.1 in let d = new.3 in let c = v.long in omega arith) (v.only x k g);
+    closed = λ x k g. ⊎_elim (λ old. was x k (h.closed x k old)) (λ new. inl new.1) (v.only x k g);
+    small = λ x k g. ⊎_elim (λ old. let a = h.small x k old in let b = v.fewer in let c = v.long in omega arith) (λ new. let a = h.small at height here in let b = leaving_few below x k new.0 in let d = new.2 in let c = v.long in omega arith) (v.only x k g);
   }
     where
       was : (x k : ℕ) → Contains todo (x, k) ⊎ Passed code whose heights x k → Contains todo' (x, k) ⊎ Passed code whose heights' x k
@@ -77,13 +106,13 @@ module _ (code : Code) (whose : Owner) (heights : Heights) (todo rest : Places) 
       was x k (inl i) = ⊎_elim (λ j. inl (v.onward x k j)) (λ same. inr (just x k same)) (Contains-push_cases rest (at, height) (x, k) (subst (λ (t : Places). Contains t (x, k)) e i))
         where
           just : (x k : ℕ) → ◌≡◌ {A = ℕ × ℕ} (at, height) (x, k) → Passed code whose heights' x k
-          just x k same = subst (λ (q : ℕ × ℕ). Passed code whose heights' q.0 q.1) same (record { does = does; is = is; meets = meets; below = below; finds = finds; onward = v.all })
+          just x k same = subst (λ (q : ℕ × ℕ). Passed code whose heights' q.0 q.1) same (record { does = does; is = is; meets = meets; below = below; finds = finds; onward = λ to i. v.all to _ (way_to code.modes at does below to i) })
 
   pub not_valid : Fails code.modes whose at does height heights → IsValid code → ⊥
   not_valid (inl never) valid = never (valid.ends whose at height does (h.sound at height here) is)
   not_valid (inr (inl few)) valid = let enough = valid.supplied whose at height does (h.sound at height here) is in absurd (omega arith)
-  not_valid (inr (inr (below, finds, (to, i, inl past)))) valid = let inside = valid.within whose to _ (onward below to finds i) in let long = h.long in absurd (omega arith)
-  not_valid (inr (inr (below, finds, (to, i, inr (other, knows, differs))))) valid = differs (valid.agreed whose whose to other _ (h.sound to other knows) (onward below to finds i))
+  not_valid (inr (inr (below, finds, (to, k, i, inl past)))) valid = let inside = valid.within whose to k (led below finds to k i) in let long = h.long in absurd (omega arith)
+  not_valid (inr (inr (below, finds, (to, k, i, inr (other, knows, differs))))) valid = differs (valid.agreed whose whose to other k (h.sound to other knows) (led below finds to k i))
 
 -- an instruction with operands that it may have leaves at most one value more than it takes
 pub leaves_one : (modes : List Shape) (texts count : ℕ) (does : Does) → IsTrue (is_well_made modes texts count does) → leaves modes does ≤ takes does + 1
@@ -91,6 +120,11 @@ leaves_one modes texts count (Leave kept) w = omega arith
 leaves_one modes texts count (Skip mode) w = cond_of (is_void (shape_at modes mode))
   where
     cond_of : (b : Bool) → cond b 0 1 ≤ 1
+    cond_of true = omega arith
+    cond_of false = omega arith
+leaves_one modes texts count (Apply r) w = cond_of (nat_eq r 35 || nat_eq r 36)
+  where
+    cond_of : (b : Bool) → cond b 0 1 ≤ takes (Apply r) + 1
     cond_of true = omega arith
     cond_of false = omega arith
 leaves_one modes texts count (Call n true) w = omega arith
@@ -116,14 +150,14 @@ heights_from code whose heights todo none h = record {
     supplied : (at height : ℕ) (does : Does) → does_at code.list at ≡ Some does → Passed code whose heights at height → takes does ≤ height
     supplied at height does is p = let same : p.does ≡ does = same_Some p.does does (sym p.is ∙ is) in let f = p.finds in let g : takes p.does ≡ takes does = ap takes same in omega arith
 
-    goes : (at below to : ℕ) (does : Does) → does_at code.list at ≡ Some does → Contains (landings at does) to → Passed code whose heights at (below + takes does) → Knows heights to (below + leaves code.modes does)
+    goes : (at below to : ℕ) (does : Does) → does_at code.list at ≡ Some does → Contains (landings at does) to → Passed code whose heights at (below + takes does) → Knows heights to (below + leaves_to code.modes does to)
     goes at below to does is i p =
         let same : p.does ≡ does = same_Some p.does does (sym p.is ∙ is) in
         let f = p.finds in
         let g : takes p.does ≡ takes does = ap takes same in
         let e : p.below ≡ below = omega arith in
         let k = p.onward to (subst (λ (d : Does). Contains (landings at d) to) (sym same) i) in
-        subst (λ (n : ℕ). Knows heights to (n + leaves code.modes does)) e (subst (λ (d : Does). Knows heights to (p.below + leaves code.modes d)) same k)
+        subst (λ (n : ℕ). Knows heights to (n + leaves_to code.modes does to)) e (subst (λ (d : Does). Knows heights to (p.below + leaves_to code.modes d to)) same k)
 
     complete : {at height : ℕ} → Reaches code whose at height → Knows heights at height
     complete (begins i) = h.first _ i
@@ -140,32 +174,37 @@ no_height count at height k = none-some height (sym none ∙ k)
     none : get_or (replicate count unset) at None ≡ None
     none = ⊎_elim (λ lt. get_or-replicate count at None None lt) (λ ge. get_or_past (replicate count unset) at None (let l = length-replicate count unset in omega arith)) (cases_lt at count)
 
+at_entrance : (places : List ℕ) (at height : ℕ) → Contains (at_height 0 places) (at, height) → Contains places at × (height ≡ 0)
+at_entrance places at height i =
+    let w = from_map (λ (x : ℕ). (x, 0)) places (at, height) i in
+    (subst (Contains places) (sym (ap (λ (q : ℕ × ℕ). q.0) w.2)) w.1, ap (λ (q : ℕ × ℕ). q.1) w.2)
+
 -- the walk comes to the entrances
 pub halfway_first : (code : Code) (whose : Owner) (places : List ℕ) (heights : Heights) (todo : Places) → places ≡ entrances code whose
-    → NotesAll places 0 (replicate (length code.list) None) [] heights todo → Halfway code whose heights todo
+    → NotesAll (at_height 0 places) (replicate (length code.list) None) [] heights todo → Halfway code whose heights todo
 halfway_first code whose places heights todo same v = record {
   long = v.long ∙ length-replicate (length code.list) unset;
-  first = λ at i. v.all at (subst (λ (ps : List ℕ). Contains ps at) (sym same) i);
+  first = λ at i. v.all at 0 (contains_map (λ (x : ℕ). (x, 0)) places at (subst (λ (ps : List ℕ). Contains ps at) (sym same) i));
   sound = λ at height k. ⊎_elim (λ old. absurd (no_height (length code.list) at height old))
-      (λ new. subst (λ (n : ℕ). Reaches code whose at n) (sym new.1) (begins (subst (λ (ps : List ℕ). Contains ps at) same new.0))) (v.only at height k);
+      (λ new. let w = at_entrance places at height new.0 in subst (λ (n : ℕ). Reaches code whose at n) (sym w.1) (begins (subst (λ (ps : List ℕ). Contains ps at) same w.0))) (v.only at height k);
   noted = λ at height i. ⊎_elim (λ old. absurd (none_left (at, height) old)) (λ k. k) (v.noted at height i);
-  closed = λ at height k. ⊎_elim (λ old. absurd (no_height (length code.list) at height old)) (λ new. inl new.2) (v.only at height k);
+  closed = λ at height k. ⊎_elim (λ old. absurd (no_height (length code.list) at height old)) (λ new. inl new.1) (v.only at height k);
   small = λ at height k. ⊎_elim (λ old. absurd (no_height (length code.list) at height old))
-      (λ new. let a = new.1 in let b = new.3 in let c = unknown-replicate (length code.list) in let l = length-replicate (length code.list) unset in let m = v.long in omega arith) (v.only at height k);
+      (λ new. let a = (at_entrance places at height new.0).1 in let b = new.2 in let c = unknown-replicate (length code.list) in let l = length-replicate (length code.list) unset in let m = v.long in omega arith) (v.only at height k);
 }
   where
     unset : Option ℕ
     unset = None
 
 -- an entrance is behind the list, or has another height than 0
-pub no_entrance : (code : Code) (whose : Owner) (places : List ℕ) → places ≡ entrances code whose → AnyClashes places 0 (replicate (length code.list) None) → IsValid code → ⊥
-no_entrance code whose places same (to, i, inl past) valid =
-    let inside = valid.within whose to 0 (begins (subst (λ (ps : List ℕ). Contains ps to) same i)) in
+pub no_entrance : (code : Code) (whose : Owner) (places : List ℕ) → places ≡ entrances code whose → AnyClashes (at_height 0 places) (replicate (length code.list) None) → IsValid code → ⊥
+no_entrance code whose places same (to, height, i, inl past) valid =
+    let inside = valid.within whose to 0 (begins (subst (λ (ps : List ℕ). Contains ps to) same (at_entrance places to height i).0)) in
     let l = length-replicate (length code.list) unset in absurd (omega arith)
   where
     unset : Option ℕ
     unset = None
-no_entrance code whose places same (to, i, inr (other, knows, differs)) valid = absurd (no_height (length code.list) to other knows)
+no_entrance code whose places same (to, height, i, inr (other, knows, differs)) valid = absurd (no_height (length code.list) to other knows)
 
 -- ---- all owners
 

@@ -1,29 +1,36 @@
+-- Inner: the headline does not rest on this file.
 -- Which operands an instruction may have.
-use Rattle.std.specs.Prelude.{ℕ, Bool, true, length, ◌&&◌, ◌||◌, ◌==◌, nat_lt, nat_le, List}
+use Rattle.std.specs.Prelude.{ℕ, Bool, true, length, ◌&&◌, nat_lt, nat_le, List}
 use Rattle.std.specs.List.{list_all}
 use Rattle.a68_modes.specs.declared.shape.Shape.{Shape}
 use Rattle.a68_code.specs.declared.does.Does.{Does}
-use Rattle.a68_code.specs.declared.does.Does.TheVariants.{Skip, Routine, Leave, Make, Heap, Same, Compose, Select, Deref, Store, Apply, Jump, Unless, Case, Step, Advance}
+use Rattle.a68_code.specs.declared.does.Does.TheVariants.{Skip, Routine, Leave, Make, Heap, Same, Slice, Display, Vacuum, Compose, Select, RowUp, RowUpName, Deref, Store, Apply, Jump, Unless, Case, Member, Step, Advance}
 
 -- The operands are such as an instruction may have, among so many instructions: a place is that of an instruction, a
--- list of places has one at least, the row of an Apply is that of an operator that yields at once or is combined
--- with assignation to a name of INT, a routine text is one of so many, a structure has a field at least, a mode
--- is there, and a name is made without bounds, since rows do not run yet.
+-- list of places or of forms has one at least, the row of an Apply is one of the table of operators, a routine text is one
+-- of so many, a structure has a field at least, and a mode is there.
 abbrev pub is_well_made : List Shape → (texts count : ℕ) → Does → Bool
 is_well_made modes texts count (Skip mode) = nat_lt mode (length modes)
 is_well_made modes texts count (Routine text distance) = nat_lt text texts
 is_well_made modes texts count (Leave kept) = nat_le kept 1
-is_well_made modes texts count (Make mode bounds) = nat_lt mode (length modes) && (bounds == 0)
-is_well_made modes texts count (Heap mode bounds) = nat_lt mode (length modes) && (bounds == 0)
+is_well_made modes texts count (Make mode bounds) = nat_lt mode (length modes)
+is_well_made modes texts count (Heap mode bounds) = nat_lt mode (length modes)
 is_well_made modes texts count (Deref mode) = nat_lt mode (length modes)
 is_well_made modes texts count (Store mode) = nat_lt mode (length modes)
-is_well_made modes texts count (Apply row) = (nat_le 1 row && nat_le row 5) || ((nat_le 7 row && nat_le row 23) || (nat_le 26 row && nat_le row 33))
+is_well_made modes texts count (Apply row) = nat_le 1 row && nat_le row 38
 is_well_made modes texts count (Same negated) = nat_le negated 1
+is_well_made modes texts count (Slice forms) = nat_lt 0 (length forms)
+is_well_made modes texts count (Display values mode) = nat_lt mode (length modes)
+is_well_made modes texts count (Vacuum mode) = nat_lt mode (length modes)
 is_well_made modes texts count (Compose fields) = nat_lt 0 fields
 is_well_made modes texts count (Select mode field) = nat_lt mode (length modes)
+is_well_made modes texts count (RowUp mode) = nat_lt mode (length modes)
+is_well_made modes texts count (RowUpName mode) = nat_lt mode (length modes)
 is_well_made modes texts count (Jump to) = nat_lt to count
 is_well_made modes texts count (Unless to) = nat_lt to count
 is_well_made modes texts count (Case places) = nat_lt 0 (length places) && list_all (λ to. nat_lt to count) places
+is_well_made modes texts count (Member mode places whole) =
+    nat_lt mode (length modes) && (nat_lt 0 (length places) && list_all (λ to. nat_lt to count) places)
 is_well_made modes texts count (Step to) = nat_lt to count
 is_well_made modes texts count (Advance to) = nat_lt to count
 is_well_made modes texts count _ = true

@@ -5,7 +5,7 @@ use Rattle.std.specs.List.{list_all}
 use Rattle.a68_code.specs.Flow.{does_at}
 use Rattle.a68_code.specs.declared.code.Instr.{Instr}
 use Rattle.a68_code.specs.declared.does.Does.{Does}
-use Rattle.a68_code.specs.declared.does.Does.TheVariants.{Jump, Unless, Case, Step, Turn, Advance}
+use Rattle.a68_code.specs.declared.does.Does.TheVariants.{Jump, Unless, Case, Member, Step, Turn, Advance}
 
 -- An Advance at this place goes back to the Step of its loop: a Turn stands behind that Step, and the Step itself goes
 -- to a place behind the Advance.
@@ -21,6 +21,7 @@ abbrev pub IsInOrder : List Instr → ℕ → Does → Type 0
 IsInOrder list at (Jump to) = at < to
 IsInOrder list at (Unless to) = at < to
 IsInOrder list at (Case places) = IsTrue (list_all (λ to. nat_lt at to) places)
+IsInOrder list at (Member mode places whole) = IsTrue (list_all (λ to. nat_lt at to) places)
 IsInOrder list at (Step to) = at < to
 IsInOrder list at (Advance to) = EndsLoop list at to
 IsInOrder list at _ = ⊤

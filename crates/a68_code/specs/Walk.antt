@@ -1,10 +1,10 @@
 -- Inner: the headline does not rest on this file.
 -- For the passes that decide which codes are valid: one over all instructions, and a walk along the ways of each owner. A walk
 -- keeps a table of the heights found so far, by places, and the places at which it has yet to go on, with their heights.
-use Rattle.std.specs.Prelude.{◌≡◌, ◌≢◌, ◌<◌, ◌≤◌, ◌+◌, ◌⊎◌, IsTrue, ℕ, suc, List, [], ◌∷◌, ◌++◌, length, Some, None, Contains, slice_index_or, slice_set}
+use Rattle.std.specs.Prelude.{◌≡◌, ◌≢◌, ◌<◌, ◌≤◌, ◌+◌, ◌⊎◌, IsTrue, ℕ, suc, List, [], ◌∷◌, ◌++◌, length, map, Some, None, Contains, slice_index_or, slice_set, nat_eq, if◌then◌else◌}
 use Rattle.std.specs.declared.option.Option.{Option}
 use Rattle.a68_modes.specs.declared.shape.Shape.{Shape}
-use Rattle.a68_code.specs.Flow.{does_at, takes, leaves, landings, Reaches, MayMeet}
+use Rattle.a68_code.specs.Flow.{does_at, takes, leaves_to, landings, Reaches, MayMeet}
 use Rattle.a68_code.specs.Operands.{is_well_made}
 use Rattle.a68_code.specs.Order.{IsInOrder}
 use Rattle.a68_code.specs.declared.code.Code.{Code}
@@ -41,31 +41,43 @@ Notes to height heights todo heights' todo' =
 abbrev pub Clashes : ℕ → ℕ → Heights → Type 0
 Clashes to height heights = (length heights ≤ to) ⊎ ((other : ℕ) × Knows heights to other × (other ≢ height))
 
--- all these places have this height, and what is new is noted
-pub record NotesAll (places : List ℕ) (height : ℕ) (heights : Heights) (todo : Places) (heights' : Heights) (todo' : Places) : Type 0 where
+-- these places with one height
+abbrev pub at_height : (height : ℕ) → List ℕ → Places
+at_height height places = map (λ to. (to, height)) places
+
+-- these places with one value above so many, but the last one with none
+abbrev pub to_members : (last below : ℕ) → List ℕ → Places
+to_members last below places = map (λ to. (to, below + (if nat_eq to last then 0 else 1))) places
+
+-- where the machine may go on behind the instruction at this place, with the height that it has there above so many values
+abbrev pub ways : List Shape → ℕ → Does → (below : ℕ) → Places
+ways modes at does below = map (λ to. (to, below + leaves_to modes does to)) (landings at does)
+
+-- all these places have their heights, and what is new is noted
+pub record NotesAll (places : Places) (heights : Heights) (todo : Places) (heights' : Heights) (todo' : Places) : Type 0 where
   pub long : length heights' ≡ length heights
   pub kept : (at known : ℕ) → Knows heights at known → Knows heights' at known
-  pub all : (at : ℕ) → Contains places at → Knows heights' at height
-  pub only : (at known : ℕ) → Knows heights' at known → Knows heights at known ⊎ (Contains places at × (known ≡ height) × Contains todo' (at, known) × (unknown heights' < unknown heights))
+  pub all : (at height : ℕ) → Contains places (at, height) → Knows heights' at height
+  pub only : (at known : ℕ) → Knows heights' at known → Knows heights at known ⊎ (Contains places (at, known) × Contains todo' (at, known) × (unknown heights' < unknown heights))
   pub onward : (at known : ℕ) → Contains todo (at, known) → Contains todo' (at, known)
   pub noted : (at known : ℕ) → Contains todo' (at, known) → Contains todo (at, known) ⊎ Knows heights' at known
   pub fewer : unknown heights' ≤ unknown heights
   pub turns : unknown heights' + length todo' ≡ unknown heights + length todo
 
--- one of these places is behind the list, or has another height
-abbrev pub AnyClashes : List ℕ → ℕ → Heights → Type 0
-AnyClashes places height heights = (to : ℕ) × Contains places to × Clashes to height heights
+-- one of these places is behind the list, or has another height than it has here
+abbrev pub AnyClashes : Places → Heights → Type 0
+AnyClashes places heights = (to : ℕ) × (height : ℕ) × Contains places (to, height) × Clashes to height heights
 
 -- the owner may meet the instruction, which finds what it takes, and all places where the machine may go on are noted
 abbrev pub GoesOn : List Shape → Owner → ℕ → Does → ℕ → Heights → Places → Heights → Places → Type 0
 GoesOn modes whose at does height heights todo heights' todo' =
-    MayMeet whose does height × ((below : ℕ) × (below + takes does ≡ height) × NotesAll (landings at does) (below + leaves modes does) heights todo heights' todo')
+    MayMeet whose does height × ((below : ℕ) × (below + takes does ≡ height) × NotesAll (ways modes at does below) heights todo heights' todo')
 
 -- the owner may not meet the instruction, or it finds too few values, or it comes to a place that has another height or is
 -- behind the list
 abbrev pub Fails : List Shape → Owner → ℕ → Does → ℕ → Heights → Type 0
 Fails modes whose at does height heights =
-    (MayMeet whose does height → ⊥) ⊎ ((height < takes does) ⊎ ((below : ℕ) × (below + takes does ≡ height) × AnyClashes (landings at does) (below + leaves modes does) heights))
+    (MayMeet whose does height → ⊥) ⊎ ((height < takes does) ⊎ ((below : ℕ) × (below + takes does ≡ height) × AnyClashes (ways modes at does below) heights))
 
 -- the heights at the places to which the ways of an owner lead, which meet nothing that they may not
 pub record AreHeights (code : Code) (whose : Owner) (heights : Heights) : Type 0 where

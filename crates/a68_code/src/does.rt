@@ -3,6 +3,7 @@ ghost use Rattle.std.specs.Prelude.{◌≡◌, IfOk};
 
 use crate::Places;
 use a68_base::NoMemory;
+use a68_layout::Forms;
 use a68_values::Value;
 use std::alloc::Global;
 
@@ -26,9 +27,15 @@ use std::alloc::Global;
 /// | Store | mode | name, value | name | Assign | |
 /// | Apply | row | operands | value | Fetch, then Assign, for rows 1 to 5 | a row of the table of operators |
 /// | Same | 0 or 1 | name, name | truth value | | whether the names refer to the same; the other way round for 1 |
+/// | Slice | forms | row or name, the subscripts and what stands in trimmers | value or name | Fetch of a name's descriptor; Make where a part is left | a subscript or trimmer for each dimension |
+/// | Display | count, mode | the elements, or rows of them | row | | |
+/// | Vacuum | mode | | row | | a row without elements |
 /// | Compose | count | the fields | structure | | |
-/// | Select | mode, field | structure or name | value or name | | a field, or the name of one; the mode is that of what it is selected from |
+/// | Select | mode, field | structure, row of them, or name of either | value or name | Fetch of a row's descriptor and Make, for the name of a row | a field, or the name of one; the mode is that of what it is selected from |
 /// | Unite | mode | value | value | | a value of the mode united; one that is united already stays |
+/// | RowUp | mode | value | row | | a row, of this mode, of one element or with one dimension more |
+/// | RowUpName | mode | name | name | Fetch of a row's descriptor, Make | the same of a name; the mode is that of the new name |
+/// | Widen | | bits | row | | a row of truth values |
 /// | Drop | | value | | | |
 /// | Print | count | the items | | Print | one for each item in order |
 /// | Whole | | number, width | text | | the number as a text |
@@ -37,6 +44,7 @@ use std::alloc::Global;
 /// | Jump | place | | | | goes there |
 /// | Unless | place | truth value | | | goes there for false |
 /// | Case | places | number | | | goes to the place of that number, counted from 1; to the last one for any other number |
+/// | Member | mode, places, whole | united value | value, but for the last place | | goes to the place of the member that the value has; to the last one for a member that no part takes. The member's value is left, or the united one where `whole` has 1 for it |
 /// | Counter | | FROM, BY, TO | counter | | TO may be unset: no limit |
 /// | Index | | counter | counter, value | | the count of the counter |
 /// | Step | place | counter | counter | | goes there where the loop has no further turn |
@@ -50,28 +58,60 @@ pub enum Does {
     Push(Value),
     Skip(u32),
     Nil,
-    Routine { text: u32, distance: Option<u32> },
-    Tag { hops: u32, slot: u32 },
+    Routine {
+        text: u32,
+        distance: Option<u32>,
+    },
+    Tag {
+        hops: u32,
+        slot: u32,
+    },
     Enter(u32),
     Leave(u32),
     Bind(u32),
-    Make { mode: u32, bounds: u32 },
-    Heap { mode: u32, bounds: u32 },
+    Make {
+        mode: u32,
+        bounds: u32,
+    },
+    Heap {
+        mode: u32,
+        bounds: u32,
+    },
     Deref(u32),
     Store(u32),
     Apply(u32),
     Same(u32),
+    Slice(Forms),
+    Display {
+        count: u32,
+        mode: u32,
+    },
+    Vacuum(u32),
     Compose(u32),
-    Select { mode: u32, field: u32 },
+    Select {
+        mode: u32,
+        field: u32,
+    },
     Unite(u32),
+    RowUp(u32),
+    RowUpName(u32),
+    Widen,
     Drop,
     Print(u32),
     Whole,
-    Call { count: u32, gives: bool },
+    Call {
+        count: u32,
+        gives: bool,
+    },
     Return,
     Jump(u32),
     Unless(u32),
     Case(Places),
+    Member {
+        mode: u32,
+        places: Places,
+        whole: Places,
+    },
     Counter,
     Index,
     Step(u32),
@@ -101,9 +141,15 @@ impl Drop for Does {
             | Does::Store(_)
             | Does::Apply(_)
             | Does::Same(_)
+            | Does::Slice(_)
+            | Does::Display { count: _, mode: _ }
+            | Does::Vacuum(_)
             | Does::Compose(_)
             | Does::Select { mode: _, field: _ }
             | Does::Unite(_)
+            | Does::RowUp(_)
+            | Does::RowUpName(_)
+            | Does::Widen
             | Does::Drop
             | Does::Print(_)
             | Does::Whole
@@ -112,6 +158,11 @@ impl Drop for Does {
             | Does::Jump(_)
             | Does::Unless(_)
             | Does::Case(_)
+            | Does::Member {
+                mode: _,
+                places: _,
+                whole: _,
+            }
             | Does::Counter
             | Does::Index
             | Does::Step(_)
@@ -123,8 +174,16 @@ impl Drop for Does {
     }
 }
 
+// Equal forms.
+fn copy_forms(alloc: Global, forms: &Forms) -> Result<Forms, NoMemory>
+    ensures { IfOk result (λ copied. copied ≡ forms.now) }
+{
+    let items = Vec::from_slice(alloc, &forms.items)?;
+    Ok(Forms { items })
+}
+
 impl Does {
-    /// An equal instruction. One without a list of places, and without a value that is made of others, takes no memory.
+    /// An equal instruction. One without a list of places or of forms, and without a value that is made of others, takes no memory.
     pub fn copy(&self, alloc: Global) -> Result<Does, NoMemory>
         ensures { IfOk result (λ does. does ≡ self.now) }
     {
@@ -155,12 +214,21 @@ impl Does {
             Does::Store(mode) => Does::Store(*mode),
             Does::Apply(row) => Does::Apply(*row),
             Does::Same(negated) => Does::Same(*negated),
+            Does::Slice(forms) => Does::Slice(copy_forms(alloc, forms)?),
+            Does::Display { count, mode } => Does::Display {
+                count: *count,
+                mode: *mode,
+            },
+            Does::Vacuum(mode) => Does::Vacuum(*mode),
             Does::Compose(count) => Does::Compose(*count),
             Does::Select { mode, field } => Does::Select {
                 mode: *mode,
                 field: *field,
             },
             Does::Unite(mode) => Does::Unite(*mode),
+            Does::RowUp(mode) => Does::RowUp(*mode),
+            Does::RowUpName(mode) => Does::RowUpName(*mode),
+            Does::Widen => Does::Widen,
             Does::Drop => Does::Drop,
             Does::Print(count) => Does::Print(*count),
             Does::Whole => Does::Whole,
@@ -172,6 +240,18 @@ impl Does {
             Does::Jump(to) => Does::Jump(*to),
             Does::Unless(to) => Does::Unless(*to),
             Does::Case(places) => Does::Case(places.copy(alloc)?),
+            Does::Member {
+                mode,
+                places,
+                whole,
+            } => {
+                let places = places.copy(alloc)?;
+                Does::Member {
+                    mode: *mode,
+                    places,
+                    whole: whole.copy(alloc)?,
+                }
+            }
             Does::Counter => Does::Counter,
             Does::Index => Does::Index,
             Does::Step(to) => Does::Step(*to),

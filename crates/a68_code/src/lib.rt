@@ -12,5 +12,5 @@ mod walk;
 
 pub use code::{Code, Instr, Instrs, RoutineEntrance, Routines};
 pub use does::Does;
-pub use operands::operands_of;
-pub use places::Places;
+pub use operands::{operands_of, slice_takes, units_of};
+pub use places::{Places, last_place};

@@ -1,9 +1,10 @@
 //! The operands of an instruction, and the values that it takes and leaves.
-ghost use Rattle.std.specs.Prelude.{◌≡◌};
-ghost use Rattle.a68_code.specs.Flow.{operands_of, takes, leaves};
+ghost use Rattle.std.specs.Prelude.{◌≡◌, ◌≤◌, ◌^◌, suc, false, MatchOption};
+ghost use Rattle.a68_code.specs.Flow.{is_slice, operands_of, takes, leaves, units_in, units_of};
 ghost use Rattle.a68_code.specs.Operands.{is_well_made};
 
 use crate::Does;
+use a68_layout::Form;
 use a68_modes::Modes;
 
 /// How many values an operator is on, by its row in the table of operators.
@@ -12,6 +13,37 @@ pub fn operands_of(row: u32) -> u32
     ensures { result ≡ operands_of row }
 {
     if row <= 25 { 2 } else { 1 }
+}
+
+// How many values a slice that is written so has in a dimension.
+fn units_in(form: Form) -> usize
+    ensures { result ≡ units_in form }
+{
+    match form {
+        Form::Subscript => 1,
+        Form::Trimmer { lower, upper, at } => {
+            usize::from(lower) + usize::from(upper) + usize::from(at)
+        }
+    }
+}
+
+/// How many values a slice that is written so has in all; none where no usize holds that.
+pub fn units_of(forms: &[Form]) -> Option<usize>
+    ensures { MatchOption result (2 ^ 64 ≤ units_of forms.now) (λ units. units ≡ units_of forms.now) }
+{
+    let mut units: usize = 0;
+    for form in forms {
+        units = units.checked_add(units_in(*form))?;
+    }
+    Some(units)
+}
+
+/// How many values a slice that is written so takes; none where no usize holds that.
+pub fn slice_takes(forms: &[Form]) -> Option<usize>
+    ensures { MatchOption result (2 ^ 64 ≤ suc (units_of forms.now)) (λ count. count ≡ suc (units_of forms.now)) }
+{
+    let units = units_of(forms)?;
+    units.checked_add(1)
 }
 
 impl Does {
@@ -23,24 +55,36 @@ impl Does {
         match self {
             Does::Routine { text, .. } => (*text as usize) < texts,
             Does::Leave(one) | Does::Same(one) => *one <= 1,
-            Does::Make { mode, bounds } | Does::Heap { mode, bounds } => {
-                *mode < modes.len() && *bounds == 0
+            Does::Make { mode, .. } | Does::Heap { mode, .. } | Does::Display { mode, .. } => {
+                *mode < modes.len()
             }
             Does::Skip(mode) | Does::Deref(mode) | Does::Store(mode) => *mode < modes.len(),
+            Does::Vacuum(mode) | Does::RowUp(mode) | Does::RowUpName(mode) => *mode < modes.len(),
+            Does::Slice(forms) => !forms.items.is_empty(),
             Does::Compose(fields) => *fields > 0,
             Does::Select { mode, .. } => *mode < modes.len(),
-            Does::Apply(row) => {
-                (1 <= *row && *row <= 5) || (7 <= *row && *row <= 23) || (26 <= *row && *row <= 33)
-            }
+            Does::Apply(row) => 1 <= *row && *row <= 38,
             Does::Jump(to) | Does::Unless(to) | Does::Step(to) | Does::Advance(to) => (*to as usize)
                 < count,
             Does::Case(places) => places.are_inside(count),
+            Does::Member { mode, places, .. } => { *mode < modes.len() && places.are_inside(count) }
             _ => true,
         }
     }
 
-    /// How many values the instruction takes from the stack.
-    pub(crate) fn takes(&self) -> usize
+    /// How many values the instruction takes from the stack; none where no usize holds that.
+    pub(crate) fn takes(&self) -> Option<usize>
+        ensures { MatchOption result (2 ^ 64 ≤ takes self.now) (λ count. count ≡ takes self.now) }
+    {
+        match self {
+            Does::Slice(forms) => slice_takes(&forms.items),
+            does => Some(does.takes_few()),
+        }
+    }
+
+    // How many values an instruction that is no Slice takes.
+    fn takes_few(&self) -> usize
+        requires { is_slice self.now ≡ false }
         ensures { result ≡ takes self.now }
     {
         match self {
@@ -48,11 +92,13 @@ impl Does {
             Does::Store(_) | Does::Same(_) | Does::Whole => 2,
             Does::Apply(row) => operands_of(*row) as usize,
             Does::Bind(_) | Does::Deref(_) | Does::Unite(_) | Does::Drop => 1,
-            Does::Select { .. } => 1,
+            Does::RowUp(_) | Does::RowUpName(_) | Does::Widen => 1,
+            Does::Select { .. } | Does::Member { .. } => 1,
             Does::Unless(_) | Does::Case(_) | Does::Index | Does::Step(_) => 1,
             Does::Advance(_) | Does::Forget => 1,
             Does::Leave(count) | Does::Print(count) | Does::Compose(count) => *count as usize,
             Does::Make { bounds, .. } | Does::Heap { bounds, .. } => *bounds as usize,
+            Does::Display { count, .. } => *count as usize,
             Does::Call { count, .. } => *count as usize + 1,
             _ => 0,
         }
@@ -67,6 +113,7 @@ impl Does {
             Does::Index => 2,
             Does::Skip(mode) => u32::from(!modes.is_void(*mode)),
             Does::Call { gives, .. } => u32::from(*gives),
+            Does::Apply(row) => u32::from(*row != 35 && *row != 36),
             Does::Enter(_) | Does::Bind(_) | Does::Drop | Does::Print(_) | Does::Jump(_) => 0,
             Does::Unless(_) | Does::Case(_) | Does::Turn | Does::Forget => 0,
             Does::Return | Does::End => 0,

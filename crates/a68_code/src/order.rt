@@ -12,6 +12,7 @@ pub fn is_in_order(list: &[Instr], at: usize, does: &Does) -> bool
     match does {
         Does::Jump(to) | Does::Unless(to) | Does::Step(to) => at < *to as usize,
         Does::Case(places) => places.are_behind(at),
+        Does::Member { places, .. } => places.are_behind(at),
         Does::Advance(to) => ends_loop(list, at, *to as usize),
         _ => true,
     }

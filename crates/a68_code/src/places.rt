@@ -1,6 +1,7 @@
 //! Lists of places.
 ghost use Rattle.std.specs.Prelude.{◌≡◌, ◌&&◌, IfOk, length, nat_lt};
 ghost use Rattle.std.specs.List.{list_all};
+ghost use Rattle.a68_code.specs.Flow.{last_place};
 
 use a68_base::NoMemory;
 use std::alloc::Global;
@@ -23,6 +24,17 @@ impl Model for Places {
     ghost Value = { List ℕ };
 
     ghost view = { λ places. places.items.items };
+}
+
+/// The last of some places; 0 for none.
+pub fn last_place(places: &[u32]) -> u32
+    ensures { result ≡ last_place places.now }
+{
+    let mut last = 0;
+    for place in places {
+        last = *place;
+    }
+    last
 }
 
 // Whether all these are below a number.

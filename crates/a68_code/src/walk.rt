@@ -1,10 +1,10 @@
 //! The walk along all ways, which finds the height of the stack at each place.
-ghost use Rattle.std.specs.Prelude.{◌≡◌, ◌↔◌, ◌+◌, ◌∷◌, ◌<◌, ◌≤◌, ◌^◌, [], IfOk, IsTrue, MatchBool, None, Some, replicate, slice_set};
-ghost use Rattle.a68_code.specs.Flow.{landings, leaves, takes, MayMeet};
-ghost use Rattle.a68_code.specs.Walk.{AnyClashes, Clashes, Fails, GoesOn, Notes, NotesAll};
+ghost use Rattle.std.specs.Prelude.{◌≡◌, ◌↔◌, ◌+◌, ◌∷◌, ◌<◌, ◌≤◌, ◌^◌, [], IfOk, IsTrue, MatchBool, None, Some, replicate, slice_set, nat_eq, if◌then◌else◌};
+ghost use Rattle.a68_code.specs.Flow.{last_place, leaves, takes, MayMeet};
+ghost use Rattle.a68_code.specs.Walk.{at_height, to_members, ways, AnyClashes, Clashes, Fails, GoesOn, Notes, NotesAll};
 
-use crate::Does;
 use crate::owner::Owner;
+use crate::{Does, last_place};
 use a68_base::NoMemory;
 use a68_modes::Modes;
 use std::alloc::Global;
@@ -26,6 +26,13 @@ fn may_meet(whose: Owner, does: &Does, height: usize) -> bool
         (Owner::Texts { yields }, Does::Return) => height == usize::from(yields),
         _ => true,
     }
+}
+
+// How many values are left at the place of a member, where the last place is this one.
+fn left_at(to: u32, last: u32) -> usize
+    ensures { result ≡ (if nat_eq to last then 0 else 1) }
+{
+    if to == last { 0 } else { 1 }
 }
 
 /// A table in which no place has a height.
@@ -70,9 +77,9 @@ impl Walk {
     /// Ways come to these places with this height.
     pub fn note_all(&mut self, places: &[usize], height: usize) -> Result<bool, NoMemory>
         ensures { IfOk result (λ fits. MatchBool fits
-            (NotesAll places.now height self.old.heights.items self.old.todo.items
+            (NotesAll (at_height height places.now) self.old.heights.items self.old.todo.items
             self.new.heights.items self.new.todo.items)
-            (AnyClashes places.now height self.old.heights.items)) }
+            (AnyClashes (at_height height places.now) self.old.heights.items)) }
     {
         for to in places {
             if !self.note(*to, height)? {
@@ -85,9 +92,9 @@ impl Walk {
     /// Ways come to the places of a list with this height.
     fn note_places(&mut self, places: &[u32], height: usize) -> Result<bool, NoMemory>
         ensures { IfOk result (λ fits. MatchBool fits
-            (NotesAll places.now height self.old.heights.items self.old.todo.items
+            (NotesAll (at_height height places.now) self.old.heights.items self.old.todo.items
             self.new.heights.items self.new.todo.items)
-            (AnyClashes places.now height self.old.heights.items)) }
+            (AnyClashes (at_height height places.now) self.old.heights.items)) }
     {
         for to in places {
             if !self.note(*to as usize, height)? {
@@ -97,18 +104,47 @@ impl Walk {
         Ok(true)
     }
 
-    /// Ways come to the places where the machine may go on behind the instruction at this place.
-    fn note_landings(&mut self, at: usize, does: &Does, height: usize) -> Result<bool, NoMemory>
-        requires { at + 1 < 2 ^ 64 }
+    /// Ways come to the places of the members of a union, with one value above so many; with none to the last place.
+    fn note_members(&mut self, places: &[u32], below: usize) -> Result<bool, NoMemory>
+        requires { below + 1 < 2 ^ 64 }
         ensures { IfOk result (λ fits. MatchBool fits
-            (NotesAll (landings at does.now) height self.old.heights.items self.old.todo.items
+            (NotesAll (to_members (last_place places.now) below places.now)
+            self.old.heights.items self.old.todo.items
             self.new.heights.items self.new.todo.items)
-            (AnyClashes (landings at does.now) height self.old.heights.items)) }
+            (AnyClashes (to_members (last_place places.now) below places.now)
+            self.old.heights.items)) }
     {
+        let last = last_place(places);
+        for to in places {
+            let left = left_at(*to, last);
+            if !self.note(*to as usize, below + left)? {
+                return Ok(false);
+            }
+        }
+        Ok(true)
+    }
+
+    /// Ways come to the places where the machine may go on behind the instruction at this place, above so many values.
+    fn note_landings(
+        &mut self,
+        modes: &Modes,
+        at: usize,
+        does: &Does,
+        below: usize,
+    ) -> Result<bool, NoMemory>
+        requires place { at + 1 < 2 ^ 64 }
+        requires room { below + leaves modes.now does.now < 2 ^ 64 }
+        ensures { IfOk result (λ fits. MatchBool fits
+            (NotesAll (ways modes.now at does.now below) self.old.heights.items self.old.todo.items
+            self.new.heights.items self.new.todo.items)
+            (AnyClashes (ways modes.now at does.now below) self.old.heights.items)) }
+    {
+        let height = below + does.leaves(modes) as usize;
         match does {
             Does::Return | Does::End => self.note_all(&[], height),
             Does::Jump(to) => self.note_all(&[*to as usize], height),
             Does::Case(places) => self.note_places(&places.items, height),
+            Does::Member { places, .. } => self.note_members(&places.items, below),
             Does::Unless(to) | Does::Step(to) | Does::Advance(to) => self.note_all(
                 &[at + 1, *to as usize],
                 height,
@@ -134,11 +170,13 @@ impl Walk {
             self.new.heights.items self.new.todo.items)
             (Fails modes.now whose at does.now height self.old.heights.items)) }
     {
-        let takes = does.takes();
+        let Some(takes) = does.takes() else {
+            return Ok(false);
+        };
         if !may_meet(whose, does, height) || height < takes {
             return Ok(false);
         }
         let below = height - takes;
-        self.note_landings(at, does, below + does.leaves(modes) as usize)
+        self.note_landings(modes, at, does, below)
     }
 }

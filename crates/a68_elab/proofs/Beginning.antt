@@ -7,9 +7,11 @@ use Rattle.a68_annot.specs.declared.annotated.Annotated.{Annotated}
 use Rattle.a68_annot.specs.declared.note.Note.{Note}
 use Rattle.a68_elab.specs.Constants.{value_in}
 use Rattle.a68_elab.specs.Made as made
-use Rattle.a68_elab.specs.Made.{body_of, last_id, parts_at, texts_in, program_of, tree_at, tree_from, trees_at, unit, coerced, behind_proc, behind_ref, all_but_last, last_tree, spelling_of, is_one_of, called, printers, wholes, items_at, begins_with, is_heap, is_declarer, behind_heap, new_name}
-use Rattle.a68_elab.specs.Places.{BeginsBy, AllBeginBy, TestBeginsBy, TextsBeginBy, ProgramBeginsBy}
-use Rattle.a68_elab.specs.Trees.{Tree, Trees, no_trees, ◌and_tree◌}
+use Rattle.a68_elab.specs.Made.{body_of, last_id, parts_at, texts_in, program_of, tree_at, tree_from, trees_at, unit, coerced, behind_proc, behind_ref, all_but_last, last_tree, spelling_of, is_one_of, called, printers, wholes, items_at, begins_with, is_heap, is_declarer, behind_heap, first_bounds, new_name}
+use Rattle.a68_elab.specs.Places.{BeginsBy, AllBeginBy, SpecsBeginBy, TestBeginsBy, TextsBeginBy, ProgramBeginsBy}
+use Rattle.a68_elab.specs.declared.bound.Bound.{Bound}
+use Rattle.a68_elab.specs.declared.bound.Bound.TheVariants as bound
+use Rattle.a68_elab.specs.Trees.{Tree, Trees, no_trees, ◌and_tree◌, Specs, unbuilt}
 use Rattle.a68_modes.specs.Nodes.{shape_at, is_void}
 use Rattle.a68_modes.specs.declared.coercion.Coercion.{Coercion}
 use Rattle.a68_modes.specs.declared.coercion.Coercion.TheVariants as coercion
@@ -21,13 +23,21 @@ use Rattle.a68_tree.specs.declared.node.Node.{Node}
 use Rattle.a68_values.specs.Content.{Content}
 
 module _ (end : ℕ) where
-  coerced_begins : (modes : List Shape) (place mode : ℕ) (path : List Coercion) (t : Tree) → place ≤ end → BeginsBy end t → BeginsBy end (coerced modes place mode path t)
-  coerced_begins modes place mode [] t p b = b
-  coerced_begins modes place mode (coercion.Deref ∷ path) t p b = coerced_begins modes place (behind_ref (shape_at modes mode)) path _ p (p, (b, tt))
-  coerced_begins modes place mode (coercion.Deproc ∷ path) t p b = coerced_begins modes place (behind_proc (shape_at modes mode)) path _ p (p, (b, tt))
-  coerced_begins modes place mode (coercion.Unite m ∷ path) t p b = coerced_begins modes place m path _ p (p, (b, tt))
-  coerced_begins modes place mode (coercion.Drop ∷ path) t p b = coerced_begins modes place 0 path _ p (p, (b, tt))
-  coerced_begins modes place mode (_ ∷ path) t p b = tt
+  found_begins : (o : Option ℕ) (go : ℕ → Tree) → ((m : ℕ) → BeginsBy end (go m)) → BeginsBy end (option_map_or go o unbuilt)
+  found_begins None go h = tt
+  found_begins (Some m) go h = h m
+
+  coerced_begins : (modes : List Shape) (place goal mode : ℕ) (path : List Coercion) (t : Tree) → place ≤ end → BeginsBy end t → BeginsBy end (coerced modes place goal mode path t)
+  coerced_begins modes place goal mode [] t p b = b
+  coerced_begins modes place goal mode (coercion.Deref ∷ path) t p b = coerced_begins modes place goal (behind_ref (shape_at modes mode)) path _ p (p, (b, tt))
+  coerced_begins modes place goal mode (coercion.Deproc ∷ path) t p b = coerced_begins modes place goal (behind_proc (shape_at modes mode)) path _ p (p, (b, tt))
+  coerced_begins modes place goal mode (coercion.Unite m ∷ path) t p b = coerced_begins modes place goal m path _ p (p, (b, tt))
+  coerced_begins modes place goal mode (coercion.Widen ∷ path) t p b = coerced_begins modes place goal 11 path _ p (p, (b, tt))
+  coerced_begins modes place goal mode (coercion.RowUp ∷ path) t p b =
+      found_begins (made.rowed_to modes goal path) _ (λ m. coerced_begins modes place goal m path _ p (p, (b, tt)))
+  coerced_begins modes place goal mode (coercion.RowUpName ∷ path) t p b =
+      found_begins (made.rowed_to modes goal path) _ (λ m. coerced_begins modes place goal m path _ p (p, (b, tt)))
+  coerced_begins modes place goal mode (coercion.Drop ∷ path) t p b = coerced_begins modes place goal 0 path _ p (p, (b, tt))
 
   all_but_last_begin : (ts : Trees) → AllBeginBy end ts → AllBeginBy end (all_but_last ts)
   all_but_last_begin no_trees b = tt
@@ -39,9 +49,9 @@ module _ (end : ℕ) where
   last_begins (t and_tree no_trees) b = b.0
   last_begins (t and_tree (u and_tree ts)) b = last_begins (u and_tree ts) b.1
 
-  new_begins : (in_heap : Bool) (place mode : ℕ) → place ≤ end → BeginsBy end (new_name in_heap place mode)
-  new_begins true place mode p = (p, tt)
-  new_begins false place mode p = (p, tt)
+  new_begins : (in_heap : Bool) (place mode : ℕ) (bounds : Trees) → place ≤ end → AllBeginBy end bounds → BeginsBy end (new_name in_heap place mode bounds)
+  new_begins true place mode bounds p b = (p, b)
+  new_begins false place mode bounds p b = (p, b)
 
   variable_begins : (new : Tree) (begins : Bool) (place mode slot : ℕ) (ts : Trees) → place ≤ end → BeginsBy end new → AllBeginBy end ts → BeginsBy end (made.variable_of new begins place mode slot ts)
   variable_begins new true place mode slot (d and_tree (source and_tree no_trees)) p n b = (p, ((p, (n, (b.1.0, tt))), tt))
@@ -60,16 +70,26 @@ module _ (end : ℕ) where
   either_begins true t u p q = p
   either_begins false t u p q = q
 
+  bounds_begin : (f : ℕ → Tree) (place : ℕ) (bounds : List Bound) → place ≤ end → ((id : ℕ) → BeginsBy end (f id)) → AllBeginBy end (made.bound_trees f place bounds)
+  bounds_begin f place [] p h = tt
+  bounds_begin f place (bound.Written id ∷ bounds) p h = (h id, bounds_begin f place bounds p h)
+  bounds_begin f place (bound.Meant n ∷ bounds) p h = ((p, tt), bounds_begin f place bounds p h)
+
   call_begins : (a : Annotated) (f : ℕ → Tree) (place : ℕ) (yields : Bool) (ids : List ℕ) → place ≤ end → ((id : ℕ) → BeginsBy end (f id)) → BeginsBy end (made.call_of a f place yields ids)
   call_begins a f place yields [] p h = tt
   call_begins a f place yields (primary ∷ ids) p h =
       either_begins (is_one_of printers (called a primary)) _ _ (p, trees_begin f (items_at a ids) h)
       (either_begins (is_one_of wholes (called a primary)) _ _ (p, trees_begin f ids h) (p, (h primary, trees_begin f ids h)))
 
-  collateral_begins : (s : Shape) (place : ℕ) (ts : Trees) → place ≤ end → AllBeginBy end ts → BeginsBy end (made.collateral_of s place ts)
-  collateral_begins shape.Void place ts p b = b
-  collateral_begins (shape.Struct fields) place ts p b = (p, b)
-  collateral_begins _ place ts p b = tt
+  collateral_begins : (s : Shape) (place mode : ℕ) (ts : Trees) → place ≤ end → AllBeginBy end ts → BeginsBy end (made.collateral_of s place mode ts)
+  collateral_begins shape.Void place mode ts p b = b
+  collateral_begins (shape.Struct fields) place mode ts p b = (p, b)
+  collateral_begins (shape.Rows dims flex of) place mode ts p b = (p, b)
+  collateral_begins _ place mode ts p b = tt
+
+  slice_begins : (a : Annotated) (f : ℕ → Tree) (place : ℕ) (ids : List ℕ) → place ≤ end → ((id : ℕ) → BeginsBy end (f id)) → BeginsBy end (made.slice_of a f place ids)
+  slice_begins a f place [] p h = tt
+  slice_begins a f place (primary ∷ ids) p h = (p, (h primary, trees_begin f (made.index_units a ids) h))
 
   framed_begins : (place out slots : ℕ) (yields : Bool) (t : Tree) → place ≤ end → out ≤ end → BeginsBy end t → BeginsBy end (made.framed place out slots yields t)
   framed_begins place out zero yields t p q b = b
@@ -137,6 +157,24 @@ module _ (end : ℕ) where
   loop_begins a f place counts from by to test body p all h =
       (p, (part_begins f from _ (p, tt) h, (part_begins f by _ (p, tt) h, (part_begins f to _ (p, tt) h, tt))), test_begins a f test all h, part_begins f body _ tt h)
 
+  spec_begins : (s : Shape) (m : ℕ) (tagged : Bool) (t : Tree) (behind : Specs) → BeginsBy end t → SpecsBeginBy end behind → SpecsBeginBy end (made.spec_of s m tagged t behind)
+  spec_begins (shape.Union members) m tagged t behind b bs = (b, bs)
+  spec_begins _ m tagged t behind b bs = (b, bs)
+
+  specs_begin : (a : Annotated) (f : ℕ → Tree) (ids : List ℕ) → ((id : ℕ) → BeginsBy end (f id)) → SpecsBeginBy end (made.specs_of a f ids)
+  specs_begin a f [] h = tt
+  specs_begin a f (s ∷ []) h = tt
+  specs_begin a f (s ∷ (part ∷ ids)) h =
+      let m = made.spec_mode a (parts_at a s) in
+      spec_begins (shape_at a.modes m) m (made.has_tag (parts_at a s)) (f part) (made.specs_of a f ids) (h part) (specs_begin a f ids h)
+
+  conformity_begins : (a : Annotated) (f : ℕ → Tree) (place goal : ℕ) (yields : Bool) (ids : List ℕ) → place ≤ end → ((k : ℕ) (n : Node) → slice_get a.tree.nodes k ≡ Some n → n.span.from ≤ end)
+      → ((id : ℕ) → BeginsBy end (f id)) → BeginsBy end (made.conformity_of a f place goal yields ids)
+  conformity_begins a f place goal yields [] p all h = tt
+  conformity_begins a f place goal yields (e ∷ ids) p all h =
+      begun_begins f place yields (slice_get a.tree.nodes e) (slice_get a.notes e) _ p (λ n is. all e n is) h
+      (λ u b. (p, b, specs_begin a f (made.before_out a ids) h, part_begins f (made.out_of a ids) (made.left_out place goal) (p, tt) h))
+
   denoted_begins : (place : ℕ) (o : Option Content) → place ≤ end → BeginsBy end (made.denoted place o)
   denoted_begins place None p = tt
   denoted_begins place (Some v) p = (p, tt)
@@ -162,20 +200,25 @@ module _ (end : ℕ) where
   construct_begins a f node note kind.Dyadic p h all = formula_begins node.span.from (not (is_void (shape_at a.modes note.mode))) note note.op (trees_at f node.parts) p (trees_begin f node.parts h)
   construct_begins a f node note kind.Assignation p h all = (p, trees_begin f node.parts h)
   construct_begins a f node note kind.Identity p h all = (p, trees_begin f node.parts h)
-  construct_begins a f node note kind.Generator p h all = new_begins (is_one_of made.heaps (spelling_of a node)) node.span.from (behind_ref (shape_at a.modes note.mode)) p
+  construct_begins a f node note kind.Generator p h all =
+      new_begins (is_one_of made.heaps (spelling_of a node)) node.span.from (behind_ref (shape_at a.modes note.mode)) (made.bound_trees f node.span.from (first_bounds a node.parts)) p
+      (bounds_begin f node.span.from (first_bounds a node.parts) p h)
   construct_begins a f node note kind.IdentityDefinition p h all = (p, (last_begins (trees_at f node.parts) (trees_begin f node.parts h), tt))
   construct_begins a f node note kind.Variable p h all =
       let in_heap = begins_with is_heap a node.parts in
       let parts = behind_heap in_heap node.parts in
       let mode = behind_ref (shape_at a.modes note.mode) in
-      variable_begins (new_name in_heap node.span.from mode) (begins_with is_declarer a parts) node.span.from mode note.step.slot (trees_at f parts) p
-      (new_begins in_heap node.span.from mode p) (trees_begin f parts h)
+      let bounds = made.bound_trees f node.span.from (first_bounds a parts) in
+      variable_begins (new_name in_heap node.span.from mode bounds) (begins_with is_declarer a parts) node.span.from mode note.step.slot (trees_at f parts) p
+      (new_begins in_heap node.span.from mode bounds p (bounds_begin f node.span.from (first_bounds a parts) p h)) (trees_begin f parts h)
   construct_begins a f node note kind.ModeDefinition p h all = tt
   construct_begins a f node note kind.Priority p h all = tt
   construct_begins a f node note kind.Joined p h all = trees_begin f node.parts h
   construct_begins a f node note kind.Call p h all = call_begins a f node.span.from (not (is_void (shape_at a.modes note.mode))) node.parts p h
   construct_begins a f node note kind.Cast p h all = last_begins (trees_at f node.parts) (trees_begin f node.parts h)
-  construct_begins a f node note kind.Collateral p h all = collateral_begins (shape_at a.modes note.goal) node.span.from (trees_at f node.parts) p (trees_begin f node.parts h)
+  construct_begins a f node note kind.Collateral p h all = collateral_begins (shape_at a.modes note.goal) node.span.from note.goal (trees_at f node.parts) p (trees_begin f node.parts h)
+  construct_begins a f node note kind.Vacuum p h all = (p, tt)
+  construct_begins a f node note kind.Slice p h all = slice_begins a f node.span.from node.parts p h
   construct_begins a f node note kind.Selection p h all = (p, (last_begins (trees_at f node.parts) (trees_begin f node.parts h), tt))
   construct_begins a f node note kind.Serial p h all =
       serial_begins node.span.from note.slots (not (is_void (shape_at a.modes note.goal))) (trees_at f node.parts) p (trees_begin f node.parts h)
@@ -184,9 +227,14 @@ module _ (end : ℕ) where
   construct_begins a f node note kind.From p h all = only_begins (trees_at f node.parts) (trees_begin f node.parts h)
   construct_begins a f node note kind.By p h all = only_begins (trees_at f node.parts) (trees_begin f node.parts h)
   construct_begins a f node note kind.To p h all = only_begins (trees_at f node.parts) (trees_begin f node.parts h)
+  construct_begins a f node note kind.Lower p h all = only_begins (trees_at f node.parts) (trees_begin f node.parts h)
+  construct_begins a f node note kind.Upper p h all = only_begins (trees_at f node.parts) (trees_begin f node.parts h)
+  construct_begins a f node note kind.At p h all = only_begins (trees_at f node.parts) (trees_begin f node.parts h)
   construct_begins a f node note kind.While p h all = only_begins (trees_at f node.parts) (trees_begin f node.parts h)
   construct_begins a f node note kind.Conditional p h all = choice_begins a f node.span.from note.goal (not (is_void (shape_at a.modes note.goal))) node.parts p all h
   construct_begins a f node note kind.Case p h all = case_begins a f node.span.from note.goal (not (is_void (shape_at a.modes note.goal))) node.parts p all h
+  construct_begins a f node note kind.Conformity p h all =
+      conformity_begins a f node.span.from note.goal (not (is_void (shape_at a.modes note.goal))) node.parts p all h
   construct_begins a f node note kind.Loop p h all = loop_begins a f node.span.from (is_some (made.if_first made.is_for a node.parts)) _ _ _ _ _ p all h
   construct_begins a f node note _ p h all = tt
 
@@ -199,7 +247,7 @@ module _ (end : ℕ) where
       let rest : (i : ℕ) → BeginsBy end (f i) = λ i. node_begins a (suc base) nodes notes all (λ k n e. h (suc k) n e) i in
       let here : node.span.from ≤ end = h 0 node refl in
       either_begins (nat_eq id base) (unit a f node note) (f id)
-      (coerced_begins a.modes node.span.from note.mode note.path (made.made a f node note node.kind) here (construct_begins a f node note node.kind here rest all))
+      (coerced_begins a.modes node.span.from note.goal note.mode note.path (made.made a f node note node.kind) here (construct_begins a f node note node.kind here rest all))
       (rest id)
 
   first_begins : (o : Option Node) → ((n : Node) → o ≡ Some n → n.span.from ≤ end) → option_map_or (λ (n : Node). n.span.from) o 0 ≤ end

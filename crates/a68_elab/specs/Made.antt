@@ -1,13 +1,19 @@
 -- The tree of a program, of the list of its annotated nodes.
-use Rattle.std.specs.Prelude.{ℕ, zero, suc, pos, max, Bool, true, false, not, ◌&&◌, List, [], ◌∷◌, ◌++◌, length, map, None, Some, codes, slice_get, nat_eq, nat_lt, if◌then◌else◌}
+use Rattle.std.specs.Prelude.{ℕ, zero, suc, pos, max, Bool, true, false, not, ◌&&◌, ◌||◌, List, [], ◌∷◌, ◌++◌, length, map, None, Some, codes, slice_get, nat_eq, nat_lt, if◌then◌else◌}
+use Rattle.std.specs.List.{list_any}
 use Rattle.std.specs.Option.{is_some, option_map_or, option_and_then}
 use Rattle.std.specs.declared.option.Option.{Option}
-use Rattle.a68_acts.specs.Operations.{Operation, constant, skip, nil, routine, tag, make, heap, bind, deref, store, apply, same, compose, select, unite, drop, print, whole, fields_of}
+use Rattle.a68_acts.specs.Operations.{Operation, constant, skip, nil, routine, tag, make, heap, bind, deref, store, apply, same, slice, display, vacuum, compose, select, unite, row_up, row_up_name, widen, drop, print, whole, fields_of}
 use Rattle.a68_annot.specs.declared.annotated.Annotated.{Annotated}
 use Rattle.a68_annot.specs.declared.note.Note.{Note}
+use Rattle.a68_acts.specs.Members.{members_of}
 use Rattle.a68_base.specs.Tables.{is_listed}
 use Rattle.a68_elab.specs.Constants.{value_in, standard_in}
-use Rattle.a68_elab.specs.Trees.{collateral, serial, Tree, Trees, operation, together, phrases, range, choice, cases, loop, call, unbuilt, Test, no_test, while_in, no_trees, ◌and_tree◌, count, Body, Program}
+use Rattle.a68_elab.specs.declared.bound.Bound.{Bound}
+use Rattle.a68_elab.specs.declared.bound.Bound.TheVariants as bound
+use Rattle.a68_elab.specs.Trees.{collateral, serial, Tree, Trees, operation, together, phrases, range, choice, cases, conformity, loop, call, unbuilt, Specs, no_specs, spec, Test, no_test, while_in, no_trees, ◌and_tree◌, count, Body, Program}
+use Rattle.a68_layout.specs.declared.types.Form.{Form}
+use Rattle.a68_layout.specs.declared.types.Form.TheVariants as form
 use Rattle.a68_modes.specs.Nodes.{shape_at, is_void}
 use Rattle.a68_modes.specs.declared.coercion.Coercion.{Coercion}
 use Rattle.a68_modes.specs.declared.coercion.Coercion.TheVariants as coercion
@@ -86,20 +92,57 @@ abbrev pub behind_proc : Shape → ℕ
 behind_proc (shape.Proc params result) = result
 behind_proc _ = 0
 
--- A unit of a mode under its coercions, from the first to the last (Report, 6.1.1). A coercion begins where its unit
--- does. The others are not built yet.
-abbrev pub coerced : List Shape → (place mode : ℕ) → List Coercion → Tree → Tree
-coerced modes place mode [] t = t
-coerced modes place mode (coercion.Deref ∷ path) t =
+-- the number of a row without FLEX, and of a name, among the modes from one on
+abbrev pub is_row_of : (dims of : ℕ) → Shape → Bool
+is_row_of dims of (shape.Rows n false m) = nat_eq n dims && nat_eq m of
+is_row_of dims of _ = false
+
+abbrev pub is_name_of : (of : ℕ) → Shape → Bool
+is_name_of of (shape.Ref m) = nat_eq m of
+is_name_of of _ = false
+
+abbrev pub found_from : (at : ℕ) → (Shape → Bool) → List Shape → Option ℕ
+found_from at is [] = None
+found_from at is (s ∷ modes) = if is s then Some at else found_from (suc at) is modes
+
+-- the mode that is rowed to one: that of its elements, or the row with a dimension fewer, where it is there (Report, 6.6)
+abbrev pub unrowed_by : List Shape → Shape → Option ℕ
+unrowed_by modes (shape.Rows (suc zero) flex of) = Some of
+unrowed_by modes (shape.Rows (suc n) flex of) = found_from 0 (is_row_of n of) modes
+unrowed_by modes s = None
+
+abbrev pub unrowed : List Shape → (mode : ℕ) → Option ℕ
+unrowed modes m = unrowed_by modes (shape_at modes m)
+
+abbrev pub unrowed_name : List Shape → (mode : ℕ) → Option ℕ
+unrowed_name modes m = option_and_then (λ of. found_from 0 (is_name_of of) modes) (unrowed modes (behind_ref (shape_at modes m)))
+
+-- the mode that a rowing reaches, behind which these coercions lead to a mode
+abbrev pub rowed_to : List Shape → (goal : ℕ) → List Coercion → Option ℕ
+rowed_to modes goal [] = Some goal
+rowed_to modes goal (coercion.RowUp ∷ path) = option_and_then (unrowed modes) (rowed_to modes goal path)
+rowed_to modes goal (coercion.RowUpName ∷ path) = option_and_then (unrowed_name modes) (rowed_to modes goal path)
+rowed_to modes goal (_ ∷ path) = None
+
+-- A unit of a mode under its coercions, from the first to the last, which lead to a mode (Report, 6.1.1). A coercion begins
+-- where its unit does; a rowing to a mode that is not there is not built.
+abbrev pub coerced : List Shape → (place goal mode : ℕ) → List Coercion → Tree → Tree
+coerced modes place goal mode [] t = t
+coerced modes place goal mode (coercion.Deref ∷ path) t =
     let m = behind_ref (shape_at modes mode) in
-    coerced modes place m path (operation place (deref m) serial (only t))
-coerced modes place mode (coercion.Deproc ∷ path) t =
+    coerced modes place goal m path (operation place (deref m) serial (only t))
+coerced modes place goal mode (coercion.Deproc ∷ path) t =
     let m = behind_proc (shape_at modes mode) in
-    coerced modes place m path (call place (not (is_void (shape_at modes m))) (only t))
+    coerced modes place goal m path (call place (not (is_void (shape_at modes m))) (only t))
 -- uniting names the mode from which it starts
-coerced modes place mode (coercion.Unite from ∷ path) t = coerced modes place from path (operation place (unite from) serial (only t))
-coerced modes place mode (coercion.Drop ∷ path) t = coerced modes place 0 path (operation place drop serial (only t))
-coerced modes place mode (_ ∷ path) t = unbuilt
+coerced modes place goal mode (coercion.Unite from ∷ path) t = coerced modes place goal from path (operation place (unite from) serial (only t))
+-- BITS become a row of BOOL
+coerced modes place goal mode (coercion.Widen ∷ path) t = coerced modes place goal 11 path (operation place widen serial (only t))
+coerced modes place goal mode (coercion.RowUp ∷ path) t =
+    option_map_or (λ m. coerced modes place goal m path (operation place (row_up m) serial (only t))) (rowed_to modes goal path) unbuilt
+coerced modes place goal mode (coercion.RowUpName ∷ path) t =
+    option_map_or (λ m. coerced modes place goal m path (operation place (row_up_name m) serial (only t))) (rowed_to modes goal path) unbuilt
+coerced modes place goal mode (coercion.Drop ∷ path) t = coerced modes place goal 0 path (operation place drop serial (only t))
 
 -- a denotation, by its value
 abbrev pub denoted : (place : ℕ) → Option Content → Tree
@@ -116,10 +159,87 @@ abbrev pub tag_of : Option Content → (hops slot : ℕ) → Operation
 tag_of (Some v) hops slot = constant v
 tag_of None hops slot = tag hops slot
 
--- a new name of a plain mode, of scope 0 or of that of the frame (Report, 5.2.3)
-abbrev pub new_name : (in_heap : Bool) (place mode : ℕ) → Tree
-new_name true place mode = leaf place (heap mode 0)
-new_name false place mode = leaf place (make mode 0)
+-- ---- bounds of actual declarers (Report, 4.6)
+
+abbrev pub is_bound : NodeKind → Bool
+is_bound kind.Bound = true
+is_bound _ = false
+
+abbrev pub is_field : NodeKind → Bool
+is_field kind.Field = true
+is_field _ = false
+
+abbrev pub is_lower : NodeKind → Bool
+is_lower kind.Lower = true
+is_lower _ = false
+
+abbrev pub is_upper : NodeKind → Bool
+is_upper kind.Upper = true
+is_upper _ = false
+
+abbrev pub is_at : NodeKind → Bool
+is_at kind.At = true
+is_at _ = false
+
+abbrev pub begins_with : (NodeKind → Bool) → Annotated → List ℕ → Bool
+begins_with is a [] = false
+begins_with is a (id ∷ ids) = is (kind_at a id)
+
+abbrev pub all_written : List ℕ → List Bound
+all_written ids = map (λ id. bound.Written id) ids
+
+-- the bounds of a dimension: a lower one that is left out is 1 (own)
+abbrev pub dimension : Annotated → List ℕ → List Bound
+dimension a ids = if begins_with is_lower a ids then all_written ids else bound.Meant 1 ∷ all_written ids
+
+-- those of the dimensions of a row, and then those of its elements
+abbrev pub row_bounds : Annotated → (inner : ℕ → List Bound) → List ℕ → List Bound
+row_bounds a inner [] = []
+row_bounds a inner (id ∷ ids) = if is_bound (kind_at a id) then dimension a (parts_at a id) ++ row_bounds a inner ids else inner id
+
+-- those of each field, which are those of the declarer that stands last before it
+abbrev pub field_bounds : Annotated → (inner : ℕ → List Bound) → (last : List Bound) → List ℕ → List Bound
+field_bounds a inner last [] = []
+field_bounds a inner last (id ∷ ids) = if is_field (kind_at a id) then last ++ field_bounds a inner last ids else field_bounds a inner (inner id) ids
+
+abbrev pub strings : List (List ℕ)
+strings = codes "STRING" ∷ []
+
+-- whether a node is named by one of these words
+abbrev pub named_at : Annotated → List (List ℕ) → (id : ℕ) → Bool
+named_at a words id = option_map_or (λ (node : Node). is_one_of words (spelling_of a node)) (slice_get a.tree.nodes id) false
+
+-- STRING is FLEX [1:0] CHAR. Behind a name, in a procedure and in a union there are no actual bounds. Those of a mode word
+-- are not built yet.
+abbrev pub bounds_by : Annotated → (inner : ℕ → List Bound) → (id : ℕ) → List ℕ → List Bound
+bounds_by a inner id ids =
+    if named_at a strings id then bound.Meant 1 ∷ bound.Meant 0 ∷ []
+    else (if begins_with is_bound a ids then row_bounds a inner ids else field_bounds a inner [] ids)
+
+-- declarers lie at most so deep within others
+abbrev pub bounds_within : (depth : ℕ) → Annotated → (id : ℕ) → List Bound
+bounds_within zero a id = []
+bounds_within (suc n) a id = bounds_by a (bounds_within n a) id (parts_at a id)
+
+-- those of the first of these nodes, where it is a declarer: a lower and an upper one for each dimension of each row, from
+-- outside inwards, fields in order
+abbrev pub first_bounds : Annotated → List ℕ → List Bound
+first_bounds a [] = []
+first_bounds a (id ∷ ids) = if is_declarer (kind_at a id) then bounds_within (length a.tree.nodes) a id else []
+
+-- what is elaborated for a bound of the construct that begins at a place
+abbrev pub bound_tree : (ℕ → Tree) → (place : ℕ) → Bound → Tree
+bound_tree f place (bound.Written id) = f id
+bound_tree f place (bound.Meant n) = leaf place (constant (plain (value.Int (pos n))))
+
+abbrev pub bound_trees : (ℕ → Tree) → (place : ℕ) → List Bound → Trees
+bound_trees f place [] = no_trees
+bound_trees f place (b ∷ bounds) = bound_tree f place b and_tree bound_trees f place bounds
+
+-- a new name, of scope 0 or of that of the frame, with these bounds (Report, 5.2.3)
+abbrev pub new_name : (in_heap : Bool) (place mode : ℕ) → (bounds : Trees) → Tree
+new_name true place mode bounds = operation place (heap mode (count bounds)) collateral bounds
+new_name false place mode bounds = operation place (make mode (count bounds)) collateral bounds
 
 -- the parts behind HEAP
 abbrev pub behind_heap : (has : Bool) → List ℕ → List ℕ
@@ -136,15 +256,11 @@ variable_of new false place mode slot (source and_tree no_trees) =
     operation place (bind slot) serial (only (operation place (store mode) serial (new and_tree only source)))
 variable_of new _ place mode slot _ = unbuilt
 
-abbrev pub begins_with : (NodeKind → Bool) → Annotated → List ℕ → Bool
-begins_with is a [] = false
-begins_with is a (id ∷ ids) = is (kind_at a id)
-
 abbrev pub variable : Annotated → (ℕ → Tree) → (place mode slot : ℕ) → List ℕ → Tree
 variable a f place mode slot ids =
     let in_heap = begins_with is_heap a ids in
     let parts = behind_heap in_heap ids in
-    variable_of (new_name in_heap place mode) (begins_with is_declarer a parts) place mode slot (trees_at f parts)
+    variable_of (new_name in_heap place mode (bound_trees f place (first_bounds a parts))) (begins_with is_declarer a parts) place mode slot (trees_at f parts)
 
 -- a part that is left out is a skip of the mode that is asked of it
 abbrev pub left_out : (place mode : ℕ) → Tree
@@ -242,6 +358,40 @@ case_of a f place goal yields [] = unbuilt
 case_of a f place goal yields (enquiry ∷ ids) =
     with_enquiry a f place yields enquiry (λ e. cases place e (trees_at f (before_out a ids)) (option_map_or f (out_of a ids) (left_out place goal)))
 
+-- ---- choices by the mode of a united value (Report, 3.4)
+
+abbrev pub goal_at : Annotated → (id : ℕ) → ℕ
+goal_at a id = option_map_or (λ (n : Note). n.goal) (slice_get a.notes id) 0
+
+-- the mode of a specification's declarer, which has no FLEX
+abbrev pub spec_mode : Annotated → List ℕ → ℕ
+spec_mode a [] = 0
+spec_mode a (declarer ∷ ids) = goal_at a declarer
+
+-- behind its declarer stands its tag, if any
+abbrev pub has_tag : List ℕ → Bool
+has_tag (declarer ∷ (parameter ∷ [])) = true
+has_tag _ = false
+
+-- a specification of a union takes what that has, united; another one what has its mode
+abbrev pub spec_of : Shape → (mode : ℕ) (tagged : Bool) → Tree → Specs → Specs
+spec_of (shape.Union members) m tagged t behind = spec members tagged true t behind
+spec_of s m tagged t behind = spec (m ∷ []) tagged false t behind
+
+-- the specifications and their parts, two by two
+abbrev pub specs_of : Annotated → (f : ℕ → Tree) → List ℕ → Specs
+specs_of a f (s ∷ (part ∷ ids)) =
+    let m = spec_mode a (parts_at a s) in
+    spec_of (shape_at a.modes m) m (has_tag (parts_at a s)) (f part) (specs_of a f ids)
+specs_of a f _ = no_specs
+
+abbrev pub conformity_of : Annotated → (f : ℕ → Tree) (place goal : ℕ) (yields : Bool) → List ℕ → Tree
+conformity_of a f place goal yields [] = unbuilt
+conformity_of a f place goal yields (enquiry ∷ ids) =
+    let union = goal_at a enquiry in
+    with_enquiry a f place yields enquiry
+    (λ e. conformity place union (members_of (shape_at a.modes union)) yields e (specs_of a f (before_out a ids)) (option_map_or f (out_of a ids) (left_out place goal)))
+
 -- ---- loops
 
 abbrev pub is_for : NodeKind → Bool
@@ -329,12 +479,39 @@ formula_by place yields note (Some row) ts = operation place (apply row) collate
 abbrev pub formula : (place : ℕ) (yields : Bool) → Note → Trees → Tree
 formula place yields note ts = formula_by place yields note note.op ts
 
--- a collateral clause: of VOID its parts alone, of a structure the structure of their values (Report, 3.3); displays of rows
--- are not built yet
-abbrev pub collateral_of : Shape → (place : ℕ) → Trees → Tree
-collateral_of shape.Void place ts = together ts
-collateral_of (shape.Struct fields) place ts = operation place (compose (count ts)) collateral ts
-collateral_of s place ts = unbuilt
+-- a collateral clause: of VOID its parts alone, of a structure the structure of their values, of a row the row of them
+-- (Report, 3.3)
+abbrev pub collateral_of : Shape → (place mode : ℕ) → Trees → Tree
+collateral_of shape.Void place m ts = together ts
+collateral_of (shape.Struct fields) place m ts = operation place (compose (count ts)) collateral ts
+collateral_of (shape.Rows dims flex of) place m ts = operation place (display (count ts) m) collateral ts
+collateral_of s place m ts = unbuilt
+
+-- ---- slices (Report, 5.3.2)
+
+abbrev pub has_kind : (NodeKind → Bool) → Annotated → List ℕ → Bool
+has_kind is a ids = list_any (λ id. is (kind_at a id)) ids
+
+-- how an index is written, by its parts: a subscript is a unit, and all else a trimmer
+abbrev pub form_of : Annotated → List ℕ → Form
+form_of a [] = form.Trimmer false false false
+form_of a ids =
+    if has_kind is_lower a ids || (has_kind is_upper a ids || has_kind is_at a ids)
+    then form.Trimmer (has_kind is_lower a ids) (has_kind is_upper a ids) (has_kind is_at a ids) else form.Subscript
+
+abbrev pub forms_of : Annotated → List ℕ → List Form
+forms_of a [] = []
+forms_of a (id ∷ ids) = form_of a (parts_at a id) ∷ forms_of a ids
+
+-- the units of indexes, in order of text
+abbrev pub index_units : Annotated → List ℕ → List ℕ
+index_units a [] = []
+index_units a (id ∷ ids) = parts_at a id ++ index_units a ids
+
+-- an element or a part of what the first of these nodes yields
+abbrev pub slice_of : Annotated → (f : ℕ → Tree) → (place : ℕ) → List ℕ → Tree
+slice_of a f place [] = unbuilt
+slice_of a f place (primary ∷ ids) = operation place (slice (forms_of a ids)) collateral (f primary and_tree trees_at f (index_units a ids))
 
 -- the place of a field among those of a structure, by the number of its tag; that behind them where there is none
 abbrev pub field_in : (name : ℕ) → List (ℕ × ℕ) → ℕ
@@ -406,7 +583,8 @@ made a f node note kind.Monadic = formula node.span.from (not (is_void (shape_at
 made a f node note kind.Dyadic = formula node.span.from (not (is_void (shape_at a.modes note.mode))) note (trees_at f node.parts)
 made a f node note kind.Assignation = operation node.span.from (store (behind_ref (shape_at a.modes note.mode))) collateral (trees_at f node.parts)
 made a f node note kind.Identity = operation node.span.from (same (negated (is_one_of isnt (spelling_of a node)))) collateral (trees_at f node.parts)
-made a f node note kind.Generator = new_name (is_one_of heaps (spelling_of a node)) node.span.from (behind_ref (shape_at a.modes note.mode))
+made a f node note kind.Generator =
+    new_name (is_one_of heaps (spelling_of a node)) node.span.from (behind_ref (shape_at a.modes note.mode)) (bound_trees f node.span.from (first_bounds a node.parts))
 made a f node note kind.OpDefinition = operation node.span.from (bind note.step.slot) serial (only (last_tree (trees_at f node.parts)))
 made a f node note kind.IdentityDefinition = operation node.span.from (bind note.step.slot) serial (only (last_tree (trees_at f node.parts)))
 made a f node note kind.Variable = variable a f node.span.from (behind_ref (shape_at a.modes note.mode)) note.step.slot node.parts
@@ -415,7 +593,9 @@ made a f node note kind.Priority = together no_trees
 made a f node note kind.Joined = together (trees_at f node.parts)
 made a f node note kind.Call = call_of a f node.span.from (not (is_void (shape_at a.modes note.mode))) node.parts
 made a f node note kind.Cast = last_tree (trees_at f node.parts)
-made a f node note kind.Collateral = collateral_of (shape_at a.modes note.goal) node.span.from (trees_at f node.parts)
+made a f node note kind.Collateral = collateral_of (shape_at a.modes note.goal) node.span.from note.goal (trees_at f node.parts)
+made a f node note kind.Vacuum = leaf node.span.from (vacuum note.goal)
+made a f node note kind.Slice = slice_of a f node.span.from node.parts
 made a f node note kind.Selection = selection_of a.modes node.span.from (first_goal a node.parts) node.name (trees_at f node.parts)
 made a f node note kind.Serial = serial_of node.span.from note.slots (not (is_void (shape_at a.modes note.goal))) (trees_at f node.parts)
 made a f node note kind.Closed = only_of (trees_at f node.parts)
@@ -423,14 +603,18 @@ made a f node note kind.Out = only_of (trees_at f node.parts)
 made a f node note kind.From = only_of (trees_at f node.parts)
 made a f node note kind.By = only_of (trees_at f node.parts)
 made a f node note kind.To = only_of (trees_at f node.parts)
+made a f node note kind.Lower = only_of (trees_at f node.parts)
+made a f node note kind.Upper = only_of (trees_at f node.parts)
+made a f node note kind.At = only_of (trees_at f node.parts)
 made a f node note kind.While = only_of (trees_at f node.parts)
 made a f node note kind.Conditional = choice_of a f node.span.from note.goal (not (is_void (shape_at a.modes note.goal))) node.parts
 made a f node note kind.Case = case_of a f node.span.from note.goal (not (is_void (shape_at a.modes note.goal))) node.parts
+made a f node note kind.Conformity = conformity_of a f node.span.from note.goal (not (is_void (shape_at a.modes note.goal))) node.parts
 made a f node note kind.Loop = loop_of a f node.span.from node.parts
 made a f node note _ = unbuilt
 
 abbrev pub unit : Annotated → (ℕ → Tree) → Node → Note → Tree
-unit a f node note = coerced a.modes node.span.from note.mode note.path (made a f node note node.kind)
+unit a f node note = coerced a.modes node.span.from note.goal note.mode note.path (made a f node note node.kind)
 
 -- the tree of node `id`, where the lists begin with node `base`: the parts of a node stand behind it
 abbrev pub tree_from : Annotated → (base : ℕ) → List Node → List Note → (id : ℕ) → Tree

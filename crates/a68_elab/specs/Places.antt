@@ -1,7 +1,7 @@
 -- Inner: the headline does not rest on this file.
 -- Where the constructs of a program begin.
 use Rattle.std.specs.Prelude.{ℕ, ◌≤◌, List, [], ◌∷◌}
-use Rattle.a68_elab.specs.Trees.{Tree, Trees, operation, together, phrases, range, choice, cases, loop, call, unbuilt, Test, no_test, while_in, no_trees, ◌and_tree◌, Body, Program}
+use Rattle.a68_elab.specs.Trees.{Tree, Trees, operation, together, phrases, range, choice, cases, conformity, loop, call, unbuilt, Specs, no_specs, spec, Test, no_test, while_in, no_trees, ◌and_tree◌, Body, Program}
 
 -- each construct of the tree begins at this byte or before it
 abbrev mutual
@@ -12,6 +12,7 @@ abbrev mutual
   BeginsBy end (range place out slots yields within) = (place ≤ end) × (out ≤ end) × BeginsBy end within
   BeginsBy end (choice place enquiry if_true if_false) = (place ≤ end) × BeginsBy end enquiry × BeginsBy end if_true × BeginsBy end if_false
   BeginsBy end (cases place enquiry arms out) = (place ≤ end) × BeginsBy end enquiry × AllBeginBy end arms × BeginsBy end out
+  BeginsBy end (conformity place union members yields enquiry specs out) = (place ≤ end) × BeginsBy end enquiry × SpecsBeginBy end specs × BeginsBy end out
   BeginsBy end (loop place controls limited counts test body) = (place ≤ end) × AllBeginBy end controls × TestBeginsBy end test × BeginsBy end body
   BeginsBy end (call place yields parts) = (place ≤ end) × AllBeginBy end parts
   BeginsBy end unbuilt = Unit {0}
@@ -19,6 +20,10 @@ abbrev mutual
   pub AllBeginBy : (end : ℕ) → Trees → Type 0
   AllBeginBy end no_trees = Unit {0}
   AllBeginBy end (tree and_tree trees) = BeginsBy end tree × AllBeginBy end trees
+
+  pub SpecsBeginBy : (end : ℕ) → Specs → Type 0
+  SpecsBeginBy end no_specs = Unit {0}
+  SpecsBeginBy end (spec takes tagged united part behind) = BeginsBy end part × SpecsBeginBy end behind
 
   pub TestBeginsBy : (end : ℕ) → Test → Type 0
   TestBeginsBy end no_test = Unit {0}

@@ -1,5 +1,5 @@
 -- The rules of elaboration: what comes next for a term.
-use Rattle.std.specs.Prelude.{ℕ, zero, suc, Bool, true, false, ◌&&◌, List, [], ◌∷◌, length, map, None, Some, Ok, Err, slice_get, nat_lt, if◌then◌else◌}
+use Rattle.std.specs.Prelude.{ℕ, zero, suc, Bool, true, false, ◌&&◌, ◌||◌, nat_eq, List, [], ◌∷◌, length, map, None, Some, Ok, Err, slice_get, nat_lt, if◌then◌else◌}
 use Rattle.std.specs.Option.{option_map, option_map_or}
 use Rattle.std.specs.declared.option.Option.{Option}
 use Rattle.std.specs.declared.result.Result.{Result}
@@ -11,11 +11,13 @@ use Rattle.a68_acts.specs.declared.want.Reply.{Reply}
 use Rattle.a68_acts.specs.declared.want.Reply.TheVariants as reply
 use Rattle.a68_acts.specs.declared.want.Want.{Want}
 use Rattle.a68_acts.specs.declared.want.Want.TheVariants as want
-use Rattle.a68_elab.specs.Terms.{Job, operating, resuming, gathering, preceding, ending, ranged, choosing, casing, chosen, limiting, counting, stepping, turning, opening, naming, indexing, ranging, testing, running, advancing, quitting, leaving, calling, entering, binding, inside, Term, todo, part, yielded, no_terms, ◌and_term◌, only, todos, values, last_of}
-use Rattle.a68_elab.specs.Trees.{Tree, operation, together, phrases, range, choice, cases, loop, call, unbuilt, Trees, no_trees, ◌and_tree◌, count, Test, no_test, while_in, Turns, depth, Body, Program}
+use Rattle.a68_elab.specs.Terms.{Job, operating, resuming, gathering, preceding, ending, ranged, choosing, casing, conforming, specifying, tagging, passing, chosen, limiting, counting, stepping, turning, opening, naming, indexing, ranging, testing, running, advancing, quitting, leaving, calling, entering, binding, inside, Term, todo, part, yielded, no_terms, ◌and_term◌, only, todos, values, last_of}
+use Rattle.a68_elab.specs.Trees.{Tree, operation, together, phrases, range, choice, cases, conformity, loop, call, unbuilt, Trees, no_trees, ◌and_tree◌, count, Specs, no_specs, spec, Test, no_test, while_in, Turns, depth, Body, Program}
+use Rattle.a68_acts.specs.Members.{member_of}
+use Rattle.a68_modes.specs.Nodes.{shape_at}
 use Rattle.a68_modes.specs.declared.shape.Shape.{Shape}
 use Rattle.a68_ops.specs.Applied.{applied}
-use Rattle.a68_values.specs.Content.{Content, plain, void, scope_of}
+use Rattle.a68_values.specs.Content.{Content, plain, united, void, scope_of}
 use Rattle.a68_values.specs.declared.act.FaultKind.{FaultKind}
 use Rattle.a68_values.specs.declared.act.FaultKind.TheVariants as fault
 use Rattle.a68_values.specs.declared.chain.Environ.{Environ}
@@ -76,6 +78,33 @@ arm no_trees k out = out
 arm (t and_tree ts) zero out = t
 arm (t and_tree ts) (suc k) out = arm ts k out
 
+-- ---- choices by the mode of a united value (Report, 3.4)
+
+abbrev pub is_among : (m : ℕ) → List ℕ → Bool
+is_among m [] = false
+is_among m (n ∷ ns) = nat_eq m n || is_among m ns
+
+-- whether a specification that takes these members takes a value
+abbrev pub takes_value : (takes : List ℕ) → Content → Bool
+takes_value takes (united m v) = is_among m takes
+takes_value takes v = false
+
+-- what it takes of the value: the value united in it, or the united one
+abbrev pub taken : (whole : Bool) → Content → Content
+taken false (united m v) = v
+taken whole v = v
+
+-- the part of a specification: its tag is bound to the value, or the value is let go
+abbrev pub specified : (place : ℕ) (yields tagged : Bool) → List Environ → Content → Tree → Term
+specified place yields true chain v t = part (specifying place yields v t) chain no_terms
+specified place yields false chain v t = part (passing v t) chain no_terms
+
+-- the part of the first specification that takes the value; the other one where there is none (own)
+abbrev pub conforms : (place : ℕ) (yields : Bool) → List Environ → Specs → (out : Tree) → Content → Term
+conforms place yields chain no_specs out v = chooses chain out
+conforms place yields chain (spec takes tagged whole t behind) out v =
+    if takes_value takes v then part chosen chain (only (specified place yields tagged chain (taken whole v) t)) else conforms place yields chain behind out v
+
 -- ---- loops
 
 -- TO is looked at alone: it is the operand of a monadic + (own)
@@ -99,6 +128,12 @@ abbrev pub in_turn : Test → Counter → Turns → List Environ → Term
 in_turn no_test c l chain = part (running c l) chain (only (todo l.body chain))
 in_turn (while_in at zero test) c l chain = part (testing c l) chain (only (todo test chain))
 in_turn (while_in at (suc n) test) c l chain = part (ranging c l at (suc n) test) chain no_terms
+
+-- the tag of a specification is bound to the value
+abbrev pub binds_tag : (place : ℕ) (yields : Bool) → Content → Tree → List Environ → Then Term
+binds_tag place yields v t [] = meets fault.Kind place
+binds_tag place yields v t (e ∷ outer) =
+    acts place (want.Bind e.frame 0 v) (turned place (e ∷ outer) (part (ranged place yields) (e ∷ outer) (only (todo t (e ∷ outer)))))
 
 -- FOR's tag is the count
 abbrev pub binds_count : Counter → Turns → List Environ → Then Term
@@ -165,6 +200,8 @@ begin (range place out slots yields within) chain = enters place slots chain (λ
 begin (choice place enquiry if_true if_false) chain = goes (part (choosing place if_true if_false) chain (only (todo enquiry chain)))
 -- a case clause: the enquiry (Report, 3.4.2)
 begin (cases place enquiry arms out) chain = goes (part (casing place arms out) chain (only (todo enquiry chain)))
+-- a conformity clause: the enquiry (Report, 3.4.2)
+begin (conformity place union members yields enquiry specs out) chain = goes (part (conforming place union yields specs out) chain (only (todo enquiry chain)))
 -- a loop clause: FROM, BY and TO (Report, 3.5.2)
 begin (loop place controls true counts test body) chain =
     goes (part (limiting (record { place = place; counts = counts; test = test; body = body })) chain (todos controls chain))
@@ -191,6 +228,12 @@ finish program (ranged out yields) chain vs = leaves out yields chain (last_of v
 finish program (choosing place if_true if_false) chain vs =
     goes_with place (λ b. chooses chain (if b then if_true else if_false)) (tested (last_of vs))
 finish program (casing place arms out) chain vs = goes_with place (λ k. chooses chain (arm arms k out)) (case_of (count arms) (last_of vs))
+finish program (conforming place union yields specs out) chain vs =
+    goes_with place (λ k. conforms place yields chain specs out (last_of vs)) (member_of (shape_at program.modes union) (last_of vs))
+-- a specification with a tag makes a frame for it
+finish program (specifying place yields v t) chain vs = enters place 1 chain (λ inner. part (tagging place yields v t) inner no_terms)
+finish program (tagging place yields v t) chain vs = binds_tag place yields v t chain
+finish program (passing v t) chain vs = goes (todo t chain)
 finish program chosen chain vs = goes (yielded (last_of vs))
 -- A loop counts; where TO is there, it is looked at before FROM and BY. While the loop has a turn it takes one: FOR makes
 -- a frame in which its tag is the count, and WHILE makes one where it has slots. Where the test holds, or there is none,

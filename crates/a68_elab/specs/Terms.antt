@@ -5,7 +5,7 @@ use Rattle.std.specs.declared.option.Option.{Option}
 use Rattle.a68_acts.specs.Operations.{Operation}
 use Rattle.a68_acts.specs.declared.operation.Counter.{Counter}
 use Rattle.a68_acts.specs.declared.operation.Doing.{Doing}
-use Rattle.a68_elab.specs.Trees.{Order, collateral, serial, Tree, Trees, Turns, no_trees, ◌and_tree◌}
+use Rattle.a68_elab.specs.Trees.{Order, collateral, serial, Tree, Trees, Specs, Turns, no_trees, ◌and_tree◌}
 use Rattle.a68_values.specs.Content.{Content, void}
 use Rattle.a68_values.specs.declared.chain.Environ.{Environ}
 use Rattle.a68_values.specs.declared.plain.Routine.{Routine}
@@ -28,6 +28,13 @@ pub data Job : Type 0 where
   choosing : (place : ℕ) (if_true if_false : Tree) → Job
   -- one of several parts, by a number
   casing : (place : ℕ) (arms : Trees) (out : Tree) → Job
+  -- one of several parts, by the member that the value of an enquiry has
+  conforming : (place union : ℕ) (yields : Bool) (specs : Specs) (out : Tree) → Job
+  -- the frame of a specification, and its tag, which is bound to the value
+  specifying : (place : ℕ) (yields : Bool) (v : Content) (part : Tree) → Job
+  tagging : (place : ℕ) (yields : Bool) (v : Content) (part : Tree) → Job
+  -- the part of a specification without a tag: the value is let go
+  passing : (v : Content) (part : Tree) → Job
   -- the yield of the chosen part
   chosen : Job
   -- FROM, BY and TO are there, and TO alone is looked at

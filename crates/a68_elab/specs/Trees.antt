@@ -27,6 +27,9 @@ mutual
     choice : (place : ℕ) (enquiry if_true if_false : Tree) → Tree
     -- a case clause: the enquiry, the part for each number from 1, and the part for no number (Report, 3.4)
     cases : (place : ℕ) (enquiry : Tree) (arms : Trees) (out : Tree) → Tree
+    -- a choice by the mode of a united value: the mode of the union and its members, whether a value is yielded, the enquiry,
+    -- the specifications with their parts, and the part for none of them (Report, 3.4)
+    conformity : (place union : ℕ) (members : List ℕ) (yields : Bool) (enquiry : Tree) (specs : Specs) (out : Tree) → Tree
     -- a loop clause: FROM, BY and TO, whether TO is there, whether FOR is there, whose frame has one slot, WHILE, and DO
     -- (Report, 3.5)
     loop : (place : ℕ) (controls : Trees) (limited counts : Bool) (test : Test) (body : Tree) → Tree
@@ -38,6 +41,12 @@ mutual
   pub data Trees : Type 0 where
     no_trees : Trees
     ◌and_tree◌ : Tree → Trees → Trees
+
+  -- specifications: the members of the union that the first one takes, whether it has a tag, whether it takes the united
+  -- value, the part that it chooses, and those behind it
+  pub data Specs : Type 0 where
+    no_specs : Specs
+    spec : (takes : List ℕ) (tagged united : Bool) (part : Tree) (behind : Specs) → Specs
 
   pub data Test : Type 0 where
     -- a loop without WHILE

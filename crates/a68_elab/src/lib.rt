@@ -1,12 +1,16 @@
 //! The elaboration of a program.
 #![tactic(auto)]
 
+mod bound;
+
 ghost use Rattle.std.specs.Prelude.{◌≡◌, ◌≤◌, ◌<◌, ℕ, List, Some, slice_get};
 ghost use Rattle.a68_annot.specs.declared.annotated.Annotated.{Annotated};
 ghost use Rattle.a68_annot.specs.declared.note.Note.{Note};
 ghost use Rattle.a68_elab.specs.Made.{behind, program_of, tree_at, unit};
 ghost use Rattle.a68_elab.specs.Places.{ProgramBeginsBy};
 ghost use Rattle.a68_tree.specs.declared.node.Node.{Node};
+
+pub use bound::Bound;
 
 /// A law: the tree of a node is that of its kind over the trees of the nodes behind it.
 pub fn trees_law()

@@ -1,20 +1,21 @@
 -- What each function that writes a construct has written, and what is refused midway.
-use Rattle.std.proofs.Common.{◌≡◌, ◌≢◌, ℕ, zero, suc, ◌+◌, ◌-◌, ◌<◌, Bool, true, false, List, [], ◌∷◌, ◌++◌, length, drop, take, get_or, refl, sym, ◌∙◌, ap, arith, append_assoc, append-nil, drop-cons, add-one, length-append, None, Some, slice_get}
-use Rattle.std.proofs.lemmas.Bool.{false≢true}
+use Rattle.std.proofs.Common.{◌≡◌, ◌≢◌, ℕ, zero, suc, ◌+◌, ◌-◌, ◌<◌, ◌≤◌, ne_eqb, nat_lt, Bool, true, false, List, [], ◌∷◌, ◌++◌, length, drop, take, get_or, refl, sym, ◌∙◌, ap, arith, append_assoc, append-nil, drop-cons, add-one, length-append, None, Some, slice_get}
+use Rattle.std.proofs.lemmas.Bool.{false≢true, ltb-true, ltb-false}
 use Rattle.std.proofs.lemmas.List.{take_all}
 use Rattle.std.proofs.lemmas.Option.{same_Some}
-use Rattle.std.specs.Option.{option_map, option_map_or}
-use Rattle.std.specs.Prelude.{not, if◌then◌else◌}
+use Rattle.std.specs.Option.{is_some, option_map, option_map_or}
+use Rattle.std.specs.Prelude.{not, ◌&&◌, if◌then◌else◌}
 use Rattle.std.specs.declared.option.Option.{Option}
 use Rattle.a68_annot.specs.declared.annotated.Annotated.{Annotated}
 use Rattle.a68_annot.specs.declared.note.Note.{Note}
 use Rattle.a68_tree.specs.declared.node.Node.{Node}
 use Rattle.a68_code.specs.declared.code.Instr.{Instr}
-use Rattle.a68_acts.specs.Operations.{bind, tag, compose, select, Operation}
+use Rattle.a68_acts.specs.Operations.{bind, tag, compose, display, row_up, row_up_name, select, Operation}
 use Rattle.a68_code.specs.declared.does.Does.{Does}
 use Rattle.a68_code.specs.declared.does.Does.TheVariants as does
 use Rattle.a68_elab.specs.Made as made
-use Rattle.a68_elab.specs.Made.{coerced, behind_proc, behind_ref, leaf, only, trees_at, all_but_last, last_tree}
+use Rattle.a68_elab.specs.Made.{coerced, behind_proc, behind_ref, leaf, only, rowed_to, tree_at, trees_at, all_but_last, last_tree}
+use Rattle.a68_elab.specs.declared.bound.Bound.{Bound}
 use Rattle.a68_elab.specs.Trees.{Tree, Trees, operation, together, collateral, serial, choice, call, unbuilt, no_trees, ◌and_tree◌, count}
 use Rattle.a68_gen.specs.Coercing.{coercions, are_built}
 use Rattle.a68_gen.specs.Forms.{form_of}
@@ -35,31 +36,59 @@ use Rattle.a68_modes.specs.declared.shape.Shape.TheVariants as shape
 one_more : (xs ys : List Instr) (x : Instr) → ((xs ++ []) ++ x ∷ []) ++ ys ≡ xs ++ (x ∷ ys)
 one_more xs ys x = ap (λ l. (l ++ x ∷ []) ++ ys) (append-nil xs) ∙ append_assoc xs (x ∷ []) ys
 
+abbrev row_of : (place : ℕ) (op : ℕ → Operation) (t : Tree) (m : ℕ) → Tree
+row_of place op t m = operation place (op m) serial (only t)
+
+-- a rowing to a mode that is there, where what is behind it is as it should be
+rowed_list : (place at : ℕ) (op : ℕ → Operation) (t : Tree) (o : Option ℕ) (built : Bool) (go : ℕ → Tree → Tree) (behind : ℕ → List Instr)
+    → (built ≡ true → (m : ℕ) (u : Tree) → stretch (go m u) at ≡ stretch u at ++ behind m) → (is_some o && built) ≡ true
+    → stretch (option_map_or (λ m. go m (row_of place op t m)) o unbuilt) at
+    ≡ stretch t at ++ (instr place (does_of (op (option_map_or (λ m. m) o 0)) 1) ∷ behind (option_map_or (λ m. m) o 0))
+rowed_list place at op t None built go behind each is = absurd (false≢true is)
+rowed_list place at op t (Some m) built go behind each is = each is m (row_of place op t m) ∙ one_more (stretch t at) (behind m) (instr place (does_of (op m) 1))
+
 -- the instructions of a unit are those of its construct and of its coercions, where these are built
-pub coerced_list : (modes : List Shape) (place mode at : ℕ) (path : List Coercion) (t : Tree) → are_built path ≡ true
-    → stretch (coerced modes place mode path t) at ≡ stretch t at ++ coercions modes place mode path
-coerced_list modes place mode at [] t built = sym (append-nil (stretch t at))
-coerced_list modes place mode at (coercion.Deref ∷ path) t built =
+pub coerced_list : (modes : List Shape) (place goal mode at : ℕ) (path : List Coercion) (t : Tree) → are_built modes goal path ≡ true
+    → stretch (coerced modes place goal mode path t) at ≡ stretch t at ++ coercions modes place goal mode path
+coerced_list modes place goal mode at [] t built = sym (append-nil (stretch t at))
+coerced_list modes place goal mode at (coercion.Deref ∷ path) t built =
     let m = behind_ref (shape_at modes mode) in
-    coerced_list modes place m at path _ built ∙ one_more (stretch t at) (coercions modes place m path) (instr place (does.Deref m))
-coerced_list modes place mode at (coercion.Deproc ∷ path) t built =
+    coerced_list modes place goal m at path _ built ∙ one_more (stretch t at) (coercions modes place goal m path) (instr place (does.Deref m))
+coerced_list modes place goal mode at (coercion.Deproc ∷ path) t built =
     let m = behind_proc (shape_at modes mode) in
     let gives = not (is_void (shape_at modes m)) in
-    coerced_list modes place m at path _ built ∙ one_more (stretch t at) (coercions modes place m path) (instr place (does.Call 0 gives))
-coerced_list modes place mode at (coercion.Unite m ∷ path) t built =
-    coerced_list modes place m at path _ built ∙ one_more (stretch t at) (coercions modes place m path) (instr place (does.Unite m))
-coerced_list modes place mode at (coercion.Drop ∷ path) t built =
-    coerced_list modes place 0 at path _ built ∙ one_more (stretch t at) (coercions modes place 0 path) (instr place does.Drop)
-coerced_list modes place mode at (_ ∷ path) t built = absurd (false≢true built)
+    coerced_list modes place goal m at path _ built ∙ one_more (stretch t at) (coercions modes place goal m path) (instr place (does.Call 0 gives))
+coerced_list modes place goal mode at (coercion.Unite m ∷ path) t built =
+    coerced_list modes place goal m at path _ built ∙ one_more (stretch t at) (coercions modes place goal m path) (instr place (does.Unite m))
+coerced_list modes place goal mode at (coercion.Widen ∷ path) t built =
+    coerced_list modes place goal 11 at path _ built ∙ one_more (stretch t at) (coercions modes place goal 11 path) (instr place does.Widen)
+coerced_list modes place goal mode at (coercion.RowUp ∷ path) t built =
+    rowed_list place at (λ m. row_up m) t (rowed_to modes goal path) (are_built modes goal path) (λ m u. coerced modes place goal m path u) (λ m. coercions modes place goal m path)
+    (λ b m u. coerced_list modes place goal m at path u b) built
+coerced_list modes place goal mode at (coercion.RowUpName ∷ path) t built =
+    rowed_list place at (λ m. row_up_name m) t (rowed_to modes goal path) (are_built modes goal path) (λ m u. coerced modes place goal m path u) (λ m. coercions modes place goal m path)
+    (λ b m u. coerced_list modes place goal m at path u b) built
+coerced_list modes place goal mode at (coercion.Drop ∷ path) t built =
+    coerced_list modes place goal 0 at path _ built ∙ one_more (stretch t at) (coercions modes place goal 0 path) (instr place does.Drop)
+
+rowed_none : (o : Option ℕ) (built : Bool) (go : ℕ → Tree) → (built ≡ false → (m : ℕ) → go m ≡ unbuilt) → (is_some o && built) ≡ false → option_map_or go o unbuilt ≡ unbuilt
+rowed_none None built go each none = refl
+rowed_none (Some m) built go each none = each none m
 
 -- with others the unit is not built
-pub coerced_unbuilt : (modes : List Shape) (place mode : ℕ) (path : List Coercion) (t : Tree) → are_built path ≡ false → coerced modes place mode path t ≡ unbuilt
-coerced_unbuilt modes place mode [] t none = absurd (false≢true (sym none))
-coerced_unbuilt modes place mode (coercion.Deref ∷ path) t none = coerced_unbuilt modes place _ path _ none
-coerced_unbuilt modes place mode (coercion.Deproc ∷ path) t none = coerced_unbuilt modes place _ path _ none
-coerced_unbuilt modes place mode (coercion.Unite m ∷ path) t none = coerced_unbuilt modes place m path _ none
-coerced_unbuilt modes place mode (coercion.Drop ∷ path) t none = coerced_unbuilt modes place 0 path _ none
-coerced_unbuilt modes place mode (_ ∷ path) t none = refl
+pub coerced_unbuilt : (modes : List Shape) (place goal mode : ℕ) (path : List Coercion) (t : Tree) → are_built modes goal path ≡ false → coerced modes place goal mode path t ≡ unbuilt
+coerced_unbuilt modes place goal mode [] t none = absurd (false≢true (sym none))
+coerced_unbuilt modes place goal mode (coercion.Deref ∷ path) t none = coerced_unbuilt modes place goal _ path _ none
+coerced_unbuilt modes place goal mode (coercion.Deproc ∷ path) t none = coerced_unbuilt modes place goal _ path _ none
+coerced_unbuilt modes place goal mode (coercion.Unite m ∷ path) t none = coerced_unbuilt modes place goal m path _ none
+coerced_unbuilt modes place goal mode (coercion.Widen ∷ path) t none = coerced_unbuilt modes place goal 11 path _ none
+coerced_unbuilt modes place goal mode (coercion.RowUp ∷ path) t none =
+    rowed_none (rowed_to modes goal path) (are_built modes goal path) (λ m. coerced modes place goal m path (row_of place (λ n. row_up n) t m))
+    (λ b m. coerced_unbuilt modes place goal m path _ b) none
+coerced_unbuilt modes place goal mode (coercion.RowUpName ∷ path) t none =
+    rowed_none (rowed_to modes goal path) (are_built modes goal path) (λ m. coerced modes place goal m path (row_of place (λ n. row_up_name n) t m))
+    (λ b m. coerced_unbuilt modes place goal m path _ b) none
+coerced_unbuilt modes place goal mode (coercion.Drop ∷ path) t none = coerced_unbuilt modes place goal 0 path _ none
 
 -- ---- parts
 
@@ -106,31 +135,112 @@ applied_list f ids place hops slot n at yields e =
     let many : n ≡ count (trees_at f ids) = e ∙ sym (count_trees f ids) in
     ap (λ (k : ℕ). (instr place (does.Tag hops slot) ∷ []) ++ (stretches (trees_at f ids) (at + 1) ++ instr place (does.Call k yields) ∷ [])) many
 
--- the instruction of a new name
-abbrev pub new_does : (in_heap : Bool) (mode : ℕ) → Does
-new_does in_heap mode = if in_heap then does.Heap mode 0 else does.Make mode 0
+-- ---- bounds
 
-pub new_list : (in_heap : Bool) (place mode at : ℕ) → stretch (made.new_name in_heap place mode) at ≡ instr place (new_does in_heap mode) ∷ []
-new_list true place mode at = refl
-new_list false place mode at = refl
+-- the instruction of a new name
+abbrev pub new_does : (in_heap : Bool) (mode bounds : ℕ) → Does
+new_does in_heap mode bounds = if in_heap then does.Heap mode bounds else does.Make mode bounds
+
+pub new_list : (in_heap : Bool) (place mode at : ℕ) (bounds : Trees)
+    → stretches bounds at ++ instr place (new_does in_heap mode (count bounds)) ∷ [] ≡ stretch (made.new_name in_heap place mode bounds) at
+new_list true place mode at bounds = refl
+new_list false place mode at bounds = refl
+
+pub count_bounds : (f : ℕ → Tree) (place : ℕ) (bounds : List Bound) → count (made.bound_trees f place bounds) ≡ length bounds
+count_bounds f place [] = refl
+count_bounds f place (b ∷ bounds) = ap (λ n. suc n) (count_bounds f place bounds)
+
+-- bounds from one on
+pub bound-cons : (f : ℕ → Tree) (place at i : ℕ) (bounds : List Bound) (d : Bound) → i < length bounds
+    → stretches (made.bound_trees f place (drop i bounds)) at
+    ≡ stretch (made.bound_tree f place (get_or bounds i d)) at
+    ++ stretches (made.bound_trees f place (drop (i + 1) bounds)) (at + length (stretch (made.bound_tree f place (get_or bounds i d)) at))
+bound-cons f place at i bounds d p = rw (add-one, drop-cons bounds i d, size_stretch (made.bound_tree f place (get_or bounds i d)) at) refl
+
+-- a number of no node has no tree
+tree-past : (a : Annotated) (base k : ℕ) (nodes : List Node) (notes : List Note) → base + length nodes ≤ k → made.tree_from a base nodes notes k ≡ unbuilt
+tree-past a base k [] notes past = refl
+tree-past a base k (n ∷ nodes) [] past = refl
+tree-past a base k (n ∷ nodes) (m ∷ notes) past =
+    let f = made.tree_from a (suc base) nodes notes in
+    let other : k ≢ base = λ e. omega (arith, past, e) in
+    ap (λ (b : Bool). if b then made.unit a f n m else f k) (ne_eqb k base other) ∙ tree-past a (suc base) k nodes notes (omega (arith, past))
+
+pub none-past : (a : Annotated) (k : ℕ) → length a.tree.nodes ≤ k → tree_at a k ≡ unbuilt
+unfolding tree_at
+none-past a k past = tree-past a 0 k a.tree.nodes a.notes (omega (arith, past))
+
+-- nor has one that does not stand behind a node
+pub none-behind : (a : Annotated) (id k : ℕ) → (nat_lt id k && nat_lt k (length a.tree.nodes)) ≡ false → made.behind id (tree_at a) k ≡ unbuilt
+none-behind a id k is = go (nat_lt id k) is
+  where
+    go : (b : Bool) → (b && nat_lt k (length a.tree.nodes)) ≡ false → (if b then tree_at a k else unbuilt) ≡ unbuilt
+    go true e = none-past a k (ltb-false k (length a.tree.nodes) e)
+    go false e = refl
+
+pub stands-behind : (id k n : ℕ) → (nat_lt id k && nat_lt k n) ≡ true → (id < k) × (k < n)
+stands-behind id k n is = go (nat_lt id k) (nat_lt k n) refl refl is
+  where
+    go : (b c : Bool) → nat_lt id k ≡ b → nat_lt k n ≡ c → (b && c) ≡ true → (id < k) × (k < n)
+    go true true p q e = (ltb-true id k p, ltb-true k n q)
+    go true false p q e = absurd (false≢true e)
+    go false c p q e = absurd (false≢true e)
+
+-- ---- indexes
+
+pub index-units-next : (a : Annotated) (f : ℕ → Tree) (at i : ℕ) (ids : List ℕ) → i < length ids
+    → stretches (trees_at f (made.index_units a (drop i ids))) at
+    ≡ stretches (trees_at f (made.parts_at a (get_or ids i 0))) at
+    ++ stretches (trees_at f (made.index_units a (drop (i + 1) ids))) (at + length (stretches (trees_at f (made.parts_at a (get_or ids i 0))) at))
+index-units-next a f at i ids less =
+    rw (add-one, drop-cons ids i 0) (both-lists f (made.parts_at a (get_or ids i 0)) (made.index_units a (drop (suc i) ids)) at)
+  where
+    both-lists : (f : ℕ → Tree) (xs ys : List ℕ) (at : ℕ)
+        → stretches (trees_at f (xs ++ ys)) at ≡ stretches (trees_at f xs) at ++ stretches (trees_at f ys) (at + length (stretches (trees_at f xs) at))
+    both-lists f [] ys at = let z : at + 0 ≡ at = omega arith in rw z refl
+    both-lists f (x ∷ xs) ys at =
+        let m = at + size (f x) in
+        let s = stretches (trees_at f xs) m in
+        let long : length (stretch (f x) at ++ s) ≡ size (f x) + length s = length-append (stretch (f x) at) s ∙ ap (λ n. n + length s) (size_stretch (f x) at) in
+        let z : at + length (stretch (f x) at ++ s) ≡ m + length s = omega (arith, long) in
+        rw z (ap (λ l. stretch (f x) at ++ l) (both-lists f xs ys m) ∙ sym (append_assoc (stretch (f x) at) s (stretches (trees_at f ys) (m + length s))))
+
+pub slice_list : (a : Annotated) (f : ℕ → Tree) (place at : ℕ) (ids : List ℕ) → 0 < length ids
+    → stretch (f (get_or ids 0 0)) at
+    ++ (stretches (trees_at f (made.index_units a (drop 1 ids))) (at + length (stretch (f (get_or ids 0 0)) at)) ++ instr place (does.Slice (made.forms_of a (drop 1 ids))) ∷ [])
+    ≡ stretch (made.slice_of a f place ids) at
+slice_list a f place at [] some = absurd (omega arith)
+slice_list a f place at (x ∷ ids) some =
+    let s = stretch (f x) at in
+    let rest = stretches (trees_at f (made.index_units a ids)) (at + size (f x)) in
+    rw (size_stretch (f x) at) (sym (append_assoc s rest (instr place (does.Slice (made.forms_of a ids)) ∷ [])))
 
 -- ---- structures
 
 -- a collateral clause of a mode, by what that is
-pub void_collateral : (s : Shape) (place : ℕ) (ts : Trees) → form_of s ≡ form.Void → made.collateral_of s place ts ≡ together ts
-void_collateral shape.Void place ts e = refl
-void_collateral (shape.Struct fields) place ts e = absurd (cc)
-void_collateral _ place ts e = absurd (cc)
+pub void_collateral : (s : Shape) (place mode : ℕ) (ts : Trees) → form_of s ≡ form.Void → made.collateral_of s place mode ts ≡ together ts
+void_collateral shape.Void place mode ts e = refl
+void_collateral (shape.Struct fields) place mode ts e = absurd (cc)
+void_collateral (shape.Rows dims flex of) place mode ts e = absurd (cc)
+void_collateral _ place mode ts e = absurd (cc)
 
-pub structure_collateral : (s : Shape) (place : ℕ) (ts : Trees) → form_of s ≡ form.Structure → made.collateral_of s place ts ≡ operation place (compose (count ts)) collateral ts
-structure_collateral shape.Void place ts e = absurd (cc)
-structure_collateral (shape.Struct fields) place ts e = refl
-structure_collateral _ place ts e = absurd (cc)
+pub structure_collateral : (s : Shape) (place mode : ℕ) (ts : Trees) → form_of s ≡ form.Structure → made.collateral_of s place mode ts ≡ operation place (compose (count ts)) collateral ts
+structure_collateral shape.Void place mode ts e = absurd (cc)
+structure_collateral (shape.Struct fields) place mode ts e = refl
+structure_collateral (shape.Rows dims flex of) place mode ts e = absurd (cc)
+structure_collateral _ place mode ts e = absurd (cc)
 
-pub other_collateral : (s : Shape) (place : ℕ) (ts : Trees) → form_of s ≡ form.Other → made.collateral_of s place ts ≡ unbuilt
-other_collateral shape.Void place ts e = absurd (cc)
-other_collateral (shape.Struct fields) place ts e = absurd (cc)
-other_collateral _ place ts e = refl
+pub row_collateral : (s : Shape) (place mode : ℕ) (ts : Trees) → form_of s ≡ form.Row → made.collateral_of s place mode ts ≡ operation place (display (count ts) mode) collateral ts
+row_collateral shape.Void place mode ts e = absurd (cc)
+row_collateral (shape.Struct fields) place mode ts e = absurd (cc)
+row_collateral (shape.Rows dims flex of) place mode ts e = refl
+row_collateral _ place mode ts e = absurd (cc)
+
+pub other_collateral : (s : Shape) (place mode : ℕ) (ts : Trees) → form_of s ≡ form.Other → made.collateral_of s place mode ts ≡ unbuilt
+other_collateral shape.Void place mode ts e = absurd (cc)
+other_collateral (shape.Struct fields) place mode ts e = absurd (cc)
+other_collateral (shape.Rows dims flex of) place mode ts e = absurd (cc)
+other_collateral _ place mode ts e = refl
 
 pub select_whole : (place mode field at : ℕ) (t : Tree) → stretch t at ++ instr place (does.Select mode field) ∷ [] ≡ stretch (operation place (select mode field) serial (only t)) at
 select_whole place mode field at t = ap (λ l. l ++ instr place (does.Select mode field) ∷ []) (sym (append-nil (stretch t at)))
@@ -165,57 +275,55 @@ framed_serial place (suc n) at kept yields t ts ne e =
 
 -- ---- variables
 
-pub declared_plain : (f : ℕ → Tree) (in_heap begins : Bool) (place mode slot at : ℕ) (ids : List ℕ) → begins ≡ true → length ids ≡ 1
-    → instr place (new_does in_heap mode) ∷ instr place (does.Bind slot) ∷ [] ≡ stretch (made.variable_of (made.new_name in_heap place mode) begins place mode slot (trees_at f ids)) at
-declared_plain f h false place mode slot at ids is e = absurd (false≢true is)
-declared_plain f h true place mode slot at [] is e = absurd (omega arith)
-declared_plain f true true place mode slot at (a ∷ []) is e = refl
-declared_plain f false true place mode slot at (a ∷ []) is e = refl
-declared_plain f h true place mode slot at (a ∷ (b ∷ ids)) is e = absurd (omega arith)
+pub declared_plain : (f : ℕ → Tree) (new : Tree) (begins : Bool) (place mode slot at : ℕ) (ids : List ℕ) → begins ≡ true → length ids ≡ 1
+    → stretch new at ++ instr place (does.Bind slot) ∷ [] ≡ stretch (made.variable_of new begins place mode slot (trees_at f ids)) at
+declared_plain f new false place mode slot at ids is e = absurd (false≢true is)
+declared_plain f new true place mode slot at [] is e = absurd (omega arith)
+declared_plain f new true place mode slot at (a ∷ []) is e = ap (λ l. l ++ instr place (does.Bind slot) ∷ []) (sym (append-nil (stretch new at)))
+declared_plain f new true place mode slot at (a ∷ (b ∷ ids)) is e = absurd (omega arith)
 
-pub declared_none : (f : ℕ → Tree) (in_heap begins : Bool) (place mode slot : ℕ) (ids : List ℕ) → begins ≡ true → length ids ≢ 1 → length ids ≢ 2
-    → unbuilt ≡ made.variable_of (made.new_name in_heap place mode) begins place mode slot (trees_at f ids)
-declared_none f h false place mode slot ids is n m = absurd (false≢true is)
-declared_none f h true place mode slot [] is n m = refl
-declared_none f h true place mode slot (a ∷ []) is n m = absurd (n refl)
-declared_none f h true place mode slot (a ∷ (b ∷ [])) is n m = absurd (m refl)
-declared_none f h true place mode slot (a ∷ (b ∷ (c ∷ ids))) is n m = refl
+pub declared_none : (f : ℕ → Tree) (new : Tree) (begins : Bool) (place mode slot : ℕ) (ids : List ℕ) → begins ≡ true → length ids ≢ 1 → length ids ≢ 2
+    → unbuilt ≡ made.variable_of new begins place mode slot (trees_at f ids)
+declared_none f new false place mode slot ids is n m = absurd (false≢true is)
+declared_none f new true place mode slot [] is n m = refl
+declared_none f new true place mode slot (a ∷ []) is n m = absurd (n refl)
+declared_none f new true place mode slot (a ∷ (b ∷ [])) is n m = absurd (m refl)
+declared_none f new true place mode slot (a ∷ (b ∷ (c ∷ ids))) is n m = refl
 
-pub begun_none : (f : ℕ → Tree) (in_heap begins : Bool) (place mode slot : ℕ) (ids : List ℕ) → begins ≡ false → length ids ≢ 1
-    → unbuilt ≡ made.variable_of (made.new_name in_heap place mode) begins place mode slot (trees_at f ids)
-begun_none f h true place mode slot ids is n = absurd (false≢true (sym is))
-begun_none f h false place mode slot [] is n = refl
-begun_none f h false place mode slot (a ∷ []) is n = absurd (n refl)
-begun_none f h false place mode slot (a ∷ (b ∷ ids)) is n = refl
+pub begun_none : (f : ℕ → Tree) (new : Tree) (begins : Bool) (place mode slot : ℕ) (ids : List ℕ) → begins ≡ false → length ids ≢ 1
+    → unbuilt ≡ made.variable_of new begins place mode slot (trees_at f ids)
+begun_none f new true place mode slot ids is n = absurd (false≢true (sym is))
+begun_none f new false place mode slot [] is n = refl
+begun_none f new false place mode slot (a ∷ []) is n = absurd (n refl)
+begun_none f new false place mode slot (a ∷ (b ∷ ids)) is n = refl
 
-pub begun_tree : (f : ℕ → Tree) (in_heap begins : Bool) (place mode slot : ℕ) (ids : List ℕ) → begins ≡ false → length ids ≡ 1
-    → assigned_tree in_heap place mode slot (f (get_or ids 0 0)) ≡ made.variable_of (made.new_name in_heap place mode) begins place mode slot (trees_at f ids)
-begun_tree f h true place mode slot ids is n = absurd (false≢true (sym is))
-begun_tree f h false place mode slot [] is n = absurd (omega arith)
-begun_tree f h false place mode slot (a ∷ []) is n = refl
-begun_tree f h false place mode slot (a ∷ (b ∷ ids)) is n = absurd (omega arith)
+pub begun_tree : (f : ℕ → Tree) (new : Tree) (begins : Bool) (place mode slot : ℕ) (ids : List ℕ) → begins ≡ false → length ids ≡ 1
+    → assigned_tree new place mode slot (f (get_or ids 0 0)) ≡ made.variable_of new begins place mode slot (trees_at f ids)
+begun_tree f new true place mode slot ids is n = absurd (false≢true (sym is))
+begun_tree f new false place mode slot [] is n = absurd (omega arith)
+begun_tree f new false place mode slot (a ∷ []) is n = refl
+begun_tree f new false place mode slot (a ∷ (b ∷ ids)) is n = absurd (omega arith)
 
-pub declared_tree : (f : ℕ → Tree) (in_heap begins : Bool) (place mode slot : ℕ) (ids : List ℕ) → begins ≡ true → length ids ≡ 2
-    → assigned_tree in_heap place mode slot (f (get_or ids 1 0)) ≡ made.variable_of (made.new_name in_heap place mode) begins place mode slot (trees_at f ids)
-declared_tree f h false place mode slot ids is n = absurd (false≢true is)
-declared_tree f h true place mode slot [] is n = absurd (omega arith)
-declared_tree f h true place mode slot (a ∷ []) is n = absurd (omega arith)
-declared_tree f h true place mode slot (a ∷ (b ∷ [])) is n = refl
-declared_tree f h true place mode slot (a ∷ (b ∷ (c ∷ ids))) is n = absurd (omega arith)
+pub declared_tree : (f : ℕ → Tree) (new : Tree) (begins : Bool) (place mode slot : ℕ) (ids : List ℕ) → begins ≡ true → length ids ≡ 2
+    → assigned_tree new place mode slot (f (get_or ids 1 0)) ≡ made.variable_of new begins place mode slot (trees_at f ids)
+declared_tree f new false place mode slot ids is n = absurd (false≢true is)
+declared_tree f new true place mode slot [] is n = absurd (omega arith)
+declared_tree f new true place mode slot (a ∷ []) is n = absurd (omega arith)
+declared_tree f new true place mode slot (a ∷ (b ∷ [])) is n = refl
+declared_tree f new true place mode slot (a ∷ (b ∷ (c ∷ ids))) is n = absurd (omega arith)
 
-set_list : (s : List Instr) (m k b : Instr) → (m ∷ []) ++ (s ++ k ∷ b ∷ []) ≡ (((m ∷ (s ++ [])) ++ k ∷ []) ++ []) ++ b ∷ []
-set_list s m k b =
-    sym (ap (λ l. l ++ b ∷ []) (append-nil ((m ∷ (s ++ [])) ++ k ∷ []))
-    ∙ ap (λ l. ((m ∷ l) ++ k ∷ []) ++ b ∷ []) (append-nil s)
-    ∙ append_assoc (m ∷ s) (k ∷ []) (b ∷ []))
+set_list : (n s : List Instr) (k b : Instr) → n ++ (s ++ k ∷ b ∷ []) ≡ (((n ++ (s ++ [])) ++ k ∷ []) ++ []) ++ b ∷ []
+set_list n s k b =
+    sym (ap (λ l. l ++ b ∷ []) (append-nil ((n ++ (s ++ [])) ++ k ∷ []))
+    ∙ ap (λ l. ((n ++ l) ++ k ∷ []) ++ b ∷ []) (append-nil s)
+    ∙ append_assoc (n ++ s) (k ∷ []) (b ∷ [])
+    ∙ append_assoc n s (k ∷ b ∷ []))
 
-pub assigned_list : (in_heap : Bool) (place mode slot at : ℕ) (source : Tree)
-    → (instr place (new_does in_heap mode) ∷ []) ++ (stretch source (at + 1) ++ instr place (does.Store mode) ∷ instr place (does.Bind slot) ∷ [])
-    ≡ stretch (assigned_tree in_heap place mode slot source) at
-assigned_list true place mode slot at source =
-    set_list (stretch source (at + 1)) (instr place (does.Heap mode 0)) (instr place (does.Store mode)) (instr place (does.Bind slot))
-assigned_list false place mode slot at source =
-    set_list (stretch source (at + 1)) (instr place (does.Make mode 0)) (instr place (does.Store mode)) (instr place (does.Bind slot))
+pub assigned_list : (new : Tree) (place mode slot at : ℕ) (source : Tree)
+    → stretch new at ++ (stretch source (at + length (stretch new at)) ++ instr place (does.Store mode) ∷ instr place (does.Bind slot) ∷ [])
+    ≡ stretch (assigned_tree new place mode slot source) at
+assigned_list new place mode slot at source =
+    rw (size_stretch new at) (set_list (stretch new at) (stretch source (at + size new)) (instr place (does.Store mode)) (instr place (does.Bind slot)))
 
 -- ---- what is not built
 

@@ -1,16 +1,18 @@
 -- Each instruction of a stretch finds what it takes, and goes on where the heights say so.
-use Rattle.std.proofs.Common.{◌≡◌, ◌<◌, ◌≤◌, ◌⊎◌, ◌+◌, ℕ, zero, suc, arith, Bool, true, false, IsTrue, List, [], ◌∷◌, length, Some, refl, sym, ap, ◌∙◌, subst, inl, inr, ⊎_elim, nat_lt}
-use Rattle.std.proofs.lemmas.Bool.{lt-ltb}
+use Rattle.std.proofs.Common.{◌≡◌, ◌≢◌, ◌<◌, ◌≤◌, ◌⊎◌, ◌+◌, ℕ, zero, suc, arith, Bool, true, false, IsTrue, List, [], ◌∷◌, length, Some, refl, sym, ap, ◌∙◌, subst, inl, inr, ⊎_elim, nat_lt, nat_eq}
+use Rattle.std.proofs.lemmas.Bool.{lt-ltb, eqb-true, eqb-false}
 use Rattle.std.proofs.lemmas.List.Elements.{All-cons, All-contains, All-from_recursion, Contains-push_cases}
 use Rattle.std.proofs.lemmas.List.Sums.{list_all-from_AllPass}
 use Rattle.std.specs.List.{All, Contains}
 use Rattle.std.specs.Option.{option_map}
-use Rattle.std.specs.Prelude.{not, ◌&&◌, if◌then◌else◌}
+use Rattle.std.specs.Prelude.{not, ◌&&◌, ◌||◌, if◌then◌else◌}
 use Rattle.std.specs.declared.option.Option.{Option}
-use Rattle.a68_acts.specs.Operations.{Operation, constant, skip, nil, routine, tag, make, heap, bind, deref, store, apply, same, compose, select, unite, drop, print, whole, leaves}
-use Rattle.a68_code.specs.Flow.{does_at, takes, landings, one_if, MayMeet}
+use Rattle.a68_acts.specs.Operations.{Operation, constant, skip, nil, routine, tag, make, heap, bind, deref, store, apply, same, slice, display, vacuum, compose, select, unite, row_up, row_up_name, widen, drop, print, whole, leaves}
+use Rattle.a68_code.specs.Flow.{does_at, takes, one_if, MayMeet}
 use Rattle.a68_code.specs.Flow as flow
+use Rattle.a68_code.proofs.Mapping.{from_map}
 use Rattle.a68_code.specs.Operands.{is_well_made}
+use Rattle.a68_code.specs.Walk.{ways}
 use Rattle.a68_code.specs.Order.{IsInOrder}
 use Rattle.a68_code.specs.declared.code.Code.{Code}
 use Rattle.a68_code.specs.declared.code.Instr.{Instr}
@@ -18,11 +20,13 @@ use Rattle.a68_code.specs.declared.does.Does.{Does}
 use Rattle.a68_code.specs.declared.does.Does.TheVariants as does
 use Rattle.a68_code.specs.declared.owner.Owner.{Owner}
 use Rattle.a68_code.specs.declared.owner.Owner.TheVariants as owner
-use Rattle.a68_elab.specs.Trees.{Tree, Trees, operation, together, phrases, range, choice, cases, loop, call, unbuilt, no_trees, ◌and_tree◌, count, Test, no_test, while_in, depth_of}
-use Rattle.a68_gen.proofs.Forward.{forward, forward_index, forward_leaves, forward_arms, forward_test}
-use Rattle.a68_gen.proofs.Heights.{bit, after, after_true, after_false, At, LimitHeights, IndexHeights, OpenHeights, LeaveHeights, HeightsOf, AllHeights, ArmHeights, TestHeights, nothing_more, starts, starts_all, starts_limit, starts_index, starts_leave, starts_test}
-use Rattle.a68_gen.specs.Operands.{FitsModes, FitAll, TestFitsModes}
-use Rattle.a68_gen.specs.Stretches.{Has, Limits, Indexes, Opens, Leaves, Stands, StandAll, StandArms, Tests, with_last, does_of, leave}
+use Rattle.a68_elab.specs.Rows.{is_among}
+use Rattle.a68_elab.specs.Trees.{Tree, Trees, operation, together, phrases, range, choice, cases, conformity, loop, call, unbuilt, no_trees, ◌and_tree◌, count, Specs, no_specs, spec, Test, no_test, while_in, depth_of}
+use Rattle.a68_gen.proofs.Forward.{forward, forward_index, forward_leaves, forward_arms, forward_specs, forward_test}
+use Rattle.a68_gen.proofs.Members.{last_is, some_member, taken_or, members_all}
+use Rattle.a68_gen.proofs.Heights.{bit, after, after_true, after_false, At, LimitHeights, IndexHeights, OpenHeights, LeaveHeights, HeightsOf, AllHeights, ArmHeights, SpecHeights, TestHeights, nothing_more, starts, starts_all, starts_limit, starts_index, starts_leave, starts_test}
+use Rattle.a68_gen.specs.Operands.{FitsModes, FitAll, SpecsFitModes, TestFitsModes}
+use Rattle.a68_gen.specs.Stretches.{Has, Limits, Indexes, Opens, Leaves, Stands, StandAll, StandArms, StandSpecs, Tests, place_for, member_places, wholes_of, with_last, does_of, leave}
 use Rattle.a68_modes.specs.Nodes.{shape_at, is_void}
 use Rattle.a68_modes.specs.declared.shape.Shape.{Shape}
 
@@ -32,50 +36,74 @@ none x i = let h = i.1 in omega arith
 pub only : (x to : ℕ) → Contains (x ∷ []) to → to ≡ x
 only x to i = ⊎_elim (λ j. absurd (none to j)) (λ e. sym e) (Contains-push_cases [] x to i)
 
-either : (x y to : ℕ) → Contains (x ∷ (y ∷ [])) to → (to ≡ x) ⊎ (to ≡ y)
-either x y to i = ⊎_elim (λ j. inl (only x to j)) (λ e. inr (sym e)) (Contains-push_cases (x ∷ []) y to i)
+-- the same of places with their heights
+pub no_way : (x : ℕ × ℕ) → Contains {X = ℕ × ℕ} [] x → ⊥
+no_way x i = let h = i.1 in omega arith
+
+one_way : (x to : ℕ × ℕ) → Contains {X = ℕ × ℕ} (x ∷ []) to → to ≡ x
+one_way x to i = ⊎_elim (λ j. absurd (no_way to j)) (λ e. sym e) (Contains-push_cases [] x to i)
+
+either : (x y to : ℕ × ℕ) → Contains {X = ℕ × ℕ} (x ∷ (y ∷ [])) to → (to ≡ x) ⊎ (to ≡ y)
+either x y to i = ⊎_elim (λ j. inl (one_way x to j)) (λ e. inr (sym e)) (Contains-push_cases (x ∷ []) y to i)
 
 -- the instruction of an operation goes on with the next one, and names no place
 pub record Straight (list : List Instr) (modes : List Shape) (texts count k : ℕ) (op : Operation) (d : Does) : Type 0 where
-  pub lands : landings k d ≡ (k + 1) ∷ []
+  pub lands : (below : ℕ) → ways modes k d below ≡ (k + 1, below + flow.leaves modes d) ∷ []
   pub ordered : IsInOrder list k d
   pub made : is_well_made modes texts count d ≡ is_well_made modes texts 0 d
   pub left : flow.leaves modes d ≡ bit (leaves modes op)
 
 straight : (list : List Instr) (modes : List Shape) (texts c k : ℕ) (op : Operation) (n : ℕ) → Straight list modes texts c k op (does_of op n)
-straight list modes texts c k (constant v) n = record { lands = refl; ordered = tt; made = refl; left = refl }
-straight list modes texts c k (skip m) n = record { lands = refl; ordered = tt; made = refl; left = by_void (is_void (shape_at modes m)) }
+straight list modes texts c k (constant v) n = record { lands = λ below. refl; ordered = tt; made = refl; left = refl }
+straight list modes texts c k (skip m) n = record { lands = λ below. refl; ordered = tt; made = refl; left = by_void (is_void (shape_at modes m)) }
   where
     by_void : (x : Bool) → (if x then 0 else 1) ≡ bit (not x)
     by_void true = refl
     by_void false = refl
-straight list modes texts c k (routine text distance) n = record { lands = refl; ordered = tt; made = refl; left = refl }
-straight list modes texts c k nil n = record { lands = refl; ordered = tt; made = refl; left = refl }
-straight list modes texts c k (tag hops slot) n = record { lands = refl; ordered = tt; made = refl; left = refl }
-straight list modes texts c k (make m bounds) n = record { lands = refl; ordered = tt; made = refl; left = refl }
-straight list modes texts c k (heap m bounds) n = record { lands = refl; ordered = tt; made = refl; left = refl }
-straight list modes texts c k (bind slot) n = record { lands = refl; ordered = tt; made = refl; left = refl }
-straight list modes texts c k (deref m) n = record { lands = refl; ordered = tt; made = refl; left = refl }
-straight list modes texts c k (store m) n = record { lands = refl; ordered = tt; made = refl; left = refl }
-straight list modes texts c k (apply r) n = record { lands = refl; ordered = tt; made = refl; left = refl }
-straight list modes texts c k (same negated) n = record { lands = refl; ordered = tt; made = refl; left = refl }
-straight list modes texts c k (compose fields) n = record { lands = refl; ordered = tt; made = refl; left = refl }
-straight list modes texts c k (select m field) n = record { lands = refl; ordered = tt; made = refl; left = refl }
-straight list modes texts c k (unite m) n = record { lands = refl; ordered = tt; made = refl; left = refl }
-straight list modes texts c k drop n = record { lands = refl; ordered = tt; made = refl; left = refl }
-straight list modes texts c k print n = record { lands = refl; ordered = tt; made = refl; left = refl }
-straight list modes texts c k whole n = record { lands = refl; ordered = tt; made = refl; left = refl }
+straight list modes texts c k (routine text distance) n = record { lands = λ below. refl; ordered = tt; made = refl; left = refl }
+straight list modes texts c k nil n = record { lands = λ below. refl; ordered = tt; made = refl; left = refl }
+straight list modes texts c k (tag hops slot) n = record { lands = λ below. refl; ordered = tt; made = refl; left = refl }
+straight list modes texts c k (make m bounds) n = record { lands = λ below. refl; ordered = tt; made = refl; left = refl }
+straight list modes texts c k (heap m bounds) n = record { lands = λ below. refl; ordered = tt; made = refl; left = refl }
+straight list modes texts c k (bind slot) n = record { lands = λ below. refl; ordered = tt; made = refl; left = refl }
+straight list modes texts c k (deref m) n = record { lands = λ below. refl; ordered = tt; made = refl; left = refl }
+straight list modes texts c k (store m) n = record { lands = λ below. refl; ordered = tt; made = refl; left = refl }
+straight list modes texts c k (apply r) n = record { lands = λ below. refl; ordered = tt; made = refl; left = by_row (nat_eq r 35 || nat_eq r 36) }
+  where
+    by_row : (x : Bool) → (if x then 0 else 1) ≡ bit (not x)
+    by_row true = refl
+    by_row false = refl
+straight list modes texts c k (same negated) n = record { lands = λ below. refl; ordered = tt; made = refl; left = refl }
+straight list modes texts c k (slice forms) n = record { lands = λ below. refl; ordered = tt; made = refl; left = refl }
+straight list modes texts c k (display many mode) n = record { lands = λ below. refl; ordered = tt; made = refl; left = refl }
+straight list modes texts c k (vacuum mode) n = record { lands = λ below. refl; ordered = tt; made = refl; left = refl }
+straight list modes texts c k (compose fields) n = record { lands = λ below. refl; ordered = tt; made = refl; left = refl }
+straight list modes texts c k (select m field) n = record { lands = λ below. refl; ordered = tt; made = refl; left = refl }
+straight list modes texts c k (unite m) n = record { lands = λ below. refl; ordered = tt; made = refl; left = refl }
+straight list modes texts c k (row_up mode) n = record { lands = λ below. refl; ordered = tt; made = refl; left = refl }
+straight list modes texts c k (row_up_name mode) n = record { lands = λ below. refl; ordered = tt; made = refl; left = refl }
+straight list modes texts c k widen n = record { lands = λ below. refl; ordered = tt; made = refl; left = refl }
+straight list modes texts c k drop n = record { lands = λ below. refl; ordered = tt; made = refl; left = refl }
+straight list modes texts c k print n = record { lands = λ below. refl; ordered = tt; made = refl; left = refl }
+straight list modes texts c k whole n = record { lands = λ below. refl; ordered = tt; made = refl; left = refl }
+
+nil-cons : {l : ℕ × ℕ} {ls : List (ℕ × ℕ)} → ◌≡◌ {A = List (ℕ × ℕ)} (l ∷ ls) [] → ⊥
+nil-cons e = let n = ap (λ (x : List (ℕ × ℕ)). length x) e in absurd (omega arith)
 
 -- a way may meet what goes on
-may_meet : (whose : Owner) (d : Does) (h k l : ℕ) (ls : List ℕ) → landings k d ≡ l ∷ ls → MayMeet whose d h
-may_meet owner.Program does.Return h k l ls e = absurd (cc)
-may_meet (owner.Texts yields) does.End h k l ls e = absurd (cc)
-may_meet (owner.Texts yields) does.Return h k l ls e = absurd (cc)
-may_meet whose d h k l ls e = tt
+may_meet : (whose : Owner) (modes : List Shape) (d : Does) (h k below : ℕ) (l : ℕ × ℕ) (ls : List (ℕ × ℕ)) → ways modes k d below ≡ l ∷ ls → MayMeet whose d h
+may_meet owner.Program modes does.Return h k below l ls e = absurd (nil-cons (sym e))
+may_meet (owner.Texts yields) modes does.End h k below l ls e = absurd (nil-cons (sym e))
+may_meet (owner.Texts yields) modes does.Return h k below l ls e = absurd (nil-cons (sym e))
+may_meet whose modes d h k below l ls e = tt
 
 case_meets : (whose : Owner) (places : List ℕ) (h : ℕ) → MayMeet whose (does.Case places) h
 case_meets owner.Program places h = tt
 case_meets (owner.Texts yields) places h = tt
+
+member_meets : (whose : Owner) (mode : ℕ) (places wholes : List ℕ) (h : ℕ) → MayMeet whose (does.Member mode places wholes) h
+member_meets owner.Program mode places wholes h = tt
+member_meets (owner.Texts yields) mode places wholes h = tt
 
 pub bit_is : (b : Bool) → bit b ≡ one_if b
 bit_is true = refl
@@ -87,7 +115,7 @@ pub record Flows (code : Code) (whose : Owner) (W : ℕ → ℕ → Type 0) (k h
   pub is : does_at code.list k ≡ Some does
   pub below : ℕ
   pub finds : below + takes does ≡ h
-  pub leads : (to : ℕ) → Contains (landings k does) to → W to (below + flow.leaves code.modes does)
+  pub leads : (to height : ℕ) → Contains (ways code.modes k does below) (to, height) → W to height
   pub meets : MayMeet whose does h
   pub made : IsTrue (is_well_made code.modes (length code.texts) (length code.list) does)
   pub ordered : IsInOrder code.list k does
@@ -106,30 +134,40 @@ module _ (code : Code) (whose : Owner) (W : ℕ → ℕ → Type 0) (is_inside :
   at_flows : (m c : ℕ) → Flows code whose W m c → (k h : ℕ) → At m c k h → Flows code whose W k h
   at_flows m c f k h x = subst (λ (y : ℕ). Flows code whose W y h) (sym x.0) (subst (Flows code whose W m) (sym x.1) f)
 
+  -- a place with its height
+  at_way : (to h : ℕ) (way : ℕ × ℕ) → ◌≡◌ {A = ℕ × ℕ} way (to, h) → W to h → W way.0 way.1
+  at_way to h way e w = subst (λ (x : ℕ × ℕ). W x.0 x.1) (sym e) w
+
   -- an instruction that goes on with the next one
-  next : (k b p : ℕ) (d : Does) (below c : ℕ) → Has code p d k b → landings k d ≡ (k + 1) ∷ [] → below + takes d ≡ c → W b (below + flow.leaves code.modes d)
+  next : (k b p : ℕ) (d : Does) (below c : ℕ) → Has code p d k b → ways code.modes k d below ≡ (k + 1, below + flow.leaves code.modes d) ∷ [] → below + takes d ≡ c → W b (below + flow.leaves code.modes d)
       → IsTrue (is_well_made code.modes (length code.texts) (length code.list) d) → IsInOrder code.list k d → Flows code whose W k c
   next k b p d below c has lands finds w made ordered = record {
     does = d;
     is = does_is k b p d has;
     below = below;
     finds = finds;
-    leads = λ to i. at_place b to _ _ (only (k + 1) to (subst (λ (l : List ℕ). Contains l to) lands i) ∙ has.1) refl w;
-    meets = may_meet whose d c k (k + 1) [] lands;
+    leads = λ to h i. at_way (k + 1) (below + flow.leaves code.modes d) (to, h)
+        (one_way (k + 1, below + flow.leaves code.modes d) (to, h) (subst (λ (l : List (ℕ × ℕ)). Contains {X = ℕ × ℕ} l (to, h)) lands i))
+        (subst (λ (x : ℕ). W x (below + flow.leaves code.modes d)) (sym has.1) w);
+    meets = may_meet whose code.modes d c k below (k + 1, below + flow.leaves code.modes d) [] lands;
     made = made;
     ordered = ordered;
   }
 
   -- an instruction that goes on with the next one or jumps
-  branch : (k b p : ℕ) (d : Does) (below c to : ℕ) → Has code p d k b → landings k d ≡ (k + 1) ∷ (to ∷ []) → below + takes d ≡ c → W b (below + flow.leaves code.modes d)
+  branch : (k b p : ℕ) (d : Does) (below c to : ℕ) → Has code p d k b
+      → ways code.modes k d below ≡ (k + 1, below + flow.leaves code.modes d) ∷ ((to, below + flow.leaves code.modes d) ∷ []) → below + takes d ≡ c → W b (below + flow.leaves code.modes d)
       → W to (below + flow.leaves code.modes d) → IsTrue (is_well_made code.modes (length code.texts) (length code.list) d) → IsInOrder code.list k d → Flows code whose W k c
   branch k b p d below c x has lands finds w w' made ordered = record {
     does = d;
     is = does_is k b p d has;
     below = below;
     finds = finds;
-    leads = λ to i. ⊎_elim (λ e. at_place b to _ _ (e ∙ has.1) refl w) (λ e. at_place x to _ _ e refl w') (either (k + 1) x to (subst (λ (l : List ℕ). Contains l to) lands i));
-    meets = may_meet whose d c k (k + 1) (x ∷ []) lands;
+    leads = λ to h i.
+        let left = below + flow.leaves code.modes d in
+        ⊎_elim (λ e. at_way (k + 1) left (to, h) e (subst (λ (x : ℕ). W x left) (sym has.1) w)) (λ e. at_way x left (to, h) e w')
+        (either (k + 1, left) (x, left) (to, h) (subst (λ (l : List (ℕ × ℕ)). Contains {X = ℕ × ℕ} l (to, h)) lands i));
+    meets = may_meet whose code.modes d c k below (k + 1, below + flow.leaves code.modes d) ((x, below + flow.leaves code.modes d) ∷ []) lands;
     made = made;
     ordered = ordered;
   }
@@ -140,8 +178,8 @@ module _ (code : Code) (whose : Owner) (W : ℕ → ℕ → Type 0) (is_inside :
     is = does_is k b p (does.Jump x) has;
     below = h;
     finds = omega arith;
-    leads = λ to i. at_place x to _ _ (only x to i) (omega arith) w;
-    meets = may_meet whose (does.Jump x) h k x [] refl;
+    leads = λ to g i. at_way x (h + 0) (to, g) (one_way (x, h + 0) (to, g) i) (at_place x x h (h + 0) refl (omega arith) w);
+    meets = may_meet whose code.modes (does.Jump x) h k h (x, h + 0) [] refl;
     made = is_place x h w;
     ordered = less;
   }
@@ -204,6 +242,32 @@ module _ (code : Code) (whose : Owner) (W : ℕ → ℕ → Type 0) (is_inside :
   arms_all g p e (t and_tree ts) (q ∷ ps) a b s base x P each last =
       All-cons P q (with_last ps x) (subst P (sym s.2) (each a (omega arith) (⊎_elim (λ y. inl y) (λ e. inr (inl (e.0, nothing_more base g e.1))) (starts code g t a s.0 s.3 base))))
       (arms_all g p e ts ps s.1 b s.5 base x P (λ k le y. each k (let f = forward code g t a s.0 s.3 in let z = s.4.1 in omega arith) (inr (inr y))) last)
+
+  -- what holds where the specifications stand, over a value, and at one place more, holds where each member is taken
+  specs_all : (g : Bool) (p e : ℕ) (specs : Specs) (ps : List ℕ) (a b : ℕ) (s : StandSpecs code g p e specs ps a b) (base : ℕ) (P : ℕ → Type 0)
+      → ((k : ℕ) → a ≤ k → k < b → SpecHeights code g p e specs ps a b s base k (base + 1) → P k) → P b → (m : ℕ) → P (place_for m specs ps b)
+  specs_all g p e no_specs [] a b s base P each last m = last
+  specs_all g p e no_specs (q ∷ ps) a b s base P each last m = absurd s
+  specs_all g p e (spec takes true united t behind) [] a b s base P each last m = absurd s
+  specs_all g p e (spec takes false united t behind) [] a b s base P each last m = absurd s
+  specs_all g p e (spec takes true united t behind) (q ∷ ps) a b s base P each last m =
+      let f = forward code g t s.1 s.2 s.8 in let r = forward_specs code g p e behind ps s.4 b s.11 in
+      let i = s.6.1 in let j = s.7.1 in let y = s.9.1 in let z = s.10.1 in
+      taken_or P (is_among m takes) q (place_for m behind ps b) (subst P (sym s.5) (each a (omega arith) (omega arith) (inl (refl, refl))))
+      (specs_all g p e behind ps s.4 b s.11 base P (λ k le less x. each k (omega arith) less (inr (inr (inr (inr (inr x)))))) last m)
+  specs_all g p e (spec takes false united t behind) (q ∷ ps) a b s base P each last m =
+      let f = forward code g t s.0 s.1 s.5 in let r = forward_specs code g p e behind ps s.2 b s.7 in
+      let i = s.4.1 in let z = s.6.1 in
+      taken_or P (is_among m takes) q (place_for m behind ps b) (subst P (sym s.3) (each a (omega arith) (omega arith) (inl (refl, refl))))
+      (specs_all g p e behind ps s.2 b s.7 base P (λ k le less x. each k (omega arith) less (inr (inr (inr x)))) last m)
+
+  -- a place of a Member, by whether it is that for none
+  at_test : (to last base : ℕ) → (to ≡ last → W to base) → (to ≢ last → W to (base + 1)) → W to (base + (if nat_eq to last then 0 else 1))
+  at_test to last base at_last elsewhere = by_test (nat_eq to last) (eqb-true to last) (eqb-false to last)
+    where
+      by_test : (t : Bool) → (t ≡ true → to ≡ last) → (t ≡ false → to ≢ last) → W to (base + (if t then 0 else 1))
+      by_test true alike differ = at_place to to base (base + 0) refl (omega arith) (at_last (alike refl))
+      by_test false alike differ = elsewhere (differ refl)
 
   some_last : (ps : List ℕ) (x : ℕ) → nat_lt 0 (length (with_last ps x)) ≡ true
   some_last [] x = refl
@@ -284,7 +348,7 @@ module _ (code : Code) (whose : Owner) (W : ℕ → ℕ → Type 0) (is_inside :
 
         here : Flows code whose W s.0 (after true parts base)
         here =
-            next s.0 b p (does_of op n) base _ s.4 straightly.lands (ap (λ (x : ℕ). base + x) s.2 ∙ sym (after_true parts base))
+            next s.0 b p (does_of op n) base _ s.4 (straightly.lands base) (ap (λ (x : ℕ). base + x) s.2 ∙ sym (after_true parts base))
             (subst (W b) (ap (λ (x : ℕ). base + x) (ap bit s.1 ∙ sym straightly.left)) out)
             (subst IsTrue (sym straightly.made) fit.0) straightly.ordered
     flows g (together parts) a b s base fit into out k h x =
@@ -355,7 +419,9 @@ module _ (code : Code) (whose : Owner) (W : ℕ → ℕ → Type 0) (is_inside :
           is = does_is s.0 s.1 p (does.Case places) s.5;
           below = base;
           finds = refl;
-          leads = λ to i. at_place to to base (base + 0) refl (omega arith) (All-contains (λ z. W z base) places to led i);
+          leads = λ to h i.
+              let w = from_map (λ (z : ℕ). (z, base + 0)) places (to, h) i in
+              at_way w.0 (base + 0) (to, h) w.2 (at_place w.0 w.0 base (base + 0) refl (omega arith) (All-contains (λ z. W z base) places w.0 led w.1));
           meets = case_meets whose places (base + 1);
           made = both_true (some_last s.3 s.2) (list_all-from_AllPass (λ to. nat_lt to (length code.list)) places inside);
           ordered = list_all-from_AllPass (λ to. nat_lt s.0 to) places onward;
@@ -365,6 +431,57 @@ module _ (code : Code) (whose : Owner) (W : ℕ → ℕ → Type 0) (is_inside :
         (let y = forward_arms code g p b arms s.3 s.1 s.2 s.6 in let z = forward code g final s.2 b s.7 in omega arith) k h x
     flows g (cases p enquiry arms final) a b s base fit into out k h (inr (inr (inr x))) =
         flows g final s.2 b s.7 base fit.2 (λ k h y. into k h (inr (inr (inr y)))) out k h x
+    flows g (conformity p union members yields enquiry specs final) a b s base fit into out k h (inl x) =
+        flows true enquiry a s.0 s.6 base fit.1 (λ k h y. into k h (inl y)) (into s.0 (base + 1) (inr (inl (refl, refl)))) k h x
+    flows g (conformity p union members yields enquiry specs final) a b s base fit into out k h (inr (inl x)) = at_flows s.0 (base + 1) here k h x
+      where
+        places : List ℕ
+        places = member_places members specs s.3 s.2
+
+        last : W s.2 base
+        last = begun g final s.2 b s.9 base (λ k h y. into k h (inr (inr (inr y)))) out
+
+        each : (k : ℕ) → SpecHeights code g p b specs s.3 s.1 s.2 s.8 base k (base + 1) → W k (base + 1)
+        each k y = into k (base + 1) (inr (inr (inl y)))
+
+        behind : s.0 < s.2
+        behind = let y = forward_specs code g p b specs s.3 s.1 s.2 s.8 in let z = s.7.1 in omega arith
+
+        all : (P : ℕ → Type 0) → ((k : ℕ) → s.1 ≤ k → k < s.2 → SpecHeights code g p b specs s.3 s.1 s.2 s.8 base k (base + 1) → P k) → P s.2 → All P (member_places members specs s.3 s.2)
+        all P one final_one = members_all P members specs s.3 s.2 (λ m. specs_all g p b specs s.3 s.1 s.2 s.8 base P one final_one m) final_one
+
+        inside : All (λ to. nat_lt to (length code.list) ≡ true) (member_places members specs s.3 s.2)
+        inside = all (λ to. nat_lt to (length code.list) ≡ true) (λ k le less y. is_place k (base + 1) (each k y)) (is_place s.2 base last)
+
+        onward : All (λ to. nat_lt s.0 to ≡ true) (member_places members specs s.3 s.2)
+        onward = all (λ to. nat_lt s.0 to ≡ true) (λ k le less y. let z = s.7.1 in lt-ltb s.0 k (omega arith)) (lt-ltb s.0 s.2 behind)
+
+        led : All (λ to. W to (base + (if nat_eq to (flow.last_place (member_places members specs s.3 s.2)) then 0 else 1))) (member_places members specs s.3 s.2)
+        led =
+            rw (last_is members specs s.3 s.2)
+            (all (λ to. W to (base + (if nat_eq to s.2 then 0 else 1)))
+            (λ k le less y. at_test k s.2 base (λ e. absurd (omega arith)) (λ e. each k y))
+            (at_test s.2 s.2 base (λ e. last) (λ e. absurd (e refl))))
+
+        here : Flows code whose W s.0 (base + 1)
+        here = record {
+          does = does.Member union places (wholes_of members specs);
+          is = does_is s.0 s.1 p (does.Member union places (wholes_of members specs)) s.7;
+          below = base;
+          finds = refl;
+          leads = λ to h i.
+              let w = from_map (λ (z : ℕ). (z, base + (if nat_eq z (flow.last_place places) then 0 else 1))) places (to, h) i in
+              at_way w.0 (base + (if nat_eq w.0 (flow.last_place places) then 0 else 1)) (to, h) w.2
+              (All-contains (λ z. W z (base + (if nat_eq z (flow.last_place places) then 0 else 1))) places w.0 led w.1);
+          meets = member_meets whose union places (wholes_of members specs) (base + 1);
+          made = both_true fit.0 (both_true (some_member members specs s.3 s.2) (list_all-from_AllPass (λ to. nat_lt to (length code.list)) places inside));
+          ordered = list_all-from_AllPass (λ to. nat_lt s.0 to) places onward;
+        }
+    flows g (conformity p union members yields enquiry specs final) a b s base fit into out k h (inr (inr (inl x))) =
+        specs_flow g p b specs s.3 s.1 s.2 s.8 base fit.2 (λ k h y. into k h (inr (inr (inl y)))) out
+        (let y = forward code g final s.2 b s.9 in omega arith) k h x
+    flows g (conformity p union members yields enquiry specs final) a b s base fit into out k h (inr (inr (inr x))) =
+        flows g final s.2 b s.9 base fit.3 (λ k h y. into k h (inr (inr (inr y)))) out k h x
     flows g (loop p controls limited counts test body) a b s base fit into out k h (inl x) =
         let l = loop_heights g p controls limited counts test body a b s base into in
         flows_all true controls a s.0 s.14 base fit.0 (λ k h y. into k h (inl y)) (subst (W s.0) (sym (after_true controls base ∙ ap (λ (n : ℕ). base + n) s.13)) l.at_c) k h x
@@ -445,6 +562,43 @@ module _ (code : Code) (whose : Owner) (W : ℕ → ℕ → Type 0) (is_inside :
         at_flows s.0 (base + bit g) (jump s.0 s.1 p e (base + bit g) s.4 (let y = forward_arms code g p e ts ps s.1 b s.5 in let z = s.4.1 in omega arith) quit) k h x
     arms_flow g p e (t and_tree ts) (q ∷ ps) a b s base fit into quit le k h (inr (inr x)) =
         arms_flow g p e ts ps s.1 b s.5 base fit.1 (λ k h y. into k h (inr (inr y))) quit le k h x
+
+    -- specifications
+    specs_flow : (g : Bool) (p e : ℕ) (specs : Specs) (ps : List ℕ) (a b : ℕ) (s : StandSpecs code g p e specs ps a b) (base : ℕ) → SpecsFitModes code.modes (length code.texts) specs
+        → ((k h : ℕ) → SpecHeights code g p e specs ps a b s base k h → W k h) → W e (base + bit g) → b ≤ e → (k h : ℕ) → SpecHeights code g p e specs ps a b s base k h → Flows code whose W k h
+    specs_flow g p e no_specs [] a b s base fit into quit le k h x = absurd x
+    specs_flow g p e no_specs (q ∷ ps) a b s base fit into quit le k h x = absurd s
+    specs_flow g p e (spec takes true united t behind) [] a b s base fit into quit le k h x = absurd s
+    specs_flow g p e (spec takes false united t behind) [] a b s base fit into quit le k h x = absurd s
+    specs_flow g p e (spec takes true united t behind) (q ∷ ps) a b s base fit into quit le k h (inl x) =
+        at_flows a (base + 1)
+        (next a s.0 p (does.Enter 1) (base + 1) (base + 1) s.6 refl (omega arith) (at_place s.0 s.0 (base + 1) (base + 1 + 0) refl (omega arith) (into s.0 (base + 1) (inr (inl (refl, refl))))) refl tt) k h x
+    specs_flow g p e (spec takes true united t behind) (q ∷ ps) a b s base fit into quit le k h (inr (inl x)) =
+        at_flows s.0 (base + 1)
+        (next s.0 s.1 p (does.Bind 0) base (base + 1) s.7 refl refl
+        (at_place s.1 s.1 base (base + 0) refl (omega arith)
+        (begun g t s.1 s.2 s.8 base (λ k h y. into k h (inr (inr (inl y)))) (into s.2 (base + bit g) (inr (inr (inr (inl (refl, refl)))))))) refl tt) k h x
+    specs_flow g p e (spec takes true united t behind) (q ∷ ps) a b s base fit into quit le k h (inr (inr (inl x))) =
+        flows g t s.1 s.2 s.8 base fit.0 (λ k h y. into k h (inr (inr (inl y)))) (into s.2 (base + bit g) (inr (inr (inr (inl (refl, refl)))))) k h x
+    specs_flow g p e (spec takes true united t behind) (q ∷ ps) a b s base fit into quit le k h (inr (inr (inr (inl x)))) =
+        at_flows s.2 (base + bit g)
+        (next s.2 s.3 p (leave g) base (base + bit g) s.9 refl (ap (λ (x : ℕ). base + x) (leave_takes g))
+        (subst (W s.3) (ap (λ (x : ℕ). base + x) (sym (leave_leaves g))) (into s.3 (base + bit g) (inr (inr (inr (inr (inl (refl, refl)))))))) (leave_made g) tt) k h x
+    specs_flow g p e (spec takes true united t behind) (q ∷ ps) a b s base fit into quit le k h (inr (inr (inr (inr (inl x))))) =
+        at_flows s.3 (base + bit g) (jump s.3 s.4 p e (base + bit g) s.10 (let y = forward_specs code g p e behind ps s.4 b s.11 in let z = s.10.1 in omega arith) quit) k h x
+    specs_flow g p e (spec takes true united t behind) (q ∷ ps) a b s base fit into quit le k h (inr (inr (inr (inr (inr x))))) =
+        specs_flow g p e behind ps s.4 b s.11 base fit.1 (λ k h y. into k h (inr (inr (inr (inr (inr y)))))) quit le k h x
+    specs_flow g p e (spec takes false united t behind) (q ∷ ps) a b s base fit into quit le k h (inl x) =
+        at_flows a (base + 1)
+        (next a s.0 p does.Drop base (base + 1) s.4 refl refl
+        (at_place s.0 s.0 base (base + 0) refl (omega arith)
+        (begun g t s.0 s.1 s.5 base (λ k h y. into k h (inr (inl y))) (into s.1 (base + bit g) (inr (inr (inl (refl, refl))))))) refl tt) k h x
+    specs_flow g p e (spec takes false united t behind) (q ∷ ps) a b s base fit into quit le k h (inr (inl x)) =
+        flows g t s.0 s.1 s.5 base fit.0 (λ k h y. into k h (inr (inl y))) (into s.1 (base + bit g) (inr (inr (inl (refl, refl))))) k h x
+    specs_flow g p e (spec takes false united t behind) (q ∷ ps) a b s base fit into quit le k h (inr (inr (inl x))) =
+        at_flows s.1 (base + bit g) (jump s.1 s.2 p e (base + bit g) s.6 (let y = forward_specs code g p e behind ps s.2 b s.7 in let z = s.6.1 in omega arith) quit) k h x
+    specs_flow g p e (spec takes false united t behind) (q ∷ ps) a b s base fit into quit le k h (inr (inr (inr x))) =
+        specs_flow g p e behind ps s.2 b s.7 base fit.1 (λ k h y. into k h (inr (inr (inr y)))) quit le k h x
 
     -- the test of a loop
     test_flows : (t : Test) (p f a b : ℕ) (s : Tests code t p f a b) (base : ℕ) → TestFitsModes code.modes (length code.texts) t → ((k h : ℕ) → TestHeights code t p f a b s base k h → W k h)

@@ -1,8 +1,8 @@
 -- A stretch goes forward.
 use Rattle.std.proofs.Common.{◌≡◌, ◌≤◌, ◌+◌, ℕ, zero, suc, arith, Bool, true, false, List, [], ◌∷◌}
 use Rattle.a68_code.specs.declared.code.Code.{Code}
-use Rattle.a68_elab.specs.Trees.{Tree, Trees, operation, together, phrases, range, choice, cases, loop, call, unbuilt, no_trees, ◌and_tree◌, Test, no_test, while_in, depth_of}
-use Rattle.a68_gen.specs.Stretches.{Limits, Indexes, Opens, Leaves, Stands, StandAll, StandArms, Tests}
+use Rattle.a68_elab.specs.Trees.{Tree, Trees, operation, together, phrases, range, choice, cases, conformity, loop, call, unbuilt, no_trees, ◌and_tree◌, Specs, no_specs, spec, Test, no_test, while_in, depth_of}
+use Rattle.a68_gen.specs.Stretches.{Limits, Indexes, Opens, Leaves, Stands, StandAll, StandArms, StandSpecs, Tests}
 
 pub next_is : (k m : ℕ) → k + 1 ≡ m → suc k ≡ m
 next_is k m e = omega arith
@@ -37,6 +37,9 @@ mutual
   forward code g (cases p enquiry arms out) a b s =
       let x = forward code true enquiry a s.0 s.4 in let y = forward_arms code g p b arms s.3 s.1 s.2 s.6 in let z = forward code g out s.2 b s.7 in
       let v = s.5.1 in omega arith
+  forward code g (conformity p union members yields enquiry specs out) a b s =
+      let x = forward code true enquiry a s.0 s.6 in let y = forward_specs code g p b specs s.3 s.1 s.2 s.8 in let z = forward code g out s.2 b s.9 in
+      let v = s.7.1 in omega arith
   forward code g (loop p controls limited counts test body) a b s =
       let x = forward_all code true controls a s.0 s.14 in let y = forward_limit code limited p s.0 s.1 s.15 in let i = forward_index code counts p s.4 s.5 s.19 in
       let o = forward_test code test p s.10 s.5 s.6 s.20 in let z = forward code false body s.6 s.7 s.21 in
@@ -57,6 +60,18 @@ mutual
   forward_arms code g p e (t and_tree ts) [] a b s = absurd s
   forward_arms code g p e (t and_tree ts) (q ∷ ps) a b s =
       let x = forward code g t a s.0 s.3 in let y = forward_arms code g p e ts ps s.1 b s.5 in let z = s.4.1 in omega arith
+
+  pub forward_specs : (code : Code) (g : Bool) (p e : ℕ) (specs : Specs) (ps : List ℕ) (a b : ℕ) → StandSpecs code g p e specs ps a b → a ≤ b
+  forward_specs code g p e no_specs [] a b s = omega arith
+  forward_specs code g p e no_specs (q ∷ ps) a b s = absurd s
+  forward_specs code g p e (spec takes true united t behind) [] a b s = absurd s
+  forward_specs code g p e (spec takes false united t behind) [] a b s = absurd s
+  forward_specs code g p e (spec takes true united t behind) (q ∷ ps) a b s =
+      let x = forward code g t s.1 s.2 s.8 in let y = forward_specs code g p e behind ps s.4 b s.11 in
+      let i = s.6.1 in let j = s.7.1 in let v = s.9.1 in let w = s.10.1 in omega arith
+  forward_specs code g p e (spec takes false united t behind) (q ∷ ps) a b s =
+      let x = forward code g t s.0 s.1 s.5 in let y = forward_specs code g p e behind ps s.2 b s.7 in
+      let v = s.4.1 in let w = s.6.1 in omega arith
 
   pub forward_test : (code : Code) (t : Test) (p f a b : ℕ) → Tests code t p f a b → a ≤ b
   forward_test code no_test p f a b s = omega arith

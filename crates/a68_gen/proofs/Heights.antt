@@ -2,8 +2,8 @@
 use Rattle.std.proofs.Common.{◌≡◌, ◌<◌, ◌≤◌, ◌⊎◌, ◌+◌, ℕ, zero, suc, arith, Bool, true, false, List, [], ◌∷◌, refl, sym, ap, ◌∙◌, subst, inl, inr, ⊎_elim}
 use Rattle.std.proofs.lemmas.Bool.{cases_lt, false≢true}
 use Rattle.a68_code.specs.declared.code.Code.{Code}
-use Rattle.a68_elab.specs.Trees.{Tree, Trees, operation, together, phrases, range, choice, cases, loop, call, unbuilt, no_trees, ◌and_tree◌, count, Test, no_test, while_in, depth_of}
-use Rattle.a68_gen.specs.Stretches.{Limits, Indexes, Opens, Leaves, Stands, StandAll, StandArms, Tests}
+use Rattle.a68_elab.specs.Trees.{Tree, Trees, operation, together, phrases, range, choice, cases, conformity, loop, call, unbuilt, no_trees, ◌and_tree◌, count, Specs, no_specs, spec, Test, no_test, while_in, depth_of}
+use Rattle.a68_gen.specs.Stretches.{Limits, Indexes, Opens, Leaves, Stands, StandAll, StandArms, StandSpecs, Tests}
 
 abbrev pub bit : Bool → ℕ
 bit true = 1
@@ -60,6 +60,9 @@ abbrev mutual
   HeightsOf code g (cases p enquiry arms out) a b s base k h =
       HeightsOf code true enquiry a s.0 s.4 base k h
       ⊎ (At s.0 (base + 1) k h ⊎ (ArmHeights code g p b arms s.3 s.1 s.2 s.6 base k h ⊎ HeightsOf code g out s.2 b s.7 base k h))
+  HeightsOf code g (conformity p union members yields enquiry specs out) a b s base k h =
+      HeightsOf code true enquiry a s.0 s.6 base k h
+      ⊎ (At s.0 (base + 1) k h ⊎ (SpecHeights code g p b specs s.3 s.1 s.2 s.8 base k h ⊎ HeightsOf code g out s.2 b s.9 base k h))
   HeightsOf code g (loop p controls limited counts test body) a b s base k h =
       AllHeights code true controls a s.0 s.14 base k h ⊎ (LimitHeights code limited p s.0 s.1 s.15 base k h ⊎ (At s.1 (base + 3) k h ⊎ (At s.2 (base + 1) k h
       ⊎ (At s.3 (base + 1) k h ⊎ (IndexHeights code counts p s.4 s.5 s.19 base k h ⊎ (TestHeights code test p s.10 s.5 s.6 s.20 (base + 1) k h
@@ -80,6 +83,16 @@ abbrev mutual
   ArmHeights code g p e (t and_tree ts) (q ∷ ps) a b s base k h =
       HeightsOf code g t a s.0 s.3 base k h ⊎ (At s.0 (base + bit g) k h ⊎ ArmHeights code g p e ts ps s.1 b s.5 base k h)
   ArmHeights code g p e _ _ a b s base k h = ⊥
+
+  -- at specifications, which find a value
+  pub SpecHeights : (code : Code) (g : Bool) (p e : ℕ) (specs : Specs) (ps : List ℕ) (a b : ℕ) → StandSpecs code g p e specs ps a b → (base : ℕ) → ℕ → ℕ → Type 0
+  SpecHeights code g p e no_specs [] a b s base k h = ⊥
+  SpecHeights code g p e (spec takes true united t behind) (q ∷ ps) a b s base k h =
+      At a (base + 1) k h ⊎ (At s.0 (base + 1) k h ⊎ (HeightsOf code g t s.1 s.2 s.8 base k h
+      ⊎ (At s.2 (base + bit g) k h ⊎ (At s.3 (base + bit g) k h ⊎ SpecHeights code g p e behind ps s.4 b s.11 base k h))))
+  SpecHeights code g p e (spec takes false united t behind) (q ∷ ps) a b s base k h =
+      At a (base + 1) k h ⊎ (HeightsOf code g t s.0 s.1 s.5 base k h ⊎ (At s.1 (base + bit g) k h ⊎ SpecHeights code g p e behind ps s.2 b s.7 base k h))
+  SpecHeights code g p e _ _ a b s base k h = ⊥
 
   -- at the test of a loop, over so many values
   pub TestHeights : (code : Code) (t : Test) (p f a b : ℕ) → Tests code t p f a b → (base : ℕ) → ℕ → ℕ → Type 0
@@ -158,6 +171,9 @@ mutual
   piece code g (cases p enquiry arms out) a b s base =
       both _ _ _ _ _ (piece code true enquiry a s.0 s.4 base)
       (both _ _ _ _ _ (one s.0 s.1 (base + 1) s.5.1) (both _ _ _ _ _ (arms_piece code g p b arms s.3 s.1 s.2 s.6 base) (piece code g out s.2 b s.7 base)))
+  piece code g (conformity p union members yields enquiry specs out) a b s base =
+      both _ _ _ _ _ (piece code true enquiry a s.0 s.6 base)
+      (both _ _ _ _ _ (one s.0 s.1 (base + 1) s.7.1) (both _ _ _ _ _ (specs_piece code g p b specs s.3 s.1 s.2 s.8 base) (piece code g out s.2 b s.9 base)))
   piece code g (loop p controls limited counts test body) a b s base =
       both _ _ _ _ _ (pieces code true controls a s.0 s.14 base)
       (both _ _ _ _ _ (limit_piece code limited p s.0 s.1 s.15 base)
@@ -188,6 +204,20 @@ mutual
   arms_piece code g p e (t and_tree ts) (q ∷ ps) a b s base =
       both _ _ _ _ _ (piece code g t a s.0 s.3 base) (both _ _ _ _ _ (one s.0 s.1 (base + bit g) s.4.1) (arms_piece code g p e ts ps s.1 b s.5 base))
 
+  specs_piece : (code : Code) (g : Bool) (p e : ℕ) (specs : Specs) (ps : List ℕ) (a b : ℕ) (s : StandSpecs code g p e specs ps a b) (base : ℕ) → Piece a b (SpecHeights code g p e specs ps a b s base)
+  specs_piece code g p e no_specs [] a b s base = nothing a b s
+  specs_piece code g p e no_specs (q ∷ ps) a b s base = absurd s
+  specs_piece code g p e (spec takes true united t behind) [] a b s base = absurd s
+  specs_piece code g p e (spec takes false united t behind) [] a b s base = absurd s
+  specs_piece code g p e (spec takes true united t behind) (q ∷ ps) a b s base =
+      both _ _ _ _ _ (one a s.0 (base + 1) s.6.1)
+      (both _ _ _ _ _ (one s.0 s.1 (base + 1) s.7.1)
+      (both _ _ _ _ _ (piece code g t s.1 s.2 s.8 base)
+      (both _ _ _ _ _ (one s.2 s.3 (base + bit g) s.9.1) (both _ _ _ _ _ (one s.3 s.4 (base + bit g) s.10.1) (specs_piece code g p e behind ps s.4 b s.11 base)))))
+  specs_piece code g p e (spec takes false united t behind) (q ∷ ps) a b s base =
+      both _ _ _ _ _ (one a s.0 (base + 1) s.4.1)
+      (both _ _ _ _ _ (piece code g t s.0 s.1 s.5 base) (both _ _ _ _ _ (one s.1 s.2 (base + bit g) s.6.1) (specs_piece code g p e behind ps s.2 b s.7 base)))
+
   test_piece : (code : Code) (t : Test) (p f a b : ℕ) (s : Tests code t p f a b) (base : ℕ) → Piece a b (TestHeights code t p f a b s base)
   test_piece code no_test p f a b s base = nothing a b s
   test_piece code (while_in at slots t) p f a b s base =
@@ -209,6 +239,7 @@ mutual
   starts code g (range p out n yields within) a b s base = inl (inl (refl, refl))
   starts code g (choice p enquiry if_true if_false) a b s base = ⊎_elim (λ y. inl (inl y)) (λ e. absurd (false≢true (sym e.1))) (starts code true enquiry a s.0 s.4 base)
   starts code g (cases p enquiry arms out) a b s base = ⊎_elim (λ y. inl (inl y)) (λ e. absurd (false≢true (sym e.1))) (starts code true enquiry a s.0 s.4 base)
+  starts code g (conformity p union members yields enquiry specs out) a b s base = ⊎_elim (λ y. inl (inl y)) (λ e. absurd (false≢true (sym e.1))) (starts code true enquiry a s.0 s.6 base)
   starts code g (loop p controls limited counts test body) a b s base =
       ⊎_elim (λ y. inl (inl y)) (λ e. absurd (omega (arith, e.1 ∙ after_true controls base ∙ ap (λ (n : ℕ). base + n) s.13))) (starts_all code true controls a s.0 s.14 base)
   starts code g (call p yields no_trees) a b s base = absurd s

@@ -1,6 +1,10 @@
 pub mod Chaining
+pub mod Conforming
 pub mod Constructs
+pub mod Fitted
 pub mod Fitting
+pub mod FittingChoices
+pub mod FittingParts
 pub mod Flowing
 pub mod Forward
 pub mod Generating
@@ -8,6 +12,7 @@ pub mod Heights
 pub mod Jumping
 pub mod Linking
 pub mod Listed
+pub mod Members
 pub mod Numbering
 pub mod Ordered
 pub mod Patching
@@ -15,5 +20,6 @@ pub mod Places
 pub mod Refusing
 pub mod Sizes
 pub mod Standing
+pub mod Taking
 pub mod Validity
 pub mod Writing

@@ -48,7 +48,7 @@ next_tree program id node note (Some l) place goal ids e f is_choice bare at ask
     let g = behind id (tree_at program) in
     let of : ℕ → ℕ → List ℕ → Tree = λ p q is. choice_of program g p q (not (is_void (shape_at program.modes q))) is in
     ap (tree_at program) same ∙ tree_of_nodes program id node note e f
-    ∙ ap (λ (path : List Coercion). coerced program.modes node.span.from note.mode path (made program g node note node.kind)) bare
+    ∙ ap (λ (path : List Coercion). coerced program.modes node.span.from note.goal note.mode path (made program g node note node.kind)) bare
     ∙ ap (λ (k : NodeKind). made program g node note k) is_choice
     ∙ ap (λ (p : ℕ). of p note.goal node.parts) (sym at) ∙ ap (λ (q : ℕ). of place q node.parts) (sym asked) ∙ ap (λ (is : List ℕ). of place goal is) (sym these) ∙ m g
     ∙ link_behind program id (tree_at program) l within same

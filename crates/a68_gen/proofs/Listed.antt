@@ -6,11 +6,12 @@ use Rattle.a68_base.specs.declared.refusal.Refusal.{Refusal}
 use Rattle.a68_code.specs.declared.code.Code.{Code}
 use Rattle.a68_code.specs.declared.code.Instr.{Instr}
 use Rattle.a68_code.specs.declared.code.RoutineEntrance.{RoutineEntrance}
+use Rattle.a68_code.specs.declared.does.Does.{Does}
 use Rattle.a68_code.specs.declared.does.Does.TheVariants as does
-use Rattle.a68_elab.specs.Trees.{Tree, Trees, operation, together, phrases, range, choice, cases, loop, call, unbuilt, no_trees, ◌and_tree◌, count, Test, no_test, while_in, depth_of, Body, Program}
-use Rattle.a68_gen.specs.Listing.{instr, limits, indexes, opens, leaves, size, sizes, test_size, arm_places, stretch, stretches, arm_stretches, test_stretch, text_size, text_stretches, entrances, listing, entrances_of}
-use Rattle.a68_gen.proofs.Sizes.{size_leaves, size_stretch, size_stretches, size_arms, size_test}
-use Rattle.a68_gen.specs.Stretches.{does_of, leave, Limits, Indexes, Opens, Leaves, Stands, StandAll, StandArms, Tests, StandTexts, with_last, Translates}
+use Rattle.a68_elab.specs.Trees.{Tree, Trees, operation, together, phrases, range, choice, cases, conformity, loop, call, unbuilt, no_trees, ◌and_tree◌, count, Specs, no_specs, spec, Test, no_test, while_in, depth_of, Body, Program}
+use Rattle.a68_gen.specs.Listing.{instr, limits, indexes, opens, leaves, size, sizes, spec_sizes, test_size, arm_places, spec_places, stretch, stretches, arm_stretches, spec_stretches, test_stretch, text_size, text_stretches, entrances, listing, entrances_of}
+use Rattle.a68_gen.proofs.Sizes.{size_leaves, size_stretch, size_stretches, size_arms, size_specs, size_test}
+use Rattle.a68_gen.specs.Stretches.{does_of, leave, Limits, Indexes, Opens, Leaves, Stands, StandAll, StandArms, StandSpecs, Tests, StandTexts, member_places, wholes_of, with_last, Translates}
 use Rattle.a68_gen.specs.Writing.{IsTooLong, most, places}
 use Rattle.a68_modes.specs.declared.shape.Shape.{Shape}
 
@@ -117,6 +118,30 @@ cases_part list place a m m' x b n1 n2 n3 n4 ps all first f g l1 l2 l3 same p i 
     let w2 = subst (λ (z : ℕ). Part list a (cases_form place first f g (all M) M z b) b) e2 w1 in
     subst (λ (z : ℕ). Part list a (cases_form place first f g (all M) M X z) b) e3 w2
 
+-- a choice among specifications, with these places
+abbrev specs_form : (place : ℕ) (first : List Instr) (d : List ℕ → ℕ → Does) (f : ℕ → ℕ → List Instr) (g : ℕ → List Instr) (ps : List ℕ) (m x e : ℕ) → List Instr
+specs_form place first d f g ps m x e = first ++ (instr place (d ps x) ∷ (f e m ++ g x))
+
+specs_whole : (list : List Instr) (place a m m' x b n1 n2 n3 : ℕ) (ps : List ℕ) (all : ℕ → List ℕ) (first : List Instr) (d : List ℕ → ℕ → Does) (f : ℕ → ℕ → List Instr) (g : ℕ → List Instr)
+    → length first ≡ n1 → ((y z : ℕ) → length (f y z) ≡ n2) → ((z : ℕ) → length (g z) ≡ n3) → ps ≡ all m' → Part list a first m → slice_get list m ≡ Some (instr place (d ps x)) → m + 1 ≡ m'
+    → Part list m' (f b m') x → Part list x (g x) b
+    → Part list a (
+    let M = a + n1 + 1 in
+    let X = M + n2 in
+    specs_form place first d f g (all M) M X (X + n3)) b
+specs_whole list place a m m' x b n1 n2 n3 ps all first d f g l1 l2 l3 same p i n q r =
+    let M = a + n1 + 1 in
+    let e1 : m' ≡ M = (let e = p.ends in omega arith) in
+    let X = M + n2 in
+    let e2 : x ≡ X = (let e = q.ends in omega (arith, l2 b m')) in
+    let e3 : b ≡ X + n3 = (let e = r.ends in omega (arith, l3 x)) in
+    let member = instr place (d ps x) in
+    let w = behind list a m b first (member ∷ (f b m' ++ g x)) p (one list m m' b member (f b m' ++ g x) i n (behind list m' x b (f b m') (g x) q r)) in
+    let w0 = subst (λ (z : List ℕ). Part list a (specs_form place first d f g z m' x b) b) same w in
+    let w1 = subst (λ (z : ℕ). Part list a (specs_form place first d f g (all z) z x b) b) e1 w0 in
+    let w2 = subst (λ (z : ℕ). Part list a (specs_form place first d f g (all M) M z b) b) e2 w1 in
+    subst (λ (z : ℕ). Part list a (specs_form place first d f g (all M) M X z) b) e3 w2
+
 -- a loop, with these places
 abbrev loop_form : (place : ℕ) (first lim idx out : List Instr) (f : ℕ → ℕ → List Instr) (g : ℕ → List Instr) (t w x q e : ℕ) → List Instr
 loop_form place first lim idx out f g t w x q e =
@@ -191,6 +216,11 @@ mutual
       cases_part code.list place a s.0 s.1 s.2 b (size enquiry) (sizes arms) (count arms) (size out) s.3 (arm_places arms) (stretch enquiry a) (λ y z. arm_stretches place y arms z) (λ z. stretch out z)
       (size_stretch enquiry a) (λ y z. size_arms place y arms z) (λ z. size_stretch out z) (arms_places code gives place b arms s.3 s.1 s.2 s.6)
       (part code true enquiry a s.0 s.4) s.5.0 s.5.1 (arms_part code gives place b arms s.3 s.1 s.2 s.6) (part code gives out s.2 b s.7)
+  part code gives (conformity place union members yields enquiry specs out) a b s =
+      specs_whole code.list place a s.0 s.1 s.2 b (size enquiry) (spec_sizes specs) (size out) s.3 (spec_places specs) (stretch enquiry a)
+      (λ ps x. does.Member union (member_places members specs ps x) (wholes_of members specs)) (λ y z. spec_stretches place y yields specs z) (λ z. stretch out z)
+      (size_stretch enquiry a) (λ y z. size_specs place y yields specs z) (λ z. size_stretch out z) (specs_places code gives place b specs s.3 s.1 s.2 s.8)
+      (part code true enquiry a s.0 s.6) s.7.0 s.7.1 (specs_part code gives yields place b specs s.3 s.1 s.2 s.4 s.8) (part code gives out s.2 b s.9)
   part code gives (loop place controls limited counts test body) a b s =
       let k = depth_of counts test in
       loop_part code.list place a s.0 s.1 s.2 s.3 s.4 s.5 s.6 s.7 s.8 s.9 s.10 s.11 b (sizes controls) (test_size test) (size body) k
@@ -231,6 +261,56 @@ mutual
       let next = s.4.1 in
       let same : s.1 ≡ a + size tree + 1 = omega arith in
       ap (λ (x : ℕ). x ∷ ps) s.2 ∙ ap (λ (l : List ℕ). a ∷ l) (arms_places code gives place e trees ps s.1 b s.5) ∙ ap (λ (z : ℕ). a ∷ arm_places trees z) same
+
+  specs_part : (code : Code) (gives yields : Bool) (place e : ℕ) (specs : Specs) (ps : List ℕ) (a b : ℕ) → gives ≡ yields → StandSpecs code gives place e specs ps a b
+      → Part code.list a (spec_stretches place e yields specs a) b
+  specs_part code gives yields place e no_specs [] a b eg s = none code.list a b s
+  specs_part code gives yields place e no_specs (p ∷ ps) a b eg s = absurd s
+  specs_part code gives yields place e (spec takes true united tree others) [] a b eg s = absurd s
+  specs_part code gives yields place e (spec takes false united tree others) [] a b eg s = absurd s
+  specs_part code gives yields place e (spec takes true united tree others) (p ∷ ps) a b eg s =
+      let l = instr place (leave yields) in
+      let jump = instr place (does.Jump e) in
+      let n : s.1 ≡ a + 2 = (let x = s.6.1 in let y = s.7.1 in omega arith) in
+      let body = part code gives tree s.1 s.2 s.8 in
+      let next : s.4 ≡ a + (3 + size tree + 1) = (let x = body.ends in let k = size_stretch tree s.1 in let y = s.9.1 in let z = s.10.1 in omega arith) in
+      let rest : Part code.list s.4 (spec_stretches place e yields others (a + (3 + size tree + 1))) b =
+      subst (λ (z : ℕ). Part code.list s.4 (spec_stretches place e yields others z) b) next (specs_part code gives yields place e others ps s.4 b eg s.11) in
+      let behind_part = spec_stretches place e yields others (a + (3 + size tree + 1)) in
+      let left : slice_get code.list s.2 ≡ Some l = s.9.0 ∙ ap (λ (x : Bool). Some (instr place (leave x))) eg in
+      let tail = behind code.list s.1 s.2 b (stretch tree s.1) (l ∷ jump ∷ behind_part) body (one code.list s.2 s.3 b l (jump ∷ behind_part) left s.9.1 (one code.list s.3 s.4 b jump behind_part s.10.0 s.10.1 rest)) in
+      let placed = subst (λ (z : ℕ). Part code.list s.1 (stretch tree z ++ (l ∷ jump ∷ behind_part)) b) n tail in
+      one code.list a s.0 b (instr place (does.Enter 1)) (instr place (does.Bind 0) ∷ (stretch tree (a + 2) ++ (l ∷ jump ∷ behind_part))) s.6.0 s.6.1
+      (one code.list s.0 s.1 b (instr place (does.Bind 0)) (stretch tree (a + 2) ++ (l ∷ jump ∷ behind_part)) s.7.0 s.7.1 placed)
+  specs_part code gives yields place e (spec takes false united tree others) (p ∷ ps) a b eg s =
+      let jump = instr place (does.Jump e) in
+      let n : s.0 ≡ a + 1 = (let x = s.4.1 in omega arith) in
+      let body = part code gives tree s.0 s.1 s.5 in
+      let next : s.2 ≡ a + (1 + size tree + 1) = (let x = body.ends in let k = size_stretch tree s.0 in let z = s.6.1 in omega arith) in
+      let behind_part = spec_stretches place e yields others (a + (1 + size tree + 1)) in
+      let rest : Part code.list s.2 behind_part b =
+      subst (λ (z : ℕ). Part code.list s.2 (spec_stretches place e yields others z) b) next (specs_part code gives yields place e others ps s.2 b eg s.7) in
+      let tail = behind code.list s.0 s.1 b (stretch tree s.0) (jump ∷ behind_part) body (one code.list s.1 s.2 b jump behind_part s.6.0 s.6.1 rest) in
+      let placed = subst (λ (z : ℕ). Part code.list s.0 (stretch tree z ++ (jump ∷ behind_part)) b) n tail in
+      one code.list a s.0 b (instr place does.Drop) (stretch tree (a + 1) ++ (jump ∷ behind_part)) s.4.0 s.4.1 placed
+
+  specs_places : (code : Code) (gives : Bool) (place e : ℕ) (specs : Specs) (ps : List ℕ) (a b : ℕ) → StandSpecs code gives place e specs ps a b → ps ≡ spec_places specs a
+  specs_places code gives place e no_specs [] a b s = refl
+  specs_places code gives place e no_specs (p ∷ ps) a b s = absurd s
+  specs_places code gives place e (spec takes true united tree others) [] a b s = absurd s
+  specs_places code gives place e (spec takes false united tree others) [] a b s = absurd s
+  specs_places code gives place e (spec takes true united tree others) (p ∷ ps) a b s =
+      let ends = (part code gives tree s.1 s.2 s.8).ends in
+      let long = size_stretch tree s.1 in
+      let x = s.6.1 in let y = s.7.1 in let z = s.9.1 in let w = s.10.1 in
+      let same : s.4 ≡ a + (3 + size tree + 1) = omega arith in
+      ap (λ (x : ℕ). x ∷ ps) s.5 ∙ ap (λ (l : List ℕ). a ∷ l) (specs_places code gives place e others ps s.4 b s.11) ∙ ap (λ (z : ℕ). a ∷ spec_places others z) same
+  specs_places code gives place e (spec takes false united tree others) (p ∷ ps) a b s =
+      let ends = (part code gives tree s.0 s.1 s.5).ends in
+      let long = size_stretch tree s.0 in
+      let x = s.4.1 in let w = s.6.1 in
+      let same : s.2 ≡ a + (1 + size tree + 1) = omega arith in
+      ap (λ (x : ℕ). x ∷ ps) s.3 ∙ ap (λ (l : List ℕ). a ∷ l) (specs_places code gives place e others ps s.2 b s.7) ∙ ap (λ (z : ℕ). a ∷ spec_places others z) same
 
   test_part : (code : Code) (test : Test) (place f a b : ℕ) → Tests code test place f a b → Part code.list a (test_stretch place f test a) b
   test_part code no_test place f a b s = none code.list a b s

@@ -1,11 +1,12 @@
 -- Choices by a number: the parts written one behind the other, and what is patched.
 use Rattle.std.proofs.Common.{◌≡◌, ◌⊎◌, inl, inr, ◌<◌, ℕ, suc, ◌+◌, Bool, List, [], ◌∷◌, ◌++◌, length, refl, sym, ◌∙◌, ap, subst, arith, append_assoc, length-append, None, lt-ltb}
 use Rattle.std.specs.Option.{option_map_or}
-use Rattle.std.specs.Prelude.{if◌then◌else◌}
+use Rattle.std.specs.Prelude.{slice_set, if◌then◌else◌}
 use Rattle.std.specs.declared.option.Option.{Option}
 use Rattle.a68_base.specs.declared.refusal.Stop.{Stop}
-use Rattle.a68_builder.specs.Aiming.{aimed_at, names, names_at}
+use Rattle.a68_builder.specs.Aiming.{aimed, aimed_at, names, names_at}
 use Rattle.a68_code.specs.declared.code.Instr.{Instr}
+use Rattle.a68_code.specs.declared.does.Does.{Does}
 use Rattle.a68_code.specs.declared.does.Does.TheVariants as does
 use Rattle.a68_elab.specs.Made.{framed}
 use Rattle.a68_elab.specs.Trees.{Tree, Trees, cases, no_trees, ◌and_tree◌, count, while_in}
@@ -61,30 +62,41 @@ aim_arms place end (t and_tree ts) front rest at e =
     ∙ ap (λ (l : List Instr). aim_all l (arm_jumps ts next) end) (aim-middle (front ++ q) (a0 ++ rest) j0 (at + size t) 0 end here ∙ sym (append_assoc (front ++ q) (je ∷ []) (a0 ++ rest)))
     ∙ aim_arms place end ts front2 rest next long ∙ append_assoc (front ++ q) (je ∷ []) (ae ++ rest) ∙ sym (apart je ae)
 
--- ---- the places of Case
+-- ---- the places of Case and Member
 
-put_one : (front rest : List Instr) (place at p z : ℕ) (done zs : List ℕ) → at ≡ length front
-    → put_at (front ++ (instr place (does.Case (done ++ z ∷ zs)) ∷ rest)) at (length done) p ≡ front ++ (instr place (does.Case (done ++ p ∷ zs)) ∷ rest)
-put_one front rest place at p z done zs e =
-    let y = instr place (does.Case (done ++ z ∷ zs)) in
-    let list = front ++ (y ∷ rest) in
-    let many : names_at list at ≡ length (done ++ z ∷ zs) = ap (λ (o : Option Instr). option_map_or (λ (i : Instr). names i.does) o 0) (get-middle front rest y at e) in
-    let less : length done < names_at list at = omega (arith, many, length-append done (z ∷ zs)) in
-    ap (λ (b : Bool). if b then aimed_at list at (length done) p else list) (lt-ltb (length done) (names_at list at) less)
-    ∙ aim-middle front rest y at (length done) p e
-    ∙ ap (λ (ps : List ℕ). front ++ (instr place (does.Case ps) ∷ rest)) (set-middle done zs z p (length done) refl)
+-- an instruction of so many places, each of which can be put anew
+pub record NamesAll (c : List ℕ → Does) : Type 0 where
+  pub many : (l : List ℕ) → names (c l) ≡ length l
+  pub put : (l : List ℕ) (k p : ℕ) → aimed (c l) k p ≡ c (slice_set l k p)
 
-put_places : (front rest : List Instr) (place at : ℕ) (ps done zs : List ℕ) → at ≡ length front → length zs ≡ length ps
-    → put_all (front ++ (instr place (does.Case (done ++ zs)) ∷ rest)) at (length done) ps ≡ front ++ (instr place (does.Case (done ++ ps)) ∷ rest)
-put_places front rest place at [] done [] e n = refl
-put_places front rest place at [] done (z ∷ zs) e n = absurd (omega arith)
-put_places front rest place at (p ∷ ps) done [] e n = absurd (omega arith)
-put_places front rest place at (p ∷ ps) done (z ∷ zs) e n =
-    let whole : List ℕ → List Instr = λ l. front ++ (instr place (does.Case l) ∷ rest) in
-    let more : (l : List ℕ) → done ++ (p ∷ l) ≡ (done ++ p ∷ []) ++ l = λ l. sym (append_assoc done (p ∷ []) l) in
-    ap (λ (l : List Instr). put_all l at (length done + 1) ps) (put_one front rest place at p z done zs e ∙ ap whole (more zs))
-    ∙ ap (λ (k : ℕ). put_all (whole ((done ++ p ∷ []) ++ zs)) at k ps) (sym (length-append done (p ∷ [])))
-    ∙ put_places front rest place at ps (done ++ p ∷ []) zs e (omega arith) ∙ ap whole (sym (more ps))
+case_names : NamesAll (λ l. does.Case l)
+case_names = record { many = λ l. refl; put = λ l k p. refl }
+
+module _ (c : List ℕ → Does) (all : NamesAll c) where
+  put_one : (front rest : List Instr) (place at p z : ℕ) (done zs : List ℕ) → at ≡ length front
+      → put_at (front ++ (instr place (c (done ++ z ∷ zs)) ∷ rest)) at (length done) p ≡ front ++ (instr place (c (done ++ p ∷ zs)) ∷ rest)
+  put_one front rest place at p z done zs e =
+      let y = instr place (c (done ++ z ∷ zs)) in
+      let list = front ++ (y ∷ rest) in
+      let many : names_at list at ≡ length (done ++ z ∷ zs) =
+      ap (λ (o : Option Instr). option_map_or (λ (i : Instr). names i.does) o 0) (get-middle front rest y at e) ∙ all.many (done ++ z ∷ zs) in
+      let less : length done < names_at list at = omega (arith, many, length-append done (z ∷ zs)) in
+      ap (λ (b : Bool). if b then aimed_at list at (length done) p else list) (lt-ltb (length done) (names_at list at) less)
+      ∙ aim-middle front rest y at (length done) p e
+      ∙ ap (λ (d : Does). front ++ (instr place d ∷ rest)) (all.put (done ++ z ∷ zs) (length done) p)
+      ∙ ap (λ (ps : List ℕ). front ++ (instr place (c ps) ∷ rest)) (set-middle done zs z p (length done) refl)
+
+  pub put_places : (front rest : List Instr) (place at : ℕ) (ps done zs : List ℕ) → at ≡ length front → length zs ≡ length ps
+      → put_all (front ++ (instr place (c (done ++ zs)) ∷ rest)) at (length done) ps ≡ front ++ (instr place (c (done ++ ps)) ∷ rest)
+  put_places front rest place at [] done [] e n = refl
+  put_places front rest place at [] done (z ∷ zs) e n = absurd (omega arith)
+  put_places front rest place at (p ∷ ps) done [] e n = absurd (omega arith)
+  put_places front rest place at (p ∷ ps) done (z ∷ zs) e n =
+      let whole : List ℕ → List Instr = λ l. front ++ (instr place (c l) ∷ rest) in
+      let more : (l : List ℕ) → done ++ (p ∷ l) ≡ (done ++ p ∷ []) ++ l = λ l. sym (append_assoc done (p ∷ []) l) in
+      ap (λ (l : List Instr). put_all l at (length done + 1) ps) (put_one front rest place at p z done zs e ∙ ap whole (more zs))
+      ∙ ap (λ (k : ℕ). put_all (whole ((done ++ p ∷ []) ++ zs)) at k ps) (sym (length-append done (p ∷ [])))
+      ∙ put_places front rest place at ps (done ++ p ∷ []) zs e (omega arith) ∙ ap whole (sym (more ps))
 
 -- ---- the whole
 
@@ -112,7 +124,7 @@ case_patched l0 l3 l4 l5 place end zs starts jumps ts o is nz es ej ee e4 e5 =
     let many : length zs ≡ length last =
     nz ∙ sym (ap (λ (l : List ℕ). length l) (sym (last_behind (arm_places ts m) x)) ∙ length-append (arm_places ts m) (x ∷ []) ∙ ap (λ (n : ℕ). n + 1) (count_places ts m)) in
     e5 ∙ ap (λ (l : List Instr). put_all l (length l0) 0 starts) four ∙ ap (λ (ps : List ℕ). put_all (l0 ++ (cz ∷ after)) (length l0) 0 ps) same
-    ∙ put_places l0 after place (length l0) last [] zs refl many
+    ∙ put_places (λ l. does.Case l) case_names l0 after place (length l0) last [] zs refl many
 
 case_places : (l0 : List Instr) (place : ℕ) (zs : List ℕ) (ts : Trees) (o : Tree) →
     let m = length l0 + 1 in

@@ -5,11 +5,11 @@ use Rattle.a68_base.specs.declared.refusal.Refusal.{Refusal}
 use Rattle.a68_code.specs.declared.code.Code.{Code}
 use Rattle.a68_code.specs.declared.code.Instr.{Instr}
 use Rattle.a68_code.specs.declared.does.Does.TheVariants as does
-use Rattle.a68_elab.specs.Places.{BeginsBy, AllBeginBy, TestBeginsBy, TextsBeginBy, ProgramBeginsBy}
-use Rattle.a68_elab.specs.Trees.{Tree, Trees, operation, together, phrases, range, choice, cases, loop, call, unbuilt, no_trees, ◌and_tree◌, count, Test, no_test, while_in, depth_of, Body, Program}
-use Rattle.a68_gen.specs.Listing.{instr, limits, indexes, opens, leaves, size, sizes, test_size, arm_places, stretch, stretches, arm_stretches, test_stretch, text_size, text_stretches, listing}
+use Rattle.a68_elab.specs.Places.{BeginsBy, AllBeginBy, SpecsBeginBy, TestBeginsBy, TextsBeginBy, ProgramBeginsBy}
+use Rattle.a68_elab.specs.Trees.{Tree, Trees, operation, together, phrases, range, choice, cases, conformity, loop, call, unbuilt, no_trees, ◌and_tree◌, count, Specs, no_specs, spec, Test, no_test, while_in, depth_of, Body, Program}
+use Rattle.a68_gen.specs.Listing.{instr, limits, indexes, opens, leaves, size, sizes, spec_sizes, test_size, arm_places, spec_places, stretch, stretches, arm_stretches, spec_stretches, test_stretch, text_size, text_stretches, listing}
 use Rattle.a68_gen.proofs.Listed.{listed}
-use Rattle.a68_gen.specs.Stretches.{does_of, leave, with_last, Translates}
+use Rattle.a68_gen.specs.Stretches.{does_of, leave, member_places, wholes_of, with_last, Translates}
 use Rattle.a68_gen.specs.Writing.{IsTooLong, most, places}
 
 -- the construct of each instruction begins at this byte or before it
@@ -69,6 +69,12 @@ module _ (end : ℕ) where
         let each = arm_stretches place (x + size out) arms m in
         lie-append (stretch enquiry at) (instr place (does.Case (with_last (arm_places arms m) x)) ∷ (each ++ stretch out x)) (lies enquiry at b.1)
         (b.0, lie-append each (stretch out x) (arms_lie place (x + size out) arms m b.0 b.2) (lies out x b.3))
+    lies (conformity place union members yields enquiry specs out) at b =
+        let m = at + size enquiry + 1 in
+        let x = m + spec_sizes specs in
+        let each = spec_stretches place (x + size out) yields specs m in
+        lie-append (stretch enquiry at) (instr place (does.Member union (member_places members specs (spec_places specs m) x) (wholes_of members specs)) ∷ (each ++ stretch out x)) (lies enquiry at b.1)
+        (b.0, lie-append each (stretch out x) (specs_lie place (x + size out) yields specs m b.0 b.2) (lies out x b.3))
     lies (loop place controls limited counts test body) at b =
         let n = depth_of counts test in
         let out = leaves place n in
@@ -105,6 +111,21 @@ module _ (end : ℕ) where
     arms_lie place e (tree and_tree trees) at p b =
         let m = at + size tree + 1 in
         lie-append (stretch tree at) (instr place (does.Jump e) ∷ arm_stretches place e trees m) (lies tree at b.0) (p, arms_lie place e trees m p b.1)
+
+    specs_lie : (place e : ℕ) (yields : Bool) (specs : Specs) (at : ℕ) → place ≤ end → SpecsBeginBy end specs → LieBy end (spec_stretches place e yields specs at)
+    specs_lie place e yields no_specs at p b = tt
+    specs_lie place e yields (spec takes true united part behind) at p b =
+        let n = at + (3 + size part + 1) in (
+          p,
+          (
+            p,
+            lie-append (stretch part (at + 2)) (instr place (leave yields) ∷ instr place (does.Jump e) ∷ spec_stretches place e yields behind n) (lies part (at + 2) b.0)
+                (p, (p, specs_lie place e yields behind n p b.1)),
+          ),
+        )
+    specs_lie place e yields (spec takes false united part behind) at p b =
+        let n = at + (1 + size part + 1) in
+        (p, lie-append (stretch part (at + 1)) (instr place (does.Jump e) ∷ spec_stretches place e yields behind n) (lies part (at + 1) b.0) (p, specs_lie place e yields behind n p b.1))
 
     test_lies : (place f : ℕ) (test : Test) (at : ℕ) → place ≤ end → TestBeginsBy end test → LieBy end (test_stretch place f test at)
     test_lies place f no_test at p b = tt

@@ -1,9 +1,9 @@
 -- How long a stretch is.
-use Rattle.std.proofs.Common.{◌≡◌, ℕ, zero, suc, ◌+◌, [], ◌∷◌, ◌++◌, length, refl, ap, arith, length-append}
+use Rattle.std.proofs.Common.{◌≡◌, ℕ, zero, suc, ◌+◌, Bool, true, false, [], ◌∷◌, ◌++◌, length, refl, ap, arith, length-append}
 use Rattle.a68_code.specs.declared.does.Does.TheVariants as does
-use Rattle.a68_elab.specs.Trees.{Tree, Trees, operation, together, phrases, range, choice, cases, loop, call, unbuilt, no_trees, ◌and_tree◌, count, Test, no_test, while_in, depth_of}
-use Rattle.a68_gen.specs.Listing.{instr, limits, indexes, opens, leaves, size, sizes, test_size, arm_places, stretch, stretches, arm_stretches, test_stretch}
-use Rattle.a68_gen.specs.Stretches.{does_of, leave, with_last}
+use Rattle.a68_elab.specs.Trees.{Tree, Trees, operation, together, phrases, range, choice, cases, conformity, loop, call, unbuilt, no_trees, ◌and_tree◌, count, Specs, no_specs, spec, Test, no_test, while_in, depth_of}
+use Rattle.a68_gen.specs.Listing.{instr, limits, indexes, opens, leaves, size, sizes, spec_sizes, test_size, arm_places, spec_places, stretch, stretches, arm_stretches, spec_stretches, test_stretch}
+use Rattle.a68_gen.specs.Stretches.{does_of, leave, member_places, wholes_of, with_last}
 
 pub size_leaves : (place n : ℕ) → length (leaves place n) ≡ n
 size_leaves place zero = refl
@@ -36,6 +36,17 @@ mutual
         arith,
         length-append (stretch enquiry at) (instr place (does.Case (with_last (arm_places arms m) x)) ∷ (arm_stretches place e arms m ++ stretch out x)),
         length-append (arm_stretches place e arms m) (stretch out x),
+      )
+  size_stretch (conformity place union members yields enquiry specs out) at =
+      let m = at + size enquiry + 1 in
+      let x = m + spec_sizes specs in
+      let e = x + size out in
+      let s1 = size_stretch enquiry at in let s2 = size_specs place e yields specs m in let s3 = size_stretch out x in
+      omega (
+        arith,
+        length-append (stretch enquiry at)
+            (instr place (does.Member union (member_places members specs (spec_places specs m) x) (wholes_of members specs)) ∷ (spec_stretches place e yields specs m ++ stretch out x)),
+        length-append (spec_stretches place e yields specs m) (stretch out x),
       )
   size_stretch (loop place controls limited counts test body) at =
       let n = depth_of counts test in
@@ -82,6 +93,17 @@ mutual
       let m = at + size tree + 1 in
       let s = size_stretch tree at in let t = size_arms place e trees m in
       omega (arith, length-append (stretch tree at) (instr place (does.Jump e) ∷ arm_stretches place e trees m))
+
+  pub size_specs : (place e : ℕ) (yields : Bool) (specs : Specs) (at : ℕ) → length (spec_stretches place e yields specs at) ≡ spec_sizes specs
+  size_specs place e yields no_specs at = refl
+  size_specs place e yields (spec takes true united part behind) at =
+      let rest = spec_stretches place e yields behind (at + (3 + size part + 1)) in
+      let s = size_stretch part (at + 2) in let t = size_specs place e yields behind (at + (3 + size part + 1)) in
+      omega (arith, length-append (stretch part (at + 2)) (instr place (leave yields) ∷ instr place (does.Jump e) ∷ rest))
+  size_specs place e yields (spec takes false united part behind) at =
+      let rest = spec_stretches place e yields behind (at + (1 + size part + 1)) in
+      let s = size_stretch part (at + 1) in let t = size_specs place e yields behind (at + (1 + size part + 1)) in
+      omega (arith, length-append (stretch part (at + 1)) (instr place (does.Jump e) ∷ rest))
 
   pub size_test : (place f : ℕ) (test : Test) (at : ℕ) → length (test_stretch place f test at) ≡ test_size test
   size_test place f no_test at = refl

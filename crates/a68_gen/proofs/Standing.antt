@@ -5,11 +5,11 @@ use Rattle.a68_code.specs.declared.code.Instr.{Instr}
 use Rattle.a68_code.specs.declared.code.RoutineEntrance.{RoutineEntrance}
 use Rattle.a68_code.specs.declared.does.Does.{Does}
 use Rattle.a68_code.specs.declared.does.Does.TheVariants as does
-use Rattle.a68_elab.specs.Trees.{Tree, Trees, operation, together, phrases, range, choice, cases, loop, call, unbuilt, no_trees, ◌and_tree◌, count, Test, no_test, while_in, depth_of, Body, Program}
-use Rattle.a68_gen.specs.Listing.{instr, limits, indexes, opens, leaves, size, sizes, test_size, arm_places, stretch, stretches, arm_stretches, test_stretch, text_size, text_stretches, entrances, listing, entrances_of}
-use Rattle.a68_gen.specs.Fits.{Fits, AllFit, TestFits, TextsFit}
-use Rattle.a68_gen.specs.Stretches.{does_of, leave, Has, Limits, Indexes, Opens, Leaves, Stands, StandAll, StandArms, Tests, StandTexts, with_last, Translates}
-use Rattle.a68_gen.proofs.Sizes.{size_leaves, size_stretch, size_stretches, size_arms, size_test}
+use Rattle.a68_elab.specs.Trees.{Tree, Trees, operation, together, phrases, range, choice, cases, conformity, loop, call, unbuilt, no_trees, ◌and_tree◌, count, Specs, no_specs, spec, Test, no_test, while_in, depth_of, Body, Program}
+use Rattle.a68_gen.specs.Listing.{instr, limits, indexes, opens, leaves, size, sizes, spec_sizes, test_size, arm_places, spec_places, stretch, stretches, arm_stretches, spec_stretches, test_stretch, text_size, text_stretches, entrances, listing, entrances_of}
+use Rattle.a68_gen.specs.Fits.{Fits, AllFit, SpecsFit, TestFits, TextsFit}
+use Rattle.a68_gen.specs.Stretches.{does_of, leave, Has, Limits, Indexes, Opens, Leaves, Stands, StandAll, StandArms, StandSpecs, Tests, StandTexts, member_places, wholes_of, with_last, Translates}
+use Rattle.a68_gen.proofs.Sizes.{size_leaves, size_stretch, size_stretches, size_arms, size_specs, size_test}
 
 -- the instructions stand in the code from a place on
 pub record Holds (code : Code) (at : ℕ) (list : List Instr) : Type 0 where
@@ -165,6 +165,33 @@ mutual
         subst (λ z. StandArms code gives place z arms (arm_places arms (m + 1)) (m + 1) x) last each,
         to_end code gives out x last (stands code gives out x f.2 h4),
       )
+  stands code gives (conformity place union members yields enquiry specs out) at f h =
+      let m = at + size enquiry in
+      let x = m + 1 + spec_sizes specs in
+      let e = x + size out in
+      let b = at + size (conformity place union members yields enquiry specs out) in
+      let last : e ≡ b = omega arith in
+      let ps = spec_places specs (m + 1) in
+      let first = stretch enquiry at in
+      let second = spec_stretches place e yields specs (m + 1) in
+      let third = stretch out x in
+      let d = does.Member union (member_places members specs ps x) (wholes_of members specs) in
+      let member = instr place d in
+      let h1 = holds-on {at = at} (size enquiry) first (member ∷ (second ++ third)) (size_stretch enquiry at) h in
+      let h2 = holds-tail {at = m} member (second ++ third) h1 in
+      let h3 = holds-on {at = m + 1} (spec_sizes specs) second third (size_specs place e yields specs (m + 1)) h2 in
+      let each = specs_stand code gives yields place e specs (m + 1) f.0 f.3 (holds-front second third h2) in (
+        m,
+        m + 1,
+        x,
+        ps,
+        f.0,
+        f.1,
+        stands code true enquiry at f.2 (holds-front first (member ∷ (second ++ third)) h),
+        has code place d m (second ++ third) h1,
+        subst (λ z. StandSpecs code gives place z specs ps (m + 1) x) last each,
+        to_end code gives out x last (stands code gives out x f.4 h3),
+      )
   stands code gives (loop place controls limited counts test body) at f h =
       let k = depth_of counts test in
       let lim = limits limited place in
@@ -279,6 +306,65 @@ mutual
         stands code gives tree at f.0 (holds-front first (jump ∷ rest) h),
         has code place (does.Jump e) m rest h1,
         subst (λ z. StandArms code gives place e trees (arm_places trees (m + 1)) (m + 1) z) end each,
+      )
+
+  specs_stand : (code : Code) (gives yields : Bool) (place e : ℕ) (specs : Specs) (at : ℕ) → gives ≡ yields → SpecsFit code.modes gives specs
+      → Holds code at (spec_stretches place e yields specs at) → StandSpecs code gives place e specs (spec_places specs at) at (at + spec_sizes specs)
+  specs_stand code gives yields place e no_specs at eg f h = omega arith
+  specs_stand code gives yields place e (spec takes true united part behind) at eg f h =
+      let n = at + 2 in
+      let q = n + size part in
+      let s = at + (3 + size part + 1) in
+      let enter = instr place (does.Enter 1) in
+      let bind = instr place (does.Bind 0) in
+      let l = instr place (leave yields) in
+      let jump = instr place (does.Jump e) in
+      let first = stretch part n in
+      let rest = spec_stretches place e yields behind s in
+      let two : at + 1 + 1 ≡ n = omega arith in
+      let next : q + 1 + 1 ≡ s = omega arith in
+      let h1 = holds-tail {at = at} enter (bind ∷ (first ++ (l ∷ jump ∷ rest))) h in
+      let h2 : Holds code n (first ++ (l ∷ jump ∷ rest)) = subst (λ z. Holds code z (first ++ (l ∷ jump ∷ rest))) two (holds-tail {at = at + 1} bind (first ++ (l ∷ jump ∷ rest)) h1) in
+      let h3 = holds-on {at = n} (size part) first (l ∷ jump ∷ rest) (size_stretch part n) h2 in
+      let h4 = holds-tail {at = q} l (jump ∷ rest) h3 in
+      let h5 : Holds code s rest = subst (λ z. Holds code z rest) next (holds-tail {at = q + 1} jump rest h4) in
+      let end : s + spec_sizes behind ≡ at + (3 + size part + 1 + spec_sizes behind) = omega arith in
+      let each = specs_stand code gives yields place e behind s eg f.1 h5 in (
+        at + 1,
+        n,
+        q,
+        q + 1,
+        s,
+        refl,
+        has code place (does.Enter 1) at (bind ∷ (first ++ (l ∷ jump ∷ rest))) h,
+        (holds-head {at = at + 1} bind (first ++ (l ∷ jump ∷ rest)) h1, two),
+        stands code gives part n f.0 (holds-front first (l ∷ jump ∷ rest) h2),
+        (holds-head {at = q} l (jump ∷ rest) h3 ∙ ap (λ (b : Bool). Some (instr place (leave b))) (sym eg), refl),
+        (holds-head {at = q + 1} jump rest h4, next),
+        subst (λ z. StandSpecs code gives place e behind (spec_places behind s) s z) end each,
+      )
+  specs_stand code gives yields place e (spec takes false united part behind) at eg f h =
+      let n = at + 1 in
+      let q = n + size part in
+      let s = at + (1 + size part + 1) in
+      let drop_it = instr place does.Drop in
+      let jump = instr place (does.Jump e) in
+      let first = stretch part n in
+      let rest = spec_stretches place e yields behind s in
+      let next : q + 1 ≡ s = omega arith in
+      let h1 = holds-tail {at = at} drop_it (first ++ (jump ∷ rest)) h in
+      let h2 = holds-on {at = n} (size part) first (jump ∷ rest) (size_stretch part n) h1 in
+      let h3 : Holds code s rest = subst (λ z. Holds code z rest) next (holds-tail {at = q} jump rest h2) in
+      let end : s + spec_sizes behind ≡ at + (1 + size part + 1 + spec_sizes behind) = omega arith in
+      let each = specs_stand code gives yields place e behind s eg f.1 h3 in (
+        n,
+        q,
+        s,
+        refl,
+        has code place does.Drop at (first ++ (jump ∷ rest)) h,
+        stands code gives part n f.0 (holds-front first (jump ∷ rest) h1),
+        (holds-head {at = q} jump rest h2, next),
+        subst (λ z. StandSpecs code gives place e behind (spec_places behind s) s z) end each,
       )
 
   test_stands : (code : Code) (place f : ℕ) (test : Test) (at : ℕ) → TestFits code.modes test → Holds code at (test_stretch place f test at) → Tests code test place f at (at + test_size test)

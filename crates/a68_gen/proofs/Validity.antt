@@ -9,6 +9,7 @@ use Rattle.std.specs.List.{Contains}
 use Rattle.std.specs.Option.{option_map}
 use Rattle.std.specs.declared.option.Option.{Option}
 use Rattle.a68_code.proofs.Reading.{does_at_within}
+use Rattle.a68_code.proofs.Ways.{way_to}
 use Rattle.a68_code.specs.Flow.{does_at, takes, entrances, entrances_in, entrance_if, Reaches, MayMeet}
 use Rattle.a68_code.specs.Flow as flow
 use Rattle.a68_code.specs.Flow.Reaches.{begins, goes_on}
@@ -23,7 +24,7 @@ use Rattle.a68_code.specs.declared.does.Does.TheVariants as does
 use Rattle.a68_code.specs.declared.owner.Owner.{Owner}
 use Rattle.a68_code.specs.declared.owner.Owner.TheVariants as owner
 use Rattle.a68_elab.specs.Trees.{Body, Program}
-use Rattle.a68_gen.proofs.Flowing.{Flows, flows, bit_is, none, only}
+use Rattle.a68_gen.proofs.Flowing.{Flows, flows, bit_is, none, no_way, only}
 use Rattle.a68_gen.proofs.Heights.{At, HeightsOf, Piece, bit, both, nothing, nothing_more, one, piece, starts}
 use Rattle.a68_gen.specs.Operands.{FitsModes, TextsFitModes}
 use Rattle.a68_gen.specs.Stretches.{Stands, StandTexts, Translates}
@@ -117,7 +118,7 @@ text_flows yields code W is_inside (body ∷ bodies) (e ∷ es) a b s fit into k
       is = ap (λ (o : Option Instr). option_map (λ instr. instr.does) o) s.4.0;
       below = bit body.yields;
       finds = omega arith;
-      leads = λ to i. absurd (none to i);
+      leads = λ to h i. absurd (no_way (to, h) i);
       meets = left;
       made = refl;
       ordered = tt;
@@ -175,7 +176,7 @@ module _ (program : Program) (code : Code) (tr : Translates program code) (fit :
         is = ap (λ (o : Option Instr). option_map (λ instr. instr.does) o) tr.ends.0;
         below = 0;
         finds = refl;
-        leads = λ to i. absurd (none to i);
+        leads = λ to h i. absurd (no_way (to, h) i);
         meets = tt;
         made = refl;
         ordered = tt;
@@ -194,12 +195,13 @@ module _ (program : Program) (code : Code) (tr : Translates program code) (fit :
   reached whose k h (begins i) = begun_at whose k i
   reached whose k h (goes_on {at = at} {to = to} {does = d} below r is i) = on (all_flow whose at (below + takes d) (reached whose at (below + takes d) r))
     where
-      on : Flows code whose (Own whose) at (below + takes d) → Own whose to (below + flow.leaves code.modes d)
+      on : Flows code whose (Own whose) at (below + takes d) → Own whose to (below + flow.leaves_to code.modes d to)
       on f =
           let same : f.does ≡ d = same_Some f.does d (sym f.is ∙ is) in
           let under : f.below ≡ below = let x = f.finds in let y = ap takes same in omega arith in
-          subst (λ (x : Does). Own whose to (below + flow.leaves code.modes x)) same
-          (subst (λ (x : ℕ). Own whose to (x + flow.leaves code.modes f.does)) under (f.leads to (subst (λ (x : Does). Contains (flow.landings at x) to) (sym same) i)))
+          subst (λ (x : Does). Own whose to (below + flow.leaves_to code.modes x to)) same
+          (subst (λ (x : ℕ). Own whose to (x + flow.leaves_to code.modes f.does to)) under
+          (f.leads to (f.below + flow.leaves_to code.modes f.does to) (way_to code.modes at f.does f.below to (subst (λ (x : Does). Contains (flow.landings at x) to) (sym same) i))))
 
   -- what is known of the instruction at a place
   record Known (k : ℕ) (d : Does) : Type 0 where

@@ -26,9 +26,11 @@ stops-front NoMemory xs ys s = tt
 stops-front (Refused r) xs ys s = record { rule = s.rule; place = rw places-append (get-front (places xs) (places ys) most r.place s.place) }
 
 -- a step of a path
-pub one_coercion : (modes : List Shape) (place mode i : ℕ) (path : List Coercion) (d : Coercion) → i < length path
-    → coercions modes place mode (drop i path) ≡ coercion_of modes place mode (get_or path i d) ++ coercions modes place (behind modes mode (get_or path i d)) (drop (i + 1) path)
-one_coercion modes place mode i path d p = rw (add-one, drop-cons path i d) refl
+pub one_coercion : (modes : List Shape) (place goal mode i : ℕ) (path : List Coercion) (d : Coercion) → i < length path
+    → coercions modes place goal mode (drop i path)
+    ≡ coercion_of modes place goal mode (get_or path i d) (drop (i + 1) path)
+    ++ coercions modes place goal (behind modes goal mode (get_or path i d) (drop (i + 1) path)) (drop (i + 1) path)
+one_coercion modes place goal mode i path d p = rw (add-one, drop-cons path i d) refl
 
 -- what is refused at a front is refused as a whole
 pub stops-within : (stop : Stop) (xs rest whole : List Instr) → Stops stop xs → xs ++ rest ≡ whole → Stops stop whole
@@ -64,6 +66,21 @@ is_written (Some s) s1 l0 l1 a w e = let z : Some s ≡ None = sym w ∙ e in ab
 is_written None None l0 l1 a w e = w
 is_written None (Some s) l0 l1 a w e = absurd (cc)
 
+-- a coercion of a path is written, and the rest of the path behind it
+pub coerced_once : (modes : List Shape) (place goal mode i next : ℕ) (path : List Coercion) (c d : Coercion) (rest : List Coercion) (s0 s1 s2 : Option Stop) (l0 l1 l2 : List Instr) → i < length path
+    → c ≡ get_or path i d → rest ≡ drop (i + 1) path → Writes s0 s1 l0 l1 (coercion_of modes place goal mode c rest) → next ≡ behind modes goal mode c rest
+    → Writes s1 s2 l1 l2 (coercions modes place goal next (drop (i + 1) path)) → Writes s0 s2 l0 l2 (coercions modes place goal mode (drop i path))
+coerced_once modes place goal mode i next path c d rest s0 s1 s2 l0 l1 l2 less is_c is_rest w is_next v =
+    let behind_it = drop (i + 1) path in
+    let one = get_or path i d in
+    let first : Writes s0 s1 l0 l1 (coercion_of modes place goal mode one behind_it) =
+    writes-as s0 s1 l0 l1 _ _ (ap (λ (x : Coercion). coercion_of modes place goal mode x rest) is_c ∙ ap (λ (r : List Coercion). coercion_of modes place goal mode one r) is_rest) w in
+    let next_is : next ≡ behind modes goal mode one behind_it = is_next ∙ ap (λ (x : Coercion). behind modes goal mode x rest) is_c ∙ ap (λ (r : List Coercion). behind modes goal mode one r) is_rest in
+    let others : Writes s1 s2 l1 l2 (coercions modes place goal (behind modes goal mode one behind_it) behind_it) =
+    writes-as s1 s2 l1 l2 _ _ (ap (λ (m : ℕ). coercions modes place goal m behind_it) next_is) v in
+    writes-as s0 s2 l0 l2 _ _ (sym (one_coercion modes place goal mode i path d less))
+    (and_behind s0 s1 s2 l0 l1 l2 (coercion_of modes place goal mode one behind_it) (λ n. coercions modes place goal (behind modes goal mode one behind_it) behind_it) first others)
+
 -- nothing is written
 pub nothing-written : (s : Option Stop) (l : List Instr) → Writes s s l l []
 nothing-written (Some s) l = refl
@@ -94,6 +111,8 @@ names_none (does.Step x) which to e = absurd (omega arith)
 names_none (does.Advance x) which to e = absurd (omega arith)
 names_none (does.Case []) which to e = refl
 names_none (does.Case (p ∷ ps)) which to e = absurd (omega arith)
+names_none (does.Member mode [] whole) which to e = refl
+names_none (does.Member mode (p ∷ ps) whole) which to e = absurd (omega arith)
 names_none _ which to e = refl
 
 -- an instruction that names no place stays as it is

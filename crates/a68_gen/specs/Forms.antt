@@ -8,4 +8,5 @@ use Rattle.a68_modes.specs.declared.shape.Shape.TheVariants as shape
 abbrev pub form_of : Shape → Form
 form_of shape.Void = form.Void
 form_of (shape.Struct fields) = form.Structure
+form_of (shape.Rows dims flex of) = form.Row
 form_of _ = form.Other

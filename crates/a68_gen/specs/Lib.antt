@@ -1,5 +1,6 @@
 pub mod Chains
 pub mod Coercing
+pub mod Conforming
 pub mod Fits
 pub mod Forms
 pub mod Listing

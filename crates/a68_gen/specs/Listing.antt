@@ -1,11 +1,11 @@
 -- The code of a program: the instructions of each construct, in order.
-use Rattle.std.specs.Prelude.{ℕ, zero, suc, Bool, true, false, ◌+◌, List, [], ◌∷◌, ◌++◌, length}
+use Rattle.std.specs.Prelude.{ℕ, zero, suc, Bool, true, false, ◌+◌, List, [], ◌∷◌, ◌++◌, length, if◌then◌else◌}
 use Rattle.a68_code.specs.declared.code.Instr.{Instr}
 use Rattle.a68_code.specs.declared.code.RoutineEntrance.{RoutineEntrance}
 use Rattle.a68_code.specs.declared.does.Does.{Does}
 use Rattle.a68_code.specs.declared.does.Does.TheVariants as does
-use Rattle.a68_elab.specs.Trees.{Tree, Trees, operation, together, phrases, range, choice, cases, loop, call, unbuilt, no_trees, ◌and_tree◌, count, Test, no_test, while_in, depth_of, Body, Program}
-use Rattle.a68_gen.specs.Stretches.{does_of, leave, with_last}
+use Rattle.a68_elab.specs.Trees.{Tree, Trees, operation, together, phrases, range, choice, cases, conformity, loop, call, unbuilt, no_trees, ◌and_tree◌, count, Specs, no_specs, spec, Test, no_test, while_in, depth_of, Body, Program}
+use Rattle.a68_gen.specs.Stretches.{does_of, leave, member_places, wholes_of, with_last}
 
 -- an instruction keeps the place of its construct
 abbrev pub instr : (place : ℕ) → Does → Instr
@@ -40,6 +40,7 @@ abbrev mutual
   size (range place out slots yields within) = size within + 2
   size (choice place enquiry if_true if_false) = size enquiry + 1 + size if_true + 1 + size if_false
   size (cases place enquiry arms out) = size enquiry + 1 + sizes arms + count arms + size out
+  size (conformity place union members yields enquiry specs out) = size enquiry + 1 + spec_sizes specs + size out
   size (loop place controls limited counts test body) =
       sizes controls + length (limits limited place) + 3 + length (indexes counts place) + test_size test + size body + depth_of counts test + 2 + depth_of counts test + 1
   size (call place yields no_trees) = 0
@@ -50,6 +51,11 @@ abbrev mutual
   sizes no_trees = 0
   sizes (tree and_tree trees) = size tree + sizes trees
 
+  -- with a tag Enter, Bind and Leave, without one Drop; and a Jump
+  pub spec_sizes : Specs → ℕ
+  spec_sizes no_specs = 0
+  spec_sizes (spec takes tagged united part behind) = (if tagged then 3 else 1) + size part + 1 + spec_sizes behind
+
   pub test_size : Test → ℕ
   test_size no_test = 0
   test_size (while_in at slots test) = length (opens slots at) + size test + 1
@@ -58,6 +64,11 @@ abbrev mutual
 abbrev pub arm_places : Trees → (at : ℕ) → List ℕ
 arm_places no_trees at = []
 arm_places (tree and_tree trees) at = at ∷ arm_places trees (at + size tree + 1)
+
+-- those of specifications
+abbrev pub spec_places : Specs → (at : ℕ) → List ℕ
+spec_places no_specs at = []
+spec_places (spec takes tagged united part behind) at = at ∷ spec_places behind (at + ((if tagged then 3 else 1) + size part + 1))
 
 -- the instructions of a tree, where the first of them is number `at`
 abbrev mutual
@@ -80,6 +91,12 @@ abbrev mutual
       let m = at + size enquiry + 1 in
       let x = m + sizes arms + count arms in
       stretch enquiry at ++ (instr place (does.Case (with_last (arm_places arms m) x)) ∷ (arm_stretches place (x + size out) arms m ++ stretch out x))
+  -- the enquiry, Member, each part with its frame and Jump e, x: the part for none, e:
+  stretch (conformity place union members yields enquiry specs out) at =
+      let m = at + size enquiry + 1 in
+      let x = m + spec_sizes specs in
+      stretch enquiry at ++ (instr place (does.Member union (member_places members specs (spec_places specs m) x) (wholes_of members specs))
+      ∷ (spec_stretches place (x + size out) yields specs m ++ stretch out x))
   -- FROM, BY and TO, TO's own step, Counter, t: Step e, Turn, the frame of FOR, WHILE, the body, a Leave for each
   -- frame, Advance t, Jump e, f: a Leave for each frame, e: Forget
   stretch (loop place controls limited counts test body) at =
@@ -106,6 +123,15 @@ abbrev mutual
   pub arm_stretches : (place e : ℕ) → Trees → (at : ℕ) → List Instr
   arm_stretches place e no_trees at = []
   arm_stretches place e (tree and_tree trees) at = stretch tree at ++ (instr place (does.Jump e) ∷ arm_stretches place e trees (at + size tree + 1))
+
+  -- specifications, each with Jump e behind it
+  pub spec_stretches : (place e : ℕ) (yields : Bool) → Specs → (at : ℕ) → List Instr
+  spec_stretches place e yields no_specs at = []
+  spec_stretches place e yields (spec takes true united part behind) at =
+      instr place (does.Enter 1) ∷ instr place (does.Bind 0) ∷ (stretch part (at + 2) ++ (instr place (leave yields) ∷ instr place (does.Jump e)
+      ∷ spec_stretches place e yields behind (at + (3 + size part + 1))))
+  spec_stretches place e yields (spec takes false united part behind) at =
+      instr place does.Drop ∷ (stretch part (at + 1) ++ (instr place (does.Jump e) ∷ spec_stretches place e yields behind (at + (1 + size part + 1))))
 
   -- the frame of WHILE, the enquiry, and Unless f
   pub test_stretch : (place f : ℕ) → Test → (at : ℕ) → List Instr

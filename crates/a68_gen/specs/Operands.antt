@@ -1,8 +1,8 @@
 -- Inner: the headline does not rest on this file.
 -- Trees whose operations have operands that the instructions may have.
-use Rattle.std.specs.Prelude.{⊤, ℕ, IsTrue, List, [], ◌∷◌}
+use Rattle.std.specs.Prelude.{⊤, ℕ, IsTrue, List, [], ◌∷◌, length, nat_lt}
 use Rattle.a68_code.specs.Operands.{is_well_made}
-use Rattle.a68_elab.specs.Trees.{Tree, Trees, operation, together, phrases, range, choice, cases, loop, call, unbuilt, Test, no_test, while_in, no_trees, ◌and_tree◌, count, Body}
+use Rattle.a68_elab.specs.Trees.{Tree, Trees, operation, together, phrases, range, choice, cases, conformity, loop, call, unbuilt, Specs, no_specs, spec, Test, no_test, while_in, no_trees, ◌and_tree◌, count, Body}
 use Rattle.a68_gen.specs.Stretches.{does_of}
 use Rattle.a68_modes.specs.declared.shape.Shape.{Shape}
 
@@ -16,6 +16,8 @@ abbrev mutual
   FitsModes modes texts (range place out slots yields within) = FitsModes modes texts within
   FitsModes modes texts (choice place enquiry if_true if_false) = FitsModes modes texts enquiry × FitsModes modes texts if_true × FitsModes modes texts if_false
   FitsModes modes texts (cases place enquiry arms out) = FitsModes modes texts enquiry × FitAll modes texts arms × FitsModes modes texts out
+  FitsModes modes texts (conformity place union members yields enquiry specs out) =
+      IsTrue (nat_lt union (length modes)) × FitsModes modes texts enquiry × SpecsFitModes modes texts specs × FitsModes modes texts out
   FitsModes modes texts (loop place controls limited counts test body) = FitAll modes texts controls × TestFitsModes modes texts test × FitsModes modes texts body
   FitsModes modes texts (call place yields parts) = FitAll modes texts parts
   FitsModes modes texts unbuilt = ⊥
@@ -23,6 +25,10 @@ abbrev mutual
   pub FitAll : List Shape → (texts : ℕ) → Trees → Type 0
   FitAll modes texts no_trees = ⊤
   FitAll modes texts (tree and_tree trees) = FitsModes modes texts tree × FitAll modes texts trees
+
+  pub SpecsFitModes : List Shape → (texts : ℕ) → Specs → Type 0
+  SpecsFitModes modes texts no_specs = ⊤
+  SpecsFitModes modes texts (spec takes tagged united part behind) = FitsModes modes texts part × SpecsFitModes modes texts behind
 
   pub TestFitsModes : List Shape → (texts : ℕ) → Test → Type 0
   TestFitsModes modes texts no_test = ⊤

@@ -1,12 +1,15 @@
 -- Translation: which instructions a construct becomes, and where they stand.
 use Rattle.std.specs.Prelude.{◌≡◌, ℕ, zero, suc, ◌+◌, Bool, true, false, List, [], ◌∷◌, length, Some, slice_get, if◌then◌else◌}
-use Rattle.a68_acts.specs.Operations.{Operation, constant, skip, nil, routine, tag, make, heap, bind, deref, store, apply, same, compose, select, unite, drop, print, whole, leaves}
-use Rattle.a68_code.specs.Flow.{takes}
+use Rattle.a68_acts.specs.Operations.{Operation, constant, skip, nil, routine, tag, make, heap, bind, deref, store, apply, same, slice, display, vacuum, compose, select, unite, row_up, row_up_name, widen, drop, print, whole, leaves}
+use Rattle.a68_acts.specs.Members.{members_of}
+use Rattle.a68_code.specs.Flow.{takes, one_if}
 use Rattle.a68_code.specs.declared.code.Code.{Code}
 use Rattle.a68_code.specs.declared.code.RoutineEntrance.{RoutineEntrance}
 use Rattle.a68_code.specs.declared.does.Does.{Does}
 use Rattle.a68_code.specs.declared.does.Does.TheVariants as does
-use Rattle.a68_elab.specs.Trees.{Tree, Trees, operation, together, phrases, range, choice, cases, loop, call, unbuilt, no_trees, ◌and_tree◌, count, Test, no_test, while_in, depth_of, Body, Program}
+use Rattle.a68_elab.specs.Rows.{is_among}
+use Rattle.a68_modes.specs.Nodes.{shape_at}
+use Rattle.a68_elab.specs.Trees.{Tree, Trees, operation, together, phrases, range, choice, cases, conformity, loop, call, unbuilt, no_trees, ◌and_tree◌, count, Specs, no_specs, spec, Test, no_test, while_in, depth_of, Body, Program}
 
 -- the instruction of an operation on so many values
 abbrev pub does_of : Operation → ℕ → Does
@@ -22,9 +25,15 @@ does_of (deref mode) n = does.Deref mode
 does_of (store mode) n = does.Store mode
 does_of (apply row) n = does.Apply row
 does_of (same negated) n = does.Same negated
+does_of (slice forms) n = does.Slice forms
+does_of (display count mode) n = does.Display count mode
+does_of (vacuum mode) n = does.Vacuum mode
 does_of (compose count) n = does.Compose count
 does_of (select mode field) n = does.Select mode field
 does_of (unite mode) n = does.Unite mode
+does_of (row_up mode) n = does.RowUp mode
+does_of (row_up_name mode) n = does.RowUpName mode
+does_of widen n = does.Widen
 does_of drop n = does.Drop
 does_of print n = does.Print n
 does_of whole n = does.Whole
@@ -62,6 +71,25 @@ abbrev pub with_last : List ℕ → ℕ → List ℕ
 with_last [] e = e ∷ []
 with_last (p ∷ ps) e = p ∷ with_last ps e
 
+-- where a member of a union is taken: the place of the first specification that takes it; that for none where there is none
+abbrev pub place_for : (m : ℕ) → Specs → (places : List ℕ) → (none : ℕ) → ℕ
+place_for m (spec takes tagged united t behind) (p ∷ ps) none = if is_among m takes then p else place_for m behind ps none
+place_for m _ ps none = none
+
+-- 1 where the united value is left there
+abbrev pub whole_for : (m : ℕ) → Specs → ℕ
+whole_for m no_specs = 0
+whole_for m (spec takes tagged united t behind) = if is_among m takes then one_if united else whole_for m behind
+
+-- that of each member, and that for none
+abbrev pub member_places : List ℕ → Specs → (places : List ℕ) → (none : ℕ) → List ℕ
+member_places [] specs ps none = none ∷ []
+member_places (m ∷ ms) specs ps none = place_for m specs ps none ∷ member_places ms specs ps none
+
+abbrev pub wholes_of : List ℕ → Specs → List ℕ
+wholes_of [] specs = []
+wholes_of (m ∷ ms) specs = whole_for m specs ∷ wholes_of ms specs
+
 -- The stretch of a tree stands from a up to b. It leaves a value or none, as `gives` says.
 abbrev mutual
   pub Stands : Code → (gives : Bool) → Tree → (a b : ℕ) → Type 0
@@ -84,6 +112,11 @@ abbrev mutual
   Stands code gives (cases place enquiry arms out) a b =
       (m m' x : ℕ) × (places : List ℕ) × Stands code true enquiry a m × Has code place (does.Case (with_last places x)) m m'
       × StandArms code gives place b arms places m' x × Stands code gives out x b
+  -- the enquiry, Member, each part with its frame and Jump b, x: the part for none, b:
+  Stands code gives (conformity place union members yields enquiry specs out) a b =
+      (m m' x : ℕ) × (places : List ℕ) × (gives ≡ yields) × (members ≡ members_of (shape_at code.modes union)) × Stands code true enquiry a m
+      × Has code place (does.Member union (member_places members specs places x) (wholes_of members specs)) m m'
+      × StandSpecs code gives place b specs places m' x × Stands code gives out x b
   -- FROM, BY and TO, TO's own step, Counter, t: Step e, Turn, the frame of FOR, WHILE, the body, a Leave for each
   -- frame, Advance t, Jump e, f: a Leave for each frame, e: Forget
   Stands code gives (loop place controls limited counts test body) a b =
@@ -110,6 +143,17 @@ abbrev mutual
   StandArms code gives place e (tree and_tree trees) (p ∷ ps) a b =
       (m n : ℕ) × (p ≡ a) × Stands code gives tree a m × Has code place (does.Jump e) m n × StandArms code gives place e trees ps n b
   StandArms code gives place e _ _ a b = ⊥
+
+  -- specifications, each at its place: with a tag Enter 1, Bind 0, the part, Leave, without one Drop and the part; and Jump e
+  pub StandSpecs : Code → (gives : Bool) → (place e : ℕ) → Specs → (places : List ℕ) → (a b : ℕ) → Type 0
+  StandSpecs code gives place e no_specs [] a b = a ≡ b
+  StandSpecs code gives place e (spec takes true united tree behind) (p ∷ ps) a b =
+      (m n q r s : ℕ) × (p ≡ a) × Has code place (does.Enter 1) a m × Has code place (does.Bind 0) m n × Stands code gives tree n q
+      × Has code place (leave gives) q r × Has code place (does.Jump e) r s × StandSpecs code gives place e behind ps s b
+  StandSpecs code gives place e (spec takes false united tree behind) (p ∷ ps) a b =
+      (m n q : ℕ) × (p ≡ a) × Has code place does.Drop a m × Stands code gives tree m n × Has code place (does.Jump e) n q
+      × StandSpecs code gives place e behind ps q b
+  StandSpecs code gives place e _ _ a b = ⊥
 
   -- the frame of WHILE, the enquiry, and Unless f
   pub Tests : Code → Test → (place f a b : ℕ) → Type 0

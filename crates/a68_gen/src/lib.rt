@@ -1,15 +1,21 @@
 //! Translation to code: the instructions of a program, in order.
 #![tactic(auto)]
 
+mod calls;
 mod chains;
+mod choices;
 mod coerce;
+mod conformity;
 mod emit;
 mod ends;
 mod loops;
+mod names;
 mod numbered;
+mod parts;
 mod rows;
 mod single;
 mod translate;
+mod turns;
 mod writer;
 
 pub use translate::{generate, translations_are_listings};

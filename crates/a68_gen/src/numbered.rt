@@ -137,6 +137,13 @@ impl<'a> Numbered<'a> {
         self.program.tree.root()
     }
 
+    /// How many nodes there are.
+    pub fn len(&self) -> u32
+        ensures { result ≡ length self.now.tree.nodes }
+    {
+        self.program.tree.len()
+    }
+
     /// The node of that number.
     pub fn node(&self, id: NodeId) -> &Node
         requires { id < length self.now.tree.nodes }

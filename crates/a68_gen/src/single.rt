@@ -1,6 +1,6 @@
 //! Single instructions, and constructs that are one.
 ghost use Rattle.std.specs.Option.{option_and_then};
-ghost use Rattle.std.specs.Prelude.{◌≡◌, ◌<◌, not, length, map, if◌then◌else◌};
+ghost use Rattle.std.specs.Prelude.{◌≡◌, ◌<◌, ◌++◌, not, length, map, if◌then◌else◌, IfOk, OnOk};
 ghost use Rattle.a68_elab.specs.Constants.{value_in};
 ghost use Rattle.a68_elab.specs.Made as made;
 ghost use Rattle.a68_elab.specs.Trees as trees;
@@ -12,10 +12,15 @@ ghost use Rattle.a68_modes.specs.Nodes.{shape_at, is_void};
 
 use crate::numbered::Numbered;
 use crate::writer::Writer;
-use a68_annot::Note;
+use a68_annot::{Annotated, Note};
+use a68_base::NoMemory;
 use a68_code::Does;
+use a68_layout::{Form as SliceForm, Forms};
 use a68_modes::{ModeId, Shape};
-use a68_runs::{behind_ref, field_in, fields_at, first_goal, is_one_of, standard_of, value_in};
+use a68_runs::{
+    behind_ref, field_in, fields_at, first_goal, form_of as slice_form, is_one_of, parts_at,
+    standard_of, value_in,
+};
 use a68_tree::{Node, NodeId};
 use a68_values::Value;
 use std::alloc::Global;
@@ -87,10 +92,11 @@ pub fn leave(program: &Numbered, note: &Note) -> Does
 pub enum Form {
     Void,
     Structure,
+    Row,
     Other,
 }
 
-/// What a mode is: VOID, a structure, or neither.
+/// What a mode is: VOID, a structure, a row, or none of these.
 pub fn form_at(program: &Numbered, mode: ModeId) -> Form
     ensures { result ≡ form_of (shape_at program.now.modes mode) }
 {
@@ -100,6 +106,7 @@ pub fn form_at(program: &Numbered, mode: ModeId) -> Form
     match program.modes().shape(mode) {
         Shape::Void => Form::Void,
         Shape::Struct(_) => Form::Structure,
+        Shape::Rows { .. } => Form::Row,
         _ => Form::Other,
     }
 }
@@ -141,24 +148,44 @@ fn heaps() -> &'static [&'static str]
     &["HEAP"]
 }
 
-/// Heap or Make: a new name.
-pub fn new_name(in_heap: bool, mode: ModeId) -> Does
-    ensures { result ≡ (if in_heap then Does.Heap mode 0 else Does.Make mode 0) }
+/// Is a generator's name one that stays?
+pub fn is_heap(program: &Numbered, node: &Node) -> bool
+    requires { node.now.name < length program.now.tree.spellings }
+    ensures { result ≡ made.is_one_of made.heaps (made.spelling_of program.now node.now) }
+{
+    is_one_of(heaps(), Some(program.annotated().tree.spelling(node.name)))
+}
+
+/// Heap or Make: a new name, with so many bounds.
+pub fn new_does(in_heap: bool, mode: ModeId, bounds: u32) -> Does
+    ensures { result ≡ (if in_heap then Does.Heap mode bounds else Does.Make mode bounds) }
 {
     if in_heap {
-        Does::Heap { mode, bounds: 0 }
+        Does::Heap { mode, bounds }
     } else {
-        Does::Make { mode, bounds: 0 }
+        Does::Make { mode, bounds }
     }
 }
 
-/// A new name, in the heap where the generator says so.
-pub fn generator(program: &Numbered, node: &Node, note: &Note, out: &mut Writer)
-    requires { node.now.name < length program.now.tree.spellings }
-    ensures { Wrote out.old out.new (stretch (made.new_name (made.is_one_of made.heaps (made.spelling_of program.now node.now)) node.now.span.from
-        (made.behind_ref (shape_at program.now.modes note.now.mode))) (length out.old.list)) }
+// Adds how indexes are written.
+fn add_forms(
+    program: &Annotated,
+    ids: &[NodeId],
+    forms: &mut Vec<SliceForm>,
+) -> Result<(), NoMemory>
+    ensures { OnOk result (forms.new.items ≡ forms.old.items ++ made.forms_of program.now ids.now) }
 {
-    let in_heap = is_one_of(heaps(), Some(program.annotated().tree.spelling(node.name)));
-    let mode = behind_ref(program.modes(), note.mode);
-    out.emit(node.span.from, new_name(in_heap, mode));
+    for id in ids {
+        forms.push(slice_form(program, parts_at(program, *id)))?;
+    }
+    Ok(())
+}
+
+/// How the indexes of a slice are written.
+pub fn forms_of(alloc: Global, program: &Numbered, ids: &[NodeId]) -> Result<Forms, NoMemory>
+    ensures { IfOk result (λ forms. forms ≡ made.forms_of program.now ids.now) }
+{
+    let mut items = Vec::new(alloc);
+    add_forms(program.annotated(), ids, &mut items)?;
+    Ok(Forms { items })
 }

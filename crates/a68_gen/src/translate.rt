@@ -172,7 +172,8 @@ pub fn generate(alloc: Global, program: &Annotated) -> Result<Code, Stop>
     ensures refused { IfErr result (StopsBy (IsNotGenerated program.now)) }
 {
     let _root = program.tree.root();
-    match first_unready(program) {
+    let found = first_unready(alloc, program)?;
+    match found {
         Some(id) => Err(unready(program, id)),
         None => { code_of(alloc, program) }
     }

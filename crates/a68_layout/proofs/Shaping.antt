@@ -1,10 +1,10 @@
 -- Shapes that are no structures.
-use Rattle.std.proofs.Common.{◌≡◌, ◌≤◌, ◌+◌, ℕ, zero, suc, Bool, false, List, length, refl, ap, sym, ◌∙◌, min, arith}
+use Rattle.std.proofs.Common.{◌≡◌, ◌≤◌, ◌+◌, ℕ, zero, suc, List, length, refl, ap, sym, ◌∙◌, min, arith}
 use Rattle.std.proofs.lemmas.List.{get_or_past}
-use Rattle.a68_modes.specs.Nodes.{shape_at, is_plain}
+use Rattle.a68_modes.specs.Nodes.{shape_at}
 use Rattle.a68_modes.specs.declared.shape.Shape.{Shape}
-use Rattle.a68_modes.specs.declared.shape.Shape.TheVariants.{Struct, Union, Same, Blank}
-use Rattle.a68_layout.specs.Widths.{most_cells, width_by, width_within, has_cells_by, has_cells_within}
+use Rattle.a68_modes.specs.declared.shape.Shape.TheVariants.{Struct, Same, Blank}
+use Rattle.a68_layout.specs.Widths.{most_cells, width_by, width_within}
 
 pub no-shape : (modes : List Shape) (m : ℕ) → length modes ≤ m → shape_at modes m ≡ Blank
 no-shape modes m past = get_or_past modes m Blank past
@@ -30,19 +30,3 @@ one-past n modes m counted few past = rw (width-past n modes m past) (omega arit
 pub one-other : (n : ℕ) (modes : List Shape) (m counted : ℕ) (s : Shape) → counted ≤ most_cells → s ≡ shape_at modes m → ((x : List (ℕ × ℕ)) → s ≡ Struct x → ⊥)
     → ((x : ℕ) → s ≡ Same x → ⊥) → counted + 1 ≡ min (most_cells + 1) (counted + width_within n modes m)
 one-other n modes m counted s few e a b = rw (width-other n modes m s e a b) (omega arith)
-
-pub stored-past : (n : ℕ) (modes : List Shape) (m : ℕ) → length modes ≤ m → false ≡ has_cells_within n modes m
-stored-past zero modes m past = refl
-stored-past (suc n) modes m past = sym (ap (has_cells_by (has_cells_within n modes)) (no-shape modes m past))
-
-has_cells_by-other : (f : ℕ → Bool) (s : Shape) → ((x : List (ℕ × ℕ)) → s ≡ Struct x → ⊥) → ((x : ℕ) → s ≡ Same x → ⊥)
-    → ((x : List ℕ) → s ≡ Union x → ⊥) → is_plain s ≡ has_cells_by f s
-has_cells_by-other f (Struct fields) a b c = absurd (a fields refl)
-has_cells_by-other f (Same m) a b c = absurd (b m refl)
-has_cells_by-other f (Union members) a b c = absurd (c members refl)
-has_cells_by-other f _ a b c = refl
-
-pub stored-other : (n : ℕ) (modes : List Shape) (m : ℕ) (s : Shape) → (n ≡ 0 → ⊥) → s ≡ shape_at modes m → ((x : List (ℕ × ℕ)) → s ≡ Struct x → ⊥)
-    → ((x : ℕ) → s ≡ Same x → ⊥) → ((x : List ℕ) → s ≡ Union x → ⊥) → is_plain s ≡ has_cells_within n modes m
-stored-other zero modes m s some e a b c = absurd (some refl)
-stored-other (suc n) modes m s some e a b c = has_cells_by-other (has_cells_within n modes) s a b c ∙ ap (has_cells_by (has_cells_within n modes)) e

@@ -1,2 +1,6 @@
-pub mod Plans
+pub mod Making
+pub mod Rooms
+pub mod Stretches
+pub mod Views
+pub mod Wanting
 pub mod Widths

@@ -1,9 +1,10 @@
--- How many cells a value of a mode takes.
-use Rattle.std.specs.Prelude.{ℕ, zero, suc, ◌+◌, min, Bool, true, false, ◌&&◌, ◌||◌, nat_lt, List, [], ◌∷◌, length}
+-- How many cells a value of a mode takes, and how rows lie in them.
+use Rattle.std.specs.Prelude.{ℕ, zero, suc, ℤ, ◌+◌, ◌*◌, ◌-ℤ◌, nat_abs, min, List, [], ◌∷◌, length, nat_eq, int_lt, if◌then◌else◌}
 use Rattle.a68_base.specs.declared.limits.TheConstants.{MOST_COUNTED}
-use Rattle.a68_modes.specs.Nodes.{shape_at, is_plain}
+use Rattle.a68_modes.specs.Nodes.{shape_at}
 use Rattle.a68_modes.specs.declared.shape.Shape.{Shape}
-use Rattle.a68_modes.specs.declared.shape.Shape.TheVariants.{Struct, Union, Same}
+use Rattle.a68_modes.specs.declared.shape.Shape.TheVariants.{Struct, Same}
+use Rattle.a68_values.specs.declared.held.Dim.{Dim}
 
 -- the most cells that there may be (own)
 abbrev pub most_cells : ℕ
@@ -33,25 +34,20 @@ width_of modes m = width_within (length modes) modes m
 unfoldable pub cells_of : List Shape → (mode : ℕ) → ℕ
 cells_of modes m = min (most_cells + 1) (width_of modes m)
 
--- whether each field has cells, where this tells it of their modes
-abbrev pub fields_have_cells : (ℕ → Bool) → List (ℕ × ℕ) → Bool
-fields_have_cells f [] = true
-fields_have_cells f (field ∷ fields) = f field.1 && fields_have_cells f fields
+-- how many subscripts lie from a lower bound to an upper one (Report, 2.1.3.4)
+abbrev pub between : (lower upper : ℤ) → ℕ
+between lower upper = if int_lt upper lower then 0 else suc (nat_abs (upper -ℤ lower))
 
-abbrev pub has_cells_by : (ℕ → Bool) → Shape → Bool
-has_cells_by f (Struct fields) = fields_have_cells f fields
-has_cells_by f (Union members) = true
-has_cells_by f (Same m) = f m
-has_cells_by f shape = is_plain shape
+-- how many elements a row with these bounds has
+abbrev pub elements_of : List (ℤ × ℤ) → ℕ
+elements_of [] = 1
+elements_of (b ∷ bounds) = between b.0 b.1 * elements_of bounds
 
-abbrev pub has_cells_within : (depth : ℕ) → List Shape → (mode : ℕ) → Bool
-has_cells_within zero modes m = false
-has_cells_within (suc n) modes m = has_cells_by (has_cells_within n modes) (shape_at modes m)
+abbrev pub strides : (width : ℕ) → List (ℤ × ℤ) → List Dim
+strides width [] = []
+strides width (b ∷ bounds) = record { lower = b.0; upper = b.1; stride = width * elements_of bounds } ∷ strides width bounds
 
--- whether a name may refer to values of a mode: plain ones, unions, and structures of such. Rows do not run yet.
-unfoldable pub has_cells : List Shape → (mode : ℕ) → Bool
-has_cells modes m = has_cells_within (length modes) modes m
-
--- whether a name for a value of a mode is made, or meets the fault Cells, which comes first
-abbrev pub can_be_named : List Shape → (mode : ℕ) → Bool
-can_be_named modes m = nat_lt most_cells (cells_of modes m) || has_cells modes m
+-- The dimensions of a new row whose elements take so many cells each: the last subscript runs fastest (Report, 2.1.3.4). A
+-- row without elements has strides of 0 (own).
+abbrev pub dims_of : (width : ℕ) → List (ℤ × ℤ) → List Dim
+dims_of width bounds = strides (if nat_eq (elements_of bounds) 0 then 0 else width) bounds

@@ -1,7 +1,7 @@
 //! How many cells a mode takes.
 ghost use Rattle.std.specs.Prelude.{◌≡◌, ◌≤◌, ◌<◌, ◌+◌, min, IfOk, MatchOption};
 ghost use Rattle.a68_layout.specs.Widths as widths;
-ghost use Rattle.a68_layout.specs.Widths.{most_cells, width_within, width_of_fields, has_cells_within, fields_have_cells};
+ghost use Rattle.a68_layout.specs.Widths.{most_cells, width_within, width_of_fields};
 
 use a68_base::{MOST_COUNTED, NoMemory};
 use a68_modes::{ModeId, Modes, Shape};
@@ -78,51 +78,4 @@ pub fn cells_of(modes: &Modes, mode: ModeId) -> Result<u32, NoMemory>
 {
     let width = width(modes, mode);
     Ok(width)
-}
-
-// Has a value of the mode cells, where structures lie at most so deep in it?
-#[cycle(stored)]
-fn is_stored(modes: &Modes, depth: u32, mode: ModeId) -> bool
-    ensures { result ≡ has_cells_within depth modes.now mode }
-{
-    if depth == 0 {
-        return false;
-    }
-    if mode >= modes.len() {
-        return false;
-    }
-    match modes.shape(mode) {
-        Shape::Struct(fields) => are_stored(modes, depth - 1, &fields.items),
-        Shape::Same(mode) => is_stored(modes, depth - 1, *mode),
-        Shape::Union(_) => true,
-        shape => shape.is_plain(),
-    }
-}
-
-#[cycle(stored)]
-fn are_stored(modes: &Modes, depth: u32, fields: &[(u32, ModeId)]) -> bool
-    ensures { result ≡ fields_have_cells (has_cells_within depth modes.now) fields.now }
-{
-    for field in fields {
-        if !is_stored(modes, depth, field.1) {
-            return false;
-        }
-    }
-    true
-}
-
-/// May a name refer to values of the mode? It takes no memory.
-#[tactic(auto, unfolding(crate::specs::Widths::has_cells))]
-pub fn has_cells(modes: &Modes, mode: ModeId) -> bool
-    ensures { result ≡ widths.has_cells modes.now mode }
-{
-    is_stored(modes, modes.len(), mode)
-}
-
-/// May a value of the mode have a name: has it cells, or more than there may be, which is a fault? The cells are counted
-/// first and no further than there may be, so it never looks at more fields than that. It takes no memory.
-pub fn can_be_named(modes: &Modes, mode: ModeId) -> bool
-    ensures { result ≡ widths.can_be_named modes.now mode }
-{
-    width(modes, mode) > MOST_COUNTED || has_cells(modes, mode)
 }

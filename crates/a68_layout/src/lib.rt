@@ -1,10 +1,25 @@
-//! Where values lie in the store: how many cells a mode takes, and the cells of a new name.
+//! Where values lie in the store: how many cells a mode takes, the cells of a new name, and the elements and parts of rows.
 #![tactic(auto)]
 
 mod cells;
+mod counting;
+mod counting_values;
+mod extents;
+mod making;
+mod making_values;
+mod needs;
+mod picking;
 mod plans;
+mod rows;
+mod spreading;
+mod stretches;
 mod types;
+mod views;
+mod wanted;
 
-pub use cells::{can_be_named, cells_of, end_of, fields_width, has_cells};
-pub use plans::plan;
-pub use types::{LayoutStop, Plan};
+pub use cells::{cells_of, end_of, fields_width};
+pub use needs::takes_bounds;
+pub use plans::{plan, plan_elements, plan_for};
+pub use rows::new_row;
+pub use types::{Form, Forms, LayoutStop, Plan, Trim, Trims};
+pub use views::{cells_seen, element, part_of, view};

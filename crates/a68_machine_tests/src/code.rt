@@ -53,7 +53,8 @@ const CASES: &str = "\
 - a mode that is not there | Skip 13, Drop, End
 + a cell of INT | Make 1 0, Drop, End
 + a cell of VOID | Make 0 0, Drop, End
-- a cell with a bound | Push, Make 1 1, Drop, End
++ a cell with a bound | Push, Make 1 1, Drop, End
+- a bound that is not there | Make 1 1, Drop, End
 + a row is fetched | Push, Deref 7, Drop, End
 - a mode that is not there is fetched | Push, Deref 13, Drop, End
 + a row is assigned | Push, Push, Store 7, Drop, End
@@ -81,15 +82,18 @@ const CASES: &str = "\
 + row 1 | Push, Push, Apply 1, Drop, End
 + row 5 | Push, Push, Apply 5, Drop, End
 - row 5 on one value | Push, Apply 5, Drop, End
-- row 6 | Push, Push, Apply 6, Drop, End
++ row 6 | Push, Push, Apply 6, Drop, End
 + row 7 | Push, Push, Apply 7, Drop, End
 + row 23 | Push, Push, Apply 23, Drop, End
-- row 24 | Push, Push, Apply 24, Drop, End
-- row 40 | Push, Push, Apply 40, Drop, End
++ row 24 | Push, Push, Apply 24, Drop, End
 + row 26 | Push, Apply 26, Drop, End
 - row 26 on nothing | Apply 26, Drop, End
 + row 33 | Push, Apply 33, Drop, End
-- row 34 | Push, Apply 34, Drop, End
++ row 34 | Push, Apply 34, Drop, End
++ row 35 leaves nothing | Push, Apply 35, End
++ row 38 | Push, Apply 38, Drop, End
+- row 39 | Push, Apply 39, Drop, End
+- row 40 | Push, Apply 40, Drop, End
 + a limit's own step | Push, Push, Push, Apply 26, Counter, Step 9, Turn, Advance 5, Jump 9, Forget, End
 + a choice by a number | Push, Case 2 4 6, Skip 0, Jump 6, Skip 0, Jump 6, End
 + one part for every number | Push, Case 2, End
@@ -99,6 +103,14 @@ const CASES: &str = "\
 - a part before the choice | Skip 0, Push, Case 0 3, End
 - two parts of two heights | Push, Case 2 3, Push, End
 + two parts of one height | Push, Case 2 4, Push, Jump 5, Push, Drop, End
++ a choice by a member | Push, Unite 1, Member 8 3 5, Drop, Jump 5, End
+- no value is left at the last place | Push, Unite 1, Member 8 3 5, Drop, Jump 5, Drop, End
+- the value of a member is left | Push, Unite 1, Member 8 3 5, Skip 0, Jump 5, End
++ one place for all members | Push, Member 8 2, End
+- a choice by a member of nothing | Member 8 1, End
+- a choice by a member of a mode that is not there | Push, Member 13 2, End
+- a member's part outside | Push, Member 8 2 9, End
+- a member's part at the choice itself | Push, Member 8 1 2, End
 + nothing is printed | Print 0, End
 + a routine that yields | Text 4 1, Routine 0 -, Call 0 1, Drop, End, Push 5, Return
 - it yields where its entrance says it does not | Text 4 0, Routine 0 -, Call 0 1, Drop, End, Push 5, Return

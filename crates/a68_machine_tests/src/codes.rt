@@ -1,5 +1,6 @@
 //! Codes by their instructions in words: a name and at most two numbers each, with commas between. A Case has any
-//! number of them, and a Routine of scope 0 has - for its second one. Text is no instruction but the entrance of a routine
+//! number of them, a Member its mode and then its places, and a Routine of scope 0 has - for its second number. A Member
+//! that leaves the united values is called United. Text is no instruction but the entrance of a routine
 //! text, with 1 where its body leaves a value.
 ghost use Rattle.std.specs.Prelude.{◌<◌, length};
 ghost use Rattle.a68_modes.specs.Nodes.{IsWithin};
@@ -148,11 +149,26 @@ fn places(rt: &impl Abort, alloc: Global, numbers: &str) -> Places {
     Places { items }
 }
 
+// A Member of these numbers, the first of which is its mode, which leaves what is united in values, or with 1 the united ones.
+fn member(rt: &impl Abort, alloc: Global, numbers: &str, kept: u32) -> Does {
+    let (mode, rest) = apart(numbers);
+    let places = places(rt, alloc, rest);
+    let items = vec![in alloc; kept; places.items.len()].expect(rt, "memory");
+    Does::Member {
+        mode: number(rt, mode),
+        places,
+        whole: Places { items },
+    }
+}
+
 // A number that is left out is 0.
 fn does(rt: &impl Abort, alloc: Global, op: &str) -> Does {
     let (name, numbers) = apart(op);
     if name == "Case" {
         return Does::Case(places(rt, alloc, numbers));
+    }
+    if name == "Member" || name == "United" {
+        return member(rt, alloc, numbers, u32::from(name == "United"));
     }
     let (one, two) = apart(numbers);
     if name == "Routine" {

@@ -81,6 +81,12 @@ const KIND_AT_1: End = End::Fault {
     strand: 0,
 };
 
+const KIND_AT_3: End = End::Fault {
+    kind: FaultKind::Kind,
+    place: 3,
+    strand: 0,
+};
+
 const CELLS_AT_1: End = End::Fault {
     kind: FaultKind::Cells,
     place: 1,
@@ -141,6 +147,32 @@ const RUNS: &[(&str, u32, u64, End)] = &[
         9,
         0,
         UNSET_AT_9,
+    ),
+    ("Skip 1, Member 8 2, End", 9, 0, UNSET_AT_1),
+    ("Push 5, Member 8 2, End", 9, 0, KIND_AT_1),
+    (
+        "Push 5, Unite 1, Member 8 3 7 7 7 7 7 7, Drop, Skip 1, Print 1, Jump 10, Skip 0, Skip 1, Print 1, End",
+        9,
+        0,
+        UNSET_AT_5,
+    ),
+    (
+        "Push 5, Unite 2, Member 8 3 7 7 7 7 7 7, Drop, Skip 1, Print 1, Jump 10, Skip 0, Skip 1, Print 1, End",
+        9,
+        0,
+        UNSET_AT_9,
+    ),
+    (
+        "Push 5, Unite 1, United 8 3 6 6 6 6 6 6, Member 8 4 6 6 6 6 6 6, Drop, Skip 0, End",
+        9,
+        0,
+        End::Done,
+    ),
+    (
+        "Push 5, Unite 1, Member 8 3 6 6 6 6 6 6, Member 8 4 6 6 6 6 6 6, Drop, Skip 0, End",
+        9,
+        0,
+        KIND_AT_3,
     ),
     (
         "Push 1, Push 1, Skip 1, Apply 26, Counter, Forget, End",

@@ -2,8 +2,9 @@
 //! its numbers.
 use crate::table::{cut, holds, number};
 use a68_check::annotate;
-use a68_code::{Does, Instr};
+use a68_code::{Does, Instr, units_of};
 use a68_gen::generate;
+use a68_layout::Form;
 use a68_parse::{parse, symbols_are_bounded};
 use a68_symbols::symbols;
 use a68_tree::Tree;
@@ -127,6 +128,44 @@ const LISTINGS: &[(&str, &str)] = &[
         "( STRUCT (INT a, b) s = (1, 2); print(b OF s) )",
         "2 Enter 1;25 Push 1;28 Push 2;24 Compose 2;20 Bind;43 Tag;38 Select 13 1;38 Unite 1;32 Print 1;2 Leave;0 End",
     ),
+    // A row: a lower bound that is left out is 1. A slice tells how many indexes and how many units it has.
+    (
+        "( [3] INT a; a[2] := 5; print(a[1]) )",
+        "2 Enter 1;10 Push 1;3 Push 3;10 Make 13 2;10 Bind;13 Tag;15 Push 2;13 Slice 1 1;21 Push 5;13 Store 1;13 Drop;30 Tag;32 Push 1;30 Slice 1 1;30 Deref 1;30 Unite 1;24 Print 1;2 Leave;0 End",
+    ),
+    // A subscript and a trimmer with all its units.
+    (
+        "( [2, 0 : 1] INT a; a[1, 0 : 1 AT 3]; SKIP )",
+        "2 Enter 1;17 Push 1;3 Push 2;6 Push;10 Push 1;17 Make 13 4;17 Bind;20 Tag;22 Push 1;25 Push;29 Push 1;34 Push 3;20 Slice 2 4;20 Drop;38 Skip;2 Leave;0 End",
+    ),
+    // A display, a row without elements, and a value that becomes a row of itself.
+    (
+        "( [] INT v = (1, 2); print(v[2]) )",
+        "2 Enter 1;14 Push 1;17 Push 2;13 Display 2 13;9 Bind;27 Tag;29 Push 2;27 Slice 1 1;27 Unite 1;21 Print 1;2 Leave;0 End",
+    ),
+    (
+        "( [] INT v = (); SKIP )",
+        "2 Enter 1;13 Vacuum 13;9 Bind;17 Skip;2 Leave;0 End",
+    ),
+    (
+        "( [] INT v = 7; SKIP )",
+        "2 Enter 1;13 Push 7;13 RowUp 13;9 Bind;16 Skip;2 Leave;0 End",
+    ),
+    // Bounds of fields, those of STRING among them.
+    (
+        "( STRUCT ([2] INT a, STRING b) s; SKIP )",
+        "2 Enter 1;31 Push 1;11 Push 2;31 Push 1;31 Push;31 Make 13 4;31 Bind;34 Skip;2 Leave;0 End",
+    ),
+    // A name becomes that of a row.
+    (
+        "( INT x := 1; REF [] INT r = x; SKIP )",
+        "2 Enter 2;6 Make 1;11 Push 1;6 Store 1;6 Bind;29 Tag;29 RowUpName 13;25 Bind 1;32 Skip;2 Leave;0 End",
+    ),
+    // Bits become a row of truth values.
+    (
+        "( BITS b = 16r1; [] BOOL c = b; SKIP )",
+        "2 Enter 2;11 another;7 Bind;29 Tag;29 Widen;25 Bind 1;32 Skip;2 Leave;0 End",
+    ),
 ];
 
 fn tree_of(rt: &impl Abort, alloc: Global, text: &str) -> Tree {
@@ -148,6 +187,16 @@ fn constant(value: &Value) -> (&'static str, u32, u32) {
     }
 }
 
+// Names a slice, with the numbers of its indexes and of their units.
+fn sliced(forms: &[Form]) -> (&'static str, u32, u32) {
+    let units = units_of(forms).unwrap_or(0);
+    (
+        "Slice",
+        u32::try_from(forms.len()).unwrap_or(0),
+        u32::try_from(units).unwrap_or(0),
+    )
+}
+
 // Names an instruction, with its numbers.
 fn told(does: &Does) -> (&'static str, u32, u32) {
     match does {
@@ -164,6 +213,12 @@ fn told(does: &Does) -> (&'static str, u32, u32) {
         Does::Store(mode) => ("Store", *mode, 0),
         Does::Apply(row) => ("Apply", *row, 0),
         Does::Same(negated) => ("Same", *negated, 0),
+        Does::Slice(forms) => sliced(&forms.items),
+        Does::Display { count, mode } => ("Display", *count, *mode),
+        Does::Vacuum(mode) => ("Vacuum", *mode, 0),
+        Does::RowUp(mode) => ("RowUp", *mode, 0),
+        Does::RowUpName(mode) => ("RowUpName", *mode, 0),
+        Does::Widen => ("Widen", 0, 0),
         Does::Compose(count) => ("Compose", *count, 0),
         Does::Select { mode, field } => ("Select", *mode, *field),
         Does::Unite(mode) => ("Unite", *mode, 0),

@@ -6,7 +6,7 @@ use Rattle.a68_coerce.specs.Paths.{Finds, Leads}
 use Rattle.a68_coerce.specs.declared.leaf.Leaf.{Leaf}
 use Rattle.a68_coerce.specs.declared.leaf.Leaf.TheVariants as leaf
 use Rattle.a68_declare.specs.Outcome.{ByNode}
-use Rattle.a68_definitions.specs.Defined.{mode_at, part_number}
+use Rattle.a68_definitions.specs.Defined.{fixed_mode_at, mode_at, part_number}
 use Rattle.a68_equiv.specs.Related.{as_it_stands}
 use Rattle.a68_frames.specs.Frames.{has_slot, slots_in, IsFirstWay}
 use Rattle.a68_frames.specs.Needs.{IsNeed, UsesSlotAt, UsesTag}
@@ -40,6 +40,11 @@ goal_of (position.Goal m setter) = m
 goal_of (position.Asks by_sort (Some m)) = m
 goal_of (position.Items call) = 8
 goal_of _ = 0
+
+-- the mode that is asked at a node; at a declarer its mode without FLEX, of which a name of its values is made
+abbrev pub goal_by : ByNode → (n : ℕ) → Position → NodeKind → ℕ
+goal_by of n own kind.Declarer = fixed_mode_at of n
+goal_by of n own _ = goal_of own
 
 -- the mode of a unit before its coercions: what stands in strong positions only, and what hands on what is asked, has the mode that is asked
 abbrev pub unit_mode : (goal : ℕ) → Yielding → ℕ
@@ -151,7 +156,7 @@ IsNeedOf a n _ need = need ≡ None
 -- what is known of a node
 pub record IsNote (of : ByNode) (a : Asked) (n : ℕ) (note : Note) : Type 0 where
   pub mode : note.mode ≡ mode_of of a.defined n note.goal (yield_at a.ys n) (kind_at a.tree n)
-  pub goal : note.goal ≡ goal_of (position_at a.ps n)
+  pub goal : note.goal ≡ goal_by of n (position_at a.ps n) (kind_at a.tree n)
   pub path : IsPathOf a.nodes (kind_at a.tree n) (position_at a.ps n) (yield_at a.ys n) note.path
   pub op : note.op ≡ row_of (finding_at a.fs n)
   pub definition : note.definition ≡ definition_of a.tree a.tags n (finding_at a.fs n) (kind_at a.tree n)

@@ -11,8 +11,8 @@ use a68_positions::Position;
 use a68_tree::{NodeId, NodeKind, Tree};
 use a68_yields::{Finding, Yielding};
 
-/// Gives the mode that is asked of a node; VOID where none is.
-pub fn goal_of(own: Position) -> ModeId
+// Gives the mode that is asked of a node; VOID where none is.
+fn goal_of(own: Position) -> ModeId
     ensures { result ≡ specs.goal_of own }
 {
     match own {
@@ -20,6 +20,16 @@ pub fn goal_of(own: Position) -> ModeId
         Position::Asks(_, Some(mode)) => mode,
         Position::Items(_) => 8,
         Position::Asks(_, None) | Position::Nowhere | Position::Unlooked | Position::Called => 0,
+    }
+}
+
+/// Gives the mode that is asked at a node; at a declarer its mode without FLEX.
+pub fn goal_by(of: &NodeModes, node: NodeId, own: Position, kind: NodeKind) -> ModeId
+    ensures { result ≡ specs.goal_by of.now node own kind }
+{
+    match kind {
+        NodeKind::Declarer => of.without_flex(node),
+        _ => goal_of(own),
     }
 }
 

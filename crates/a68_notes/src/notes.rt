@@ -7,7 +7,7 @@ ghost use Rattle.a68_positions.specs.Below.{ArePositionsBelow};
 ghost use Rattle.a68_ranges.specs.Tables.{AreRanges};
 ghost use Rattle.a68_yields.specs.Below.{AreTablesBelow};
 
-use crate::field::{definition_of, goal_of, mode_of, row_of};
+use crate::field::{definition_of, goal_by, mode_of, row_of};
 use crate::needs::{need_of, needs_of};
 use crate::path::path_of;
 use crate::step::{step_of, target_of};
@@ -42,7 +42,7 @@ fn note_of(
     let own = position_of(&meaning.positions, node);
     let yielding = yield_of(&meaning.yields.yields, node);
     let found = finding_of(&meaning.yields.findings, node);
-    let goal = goal_of(own);
+    let goal = goal_by(&meaning.of, node, own, kind);
     let mode = mode_of(&meaning.of, &meaning.defined, node, goal, yielding, kind);
     let definition = definition_of(tree, &meaning.tags, node, found, kind);
     let step = step_of(map, node, target_of(node, definition, has_slot(kind)));

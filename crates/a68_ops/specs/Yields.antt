@@ -2,6 +2,7 @@
 use Rattle.std.specs.Prelude.{◌≡◌, ℕ, ℤ, pos, negsuc, ◌+◌, ◌^◌, Bool, true, false, ◌||◌, List, [], ◌∷◌, length, map, Ok, Err, IfOk, IfErr, IsTrue, nat_lt, if◌then◌else◌}
 use Rattle.std.specs.declared.result.Result.{Result}
 use Rattle.a68_values.specs.Content.{Content, Contents, plain, structure, row, united, no_parts, ◌and_part◌, contents_of}
+pub use Rattle.a68_values.specs.Content.{is_row}
 use Rattle.a68_values.specs.declared.act.FaultKind.{FaultKind}
 use Rattle.a68_values.specs.declared.act.FaultKind.TheVariants as fault
 use Rattle.a68_values.specs.declared.plain.Plain.{Plain}
@@ -20,10 +21,6 @@ PlainYield = Result Plain FaultKind
 abbrev pub yield_of : PlainYield → Yield
 yield_of (Ok p) = Ok (plain p)
 yield_of (Err kind) = Err kind
-
-abbrev pub is_row : Content → Bool
-is_row (row bounds parts) = true
-is_row _ = false
 
 -- A call's result is what is told: the value, or the fault. Memory can run out only where a value is told that takes some.
 abbrev pub IsAsTold : {A : Type 0} → (takes_memory : A → Bool) → Result A OpStop → Result A FaultKind → Type 0

@@ -18,5 +18,5 @@ pub use laws::{at_most_is_told_by_places, mod_gives_a_rest};
 pub use printing::{item_text, whole};
 pub use standard::{Operator, candidates, priority_of};
 pub use stop::OpStop;
-pub use texts::text_value;
+pub use texts::{is_text, text_value};
 pub use unset::is_unset;

@@ -1,5 +1,6 @@
 //! Operators on texts, which are CHAR or rows of CHAR (Report, 10.2.3.6 and 10.2.3.10).
 ghost use Rattle.std.specs.Prelude.{◌≡◌, ℕ, List, ◌+◌, ◌*◌, ◌≤◌, ◌++◌, None, Some, pos, map, length, MatchOption, OnOk, IfOk};
+ghost use Rattle.std.specs.Option.{is_some};
 ghost use Rattle.a68_ops.specs.Texts as texts;
 ghost use Rattle.a68_ops.specs.Texts.{code_of};
 ghost use Rattle.a68_ops.specs.Yields as yields;
@@ -49,6 +50,16 @@ pub fn items_of(value: &Value) -> Option<&[Value]>
             Some(&parts.items)
         }
         _ => None,
+    }
+}
+
+/// Tells whether a value is a text: a CHAR, or a row of CHAR of one dimension.
+pub fn is_text(value: &Value) -> bool
+    ensures { result ≡ is_some (texts.text_of value.now) }
+{
+    match items_of(value) {
+        Some(_) => true,
+        None => false,
     }
 }
 

@@ -1,11 +1,13 @@
 -- The listing of a code (own): a line for each instruction, with its index, its name and its operands.
-use Rattle.std.specs.Prelude.{ℕ, suc, List, [], ◌∷◌, ◌++◌, None, Some, codes, decimal}
+use Rattle.std.specs.Prelude.{ℕ, suc, Bool, true, false, List, [], ◌∷◌, ◌++◌, length, None, Some, codes, decimal}
 use Rattle.std.specs.declared.option.Option.{Option}
 use Rattle.a68_code.specs.Flow.{one_if}
 use Rattle.a68_code.specs.declared.code.Code.{Code}
 use Rattle.a68_code.specs.declared.code.Instr.{Instr}
 use Rattle.a68_code.specs.declared.does.Does.{Does}
-use Rattle.a68_code.specs.declared.does.Does.TheVariants.{Push, Skip, Nil, Routine, Tag, Enter, Leave, Bind, Make, Heap, Deref, Store, Apply, Same, Compose, Select, Unite, Drop, Print, Whole, Call, Return, Jump, Unless, Case, Counter, Index, Step, Turn, Advance, Forget, End}
+use Rattle.a68_code.specs.declared.does.Does.TheVariants.{Push, Skip, Nil, Routine, Tag, Enter, Leave, Bind, Make, Heap, Deref, Store, Apply, Same, Slice, Display, Vacuum, Compose, Select, Unite, RowUp, RowUpName, Widen, Drop, Print, Whole, Call, Return, Jump, Unless, Case, Member, Counter, Index, Step, Turn, Advance, Forget, End}
+use Rattle.a68_layout.specs.declared.types.Form.{Form}
+use Rattle.a68_layout.specs.declared.types.Form.TheVariants as form
 use Rattle.a68_report.specs.Constants.{constant}
 use Rattle.a68_report.specs.Names.{name_of}
 use Rattle.a68_report.specs.Put.{behind, number, listed}
@@ -15,7 +17,21 @@ abbrev pub outwards : (distance : Option ℕ) → List ℕ
 outwards None = behind (codes "-1")
 outwards (Some n) = number n
 
--- the operands in order: constants, numbers and lists of places
+-- this byte, where there is such a unit
+abbrev pub letter : Bool → (byte : ℕ) → List ℕ
+letter true byte = byte ∷ []
+letter false byte = []
+
+-- how a slice is written in a dimension: I for a subscript, and T for a trimmer, with L, U and A for the units that it has
+abbrev pub form_text : Form → List ℕ
+form_text form.Subscript = codes "I"
+form_text (form.Trimmer lower upper at) = codes "T" ++ letter lower 76 ++ letter upper 85 ++ letter at 65
+
+abbrev pub forms_text : List Form → List ℕ
+forms_text [] = []
+forms_text (f ∷ fs) = behind (form_text f) ++ forms_text fs
+
+-- the operands in order: constants, numbers, and lists of places and of forms
 abbrev pub operands : Does → List ℕ
 operands (Push value) = constant value
 operands (Skip mode) = number mode
@@ -30,17 +46,24 @@ operands (Deref mode) = number mode
 operands (Store mode) = number mode
 operands (Apply row) = number row
 operands (Same negated) = number negated
+operands (Slice forms) = number (length forms) ++ forms_text forms
+operands (Display count mode) = number count ++ number mode
+operands (Vacuum mode) = number mode
 operands (Compose count) = number count
 operands (Select mode field) = number mode ++ number field
 operands (Unite mode) = number mode
+operands (RowUp mode) = number mode
+operands (RowUpName mode) = number mode
 operands (Print count) = number count
 operands (Call count gives) = number count ++ number (one_if gives)
 operands (Jump to) = number to
 operands (Unless to) = number to
 operands (Case places) = listed places
+operands (Member mode places whole) = number mode ++ listed places ++ listed whole
 operands (Step to) = number to
 operands (Advance to) = number to
 operands Nil = []
+operands Widen = []
 operands Drop = []
 operands Whole = []
 operands Counter = []

@@ -1,7 +1,7 @@
 -- The names of the instructions (own).
 use Rattle.std.specs.Prelude.{ℕ, List, codes}
 use Rattle.a68_code.specs.declared.does.Does.{Does}
-use Rattle.a68_code.specs.declared.does.Does.TheVariants.{Push, Skip, Nil, Routine, Tag, Enter, Leave, Bind, Make, Heap, Deref, Store, Apply, Same, Compose, Select, Unite, Drop, Print, Whole, Call, Return, Jump, Unless, Case, Counter, Index, Step, Turn, Advance, Forget, End}
+use Rattle.a68_code.specs.declared.does.Does.TheVariants.{Push, Skip, Nil, Routine, Tag, Enter, Leave, Bind, Make, Heap, Deref, Store, Apply, Same, Slice, Display, Vacuum, Compose, Select, Unite, RowUp, RowUpName, Widen, Drop, Print, Whole, Call, Return, Jump, Unless, Case, Member, Counter, Index, Step, Turn, Advance, Forget, End}
 
 abbrev pub name_of : Does → List ℕ
 name_of (Push value) = codes "Push"
@@ -18,9 +18,15 @@ name_of (Deref mode) = codes "Deref"
 name_of (Store mode) = codes "Store"
 name_of (Apply row) = codes "Apply"
 name_of (Same negated) = codes "Same"
+name_of (Slice forms) = codes "Slice"
+name_of (Display count mode) = codes "Display"
+name_of (Vacuum mode) = codes "Vacuum"
 name_of (Compose count) = codes "Compose"
 name_of (Select mode field) = codes "Select"
 name_of (Unite mode) = codes "Unite"
+name_of (RowUp mode) = codes "RowUp"
+name_of (RowUpName mode) = codes "RowUpName"
+name_of Widen = codes "Widen"
 name_of Drop = codes "Drop"
 name_of (Print count) = codes "Print"
 name_of Whole = codes "Whole"
@@ -29,6 +35,7 @@ name_of Return = codes "Return"
 name_of (Jump to) = codes "Jump"
 name_of (Unless to) = codes "Unless"
 name_of (Case places) = codes "Case"
+name_of (Member mode places whole) = codes "Member"
 name_of Counter = codes "Counter"
 name_of Index = codes "Index"
 name_of (Step to) = codes "Step"

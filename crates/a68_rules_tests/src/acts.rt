@@ -1,7 +1,8 @@
 //! What is printed of items, counted by hand from the rules: an INT in 20 places and more where the number needs them.
 use crate::table::{agrees, holds};
-use a68_acts::{Doing, Next, Reply, Want, print_next, resumed, united, whole_of};
+use a68_acts::{Doing, Next, Reply, Want};
 use a68_modes::Modes;
+use a68_perform::{print_next, resumed, united, whole_of};
 use a68_values::{Layout, Plain, Value, ValueNode, Values};
 use std::alloc::Global;
 use std::panic::Expect;

@@ -12,6 +12,8 @@ mod modes;
 mod operations;
 #[cfg(test)]
 mod ops;
+#[cfg(test)]
+mod rows;
 mod shown;
 #[cfg(test)]
 mod structures;

@@ -46,13 +46,14 @@ fn parts_are_there(rt: &impl Abort, alloc: Global, modes: &Modes, shape: &Shape)
     }
 }
 
-fn add(rt: &impl Abort, alloc: Global, modes: &mut Modes, shape: Shape) {
+/// A new node of this shape, and its number.
+pub fn add(rt: &impl Abort, alloc: Global, modes: &mut Modes, shape: Shape) {
     parts_are_there(rt, alloc, modes, &shape);
     modes.add(shape).expect(rt, "a node");
 }
 
-// A structure with fields of these modes.
-fn structure(rt: &impl Abort, alloc: Global, fields: &[ModeId]) -> Shape {
+/// A structure with fields of these modes.
+pub fn structure(rt: &impl Abort, alloc: Global, fields: &[ModeId]) -> Shape {
     let mut items = Vec::new(alloc);
     for mode in fields {
         items.push((0, *mode)).expect(rt, "memory");

@@ -1,7 +1,8 @@
 //! Operations on the values of their parts, by hand.
 use crate::table::{agrees, holds};
-use a68_acts::{Doing, Next, Reply, *};
+use a68_acts::{Doing, Next, Reply};
 use a68_modes::Modes;
+use a68_perform::{applied, case_of, made, print_next, resumed, updating};
 use a68_values::{Chain, Environ, Held, Name, Plain, Value, ValueNode, Values};
 use std::alloc::Global;
 use std::panic::Expect;
@@ -106,11 +107,11 @@ const UPDATES: &[(u32, Plain, i64, &str)] = &[
 ];
 
 // What comes of an operator that is combined with assignation, before its first act.
-fn begun(row: u32, name: Value, operand: Value) -> Doing {
-    let doing = updating(row, &name, &operand);
+fn begun(rt: &impl Abort, alloc: Global, row: u32, name: Value, operand: Value) -> Doing {
+    let doing = updating(alloc, row, &name, &operand);
     drop(name);
     drop(operand);
-    doing
+    doing.expect(rt, "memory")
 }
 
 // What comes of an operation behind its next act.
@@ -132,14 +133,20 @@ fn behind(rt: &impl Abort, alloc: Global, doing: Doing, reply: Reply) -> Doing {
 
 // What comes of such an operator once the old value is fetched.
 fn fetched(rt: &impl Abort, alloc: Global, row: u32, old: Plain, operand: i64) -> Doing {
-    let doing = begun(row, Value::of(NAME), Value::of(Plain::Int(operand)));
+    let doing = begun(
+        rt,
+        alloc,
+        row,
+        Value::of(NAME),
+        Value::of(Plain::Int(operand)),
+    );
     behind(rt, alloc, doing, Reply::Held(Held::Plain(old)))
 }
 
 #[test]
 fn names_are_tested(rt: HostRuntime) {
     for (name, operand, expected) in TESTED {
-        let doing = begun(1, Value::of(*name), Value::of(*operand));
+        let doing = begun(&rt, rt.alloc(), 1, Value::of(*name), Value::of(*operand));
         is_shown(&rt, rt.alloc(), doing, expected, expected);
     }
 }
@@ -187,7 +194,7 @@ fn a_name_is_made(rt: HostRuntime) {
     let modes = Modes::new(alloc).expect(&rt, "memory");
     let items = vec![in alloc; Environ { frame: 0, scope: 3 }].expect(&rt, "memory");
     let chain = Chain { items };
-    let asked = made(alloc, &modes, 1, &chain).expect(&rt, "memory");
+    let asked = made(alloc, &modes, 1, &chain, &[]).expect(&rt, "memory");
     drop(chain);
     is_shown(&rt, alloc, asked, "Make 1 of scope 3", "a new INT");
     let named = resumed(alloc, &modes, Next::Made { scope: 3 }, Reply::Base(7)).expect(

@@ -1,6 +1,7 @@
 //! Values, acts and operations in words.
 use a68_acts::{Doing, Next, Want};
-use a68_values::{Held, Plain, Value, ValueNode, Values};
+use a68_layout::Plan;
+use a68_values::{Bounds, Descriptor, Dim, Held, Plain, Value, ValueNode, Values};
 use std::alloc::Global;
 use std::fmt::Debug;
 use std::string::String;
@@ -10,11 +11,30 @@ pub fn plain(value: &Value) -> Plain {
     value.plain().unwrap_or(Plain::Unset)
 }
 
-// Makes a text grow by a value that is made of others: a structure in brackets, a united value behind its mode.
+// Makes a text grow by bounds, as a declarer writes them.
+fn tell_bounds(text: &mut String, bounds: &Bounds) -> Option<()> {
+    text.push('[').ok()?;
+    let mut is_first = true;
+    for (lower, upper) in &bounds.items {
+        if !is_first {
+            text.push(',').ok()?;
+        }
+        is_first = false;
+        write!(text, "{lower}:{upper}").ok()?;
+    }
+    text.push(']').ok()
+}
+
+// Makes a text grow by a value that is made of others: a structure in brackets, a row behind its bounds, a united value
+// behind its mode.
 #[cycle(telling)]
 fn tell(text: &mut String, value: &Value) -> Option<()> {
     match &value.node {
         ValueNode::Structure(parts) => tell_parts(text, parts),
+        ValueNode::Row { bounds, parts } => {
+            tell_bounds(text, bounds)?;
+            tell_parts(text, parts)
+        }
         ValueNode::United { mode, value } => {
             write!(text, "{mode}: ").ok()?;
             tell(text, value)
@@ -81,7 +101,6 @@ fn parts(want: &Want) -> Told {
             ("Bind", Some(*frame as usize), Some(*slot), None, value)
         }
         Want::Look { frame, slot } => ("Look", Some(*frame as usize), Some(*slot), None, None),
-        Want::Make(plan) => ("Make", Some(plan.cells.items.len()), None, None, None),
         Want::Fetch { cell } => ("Fetch", Some(*cell as usize), None, None, None),
         Want::Assign { cell, held } => {
             let value = plain_in(held).unwrap_or(Plain::Unset);
@@ -116,6 +135,39 @@ fn printing(alloc: Global, bytes: &[u8]) -> Option<String> {
     format!(in alloc; "Print {text:?}").ok()
 }
 
+// Makes a text grow by a row in the store: the cell of its first element, and the bounds and the stride of each dimension.
+fn tell_row(text: &mut String, row: &Descriptor) -> Option<()> {
+    let base = row.base;
+    write!(text, " at {base}").ok()?;
+    for dim in &row.dims.items {
+        let Dim {
+            lower,
+            upper,
+            stride,
+        } = *dim;
+        write!(text, " {lower}:{upper}/{stride}").ok()?;
+    }
+    Some(())
+}
+
+fn assigning_row(alloc: Global, cell: u32, row: &Descriptor) -> Option<String> {
+    let mut text = format!(in alloc; "Assign {cell} row").ok()?;
+    tell_row(&mut text, row)?;
+    Some(text)
+}
+
+// Tells how many cells are made, and a row that is the only one.
+fn making(alloc: Global, cells: &[Held]) -> Option<String> {
+    let count = cells.len();
+    let mut text = format!(in alloc; "Make {count}").ok()?;
+    if count == 1 {
+        if let Held::Rows(row) = &cells[0] {
+            tell_row(&mut text, row)?;
+        }
+    }
+    Some(text)
+}
+
 /// Tells an act by its name, its numbers, and what it is given; none where memory runs out.
 pub fn act(alloc: Global, want: &Want) -> Option<String> {
     match want {
@@ -124,6 +176,11 @@ pub fn act(alloc: Global, want: &Want) -> Option<String> {
             cell,
             held: Held::Member { mode, base },
         } => format!(in alloc; "Assign {cell} Member {mode} {base}").ok(),
+        Want::Assign {
+            cell,
+            held: Held::Rows(row),
+        } => assigning_row(alloc, *cell, row),
+        Want::Make(Plan { cells, .. }) => making(alloc, &cells.items),
         _ => in_words(alloc, &parts(want)),
     }
 }

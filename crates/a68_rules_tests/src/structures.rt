@@ -1,30 +1,44 @@
 //! The acts of fetching and of assigning values of structures and unions, and what is made of such values, by hand.
 use crate::modes::{BOX, DEEP, EITHER, INT, LINK, NAMED, POINT, REF_BOX, modes};
 use crate::table::{agrees, holds};
-use a68_acts::{
-    Doing, Reply, assigned, assigned_parts, composed, fetched_parts, made_in_heap, member_of,
-    resumed, selected, skipped, united,
-};
+use a68_acts::{Doing, Reply};
 use a68_modes::{ModeId, Modes};
-use a68_values::{FaultKind, Held, Name, Plain, Value, ValueNode, Values};
+use a68_perform::{making, member_of, resumed, united};
+use a68_steps::{assigned, assigned_parts, composed, fetched_parts, selected, skipped};
+use a68_values::{Descriptor, Dim, Dims, FaultKind, Held, Name, Plain, Value, ValueNode, Values};
 use std::alloc::Global;
 use std::panic::Expect;
 use std::process::Abort;
 
 /// What an act tells.
 #[derive(Clone, Copy)]
-enum Told {
+pub enum Told {
     Go,
     Base(u32),
     Int(i64),
     Plain(Plain),
     Member(ModeId, u32),
+    Row(u32, i64),
 }
 
 // Acts in order, with what each tells.
-type Acts = &'static [(&'static str, Told)];
+pub type Acts = &'static [(&'static str, Told)];
 
-fn reply(told: &Told) -> Reply {
+// A row of one dimension, from 1 up to this bound, whose elements take one cell each from this one on.
+pub fn row(rt: &impl Abort, alloc: Global, base: u32, upper: i64) -> Descriptor {
+    let dim = Dim {
+        lower: 1,
+        upper,
+        stride: 1,
+    };
+    let items = vec![in alloc; dim].expect(rt, "memory");
+    Descriptor {
+        base,
+        dims: Dims { items },
+    }
+}
+
+fn reply(rt: &impl Abort, alloc: Global, told: &Told) -> Reply {
     match told {
         Told::Go => Reply::Go,
         Told::Base(base) => Reply::Base(*base),
@@ -34,6 +48,7 @@ fn reply(told: &Told) -> Reply {
             mode: *mode,
             base: *base,
         }),
+        Told::Row(base, upper) => Reply::Held(Held::Rows(row(rt, alloc, *base, *upper))),
     }
 }
 
@@ -49,14 +64,15 @@ fn goes_on(rt: &impl Abort, alloc: Global, modes: &Modes, doing: Doing, told: &T
     match doing {
         Doing::Asks(want, next) => {
             drop(want);
-            resumed(alloc, modes, next, reply(told)).expect(rt, "memory")
+            let reply = reply(rt, alloc, told);
+            resumed(alloc, modes, next, reply).expect(rt, "memory")
         }
         other => other,
     }
 }
 
 // An operation does these acts, and this comes of it then.
-fn does(rt: &impl Abort, alloc: Global, modes: &Modes, begun: Doing, acts: Acts, last: &str) {
+pub fn does(rt: &impl Abort, alloc: Global, modes: &Modes, begun: Doing, acts: Acts, last: &str) {
     let mut doing = begun;
     for (act, told) in acts {
         is_told(rt, alloc, &doing, act);
@@ -104,7 +120,26 @@ const FETCHED: &[(ModeId, Acts, &str)] = &[
         ],
         "(Bool(true) (Int(1) Int(2)) 13: (Int(3) Int(4)))",
     ),
-    (NAMED, &[("Fetch 7", Told::Int(1))], "Kind"),
+    (
+        NAMED,
+        &[("Fetch 7", Told::Int(1)), ("Fetch 8", Told::Int(2))],
+        "Kind",
+    ),
+    (
+        NAMED,
+        &[
+            ("Fetch 7", Told::Int(1)),
+            ("Fetch 8", Told::Row(30, 2)),
+            ("Fetch 30", Told::Plain(Plain::Char(97))),
+            ("Fetch 31", Told::Plain(Plain::Char(98))),
+        ],
+        "(Int(1) [1:2](Char(97) Char(98)))",
+    ),
+    (
+        NAMED,
+        &[("Fetch 7", Told::Int(1)), ("Fetch 8", Told::Row(30, 0))],
+        "(Int(1) [1:0]())",
+    ),
     (DEEP, &[], "Cells"),
     (EITHER, &[("Fetch 7", Told::Int(1))], "Kind"),
     (POINT, &[("Fetch 7", Told::Go)], "Kind"),
@@ -286,7 +321,7 @@ const NEW: &[(ModeId, &str, &str)] = &[
     (POINT, "Make 2 of scope 0", "(Unset Unset)"),
     (BOX, "Make 4 of scope 0", "(Unset (Unset Unset) Unset)"),
     (EITHER, "Make 1 of scope 0", "Unset"),
-    (NAMED, "Kind", "Kind"),
+    (NAMED, "Kind", "(Unset [1:0]())"),
     (DEEP, "Cells", "Cells"),
 ];
 
@@ -295,7 +330,7 @@ fn new_names_and_skip(rt: HostRuntime) {
     let alloc = rt.alloc();
     let modes = modes(&rt, alloc);
     for (mode, named, value) in NEW {
-        let doing = made_in_heap(alloc, &modes, *mode).expect(&rt, "memory");
+        let doing = making(alloc, &modes, *mode, 0, &[]).expect(&rt, "memory");
         does(&rt, alloc, &modes, doing, &[], named);
         let doing = skipped(alloc, &modes, *mode).expect(&rt, "memory");
         does(&rt, alloc, &modes, doing, &[], value);
@@ -316,12 +351,14 @@ fn names_of_fields(rt: HostRuntime) {
     let alloc = rt.alloc();
     let modes = modes(&rt, alloc);
     for (field, told) in SELECTED {
-        let doing = selected(&modes, REF_BOX, *field, Value::of(Plain::Name(NAME)));
+        let doing = selected(alloc, &modes, REF_BOX, *field, Value::of(Plain::Name(NAME))).expect(
+            &rt, "memory",
+        );
         does(&rt, alloc, &modes, doing, &[], told);
     }
-    let nil = selected(&modes, REF_BOX, 0, Value::of(Plain::Nil));
+    let nil = selected(alloc, &modes, REF_BOX, 0, Value::of(Plain::Nil)).expect(&rt, "memory");
     does(&rt, alloc, &modes, nil, &[], "Nil");
-    let unset = selected(&modes, REF_BOX, 0, Value::of(Plain::Unset));
+    let unset = selected(alloc, &modes, REF_BOX, 0, Value::of(Plain::Unset)).expect(&rt, "memory");
     does(&rt, alloc, &modes, unset, &[], "Unset");
     drop(modes);
 }
@@ -331,10 +368,10 @@ fn fields_of_values(rt: HostRuntime) {
     let alloc = rt.alloc();
     let modes = modes(&rt, alloc);
     let value = whole(&rt, alloc, &modes);
-    let doing = selected(&modes, BOX, 1, value);
+    let doing = selected(alloc, &modes, BOX, 1, value).expect(&rt, "memory");
     does(&rt, alloc, &modes, doing, &[], "(Int(1) Int(2))");
     let value = whole(&rt, alloc, &modes);
-    let doing = selected(&modes, BOX, 3, value);
+    let doing = selected(alloc, &modes, BOX, 3, value).expect(&rt, "memory");
     does(&rt, alloc, &modes, doing, &[], "Kind");
     drop(modes);
 }

@@ -1,4 +1,5 @@
 pub mod Between
 pub mod Choosing
 pub mod Quoting
+pub mod Specifying
 pub mod Unready

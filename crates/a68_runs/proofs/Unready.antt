@@ -3,13 +3,13 @@ use Rattle.std.proofs.Common.{◌≡◌, ◌<◌, ◌⊎◌, ⊎_elim, inl, inr,
 use Rattle.std.proofs.lemmas.Bool.{false≢true, ltb-true, ltb-false, cases_lt}
 use Rattle.std.proofs.lemmas.Option.{same_Some}
 use Rattle.std.specs.Prelude.{nat_lt, not, ◌&&◌, ◌||◌, if◌then◌else◌}
+use Rattle.std.specs.Option.{option_and_then}
 use Rattle.std.specs.declared.option.Option.{Option}
 use Rattle.a68_annot.specs.declared.annotated.Annotated.{Annotated}
-use Rattle.a68_elab.specs.Made.{behind_proc, behind_ref}
-use Rattle.a68_runs.specs.Runs.{are_phrases, is_outcome, last_outcome, outcome, path_leaves, runs}
-use Rattle.a68_runs.specs.Unready.{AreThere, IsThere, IsUnreadyBefore, behind, is_earlier, one_more, with_node}
+use Rattle.a68_elab.specs.Made.{behind_proc, behind_ref, rowed_to}
+use Rattle.a68_runs.specs.Runs.{are_phrases, is_outcome, is_there, last_outcome, outcome, path_leaves, runs}
+use Rattle.a68_runs.specs.Unready.{AreThere, IsThere, IsUnreadyBefore, behind, is_earlier, one_more, value_of, with_node}
 use Rattle.a68_runs.specs.declared.paths.Between.{Between}
-use Rattle.a68_layout.specs.Widths.{can_be_named}
 use Rattle.a68_modes.specs.Nodes.{shape_at, is_void}
 use Rattle.a68_modes.specs.declared.coercion.Coercion.{Coercion}
 use Rattle.a68_modes.specs.declared.coercion.Coercion.TheVariants as coercion
@@ -19,61 +19,73 @@ use Rattle.a68_ranges.specs.Nodes.{place_at}
 
 -- ---- paths
 
--- a value of a mode
-abbrev value-of : (mode : ℕ) → Between
-value-of m = record { mode = m; left = true }
+abbrev value-at : (mode : ℕ) → Between
+value-at m = record { mode = m; left = true }
 
-module _ (modes : List Shape) (path : List Coercion) where
-  next-is : (x next : Between) → Some x ≡ Some next → path_leaves modes x.mode x.left path ≡ path_leaves modes next.mode next.left path
-  next-is x next e = ap (λ (b : Between). path_leaves modes b.mode b.left path) (same_Some x next e)
+module _ (modes : List Shape) (goal : ℕ) (path : List Coercion) where
+  next-is : (x next : Between) → Some x ≡ Some next → path_leaves modes goal x.mode x.left path ≡ path_leaves modes goal next.mode next.left path
+  next-is x next e = ap (λ (b : Between). path_leaves modes goal b.mode b.left path) (same_Some x next e)
 
-  deref-on : (m : ℕ) (b : Bool) (next : Between) → (if b then Some (value-of m) else None) ≡ Some next
-      → (if b then path_leaves modes m true path else None) ≡ path_leaves modes next.mode next.left path
-  deref-on m true next e = next-is (record { mode = m; left = true }) next e
-  deref-on m false next e = absurd (cc)
+  there-on : (m : ℕ) (b : Bool) (next : Between) → (if b then Some (record { mode = m; left = true }) else None) ≡ Some next
+      → (if b then path_leaves modes goal m true path else None) ≡ path_leaves modes goal next.mode next.left path
+  there-on m true next e = next-is (record { mode = m; left = true }) next e
+  there-on m false next e = absurd (cc)
 
-  value-on : (mode : ℕ) (next : Between) (c : Coercion) → behind modes mode c ≡ Some next → path_leaves modes mode true (c ∷ path) ≡ path_leaves modes next.mode next.left path
-  value-on mode next coercion.Deref e = deref-on (behind_ref (shape_at modes mode)) (can_be_named modes (behind_ref (shape_at modes mode))) next e
+  row-on : (o : Option ℕ) (next : Between) → option_and_then (value_of modes) o ≡ Some next
+      → option_and_then (λ m. if is_there modes m then path_leaves modes goal m true path else None) o ≡ path_leaves modes goal next.mode next.left path
+  row-on (Some m) next e = there-on m (is_there modes m) next e
+  row-on None next e = absurd (cc)
+
+  value-on : (mode : ℕ) (next : Between) (c : Coercion) → behind modes goal mode c path ≡ Some next
+      → path_leaves modes goal mode true (c ∷ path) ≡ path_leaves modes goal next.mode next.left path
+  value-on mode next coercion.Deref e = there-on (behind_ref (shape_at modes mode)) (is_there modes (behind_ref (shape_at modes mode))) next e
   value-on mode next coercion.Deproc e = next-is (record { mode = behind_proc (shape_at modes mode); left = not (is_void (shape_at modes (behind_proc (shape_at modes mode)))) }) next e
   value-on mode next (coercion.Unite from) e = next-is (record { mode = from; left = true }) next e
+  value-on mode next coercion.Widen e = next-is (record { mode = 11; left = true }) next e
+  value-on mode next coercion.RowUp e = row-on (rowed_to modes goal path) next e
+  value-on mode next coercion.RowUpName e = row-on (rowed_to modes goal path) next e
   value-on mode next coercion.Drop e = next-is (record { mode = 0; left = false }) next e
-  value-on mode next _ e = absurd (cc)
 
-  deref-stops : (m : ℕ) (b : Bool) → (if b then Some (value-of m) else None) ≡ None → (if b then path_leaves modes m true path else None) ≡ None
-  deref-stops m true e = absurd (cc)
-  deref-stops m false e = refl
+  there-stops : (m : ℕ) (b : Bool) → (if b then Some (value-at m) else None) ≡ None → (if b then path_leaves modes goal m true path else None) ≡ None
+  there-stops m true e = absurd (cc)
+  there-stops m false e = refl
 
-  value-stops : (mode : ℕ) (c : Coercion) → behind modes mode c ≡ None → path_leaves modes mode true (c ∷ path) ≡ None
-  value-stops mode coercion.Deref e = deref-stops (behind_ref (shape_at modes mode)) (can_be_named modes (behind_ref (shape_at modes mode))) e
+  row-stops : (o : Option ℕ) → option_and_then (value_of modes) o ≡ None → option_and_then (λ m. if is_there modes m then path_leaves modes goal m true path else None) o ≡ None
+  row-stops (Some m) e = there-stops m (is_there modes m) e
+  row-stops None e = refl
+
+  value-stops : (mode : ℕ) (c : Coercion) → behind modes goal mode c path ≡ None → path_leaves modes goal mode true (c ∷ path) ≡ None
+  value-stops mode coercion.Deref e = there-stops (behind_ref (shape_at modes mode)) (is_there modes (behind_ref (shape_at modes mode))) e
   value-stops mode coercion.Deproc e = absurd (cc)
   value-stops mode (coercion.Unite from) e = absurd (cc)
+  value-stops mode coercion.Widen e = absurd (cc)
+  value-stops mode coercion.RowUp e = row-stops (rowed_to modes goal path) e
+  value-stops mode coercion.RowUpName e = row-stops (rowed_to modes goal path) e
   value-stops mode coercion.Drop e = absurd (cc)
-  value-stops mode _ e = refl
-
-  none-stops : (mode : ℕ) (c : Coercion) → path_leaves modes mode false (c ∷ path) ≡ None
-  none-stops mode coercion.Deref = refl
-  none-stops mode coercion.Deproc = refl
-  none-stops mode (coercion.Unite from) = refl
-  none-stops mode coercion.Drop = refl
-  none-stops mode _ = refl
 
   -- one coercion more, and what is left
-  go-on : (mode : ℕ) (left : Bool) (next : Between) (c : Coercion) → one_more modes (record { mode = mode; left = left }) c ≡ Some next
-      → path_leaves modes mode left (c ∷ path) ≡ path_leaves modes next.mode next.left path
+  go-on : (mode : ℕ) (left : Bool) (next : Between) (c : Coercion) → one_more modes goal (record { mode = mode; left = left }) c path ≡ Some next
+      → path_leaves modes goal mode left (c ∷ path) ≡ path_leaves modes goal next.mode next.left path
   go-on mode true next c e = value-on mode next c e
   go-on mode false next c e = absurd (cc)
 
-  stop-at : (mode : ℕ) (left : Bool) (c : Coercion) → one_more modes (record { mode = mode; left = left }) c ≡ None → path_leaves modes mode left (c ∷ path) ≡ None
+  stop-at : (mode : ℕ) (left : Bool) (c : Coercion) → one_more modes goal (record { mode = mode; left = left }) c path ≡ None → path_leaves modes goal mode left (c ∷ path) ≡ None
   stop-at mode true c e = value-stops mode c e
-  stop-at mode false c e = none-stops mode c
+  stop-at mode false c e = refl
 
-pub path-goes-on : (modes : List Shape) (path : List Coercion) (i : ℕ) (d : Coercion) (at next : Between) → i < length path → one_more modes at (get_or path i d) ≡ Some next
-    → path_leaves modes at.mode at.left (drop i path) ≡ path_leaves modes next.mode next.left (drop (i + 1) path)
-path-goes-on modes path i d at next less e = rw (add-one, drop-cons path i d) (go-on modes (drop (suc i) path) at.mode at.left next (get_or path i d) e)
+pub path-goes-on : (modes : List Shape) (goal : ℕ) (path : List Coercion) (i : ℕ) (d : Coercion) (at next : Between) → i < length path
+    → one_more modes goal at (get_or path i d) (drop (i + 1) path) ≡ Some next
+    → path_leaves modes goal at.mode at.left (drop i path) ≡ path_leaves modes goal next.mode next.left (drop (i + 1) path)
+path-goes-on modes goal path i d at next less e =
+    let f : one_more modes goal at (get_or path i d) (drop (suc i) path) ≡ Some next = rw add-one at e in
+    rw (add-one, drop-cons path i d) (go-on modes goal (drop (suc i) path) at.mode at.left next (get_or path i d) f)
 
-pub path-stops : (modes : List Shape) (path : List Coercion) (i : ℕ) (d : Coercion) (at : Between) → i < length path → one_more modes at (get_or path i d) ≡ None
-    → path_leaves modes at.mode at.left (drop i path) ≡ None
-path-stops modes path i d at less e = rw (drop-cons path i d) (stop-at modes (drop (suc i) path) at.mode at.left (get_or path i d) e)
+pub path-stops : (modes : List Shape) (goal : ℕ) (path : List Coercion) (i : ℕ) (d : Coercion) (at : Between) → i < length path
+    → one_more modes goal at (get_or path i d) (drop (i + 1) path) ≡ None → path_leaves modes goal at.mode at.left (drop i path) ≡ None
+path-stops modes goal path i d at less e =
+    let f : one_more modes goal at (get_or path i d) (drop (suc i) path) ≡ None = rw add-one at e in
+    let all : drop i path ≡ get_or path i d ∷ drop (suc i) path = drop-cons path i d less in
+    ap (λ (l : List Coercion). path_leaves modes goal at.mode at.left l) all ∙ stop-at modes goal (drop (suc i) path) at.mode at.left (get_or path i d) f
 
 -- ---- parts
 

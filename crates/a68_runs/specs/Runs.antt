@@ -1,17 +1,17 @@
 -- Which programs run: a rule for each node by itself, of its kind, its note and what its parts leave (own).
-use Rattle.std.specs.Prelude.{◌≡◌, ◌<◌, ℕ, Bool, true, false, not, ◌&&◌, ◌||◌, ◌==◌, nat_lt, List, [], ◌∷◌, length, None, Some, slice_get, nat_eq, if◌then◌else◌}
+use Rattle.std.specs.Prelude.{◌≡◌, ◌<◌, ℕ, Bool, true, false, not, ◌&&◌, ◌||◌, ◌==◌, nat_lt, List, [], ◌∷◌, length, None, Some, slice_get, nat_eq, nat_le, if◌then◌else◌}
 use Rattle.std.specs.List.{list_all}
 use Rattle.std.specs.Option.{is_some, option_map_or, option_and_then}
 use Rattle.std.specs.declared.option.Option.{Option}
-use Rattle.a68_acts.specs.Operations.{is_union, is_update}
+use Rattle.a68_acts.specs.Operations.{is_union}
 use Rattle.a68_annot.specs.declared.annotated.Annotated.{Annotated}
 use Rattle.a68_annot.specs.declared.note.Note.{Note}
-use Rattle.a68_code.specs.Flow.{takes}
-use Rattle.a68_code.specs.Operands.{is_well_made}
-use Rattle.a68_code.specs.declared.does.Does.TheVariants as does
+use Rattle.a68_code.specs.Flow.{operands_of, units_in}
 use Rattle.a68_elab.specs.Constants.{value_in}
-use Rattle.a68_elab.specs.Made.{before_out, behind_heap, field_in, fields_at, first_goal, behind_proc, behind_ref, begins_with, called, if_first, is_by, is_declarer, is_for, is_from, is_heap, is_one_of, is_to, is_while, items_at, only_id, out_of, parts_at, past, printers, spelling_of, standard_of, wholes}
-use Rattle.a68_layout.specs.Widths.{can_be_named}
+use Rattle.a68_elab.specs.Made.{before_out, behind_heap, field_in, fields_at, first_bounds, first_goal, goal_at, form_of, behind_proc, behind_ref, begins_with, called, if_first, is_by, is_declarer, is_for, is_from, is_heap, is_one_of, is_to, is_while, items_at, only_id, out_of, parts_at, past, printers, rowed_to, spelling_of, standard_of, wholes}
+use Rattle.a68_elab.specs.declared.bound.Bound.{Bound}
+use Rattle.a68_elab.specs.declared.bound.Bound.TheVariants as bound
+use Rattle.a68_layout.specs.Rooms.{bounds_needed}
 use Rattle.a68_modes.specs.Nodes.{shape_at, is_void}
 use Rattle.a68_modes.specs.declared.coercion.Coercion.{Coercion}
 use Rattle.a68_modes.specs.declared.coercion.Coercion.TheVariants as coercion
@@ -79,6 +79,9 @@ abbrev pub outcome_by : Annotated → Node → Note → NodeKind → Option Bool
 outcome_by a node note kind.From = Some true
 outcome_by a node note kind.By = Some true
 outcome_by a node note kind.To = Some true
+outcome_by a node note kind.Lower = Some true
+outcome_by a node note kind.Upper = Some true
+outcome_by a node note kind.At = Some true
 outcome_by a node note kind.Tag = if_so (is_value note.definition (spelling_of a node)) (asks_value a note)
 outcome_by a node note kind.Collateral = if_so (not (is_union (shape_at a.modes note.goal))) (asks_value a note)
 outcome_by a node note kind = if_so (is_construct kind) (asks_value a note)
@@ -124,32 +127,27 @@ are_phrases a wanted (id ∷ (i ∷ ids)) = is_outcome false (outcome a id) && a
 
 -- ---- modes
 
--- the skip of a mode runs
-abbrev pub is_skipped : Annotated → (mode : ℕ) → Bool
-is_skipped a mode = is_void (shape_at a.modes mode) || can_be_named a.modes mode
+-- a mode is one of those that are there
+abbrev pub is_there : List Shape → (mode : ℕ) → Bool
+is_there modes mode = nat_lt mode (length modes)
 
--- what a name of a mode refers to has cells
-abbrev pub refers_to_cells : Annotated → (mode : ℕ) → Bool
-refers_to_cells a mode = can_be_named a.modes (behind_ref (shape_at a.modes mode))
+-- so is that of what a name of a mode refers to
+abbrev pub refers : Annotated → (mode : ℕ) → Bool
+refers a mode = is_there a.modes (behind_ref (shape_at a.modes mode))
+
+abbrev pub is_row : Shape → Bool
+is_row (shape.Rows dims flex m) = true
+is_row _ = false
 
 -- ---- what is asked of a node of a kind
 
--- a node is asked for a name of INT
-abbrev pub is_int_name : Annotated → (id : ℕ) → Bool
-is_int_name a id = option_map_or (λ note. nat_eq (behind_ref (shape_at a.modes note.goal)) 1) (slice_get a.notes id) false
+-- an operator that runs: all but LEVEL, UP and DOWN
+abbrev pub applies : (row : ℕ) → Bool
+applies row = (nat_le 1 row && nat_le row 33) || (nat_eq row 37 || nat_eq row 38)
 
--- the operand in front is
-abbrev pub names_int : Annotated → List ℕ → Bool
-names_int a [] = false
-names_int a (id ∷ ids) = is_int_name a id
-
--- an operator that is combined with assignation runs for names of INT alone (Report, 10.2.3.11)
-abbrev pub suits : Annotated → (row : ℕ) → List ℕ → Bool
-suits a row ids = not (is_update row) || names_int a ids
-
--- an operator that runs, on as many values as it takes (Report, 5.4.2)
+-- on as many values as it takes (Report, 5.4.2)
 abbrev pub formula_runs : Annotated → (row : ℕ) → List ℕ → Bool
-formula_runs a row ids = is_well_made a.modes 0 0 (does.Apply row) && (are_values a (takes (does.Apply row)) ids && suits a row ids)
+formula_runs a row ids = applies row && are_values a (operands_of row) ids
 
 -- a formula whose operator the text defines leaves what the routine yields, whose operands leave values
 abbrev pub declared_leaves : Annotated → (yields : Bool) → (definition : Option ℕ) → List ℕ → Option Bool
@@ -159,6 +157,19 @@ declared_leaves a yields (Some d) ids = if_so (all_leave a true ids) yields
 abbrev pub formula_leaves : Annotated → (yields : Bool) → (op definition : Option ℕ) → List ℕ → Option Bool
 formula_leaves a yields None definition ids = declared_leaves a yields definition ids
 formula_leaves a yields (Some row) definition ids = if_so (formula_runs a row ids) true
+
+-- a bound that is written leaves a value
+abbrev pub is_bounding : Annotated → Bound → Bool
+is_bounding a (bound.Written id) = is_outcome true (outcome a id)
+is_bounding a (bound.Meant n) = true
+
+-- bounds that leave values, as many as a name of a mode has (Report, 4.6)
+abbrev pub bounds_run : Annotated → (mode : ℕ) → List Bound → Bool
+bounds_run a mode bounds = list_all (is_bounding a) bounds && nat_eq (length bounds) (bounds_needed a.modes mode)
+
+-- a new name of what a name of this mode refers to, with the bounds of the first of these nodes
+abbrev pub new_runs : Annotated → (mode : ℕ) → List ℕ → Bool
+new_runs a mode ids = refers a mode && bounds_run a (behind_ref (shape_at a.modes mode)) (first_bounds a ids)
 
 -- a declarer, and a source, if any, which leaves a value (Report, 4.4.1)
 abbrev pub source_runs : Annotated → List ℕ → Bool
@@ -174,8 +185,10 @@ routine_runs a _ = false
 abbrev pub declared_runs : Annotated → List ℕ → Bool
 declared_runs a ids = if begins_with is_declarer a ids then source_runs a ids else routine_runs a ids
 
-abbrev pub variable_runs : Annotated → List ℕ → Bool
-variable_runs a ids = declared_runs a (behind_heap (begins_with is_heap a ids) ids)
+abbrev pub variable_runs : Annotated → (mode : ℕ) → List ℕ → Bool
+variable_runs a mode ids =
+    let parts = behind_heap (begins_with is_heap a ids) ids in
+    new_runs a mode parts && declared_runs a parts
 
 -- print and write of values, which leaves none; whole of two values, which leaves one (Report, 10.3); and a routine with
 -- parameters that leave values, which leaves what it yields (Report, 5.4.3)
@@ -193,11 +206,23 @@ proc_yields a mode = not (is_void (shape_at a.modes (behind_proc (shape_at a.mod
 abbrev pub selects : Annotated → (name : ℕ) → List ℕ → Bool
 selects a name ids = nat_lt (field_in name (fields_at a.modes (first_goal a ids))) (length (fields_at a.modes (first_goal a ids)))
 
--- a collateral clause of VOID, or a structure of as many values as there are parts (Report, 3.3)
+-- a collateral clause of VOID, or a structure or a row of as many values as there are parts (Report, 3.3)
 abbrev pub collateral_leaves : Annotated → Shape → List ℕ → Option Bool
 collateral_leaves a shape.Void ids = if_so (all_leave a false ids) false
 collateral_leaves a (shape.Struct fields) ids = if_so (nat_lt 0 (length ids) && all_leave a true ids) true
+collateral_leaves a (shape.Rows dims flex m) ids = if_so (all_leave a true ids) true
 collateral_leaves a s ids = None
+
+-- ---- slices (Report, 5.3.2)
+
+-- an index has a part for each unit of its form, and these leave values
+abbrev pub is_index : Annotated → (id : ℕ) → Bool
+is_index a id = (units_in (form_of a (parts_at a id)) == length (parts_at a id)) && all_leave a true (parts_at a id)
+
+-- what is sliced leaves a value, and there is an index at least
+abbrev pub slice_runs : Annotated → List ℕ → Bool
+slice_runs a [] = false
+slice_runs a (primary ∷ ids) = is_outcome true (outcome a primary) && (nat_lt 0 (length ids) && list_all (is_index a) ids)
 
 -- ---- choices (Report, 3.4)
 
@@ -207,19 +232,31 @@ asks a enquiry = are_phrases a true (parts_at a enquiry)
 
 -- an enquiry, and one part or two that leave what is wanted; one that is left out is a skip
 abbrev pub choice_runs : Annotated → (goal : ℕ) (wanted : Bool) → List ℕ → Bool
-choice_runs a goal wanted (enquiry ∷ (part ∷ [])) = is_skipped a goal && (asks a enquiry && is_outcome wanted (outcome a part))
+choice_runs a goal wanted (enquiry ∷ (part ∷ [])) = is_there a.modes goal && (asks a enquiry && is_outcome wanted (outcome a part))
 choice_runs a goal wanted (enquiry ∷ (part ∷ (other ∷ []))) = asks a enquiry && (is_outcome wanted (outcome a part) && is_outcome wanted (outcome a other))
 choice_runs a goal wanted _ = false
 
 -- the part for no number; where it is left out a skip
 abbrev pub out_runs : Annotated → (goal : ℕ) (wanted : Bool) → (out : Option ℕ) → Bool
-out_runs a goal wanted None = is_skipped a goal
+out_runs a goal wanted None = is_there a.modes goal
 out_runs a goal wanted (Some out) = is_outcome wanted (outcome a out)
 
 -- an enquiry, and parts that leave what is wanted
 abbrev pub case_runs : Annotated → (goal : ℕ) (wanted : Bool) → List ℕ → Bool
 case_runs a goal wanted [] = false
 case_runs a goal wanted (enquiry ∷ ids) = asks a enquiry && (all_leave a wanted (before_out a ids) && out_runs a goal wanted (out_of a ids))
+
+-- specifications and their parts, two by two: the parts leave what is wanted
+abbrev pub specs_run : Annotated → (wanted : Bool) → List ℕ → Bool
+specs_run a wanted [] = true
+specs_run a wanted (s ∷ []) = false
+specs_run a wanted (s ∷ (part ∷ ids)) = is_outcome wanted (outcome a part) && specs_run a wanted ids
+
+-- an enquiry of a mode that is there, and specifications whose parts leave what is wanted
+abbrev pub conformity_runs : Annotated → (goal : ℕ) (wanted : Bool) → List ℕ → Bool
+conformity_runs a goal wanted [] = false
+conformity_runs a goal wanted (enquiry ∷ ids) =
+    nat_lt (goal_at a enquiry) (length a.modes) && (asks a enquiry && (specs_run a wanted (before_out a ids) && out_runs a goal wanted (out_of a ids)))
 
 -- ---- loops (Report, 3.5)
 
@@ -259,24 +296,26 @@ loop_runs a ids =
 -- node; the others do not run yet.
 abbrev pub leaves_as : Annotated → Node → Note → NodeKind → Option Bool
 leaves_as a node note kind.Denotation = if_so (is_some (option_and_then value_in (spelling_of a node))) true
-leaves_as a node note kind.Skip = if_so (is_skipped a note.goal) (asks_value a note)
+leaves_as a node note kind.Skip = if_so (is_there a.modes note.goal) (asks_value a note)
 leaves_as a node note kind.Nil = Some true
 leaves_as a node note kind.Tag = Some true
 leaves_as a node note kind.RoutineText = if_so (is_outcome (proc_yields a note.mode) (last_outcome a node.parts)) true
 leaves_as a node note kind.Monadic = formula_leaves a (yields_value a note) note.op note.definition node.parts
 leaves_as a node note kind.Dyadic = formula_leaves a (yields_value a note) note.op note.definition node.parts
-leaves_as a node note kind.Assignation = if_so (refers_to_cells a note.mode && are_values a 2 node.parts) true
+leaves_as a node note kind.Assignation = if_so (refers a note.mode && are_values a 2 node.parts) true
 leaves_as a node note kind.Identity = if_so (are_values a 2 node.parts) true
-leaves_as a node note kind.Generator = if_so (refers_to_cells a note.mode) true
+leaves_as a node note kind.Generator = if_so (new_runs a note.mode node.parts) true
 leaves_as a node note kind.OpDefinition = if_so (is_outcome true (last_outcome a node.parts)) false
 leaves_as a node note kind.IdentityDefinition = if_so (is_outcome true (last_outcome a node.parts)) false
-leaves_as a node note kind.Variable = if_so (refers_to_cells a note.mode && variable_runs a node.parts) false
+leaves_as a node note kind.Variable = if_so (variable_runs a note.mode node.parts) false
 leaves_as a node note kind.ModeDefinition = Some false
 leaves_as a node note kind.Priority = Some false
 leaves_as a node note kind.Joined = if_so (all_leave a false node.parts) false
 leaves_as a node note kind.Call = call_leaves a (yields_value a note) node.parts
 leaves_as a node note kind.Cast = last_outcome a node.parts
 leaves_as a node note kind.Collateral = collateral_leaves a (shape_at a.modes note.goal) node.parts
+leaves_as a node note kind.Vacuum = if_so (is_row (shape_at a.modes note.goal)) true
+leaves_as a node note kind.Slice = if_so (slice_runs a node.parts) true
 leaves_as a node note kind.Selection = if_so (selects a node.name node.parts && is_outcome true (last_outcome a node.parts)) true
 leaves_as a node note kind.Serial = if_so (are_phrases a (asks_value a note) node.parts) (asks_value a note)
 leaves_as a node note kind.Closed = only_outcome a node.parts
@@ -284,27 +323,36 @@ leaves_as a node note kind.Out = only_outcome a node.parts
 leaves_as a node note kind.From = only_outcome a node.parts
 leaves_as a node note kind.By = only_outcome a node.parts
 leaves_as a node note kind.To = only_outcome a node.parts
+leaves_as a node note kind.Lower = only_outcome a node.parts
+leaves_as a node note kind.Upper = only_outcome a node.parts
+leaves_as a node note kind.At = only_outcome a node.parts
 leaves_as a node note kind.Conditional = if_so (choice_runs a note.goal (asks_value a note) node.parts) (asks_value a note)
 leaves_as a node note kind.Case = if_so (case_runs a note.goal (asks_value a note) node.parts) (asks_value a note)
+leaves_as a node note kind.Conformity = if_so (conformity_runs a note.goal (asks_value a note) node.parts) (asks_value a note)
 leaves_as a node note kind.Loop = if_so (loop_runs a node.parts) false
 leaves_as a node note _ = None
 
--- What is left behind the coercions of a path, from a mode on, where the unit before them leaves a value or none; None
--- where a coercion does not run yet (Report, 6.1.1).
-abbrev pub path_leaves : List Shape → (mode : ℕ) → (left : Bool) → List Coercion → Option Bool
-path_leaves modes mode left [] = Some left
-path_leaves modes mode true (coercion.Deref ∷ path) =
+-- What is left behind the coercions of a path, which leads from a mode to another, where the unit before them leaves a value
+-- or none; None where a coercion does not run (Report, 6.1.1).
+abbrev pub path_leaves : List Shape → (goal mode : ℕ) → (left : Bool) → List Coercion → Option Bool
+path_leaves modes goal mode left [] = Some left
+path_leaves modes goal mode true (coercion.Deref ∷ path) =
     let m = behind_ref (shape_at modes mode) in
-    if can_be_named modes m then path_leaves modes m true path else None
-path_leaves modes mode true (coercion.Deproc ∷ path) =
+    if is_there modes m then path_leaves modes goal m true path else None
+path_leaves modes goal mode true (coercion.Deproc ∷ path) =
     let m = behind_proc (shape_at modes mode) in
-    path_leaves modes m (not (is_void (shape_at modes m))) path
-path_leaves modes mode true (coercion.Unite from ∷ path) = path_leaves modes from true path
-path_leaves modes mode true (coercion.Drop ∷ path) = path_leaves modes 0 false path
-path_leaves modes mode _ _ = None
+    path_leaves modes goal m (not (is_void (shape_at modes m))) path
+path_leaves modes goal mode true (coercion.Unite from ∷ path) = path_leaves modes goal from true path
+path_leaves modes goal mode true (coercion.Widen ∷ path) = path_leaves modes goal 11 true path
+path_leaves modes goal mode true (coercion.RowUp ∷ path) =
+    option_and_then (λ m. if is_there modes m then path_leaves modes goal m true path else None) (rowed_to modes goal path)
+path_leaves modes goal mode true (coercion.RowUpName ∷ path) =
+    option_and_then (λ m. if is_there modes m then path_leaves modes goal m true path else None) (rowed_to modes goal path)
+path_leaves modes goal mode true (coercion.Drop ∷ path) = path_leaves modes goal 0 false path
+path_leaves modes goal mode false (c ∷ path) = None
 
 abbrev pub left_by : Annotated → Node → Note → Option Bool
-left_by a node note = option_and_then (λ left. path_leaves a.modes note.mode left note.path) (leaves_as a node note node.kind)
+left_by a node note = option_and_then (λ left. path_leaves a.modes note.goal note.mode left note.path) (leaves_as a node note node.kind)
 
 -- what a node leaves is its outcome, or it is no construct
 abbrev pub agrees : (outcome left : Option Bool) → Bool

@@ -1,13 +1,13 @@
 -- Inner: the headline does not rest on this file.
 -- Steps on the way to the first node that does not run.
 use Rattle.std.specs.Prelude.{◌≡◌, ◌<◌, ℕ, Bool, true, false, List, length, None, Some, slice_get, not, ◌||◌, nat_lt, if◌then◌else◌}
+use Rattle.std.specs.Option.{option_and_then}
 use Rattle.std.specs.declared.option.Option.{Option}
 use Rattle.a68_annot.specs.declared.annotated.Annotated.{Annotated}
 use Rattle.a68_annot.specs.declared.note.Note.{Note}
-use Rattle.a68_elab.specs.Made.{behind_proc, behind_ref}
-use Rattle.a68_runs.specs.Runs.{runs}
+use Rattle.a68_elab.specs.Made.{behind_proc, behind_ref, rowed_to, unrowed, unrowed_name}
+use Rattle.a68_runs.specs.Runs.{is_there, runs}
 use Rattle.a68_runs.specs.declared.paths.Between.{Between}
-use Rattle.a68_layout.specs.Widths.{can_be_named}
 use Rattle.a68_modes.specs.Nodes.{shape_at, is_void}
 use Rattle.a68_modes.specs.declared.coercion.Coercion.{Coercion}
 use Rattle.a68_modes.specs.declared.coercion.Coercion.TheVariants as coercion
@@ -28,20 +28,30 @@ pub record IsThere (a : Annotated) (id : ℕ) : Type 0 where
 abbrev pub AreThere : Annotated → (count : ℕ) → Type 0
 AreThere a count = (id : ℕ) → id < count → IsThere a id
 
--- what stands behind a coercion of a value of a mode
-abbrev pub behind : List Shape → (mode : ℕ) → Coercion → Option Between
-behind modes mode coercion.Deref =
-    let m = behind_ref (shape_at modes mode) in
-    if can_be_named modes m then Some (record { mode = m; left = true }) else None
-behind modes mode coercion.Deproc =
+-- the mode before a rowing to a mode; none before another coercion
+abbrev pub before : List Shape → (mode : Option ℕ) → Coercion → Option ℕ
+before modes m coercion.RowUp = option_and_then (unrowed modes) m
+before modes m coercion.RowUpName = option_and_then (unrowed_name modes) m
+before modes m _ = None
+
+-- a value of a mode that is there
+abbrev pub value_of : List Shape → (mode : ℕ) → Option Between
+value_of modes m = if is_there modes m then Some (record { mode = m; left = true }) else None
+
+-- what stands behind a coercion of a value of a mode, where this path leads to a mode
+abbrev pub behind : List Shape → (goal mode : ℕ) → Coercion → List Coercion → Option Between
+behind modes goal mode coercion.Deref path = value_of modes (behind_ref (shape_at modes mode))
+behind modes goal mode coercion.Deproc path =
     let m = behind_proc (shape_at modes mode) in
     Some (record { mode = m; left = not (is_void (shape_at modes m)) })
-behind modes mode (coercion.Unite from) = Some (record { mode = from; left = true })
-behind modes mode coercion.Drop = Some (record { mode = 0; left = false })
-behind modes mode _ = None
+behind modes goal mode (coercion.Unite from) path = Some (record { mode = from; left = true })
+behind modes goal mode coercion.Widen path = Some (record { mode = 11; left = true })
+behind modes goal mode coercion.RowUp path = option_and_then (value_of modes) (rowed_to modes goal path)
+behind modes goal mode coercion.RowUpName path = option_and_then (value_of modes) (rowed_to modes goal path)
+behind modes goal mode coercion.Drop path = Some (record { mode = 0; left = false })
 
-abbrev pub one_more : List Shape → Between → Coercion → Option Between
-one_more modes at c = if at.left then behind modes at.mode c else None
+abbrev pub one_more : List Shape → (goal : ℕ) → Between → Coercion → List Coercion → Option Between
+one_more modes goal at c path = if at.left then behind modes goal at.mode c path else None
 
 -- a node stands before the one that was found
 abbrev pub is_earlier : Built → (found : Option ℕ) → (id : ℕ) → Bool

@@ -23,7 +23,21 @@ fn fields_in(modes: &Modes, mode: ModeId) -> &[(u32, ModeId)]
     }
 }
 
-/// The fields of a structure, or of the one to which a name of this mode refers; none of another mode.
+// The fields of a structure, or of those in a row; none of another mode.
+fn fields_behind(modes: &Modes, mode: ModeId) -> &[(u32, ModeId)]
+    ensures { result.now ≡ option_map_or (λ fields. fields) (operations.fields_behind modes.now (shape_at modes.now mode)) [] }
+{
+    if mode >= modes.len() {
+        return &[];
+    }
+    match modes.shape(mode) {
+        Shape::Rows { of, .. } => fields_in(modes, *of),
+        Shape::Struct(fields) => &fields.items,
+        _ => &[],
+    }
+}
+
+/// The fields of a structure, of those of a row, or of either to which a name of this mode refers; none of another mode.
 pub fn fields_at(modes: &Modes, mode: ModeId) -> &[(u32, ModeId)]
     ensures { result.now ≡ made.fields_at modes.now mode }
 {
@@ -31,7 +45,8 @@ pub fn fields_at(modes: &Modes, mode: ModeId) -> &[(u32, ModeId)]
         return &[];
     }
     match modes.shape(mode) {
-        Shape::Ref(mode) => fields_in(modes, *mode),
+        Shape::Ref(to) => fields_behind(modes, *to),
+        Shape::Rows { of, .. } => fields_in(modes, *of),
         Shape::Struct(fields) => &fields.items,
         _ => &[],
     }

@@ -20,12 +20,24 @@ pub fn is_one_of(words: &[&str], spelling: Option<&[u8]>) -> bool
     }
 }
 
-// The kind of a node.
-fn kind_at(program: &Annotated, id: NodeId) -> NodeKind
-    requires { id < length program.now.tree.nodes }
+/// The kind of a node; that of VOID where there is no such node.
+pub fn kind_at(program: &Annotated, id: NodeId) -> NodeKind
     ensures { result ≡ made.kind_at program.now id }
 {
+    if id >= program.tree.len() {
+        return NodeKind::VoidWord;
+    }
     program.tree.node(id).kind
+}
+
+/// The parts of a node; none where there is no such node.
+pub fn parts_at(program: &Annotated, id: NodeId) -> &[NodeId]
+    ensures { result.now ≡ made.parts_at program.now id }
+{
+    if id >= program.tree.len() {
+        return &[];
+    }
+    program.tree.parts(id)
 }
 
 /// Does the first of these nodes stand for HEAP?

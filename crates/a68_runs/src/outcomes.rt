@@ -10,8 +10,7 @@ use crate::constants::standard_of;
 use crate::loops::only_id;
 use crate::nodes::{behind_proc, behind_ref};
 use a68_annot::{Annotated, Note};
-use a68_layout::can_be_named;
-use a68_modes::{ModeId, Shape};
+use a68_modes::{ModeId, Modes, Shape};
 use a68_tree::{Node, NodeId, NodeKind};
 
 /// Is a value asked of a node?
@@ -82,6 +81,7 @@ pub fn outcome_by(program: &Annotated, node: &Node, note: &Note) -> Option<bool>
 {
     match node.kind {
         NodeKind::From | NodeKind::By | NodeKind::To => Some(true),
+        NodeKind::Lower | NodeKind::Upper | NodeKind::At => Some(true),
         NodeKind::Tag => if_so(is_value(program, node, note), asks_value(program, note)),
         NodeKind::Collateral => if_so(!is_union(program, note.goal), asks_value(program, note)),
         _ => if_so(is_construct(node.kind), asks_value(program, note)),
@@ -166,30 +166,23 @@ pub fn are_phrases(program: &Annotated, wanted: bool, ids: &[NodeId]) -> bool
     leaves(program, wanted, ids[last])
 }
 
-/// Does the skip of a mode run?
-pub fn is_skipped(program: &Annotated, mode: ModeId) -> bool
-    ensures { result ≡ runs.is_skipped program.now mode }
+/// Is a mode one of those that are there?
+pub fn is_there(modes: &Modes, mode: ModeId) -> bool
+    ensures { result ≡ runs.is_there modes.now mode }
 {
-    program.modes.is_void(mode) || can_be_named(&program.modes, mode)
+    mode < modes.len()
 }
 
-/// Has what a name of a mode refers to cells?
-pub fn refers_to_cells(program: &Annotated, mode: ModeId) -> bool
-    ensures { result ≡ runs.refers_to_cells program.now mode }
+/// Is that of what a name of a mode refers to?
+pub fn refers(program: &Annotated, mode: ModeId) -> bool
+    ensures { result ≡ runs.refers program.now mode }
 {
-    can_be_named(&program.modes, behind_ref(&program.modes, mode))
+    is_there(&program.modes, behind_ref(&program.modes, mode))
 }
 
-// Is a node asked for a name of INT?
-fn is_int_name(program: &Annotated, id: NodeId) -> bool
-    ensures { result ≡ runs.is_int_name program.now id }
+/// Is a mode a row?
+pub fn is_row(program: &Annotated, mode: ModeId) -> bool
+    ensures { result ≡ runs.is_row (shape_at program.now.modes mode) }
 {
-    id < program.tree.len() && behind_ref(&program.modes, program.note(id).goal) == 1
-}
-
-/// Is the first of these nodes asked for a name of INT?
-pub fn names_int(program: &Annotated, ids: &[NodeId]) -> bool
-    ensures { result ≡ runs.names_int program.now ids.now }
-{
-    ids.len() > 0 && is_int_name(program, ids[0])
+    mode < program.modes.len() && matches!(program.modes.shape(mode), Shape::Rows { .. })
 }

@@ -1,11 +1,14 @@
 //! What is left behind the coercions of a path.
+ghost use Rattle.std.specs.Option.{option_and_then};
 ghost use Rattle.std.specs.Prelude.{◌≡◌};
+ghost use Rattle.a68_elab.specs.Made as made;
 ghost use Rattle.a68_runs.specs.Runs as runs;
 ghost use Rattle.a68_runs.specs.Unready as unready;
 
 use crate::nodes::{behind_proc, behind_ref};
+use crate::outcomes::is_there;
+use crate::rowing::rowed_to;
 use a68_annot::Note;
-use a68_layout::can_be_named;
 use a68_modes::{Coercion, ModeId, Modes};
 
 /// What stands between two coercions: the mode behind the first, and whether a value is left.
@@ -15,22 +18,39 @@ pub struct Between {
     pub left: bool,
 }
 
-// What stands behind a coercion of a value, where it runs.
-fn behind(modes: &Modes, mode: ModeId, coercion: Coercion) -> Option<Between>
-    ensures { result ≡ unready.behind modes.now mode coercion }
+// A value of a mode that is there.
+fn value_of(modes: &Modes, mode: ModeId) -> Option<Between>
+    ensures { result ≡ unready.value_of modes.now mode }
+{
+    if is_there(modes, mode) {
+        Some(Between { mode, left: true })
+    } else {
+        None
+    }
+}
+
+// A row, behind which a path leads to a mode.
+fn row_before(modes: &Modes, goal: ModeId, path: &[Coercion]) -> Option<Between>
+    ensures { result ≡ option_and_then (unready.value_of modes.now) (made.rowed_to modes.now goal path.now) }
+{
+    match rowed_to(modes, goal, path) {
+        Some(mode) => value_of(modes, mode),
+        None => None,
+    }
+}
+
+// What stands behind a coercion of a value, where it runs; the path behind it leads to a mode.
+fn behind(
+    modes: &Modes,
+    goal: ModeId,
+    mode: ModeId,
+    coercion: Coercion,
+    path: &[Coercion],
+) -> Option<Between>
+    ensures { result ≡ unready.behind modes.now goal mode coercion path.now }
 {
     match coercion {
-        Coercion::Deref => {
-            let to = behind_ref(modes, mode);
-            if can_be_named(modes, to) {
-                Some(Between {
-                    mode: to,
-                    left: true,
-                })
-            } else {
-                None
-            }
-        }
+        Coercion::Deref => value_of(modes, behind_ref(modes, mode)),
         Coercion::Deproc => {
             let to = behind_proc(modes, mode);
             Some(Between {
@@ -42,20 +62,30 @@ fn behind(modes: &Modes, mode: ModeId, coercion: Coercion) -> Option<Between>
             mode: from,
             left: true,
         }),
+        Coercion::Widen => Some(Between {
+            mode: 11,
+            left: true,
+        }),
+        Coercion::RowUp | Coercion::RowUpName => row_before(modes, goal, path),
         Coercion::Drop => Some(Between {
             mode: 0,
             left: false,
         }),
-        _ => None,
     }
 }
 
 // What stands behind one coercion more.
-fn one_more(modes: &Modes, at: Between, coercion: Coercion) -> Option<Between>
-    ensures { result ≡ unready.one_more modes.now at coercion }
+fn one_more(
+    modes: &Modes,
+    goal: ModeId,
+    at: Between,
+    coercion: Coercion,
+    path: &[Coercion],
+) -> Option<Between>
+    ensures { result ≡ unready.one_more modes.now goal at coercion path.now }
 {
     if at.left {
-        behind(modes, at.mode, coercion)
+        behind(modes, goal, at.mode, coercion, path)
     } else {
         None
     }
@@ -63,15 +93,15 @@ fn one_more(modes: &Modes, at: Between, coercion: Coercion) -> Option<Between>
 
 /// What is left behind the path of a unit that leaves a value or none; nothing where a coercion does not run.
 pub fn path_leaves(modes: &Modes, left: bool, note: &Note) -> Option<bool>
-    ensures { result ≡ runs.path_leaves modes.now note.now.mode left note.now.path }
+    ensures { result ≡ runs.path_leaves modes.now note.now.goal note.now.mode left note.now.path }
 {
     let path = &note.path.items;
     let mut at = Between {
         mode: note.mode,
         left,
     };
-    for coercion in path {
-        match one_more(modes, at, *coercion) {
+    for i in 0..path.len() {
+        match one_more(modes, note.goal, at, path[i], &path[i + 1..]) {
             Some(next) => at = next,
             None => return None,
         }

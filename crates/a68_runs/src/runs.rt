@@ -1,8 +1,6 @@
 //! Which nodes run: a function for each row of what is asked of a node.
-ghost use Rattle.std.specs.Prelude.{◌≡◌, ◌<◌, [], length, IfSome};
-ghost use Rattle.std.specs.Option.{is_some};
-ghost use Rattle.a68_code.specs.Operands.{is_well_made};
-ghost use Rattle.a68_code.specs.declared.does.Does.TheVariants as does;
+ghost use Rattle.std.specs.Prelude.{◌≡◌, ◌<◌, length, IfOk, IfSome};
+ghost use Rattle.std.specs.Option.{is_some, option_and_then};
 ghost use Rattle.a68_elab.specs.Constants as constants;
 ghost use Rattle.a68_elab.specs.Made as made;
 ghost use Rattle.a68_runs.specs.Loops.{AreWithin};
@@ -14,6 +12,8 @@ ghost use Rattle.a68_ranges.specs.Indexed.{IsLeast};
 ghost use Rattle.a68_ranges.specs.Nodes.{place_at};
 ghost use Rattle.a68_tree.specs.Trees.{AllBetween};
 
+use crate::bounds::new_runs;
+use crate::conformity::conformity_runs;
 use crate::constants::{is_quoted, truths};
 use crate::fields::{field_in, fields_at, first_goal};
 use crate::loops::{LoopParts, loop_parts, only_id};
@@ -22,18 +22,18 @@ use crate::nodes::{
     out_of, printers, wholes,
 };
 use crate::outcomes::{
-    all_leave, are_phrases, are_values, asks_value, if_so, is_outcome, is_skipped, last_outcome,
-    leaves, names_int, only_outcome, outcome, outcome_by, proc_yields, refers_to_cells,
-    yields_value,
+    all_leave, are_phrases, are_values, asks_value, if_so, is_outcome, is_row, is_there,
+    last_outcome, leaves, only_outcome, outcome, outcome_by, proc_yields, refers, yields_value,
 };
 use crate::paths::path_leaves;
-use a68_acts::is_update;
+use crate::slices::slice_runs;
 use a68_annot::{Annotated, Note};
-use a68_base::find;
+use a68_base::{NoMemory, find};
 use a68_code::operands_of;
 use a68_denote::{bits_of, int_of};
 use a68_modes::{ModeId, Shape};
 use a68_tree::{Node, NodeId, NodeKind};
+use std::alloc::Global;
 
 // Does a spelling stand for a value?
 fn has_value(text: &[u8]) -> bool
@@ -45,27 +45,18 @@ fn has_value(text: &[u8]) -> bool
     find(truths(), text).is_some() || is_quoted(text)
 }
 
-// Does an operator yield at once, or is it combined with assignation to a name of INT, whatever the modes?
+// Does an operator run, by its row: is it none of LEVEL, UP and DOWN?
 fn applies(row: u32) -> bool
-    ensures { result ≡ is_well_made [] 0 0 (does.Apply row) }
+    ensures { result ≡ runs.applies row }
 {
-    (1 <= row && row <= 5) || (7 <= row && row <= 23) || (26 <= row && row <= 33)
-}
-
-// Does an operator suit its operands: one that is combined with assignation a name of INT?
-fn suits(program: &Annotated, row: u32, parts: &[NodeId]) -> bool
-    ensures { result ≡ runs.suits program.now row parts.now }
-{
-    !is_update(row) || names_int(program, parts)
+    (1 <= row && row <= 33) || row == 37 || row == 38
 }
 
 // Does a formula run: a standard operator, on as many values as it takes?
 fn formula_runs(program: &Annotated, row: u32, parts: &[NodeId]) -> bool
     ensures { result ≡ runs.formula_runs program.now row parts.now }
 {
-    applies(row)
-        && are_values(program, operands_of(row) as usize, parts)
-        && suits(program, row, parts)
+    applies(row) && are_values(program, operands_of(row) as usize, parts)
 }
 
 // What a formula leaves: a value, or what the routine yields that its operator stands for.
@@ -96,17 +87,33 @@ fn routine_runs(program: &Annotated, parts: &[NodeId]) -> bool
     parts.len() == 1 && leaves(program, true, parts[0])
 }
 
-// Does a variable run: its declarer, and its source?
-fn variable_runs(program: &Annotated, id: NodeId, parts: &[NodeId]) -> bool
+// Does what stands behind a new name run?
+fn declared_runs(program: &Annotated, id: NodeId, parts: &[NodeId]) -> bool
     requires { AllBetween id (length program.now.tree.nodes) parts.now }
-    ensures { result ≡ runs.variable_runs program.now parts.now }
+    ensures { result ≡ runs.declared_runs program.now parts.now }
+{
+    if begins_with_declarer(program, id, parts) {
+        source_runs(program, parts)
+    } else {
+        routine_runs(program, parts)
+    }
+}
+
+// Does a variable run: its new name, and its source?
+fn variable_runs(
+    alloc: Global,
+    program: &Annotated,
+    id: NodeId,
+    mode: ModeId,
+    parts: &[NodeId],
+) -> Result<bool, NoMemory>
+    requires { AllBetween id (length program.now.tree.nodes) parts.now }
+    ensures { IfOk result (λ is_run. is_run ≡ runs.variable_runs program.now mode parts.now) }
 {
     let rest = behind_heap(begins_in_heap(program, id, parts), parts);
-    if begins_with_declarer(program, id, rest) {
-        source_runs(program, rest)
-    } else {
-        routine_runs(program, rest)
-    }
+    let is_new = new_runs(alloc, program, mode, rest)?;
+    let is_run = is_new && declared_runs(program, id, rest);
+    Ok(is_run)
 }
 
 // What a call leaves: none of print and write, a value of whole, and what a routine yields.
@@ -136,7 +143,7 @@ fn selects(program: &Annotated, name: u32, parts: &[NodeId]) -> bool
     field_in(name, fields) < fields.len()
 }
 
-// What a collateral clause of a mode leaves: nothing of VOID, else a structure of the values of its parts.
+// What a collateral clause of a mode leaves: nothing of VOID, else a structure or a row of the values of its parts.
 fn collateral_leaves(program: &Annotated, mode: ModeId, parts: &[NodeId]) -> Option<bool>
     ensures { result ≡ runs.collateral_leaves program.now (shape_at program.now.modes mode) parts.now }
 {
@@ -146,12 +153,13 @@ fn collateral_leaves(program: &Annotated, mode: ModeId, parts: &[NodeId]) -> Opt
     match program.modes.shape(mode) {
         Shape::Void => if_so(all_leave(program, false, parts), false),
         Shape::Struct(_) => if_so(parts.len() > 0 && all_leave(program, true, parts), true),
+        Shape::Rows { .. } => if_so(all_leave(program, true, parts), true),
         _ => None,
     }
 }
 
-// Do the phrases of an enquiry end with a value?
-fn asks(program: &Annotated, id: NodeId) -> bool
+/// Do the phrases of an enquiry end with a value?
+pub fn asks(program: &Annotated, id: NodeId) -> bool
     requires { id < length program.now.tree.nodes }
     ensures { result ≡ runs.asks program.now id }
 {
@@ -170,7 +178,7 @@ fn choice_runs(
     ensures { result ≡ runs.choice_runs program.now goal wanted parts.now }
 {
     if parts.len() == 2 {
-        return is_skipped(program, goal)
+        return is_there(&program.modes, goal)
             && asks(program, parts[0])
             && leaves(program, wanted, parts[1]);
     }
@@ -180,13 +188,13 @@ fn choice_runs(
         && leaves(program, wanted, parts[2])
 }
 
-// Does the part for no number run, or the skip in its place?
-fn out_runs(program: &Annotated, goal: ModeId, wanted: bool, part: Option<NodeId>) -> bool
+/// Does the part for no number run, or the skip in its place?
+pub fn out_runs(program: &Annotated, goal: ModeId, wanted: bool, part: Option<NodeId>) -> bool
     ensures { result ≡ runs.out_runs program.now goal wanted part }
 {
     match part {
         Some(id) => leaves(program, wanted, id),
-        None => is_skipped(program, goal),
+        None => is_there(&program.modes, goal),
     }
 }
 
@@ -267,16 +275,22 @@ fn loop_runs(program: &Annotated, id: NodeId, parts: &[NodeId]) -> bool
 }
 
 // What the construct of a node leaves, where it runs: one row for each kind of node.
-fn leaves_as(program: &Annotated, id: NodeId, node: &Node, note: &Note) -> Option<bool>
+fn leaves_as(
+    alloc: Global,
+    program: &Annotated,
+    id: NodeId,
+    node: &Node,
+    note: &Note,
+) -> Result<Option<bool>, NoMemory>
     requires between { AllBetween id (length program.now.tree.nodes) node.now.parts }
     requires named { node.now.name < length program.now.tree.spellings }
-    ensures { result ≡ runs.leaves_as program.now node.now note.now node.now.kind }
+    ensures { IfOk result (λ left. left ≡ runs.leaves_as program.now node.now note.now node.now.kind) }
 {
     let parts = &node.parts.items;
     let asked = asks_value(program, note);
-    match node.kind {
+    let left = match node.kind {
         NodeKind::Denotation => if_so(has_value(program.tree.spelling(node.name)), true),
-        NodeKind::Skip => if_so(is_skipped(program, note.goal), asked),
+        NodeKind::Skip => if_so(is_there(&program.modes, note.goal), asked),
         NodeKind::Nil | NodeKind::Tag => Some(true),
         NodeKind::RoutineText => if_so(
             is_outcome(
@@ -287,23 +301,28 @@ fn leaves_as(program: &Annotated, id: NodeId, node: &Node, note: &Note) -> Optio
         ),
         NodeKind::Monadic | NodeKind::Dyadic => formula_leaves(program, note, parts),
         NodeKind::Assignation => if_so(
-            refers_to_cells(program, note.mode) && are_values(program, 2, parts),
+            refers(program, note.mode) && are_values(program, 2, parts),
             true,
         ),
         NodeKind::Identity => if_so(are_values(program, 2, parts), true),
-        NodeKind::Generator => if_so(refers_to_cells(program, note.mode), true),
+        NodeKind::Generator => {
+            let is_run = new_runs(alloc, program, note.mode, parts)?;
+            if_so(is_run, true)
+        }
+        NodeKind::Variable => {
+            let is_run = variable_runs(alloc, program, id, note.mode, parts)?;
+            if_so(is_run, false)
+        }
         NodeKind::IdentityDefinition | NodeKind::OpDefinition => {
             if_so(is_outcome(true, last_outcome(program, parts)), false)
         }
-        NodeKind::Variable => if_so(
-            refers_to_cells(program, note.mode) && variable_runs(program, id, parts),
-            false,
-        ),
         NodeKind::ModeDefinition | NodeKind::Priority => Some(false),
         NodeKind::Joined => if_so(all_leave(program, false, parts), false),
         NodeKind::Call => call_leaves(program, id, yields_value(program, note), parts),
         NodeKind::Cast => last_outcome(program, parts),
         NodeKind::Collateral => collateral_leaves(program, note.goal, parts),
+        NodeKind::Vacuum => if_so(is_row(program, note.goal), true),
+        NodeKind::Slice => if_so(slice_runs(program, parts), true),
         NodeKind::Selection => if_so(
             selects(program, node.name, parts) && is_outcome(true, last_outcome(program, parts)),
             true,
@@ -312,23 +331,42 @@ fn leaves_as(program: &Annotated, id: NodeId, node: &Node, note: &Note) -> Optio
         NodeKind::Closed | NodeKind::Out | NodeKind::From | NodeKind::By | NodeKind::To => {
             only_outcome(program, parts)
         }
+        NodeKind::Lower | NodeKind::Upper | NodeKind::At => only_outcome(program, parts),
         NodeKind::Conditional => if_so(choice_runs(program, id, note.goal, asked, parts), asked),
         NodeKind::Case => if_so(case_runs(program, id, note.goal, asked, parts), asked),
+        NodeKind::Conformity => {
+            if_so(conformity_runs(program, id, note.goal, asked, parts), asked)
+        }
         NodeKind::Loop => if_so(loop_runs(program, id, parts), false),
         _ => None,
+    };
+    Ok(left)
+}
+
+// What is left behind the coercions of a unit, where that runs.
+fn behind_path(program: &Annotated, note: &Note, left: Option<bool>) -> Option<bool>
+    ensures { result ≡ option_and_then (λ left. runs.path_leaves program.now.modes note.now.goal note.now.mode left note.now.path) left }
+{
+    match left {
+        Some(left) => path_leaves(&program.modes, left, note),
+        None => None,
     }
 }
 
 // What a node leaves behind its coercions, where it runs.
-fn left_by(program: &Annotated, id: NodeId, node: &Node, note: &Note) -> Option<bool>
+fn left_by(
+    alloc: Global,
+    program: &Annotated,
+    id: NodeId,
+    node: &Node,
+    note: &Note,
+) -> Result<Option<bool>, NoMemory>
     requires between { AllBetween id (length program.now.tree.nodes) node.now.parts }
     requires named { node.now.name < length program.now.tree.spellings }
-    ensures { result ≡ runs.left_by program.now node.now note.now }
+    ensures { IfOk result (λ left. left ≡ runs.left_by program.now node.now note.now) }
 {
-    match leaves_as(program, id, node, note) {
-        Some(left) => path_leaves(&program.modes, left, note),
-        None => None,
-    }
+    let left = leaves_as(alloc, program, id, node, note)?;
+    Ok(behind_path(program, note, left))
 }
 
 // Is what a node leaves its outcome, where it has one?
@@ -354,15 +392,16 @@ fn is_whole(program: &Annotated, id: NodeId) -> bool
 
 // Does a node run?
 #[tactic(auto, unfolding(crate::specs::Runs::runs))]
-fn is_run(program: &Annotated, id: NodeId) -> bool
+fn is_run(alloc: Global, program: &Annotated, id: NodeId) -> Result<bool, NoMemory>
     requires { id < length program.now.tree.nodes }
-    ensures runs { result ≡ runs.runs program.now id }
+    ensures runs { IfOk result (λ is_run. is_run ≡ runs.runs program.now id) }
     ensures there { IsThere program.now id }
 {
     let node = program.tree.node(id);
     let note = program.note(id);
-    let left = left_by(program, id, node, note);
-    is_whole(program, id) && agrees(outcome_by(program, node, note), left)
+    let left = left_by(alloc, program, id, node, note)?;
+    let is_run = is_whole(program, id) && agrees(outcome_by(program, node, note), left);
+    Ok(is_run)
 }
 
 // The byte at which a node begins; a number of no node begins at the first.
@@ -387,25 +426,31 @@ fn is_earlier(program: &Annotated, found: Option<NodeId>, id: NodeId) -> bool
 }
 
 // What was found, or one node more, where it does not run and stands before that.
-fn with_node(program: &Annotated, found: Option<NodeId>, id: NodeId) -> Option<NodeId>
+fn with_node(
+    alloc: Global,
+    program: &Annotated,
+    found: Option<NodeId>,
+    id: NodeId,
+) -> Result<Option<NodeId>, NoMemory>
     requires { id < length program.now.tree.nodes }
-    ensures found { result ≡ unready.with_node program.now found id }
+    ensures found { IfOk result (λ next. next ≡ unready.with_node program.now found id) }
     ensures there { IsThere program.now id }
 {
-    let is_kept = is_run(program, id) || !is_earlier(program, found, id);
-    if is_kept { found } else { Some(id) }
+    let is_run = is_run(alloc, program, id)?;
+    let is_kept = is_run || !is_earlier(program, found, id);
+    Ok(if is_kept { found } else { Some(id) })
 }
 
 /// The node that does not run and stands first in the text, if any.
-pub fn first_unready(program: &Annotated) -> Option<NodeId>
-    ensures least { IsLeast program.now.tree (runs.DoesNotRun program.now) result }
-    ensures there { AreThere program.now (length program.now.tree.nodes) }
+pub fn first_unready(alloc: Global, program: &Annotated) -> Result<Option<NodeId>, NoMemory>
+    ensures least { IfOk result (λ found. IsLeast program.now.tree (runs.DoesNotRun program.now) found) }
+    ensures there { IfOk result (λ found. AreThere program.now (length program.now.tree.nodes)) }
     ensures nodes { HoldsNodes program.now.modes }
 {
     let _nodes = program.modes.len();
     let mut found = None;
     for id in 0..program.tree.len() {
-        found = with_node(program, found, id);
+        found = with_node(alloc, program, found, id)?;
     }
-    found
+    Ok(found)
 }

@@ -15,8 +15,8 @@ use Rattle.a68_elab.specs.Positions.{here, within, in_this, beside}
 use Rattle.a68_elab.specs.Terms.{todo, yielded}
 use Rattle.a68_elab.specs.Trees.{Tree, operation, phrases, range, choice, call, no_trees, ◌and_tree◌, collateral, serial, Program}
 use Rattle.a68_gen.specs.Stretches.{Translates}
-use Rattle.a68_layout.specs.Plans.{planned}
-use Rattle.a68_layout.specs.Widths.{cells_of, has_cells}
+use Rattle.a68_layout.specs.Rooms.{bounds_needed, planned}
+use Rattle.a68_layout.specs.Widths.{cells_of}
 use Rattle.a68_modes.specs.Nodes.{standard_shapes}
 use Rattle.a68_sim.proofs.Examples.{instr, entry, whole, digit_text, printed_digit, not_ended}
 use Rattle.a68_sim.proofs.Whole.{law}
@@ -308,7 +308,7 @@ newer_program = record {
       range 1 1 1 false
       (phrases 1 (operation 6 (bind 0) serial (operation 10 (routine 0 None) serial no_trees and_tree no_trees) and_tree no_trees)
       (operation 28 drop serial (call 28 true (name 28 0 0 and_tree no_trees) and_tree no_trees)));
-  texts = record { place = 10; yields = true; tree = operation 19 (make 1 0) serial no_trees } ∷ [];
+  texts = record { place = 10; yields = true; tree = operation 19 (make 1 0) collateral no_trees } ∷ [];
   modes = standard_shapes;
 }
 
@@ -365,7 +365,7 @@ newer_world = record {
 }
 
 newer_ran : RunOf newer_code 100 newer_kept
-unfolding does settle start resumed chain_of item_text applied called planned cells_of has_cells
+unfolding does settle start resumed chain_of item_text applied called planned bounds_needed cells_of
 newer_ran = record {
   world = newer_world;
   runs = (refl, (refl, (refl, (refl, (refl, (refl, refl))))));

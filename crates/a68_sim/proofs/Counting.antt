@@ -2,8 +2,8 @@
 use Rattle.std.proofs.Common.{◌≡◌, ℕ, pos, false, List, [], ◌∷◌, ◌++◌, Some, refl, sym, subst, arith}
 use Rattle.a68_acts.specs.Does.{does}
 use Rattle.a68_acts.specs.Operations.{constant, skip, tag, make, bind, deref, store, apply, drop, print, start, resumed, tested, counter_of, has_turn, advanced}
-use Rattle.a68_layout.specs.Plans.{planned}
-use Rattle.a68_layout.specs.Widths.{cells_of, has_cells}
+use Rattle.a68_layout.specs.Rooms.{bounds_needed, planned}
+use Rattle.a68_layout.specs.Widths.{cells_of}
 use Rattle.a68_ops.specs.Printed.{item_text, whole_text}
 use Rattle.a68_acts.specs.Store.{Store, standard_frame, chain_of}
 use Rattle.a68_acts.specs.declared.operation.Next.TheVariants as next
@@ -44,7 +44,7 @@ its_value place = operation place (deref 1) serial (name place and_tree no_trees
 
 -- BEGIN INT i := 0; WHILE i < 3 DO i := i + 1 OD; print(i) END
 abbrev declaration : Tree
-declaration = operation 6 (bind 0) serial (operation 6 (store 1) serial (operation 6 (make 1 0) serial no_trees and_tree number 15 0 and_tree no_trees) and_tree no_trees)
+declaration = operation 6 (bind 0) serial (operation 6 (store 1) serial (operation 6 (make 1 0) collateral no_trees and_tree number 15 0 and_tree no_trees) and_tree no_trees)
 
 abbrev assignation : Tree
 assignation =
@@ -219,7 +219,7 @@ prints_three =
     (sym printed_three) (refl, refl)
 
 ran : RunOf code 1000 kept
-unfolding does settle start resumed chain_of item_text tested counter_of has_turn advanced applied planned cells_of has_cells
+unfolding does settle start resumed chain_of item_text tested counter_of has_turn advanced applied planned bounds_needed cells_of
 ran = record {
   world = record { store = last_store; strands = last_state ∷ [] };
   runs = (refl, (refl, (refl, (refl, (refl, (refl, (refl, (refl, (refl, (refl, (refl, (refl, (refl, (refl, (refl, (refl, (refl, (refl, (refl, (refl, (refl, (refl, (refl, (refl, (refl, (refl, (refl, (refl, (refl, (refl, prints_three))))))))))))))))))))))))))))));

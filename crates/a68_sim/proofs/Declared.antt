@@ -49,7 +49,7 @@ abbrev by_hand : Program
 by_hand = record {
   place = 0;
   tree =
-      let variable = operation 6 (bind 0) serial (operation 6 (store 1) serial (operation 6 (heap 1 0) serial no_trees and_tree (number 20 5 and_tree no_trees)) and_tree no_trees) in
+      let variable = operation 6 (bind 0) serial (operation 6 (store 1) serial (operation 6 (heap 1 0) collateral no_trees and_tree (number 20 5 and_tree no_trees)) and_tree no_trees) in
       let y = operation 27 (bind 1) serial (operation 31 (deref 1) serial (operation 31 (tag 0 0) serial no_trees and_tree no_trees) and_tree no_trees) in
       let z = operation 34 (bind 2) serial (number 38 2 and_tree no_trees) in
       let item_y = operation 48 (unite 1) serial (operation 48 (tag 0 1) serial no_trees and_tree no_trees) in

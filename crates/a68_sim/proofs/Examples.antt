@@ -5,8 +5,8 @@ use Rattle.std.proofs.lemmas.Option.{same_Some}
 use Rattle.std.specs.Prelude.{◌++◌, replicate, slice_get, int_lt}
 use Rattle.a68_acts.specs.Does.{did, does}
 use Rattle.a68_acts.specs.Operations.{tag, apply, start, resumed}
-use Rattle.a68_layout.specs.Plans.{planned}
-use Rattle.a68_layout.specs.Widths.{cells_of, has_cells}
+use Rattle.a68_layout.specs.Rooms.{bounds_needed, planned}
+use Rattle.a68_layout.specs.Widths.{cells_of}
 use Rattle.a68_ops.specs.Printed.{item_text, set_right, whole_text}
 use Rattle.a68_acts.specs.Store.{Store, opening_store, standard_frame, chain_of}
 use Rattle.a68_acts.specs.declared.operation.Next.TheVariants as next
@@ -149,7 +149,7 @@ prints_five =
     (sym printed_five) (refl, refl)
 
 ran : RunOf code 7 kept
-unfolding does settle start resumed chain_of item_text applied planned cells_of has_cells
+unfolding does settle start resumed chain_of item_text applied planned bounds_needed cells_of
 ran = record {
   world = record { store = last_store; strands = last_state ∷ [] };
   runs = (refl, (refl, (refl, (refl, (refl, (refl, prints_five))))));
@@ -180,7 +180,7 @@ unfolding does settle start resumed chain_of item_text applied
 can_print = subst (λ (t : List ℕ). acted code (before_print t) 0 ≢ None) (sym printed_five) (λ e. absurd (cc))
 
 ran_at_six : RunOf code 6 kept_at_six
-unfolding does settle start resumed chain_of item_text applied planned cells_of has_cells
+unfolding does settle start resumed chain_of item_text applied planned bounds_needed cells_of
 ran_at_six = record {
   world = before_print (whole_text (pos 5) (pos 20));
   runs = (refl, (refl, (refl, (refl, (refl, (refl, refl))))));
@@ -255,7 +255,7 @@ unset_world = record {
 }
 
 unset_ran : RunOf unset_code 100 kept_unset
-unfolding does settle start resumed chain_of item_text applied planned cells_of has_cells
+unfolding does settle start resumed chain_of item_text applied planned bounds_needed cells_of
 unset_ran = record {
   world = unset_world;
   runs = (refl, (refl, (refl, (refl, (refl, refl)))));
@@ -330,7 +330,7 @@ newer_world = record {
 }
 
 newer_ran : RunOf newer_code 100 kept_newer
-unfolding does settle start resumed chain_of item_text applied planned cells_of has_cells
+unfolding does settle start resumed chain_of item_text applied planned bounds_needed cells_of
 newer_ran = record {
   world = newer_world;
   runs = (refl, (refl, (refl, (refl, refl))));

@@ -10,9 +10,10 @@ use Rattle.a68_code.specs.declared.code.RoutineEntrance.{RoutineEntrance}
 use Rattle.a68_code.specs.declared.does.Does.TheVariants as does
 use Rattle.a68_elab.specs.Positions.{within, OpensIn, in_this, past}
 use Rattle.a68_elab.specs.Rows.{meets, acts, within_frame, body_in}
-use Rattle.a68_elab.specs.Terms.{only, Job, operating, resuming, gathering, preceding, ending, ranged, choosing, casing, chosen, limiting, counting, stepping, turning, opening, naming, indexing, ranging, testing, running, advancing, quitting, leaving, calling, entering, binding, inside, Term, todo, part, yielded, Terms, no_terms, ◌and_term◌, todos, order_of}
-use Rattle.a68_elab.specs.Trees.{Tree, Trees, operation, together, phrases, range, choice, cases, loop, call, unbuilt, Turns, no_trees, ◌and_tree◌, count, Order, Body, Program}
-use Rattle.a68_gen.specs.Stretches.{Has, Stands, StandAll, leave}
+use Rattle.a68_elab.specs.Terms.{only, Job, operating, resuming, gathering, preceding, ending, ranged, choosing, casing, conforming, specifying, tagging, passing, chosen, limiting, counting, stepping, turning, opening, naming, indexing, ranging, testing, running, advancing, quitting, leaving, calling, entering, binding, inside, Term, todo, part, yielded, Terms, no_terms, ◌and_term◌, todos, order_of}
+use Rattle.a68_elab.specs.Trees.{Tree, Trees, operation, together, phrases, range, choice, cases, conformity, loop, call, unbuilt, Turns, no_trees, ◌and_tree◌, count, Order, Body, Program}
+use Rattle.a68_gen.specs.Stretches.{Has, Stands, StandAll, member_places, wholes_of, leave}
+use Rattle.a68_sim.proofs.Conforming.{conforming_done, specifying_done, tagging_done, passing_done}
 use Rattle.a68_sim.proofs.Calling.{calling_done, entering_done, binding_one, inside_done}
 use Rattle.a68_sim.proofs.Asking.{idle, at_instr, place_is, is_inside}
 use Rattle.a68_gen.proofs.Forward.{next_is}
@@ -149,6 +150,14 @@ module _ (program : Program) (code : Code) (same : code.modes ≡ program.modes)
         (from_part (casing p arms out) c [] no_terms (todo enquiry c) z.0 z.0 b base home g st refl refl tail
         (λ v e last. moved _ _ st _ e (casing_done program code b base home g p arms out c z.0 (v ∷ []) last))
         (tree_progress enquiry c z.0 base c true st (record { a = s.a; stands = z.4; chain = refl; state = s.state ∙ ap (λ x. idle s.a base x) (sym s.chain) })))
+    tree_progress (conformity p union members yields enquiry specs out) c b base home g st s =
+        let z = s.stands in
+        let has = subst (λ (ms : List ℕ). Has code p (does.Member union (member_places ms specs z.3 z.2) (wholes_of ms specs)) z.0 z.1) z.5 z.7 in
+        let tail : Tail code (conforming p union yields specs out) 1 c z.0 b home g = (s.chain, refl, z.4, z.1, z.2, z.3, has, z.8, z.9) in
+        progress_row program code _ _ _ st refl
+        (from_part (conforming p union yields specs out) c [] no_terms (todo enquiry c) z.0 z.0 b base home g st refl refl tail
+        (λ v e last. moved _ _ st _ e (conforming_done program code same b base home g p union yields specs out c z.0 (v ∷ []) last))
+        (tree_progress enquiry c z.0 base c true st (record { a = s.a; stands = z.6; chain = refl; state = s.state ∙ ap (λ x. idle s.a base x) (sym s.chain) })))
     tree_progress (loop p controls true counts test body) c b base home g st s =
         let z = s.stands in
         let l : Turns = record { place = p; counts = counts; test = test; body = body } in
@@ -226,6 +235,10 @@ module _ (program : Program) (code : Code) (same : code.modes ≡ program.modes)
   all_done (ranged out yields) ch k b base home g = ranged_done program code b base home g out yields ch k
   all_done (choosing p if_true if_false) ch k b base home g = choosing_done program code b base home g p if_true if_false ch k
   all_done (casing p arms out) ch k b base home g = casing_done program code b base home g p arms out ch k
+  all_done (conforming p union yields specs out) ch k b base home g = conforming_done program code same b base home g p union yields specs out ch k
+  all_done (specifying p yields v t) ch k b base home g = specifying_done program code same b base home g p yields v t ch k
+  all_done (tagging p yields v t) ch k b base home g = tagging_done program code same b base home g p yields v t ch k
+  all_done (passing v t) ch k b base home g = passing_done program code same b base home g v t ch k
   all_done chosen ch k b base home g = chosen_done program code b base home g ch k
   all_done (limiting l) ch k b base home g = limiting_done program code b base home g l ch k
   all_done (counting l) ch k b base home g = counting_done program code b base home g l ch k

@@ -41,6 +41,7 @@ use Rattle.a68_values.specs.Content.{Content, void, plain, scope_of}
 use Rattle.a68_values.specs.declared.act.FaultKind.{FaultKind}
 use Rattle.a68_values.specs.declared.act.FaultKind.TheVariants as fault
 use Rattle.a68_values.specs.declared.chain.Environ.{Environ}
+use Rattle.a68_values.specs.declared.held.Held.TheVariants as held
 
 pub row_done : (program : Program) (job : Job) (ch : List Environ) (acc : List Content)
     → row program (part job ch (yields acc no_terms)) ≡ Some (finish program job ch (onto acc []))
@@ -127,7 +128,7 @@ module _ (program : Program) (code : Code) where
 
   module _ (b : ℕ) (base : List Item) (home : List Environ) (g : Bool) where
     -- what parts leave that leave nothing
-    on_bare : (job : Job) (ch : List Environ) (k : ℕ) (acc : List Content) (items : List Item)
+    pub on_bare : (job : Job) (ch : List Environ) (k : ℕ) (acc : List Content) (items : List Item)
         → Progress program code (Sim code b base home g) (part job ch (yields acc no_terms)) (idle k items ch)
         → Progress program code (Sim code b base home g) (part job ch (yields acc no_terms)) (idle k (left false acc items) ch)
     on_bare job ch k acc items x =
@@ -381,7 +382,7 @@ module _ (program : Program) (code : Code) where
         keeps turn (reply.Held h) = misled_sim code b base home g l.place k does.Turn ch turn.0
 
     -- a frame of a turn is made
-    opens_frame : (t : Term) (p n k : ℕ) (items : List Item) (f : List Environ → Term) (ch : List Environ) → (k2 : ℕ) → Has code p (does.Enter n) k k2 → row program t ≡ Some (rows.enters p n ch f)
+    pub opens_frame : (t : Term) (p n k : ℕ) (items : List Item) (f : List Environ → Term) (ch : List Environ) → (k2 : ℕ) → Has code p (does.Enter n) k k2 → row program t ≡ Some (rows.enters p n ch f)
         → ((e : Environ) → Sim code b base home g (f (e ∷ ch)) (idle k2 items (e ∷ ch)))
         → ((q : ℕ) (d : Does) → slice_get code.list k ≡ Some (record { place = q; does = d }) → Sim code b base home g (rows.misled q ch) (fails (idle k [] ch) fault.Kind))
         → Progress program code (Sim code b base home g) t (idle k items ch)
@@ -474,7 +475,9 @@ module _ (program : Program) (code : Code) where
         by_leaves false is (reply.Frame chain) = misled_here
         by_leaves false is (reply.Value v) = misled_here
         by_leaves false is (reply.Base cell) = misled_here
-        by_leaves false is (reply.Held h) = misled_here
+        by_leaves false is (reply.Held (held.Plain x)) = misled_here
+        by_leaves false is (reply.Held (held.Rows d)) = misled_here
+        by_leaves false is (reply.Held (held.Member m cell)) = misled_here
 
         told : (r : Reply) → Sim code b base home g (turned l.place (e ∷ outer) (in_turn l.test c l (e ∷ outer)) r) (told_by code st (waiting.Operation next.Void) r)
         told r = by_leaves (leaves_at code k) leaves_none r

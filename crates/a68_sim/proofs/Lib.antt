@@ -2,6 +2,7 @@ pub mod Asking
 pub mod Called
 pub mod Calling
 pub mod Casing
+pub mod Conforming
 pub mod Counting
 pub mod Declared
 pub mod Examples

@@ -2,7 +2,7 @@
 use Rattle.std.proofs.Common.{◌≡◌, ℕ, suc, arith, Bool, true, false, List, [], Some, refl, sym, ap, ◌∙◌, inl}
 use Rattle.std.specs.Option.{option_map_or}
 use Rattle.std.specs.declared.option.Option.{Option}
-use Rattle.a68_acts.specs.Operations.{Operation, constant, skip, nil, routine, tag, make, heap, bind, deref, store, apply, same, compose, select, unite, drop, print, whole, leaves, resumed}
+use Rattle.a68_acts.specs.Operations.{Operation, constant, skip, nil, routine, tag, make, heap, bind, deref, store, apply, same, slice, display, vacuum, compose, select, unite, row_up, row_up_name, widen, drop, print, whole, leaves, resumed}
 use Rattle.a68_acts.specs.declared.operation.Doing.{Doing}
 use Rattle.a68_acts.specs.declared.operation.Doing.TheVariants as doing
 use Rattle.a68_acts.specs.declared.operation.Next.{Next}
@@ -45,9 +45,15 @@ operation_is (deref m) n = refl
 operation_is (store m) n = refl
 operation_is (apply r) n = refl
 operation_is (same negated) n = refl
+operation_is (slice forms) n = refl
+operation_is (display count mode) n = refl
+operation_is (vacuum mode) n = refl
 operation_is (compose fields) n = refl
 operation_is (select m field) n = refl
 operation_is (unite m) n = refl
+operation_is (row_up mode) n = refl
+operation_is (row_up_name mode) n = refl
+operation_is widen n = refl
 operation_is drop n = refl
 operation_is print n = refl
 operation_is whole n = refl
@@ -55,7 +61,7 @@ operation_is whole n = refl
 -- the instruction of an operation does it
 pub exec_of : (code : Code) (op : Operation) (n : ℕ) (st : State) → takes (does_of op n) ≡ n → exec code (does_of op n) st ≡ operates code.modes st op n
 exec_of code op n st e =
-    ap (λ (o : Option Operation). option_map_or (λ found. operates code.modes st found (takes (does_of op n))) o (controls code.texts (does_of op n) st)) (operation_is op n)
+    ap (λ (o : Option Operation). option_map_or (λ found. operates code.modes st found (takes (does_of op n))) o (controls code.modes code.texts (does_of op n) st)) (operation_is op n)
     ∙ ap (operates code.modes st op) e
 
 -- the end has no operation

@@ -2,6 +2,7 @@
 use Rattle.std.proofs.Common.{◌≡◌, ◌<◌, ◌⊎◌, ◌+◌, ℕ, zero, suc, arith, Bool, true, false, List, [], ◌∷◌, Some, refl, sym, ap, ◌∙◌, subst}
 use Rattle.std.specs.Option.{option_map}
 use Rattle.std.specs.Prelude.{slice_get, reverse, if◌then◌else◌}
+use Rattle.a68_acts.specs.Members.{members_of}
 use Rattle.a68_acts.specs.Operations.{Operation, leaves}
 use Rattle.a68_acts.specs.declared.operation.Doing.{Doing}
 use Rattle.a68_acts.specs.declared.operation.Doing.TheVariants as doing
@@ -10,9 +11,10 @@ use Rattle.a68_code.specs.declared.code.Code.{Code}
 use Rattle.a68_code.specs.declared.code.RoutineEntrance.{RoutineEntrance}
 use Rattle.a68_code.specs.declared.does.Does.{Does}
 use Rattle.a68_code.specs.declared.does.Does.TheVariants as does
-use Rattle.a68_elab.specs.Terms.{Job, operating, resuming, gathering, preceding, ending, ranged, choosing, casing, chosen, limiting, counting, stepping, turning, opening, naming, indexing, ranging, testing, running, advancing, quitting, leaving, calling, entering, binding, inside, Term, todo, part, yielded, Terms, no_terms, ◌and_term◌, todos, values}
+use Rattle.a68_elab.specs.Terms.{Job, operating, resuming, gathering, preceding, ending, ranged, choosing, casing, conforming, specifying, tagging, passing, chosen, limiting, counting, stepping, turning, opening, naming, indexing, ranging, testing, running, advancing, quitting, leaving, calling, entering, binding, inside, Term, todo, part, yielded, Terms, no_terms, ◌and_term◌, todos, values}
 use Rattle.a68_elab.specs.Trees.{Tree, Turns, depth, Trees, no_trees, ◌and_tree◌, count}
-use Rattle.a68_gen.specs.Stretches.{Indexes, Leaves, Has, Stands, StandAll, StandArms, Tests, with_last, does_of, leave}
+use Rattle.a68_gen.specs.Stretches.{Indexes, Leaves, Has, Stands, StandAll, StandArms, StandSpecs, Tests, member_places, wholes_of, with_last, does_of, leave}
+use Rattle.a68_modes.specs.Nodes.{shape_at}
 use Rattle.a68_sim.proofs.Asking.{idle}
 use Rattle.a68_sim.proofs.Quiet.{outwards}
 use Rattle.a68_strand.specs.Machine.{State, follows, enters_body, binds}
@@ -70,6 +72,7 @@ parts_give ending g = g
 parts_give (ranged out yields) g = g
 parts_give (choosing p if_true if_false) g = true
 parts_give (casing p arms out) g = true
+parts_give (conforming p union yields specs out) g = true
 parts_give chosen g = g
 parts_give (limiting l) g = true
 parts_give (counting l) g = true
@@ -80,6 +83,9 @@ parts_give _ g = false
 
 -- the stack on which the parts at hand are done, where the whole ends at b in the chain home
 abbrev pub inner : Job → ℕ → List Environ → List Item → List Item
+inner (specifying p yields v t) b home base = item.Value v ∷ base
+inner (tagging p yields v t) b home base = item.Value v ∷ base
+inner (passing v t) b home base = item.Value v ∷ base
 inner (stepping c l) b home base = item.Counter c ∷ base
 inner (turning c l) b home base = item.Counter c ∷ base
 inner (opening c l) b home base = item.Counter c ∷ base
@@ -141,6 +147,10 @@ bit_of c = if c then 1 else 0
 abbrev pub Fits : Code → Routine → Bool → Type 0
 Fits code r g = (e : RoutineEntrance) → slice_get code.texts r.text ≡ Some e → e.yields ≡ g
 
+-- the members of a union, by its number
+abbrev pub members_in : Code → (union : ℕ) → List ℕ
+members_in code union = members_of (shape_at code.modes union)
+
 -- what stands behind the parts at hand, of which there are n, from k up to the end b of the whole
 abbrev pub Tail : Code → Job → ℕ → List Environ → ℕ → ℕ → List Environ → Bool → Type 0
 Tail code (operating p op o) n ch k b home g = OperationAt code p op n k b g × (ch ≡ home)
@@ -154,6 +164,15 @@ Tail code (choosing p if_true if_false) n ch k b home g =
     × Stands code g if_false x b
 Tail code (casing p arms out) n ch k b home g =
     (ch ≡ home) × (n ≡ 1) × (m x : ℕ) × (places : List ℕ) × Has code p (does.Case (with_last places x)) k m × StandArms code g p b arms places m x × Stands code g out x b
+Tail code (conforming p union yields specs out) n ch k b home g =
+    (ch ≡ home) × (n ≡ 1) × (g ≡ yields) × (m x : ℕ) × (places : List ℕ)
+    × Has code p (does.Member union (member_places (members_in code union) specs places x) (wholes_of (members_in code union) specs)) k m
+    × StandSpecs code g p b specs places m x × Stands code g out x b
+Tail code (specifying p yields v t) n ch k b home g =
+    (ch ≡ home) × (g ≡ yields) × (m q r : ℕ) × Has code p (does.Enter 1) k m × Has code p (does.Bind 0) m q × Stands code g t q r × Has code p (leave g) r b
+Tail code (tagging p yields v t) n ch k b home g =
+    (outwards ch ≡ home) × (g ≡ yields) × (q r : ℕ) × Has code p (does.Bind 0) k q × Stands code g t q r × Has code p (leave g) r b
+Tail code (passing v t) n ch k b home g = (ch ≡ home) × (p m : ℕ) × Has code p does.Drop k m × Stands code g t m b
 Tail code chosen n ch k b home g = (ch ≡ home) × (n ≡ 1) × ((k ≡ b) ⊎ ((p x : ℕ) × Has code p (does.Jump b) k x × (k < b)))
 Tail code (limiting l) n ch k b home g =
     (g ≡ false) × (ch ≡ home) × (n ≡ 3) × (m t : ℕ) × Has code l.place (does.Apply 26) k m × Has code l.place does.Counter m t × LoopAt code l t b

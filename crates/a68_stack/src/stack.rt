@@ -1,5 +1,5 @@
 //! The stack of a strand.
-ghost use Rattle.std.specs.Prelude.{◌≡◌, [], ◌∷◌, ◌++◌, None, Some, List, reverse, OnOk, OnErr, IfOk, IfSome, MatchOption, MatchBool};
+ghost use Rattle.std.specs.Prelude.{◌≡◌, [], ◌∷◌, ◌++◌, None, Some, List, length, reverse, OnOk, OnErr, IfOk, IfSome, MatchOption, MatchBool};
 ghost use Rattle.std.specs.Option.{option_map};
 ghost use Rattle.a68_values.specs.Content.{Content, plain, scope_of};
 ghost use Rattle.a68_stack.specs.declared.stack.Item.{Item};
@@ -101,6 +101,13 @@ impl Stack {
             self.open_calls += 1;
         }
         Ok(())
+    }
+
+    /// How many items stand on it.
+    pub fn len(&self) -> usize
+        ensures { result ≡ length self.now }
+    {
+        self.items.len()
     }
 
     /// How many callers stand on it.

@@ -1,4 +1,4 @@
-pub mod Making
+pub mod Acting
 pub mod Settling
 pub mod Taking
 pub mod Yielding

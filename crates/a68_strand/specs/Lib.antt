@@ -7,4 +7,5 @@ pub mod Replies
 pub mod Room
 pub mod RunOf
 pub mod Runs
+pub mod Silent
 pub mod Strands

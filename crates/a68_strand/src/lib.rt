@@ -8,8 +8,11 @@ mod calls;
 mod control;
 mod exec;
 mod instructions;
+mod members;
+mod operators;
 mod reply;
 mod routines;
+mod rows;
 mod strand;
 
 pub use ask::{Ask, Parameters, PlainReply, Stance, Waiting};

@@ -30,6 +30,10 @@ abbrev pub is_structure : Content → Bool
 is_structure (structure parts) = true
 is_structure _ = false
 
+abbrev pub is_row : Content → Bool
+is_row (row bounds parts) = true
+is_row _ = false
+
 abbrev pub is_united : Content → Bool
 is_united (united mode inner) = true
 is_united _ = false

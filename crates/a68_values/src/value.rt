@@ -3,7 +3,7 @@
 //! Drops that are written by hand are proved once, in their crate; a derived one is proved anew in each crate that lets
 //! such a value go.
 ghost use Rattle.std.specs.Prelude.{◌≡◌, false, None, IfOk, MatchOption};
-ghost use Rattle.a68_values.specs.Content.{as_plain, is_structure, is_united, plain, structure, united, contents_of, scope_of, newest_scope};
+ghost use Rattle.a68_values.specs.Content.{as_plain, is_row, is_structure, is_united, plain, row, structure, united, contents_of, scope_of, newest_scope};
 ghost use Rattle.a68_values.specs.Nodes.{content_of};
 
 use crate::{Layout, Plain};
@@ -106,6 +106,20 @@ impl ValueNode {
         }
     }
 
+    // The bounds and the elements of the row that it is.
+    fn into_row(self) -> Option<(Bounds, Values)>
+        ensures { MatchOption result (is_row (content_of self) ≡ false) (λ found. content_of self ≡ row found.0 (contents_of found.1)) }
+    {
+        match self {
+            ValueNode::Row { bounds, parts } => Some((bounds, parts)),
+            ValueNode::Void
+            | ValueNode::Plain(_)
+            | ValueNode::Layout(_)
+            | ValueNode::Structure(_)
+            | ValueNode::United { mode: _, value: _ } => None,
+        }
+    }
+
     // The value that is united in it, with its mode.
     fn into_member(self) -> Option<(u32, Value)>
         ensures { MatchOption result (is_united (content_of self) ≡ false) (λ member. content_of self ≡ united member.0 member.1) }
@@ -200,6 +214,14 @@ impl Value {
     {
         let Value { node } = self;
         node.into_parts()
+    }
+
+    /// The bounds and the elements of the row that it is; none where it is another.
+    pub fn into_row(self) -> Option<(Bounds, Values)>
+        ensures { MatchOption result (is_row self ≡ false) (λ found. self ≡ row found.0 (contents_of found.1)) }
+    {
+        let Value { node } = self;
+        node.into_row()
     }
 
     /// The value that is united in it, with its mode; none where it is another.

@@ -5,6 +5,7 @@ use Rattle.std.specs.Option.{option_map_or}
 use Rattle.std.specs.declared.option.Option.{Option}
 use Rattle.std.specs.declared.result.Result.{Result}
 use Rattle.std.proofs.lemmas.Bool.{lt-ltb}
+use Rattle.a68_acts.specs.Members.{member_of}
 use Rattle.a68_acts.specs.Operations.{Operation, leaves, start, resumed, called, tested, case_of, counter_of, has_turn, advanced}
 use Rattle.a68_acts.specs.declared.operation.Counter.{Counter}
 use Rattle.a68_acts.specs.declared.operation.Doing.{Doing}
@@ -13,13 +14,14 @@ use Rattle.a68_acts.specs.declared.want.Reply.{Reply}
 use Rattle.a68_acts.specs.declared.want.Reply.TheVariants as reply
 use Rattle.a68_acts.specs.declared.want.Want.{Want}
 use Rattle.a68_acts.specs.declared.want.Want.TheVariants as want
-use Rattle.a68_code.specs.Flow.{does_at, takes}
+use Rattle.a68_code.specs.Flow.{does_at, takes, last_place}
 use Rattle.a68_code.specs.declared.code.Code.{Code}
 use Rattle.a68_code.specs.declared.code.RoutineEntrance.{RoutineEntrance}
 use Rattle.a68_code.specs.declared.does.Does.{Does}
 use Rattle.a68_code.specs.declared.does.Does.TheVariants as does
+use Rattle.a68_modes.specs.Nodes.{shape_at}
 use Rattle.a68_modes.specs.declared.shape.Shape.{Shape}
-use Rattle.a68_strand.specs.Machine.{State, stack_of, goes_on, goes_to, fails, follows, operates, enters, yields_to, leaves_frame, branches, unless, chooses, cases, with_counter, counts, indexes, steps, advances, forgets, calling, calls, enters_body, begins_body, binds, into_routine, returns_to, returns, operation_of, controls, exec, at_end, does_one, silently, next_state, settle_in, settle, leaves_at, told_by, replied_in, replied}
+use Rattle.a68_strand.specs.Machine.{State, stack_of, goes_on, goes_to, fails, follows, operates, enters, yields_to, leaves_frame, branches, unless, chooses, cases, kept_of, to_member, members, with_counter, counts, indexes, steps, advances, forgets, calling, calls, enters_body, begins_body, binds, into_routine, returns_to, returns, operation_of, controls, exec, at_end, does_one, silently, next_state, settle_in, settle, leaves_at, told_by, replied_in, replied}
 use Rattle.a68_stack.specs.Room.{has_room}
 use Rattle.a68_strand.specs.Room.{brings_room}
 use Rattle.a68_stack.specs.Values.{callers, pop_values, top_counter, top_value}
@@ -190,27 +192,41 @@ returns-below n st (item.Value v ∷ (item.Caller c ∷ items)) p i = returns_to
 returns-below n st (item.Caller c ∷ items) p i = record { chain = i.0; items = i.1; stance = tt }
 returns-below n st _ p i = failed n st fault.Kind p
 
-controls-below : (n : ℕ) (texts : List RoutineEntrance) (d : Does) (st : State) → StateBelow n st → StateBelow n (controls texts d st)
-controls-below n texts (does.Enter slots) st p = enters-below n st slots st.chain (p.chain, p.items) p.chain
-controls-below n texts (does.Leave kept) st p = leaves-below n st kept st.chain (p.chain, p.items) p.chain
-controls-below n texts (does.Call count gives) st p = calls-below n texts st gives (pop_values (suc count) st.stack.items []) (p.chain, p.items) (popped-below n (suc count) st.stack.items [] p.items)
-controls-below n texts does.Return st p = returns-below n st st.stack.items (p.chain, p.items) p.items
-controls-below n texts (does.Jump to) st p = to-place n st to st.stack.items (p.chain, p.items) p.items
-controls-below n texts (does.Unless to) st p = unless-below n st to st.stack.items (p.chain, p.items) p.items
-controls-below n texts (does.Case places) st p = cases-below n st places st.stack.items (p.chain, p.items) p.items
-controls-below n texts does.Counter st p = counts-below n st st.stack.items (p.chain, p.items) p.items
-controls-below n texts does.Index st p = indexes-below n st (top_counter st.stack.items) (p.chain, p.items)
-controls-below n texts (does.Step to) st p = steps-below n st to (top_counter st.stack.items) (p.chain, p.items)
-controls-below n texts does.Turn st p = record { chain = p.chain; items = p.items; stance = tt }
-controls-below n texts (does.Advance to) st p = advances-below n st to st.stack.items (p.chain, p.items) p.items
-controls-below n texts does.Forget st p = forgets-below n st st.stack.items (p.chain, p.items) p.items
-controls-below n texts _ st p = p
+to_member-below : (n : ℕ) (st : State) (places wholes : List ℕ) (items : List Item) (v : Content) (o : Result ℕ FaultKind) → Stands n st → ItemsBelow n items
+    → StateBelow n (to_member st places wholes items v o)
+to_member-below n st places wholes items v (Ok k) p i = test (nat_eq (slice_index_or places k 0) (last_place places))
+  where
+    test : (b : Bool) → StateBelow n (if b then goes_to st (slice_index_or places k 0) items else goes_to st (slice_index_or places k 0) (item.Value (kept_of (slice_index_or wholes k 0) v) ∷ items))
+    test true = to-place n st (slice_index_or places k 0) items p i
+    test false = to-place n st (slice_index_or places k 0) (item.Value (kept_of (slice_index_or wholes k 0) v) ∷ items) p i
+to_member-below n st places wholes items v (Err why) p i = failed n st why p
+
+members-below : (n : ℕ) (union : Shape) (st : State) (places wholes : List ℕ) (items : List Item) → Stands n st → ItemsBelow n items → StateBelow n (members union st places wholes items)
+members-below n union st places wholes (item.Value v ∷ items) p i = to_member-below n st places wholes items v (member_of union v) p i
+members-below n union st places wholes _ p i = failed n st fault.Kind p
+
+controls-below : (n : ℕ) (modes : List Shape) (texts : List RoutineEntrance) (d : Does) (st : State) → StateBelow n st → StateBelow n (controls modes texts d st)
+controls-below n modes texts (does.Enter slots) st p = enters-below n st slots st.chain (p.chain, p.items) p.chain
+controls-below n modes texts (does.Leave kept) st p = leaves-below n st kept st.chain (p.chain, p.items) p.chain
+controls-below n modes texts (does.Call count gives) st p = calls-below n texts st gives (pop_values (suc count) st.stack.items []) (p.chain, p.items) (popped-below n (suc count) st.stack.items [] p.items)
+controls-below n modes texts does.Return st p = returns-below n st st.stack.items (p.chain, p.items) p.items
+controls-below n modes texts (does.Jump to) st p = to-place n st to st.stack.items (p.chain, p.items) p.items
+controls-below n modes texts (does.Unless to) st p = unless-below n st to st.stack.items (p.chain, p.items) p.items
+controls-below n modes texts (does.Case places) st p = cases-below n st places st.stack.items (p.chain, p.items) p.items
+controls-below n modes texts (does.Member mode places wholes) st p = members-below n (shape_at modes mode) st places wholes st.stack.items (p.chain, p.items) p.items
+controls-below n modes texts does.Counter st p = counts-below n st st.stack.items (p.chain, p.items) p.items
+controls-below n modes texts does.Index st p = indexes-below n st (top_counter st.stack.items) (p.chain, p.items)
+controls-below n modes texts (does.Step to) st p = steps-below n st to (top_counter st.stack.items) (p.chain, p.items)
+controls-below n modes texts does.Turn st p = record { chain = p.chain; items = p.items; stance = tt }
+controls-below n modes texts (does.Advance to) st p = advances-below n st to st.stack.items (p.chain, p.items) p.items
+controls-below n modes texts does.Forget st p = forgets-below n st st.stack.items (p.chain, p.items) p.items
+controls-below n modes texts _ st p = p
 
 exec-below : (n : ℕ) (code : Code) (d : Does) (st : State) → StateBelow n st → StateBelow n (exec code d st)
 exec-below n code d st p = by_operation (operation_of d)
   where
-    by_operation : (o : Option Operation) → StateBelow n (option_map_or (λ op. operates code.modes st op (takes d)) o (controls code.texts d st))
-    by_operation None = controls-below n code.texts d st p
+    by_operation : (o : Option Operation) → StateBelow n (option_map_or (λ op. operates code.modes st op (takes d)) o (controls code.modes code.texts d st))
+    by_operation None = controls-below n code.modes code.texts d st p
     by_operation (Some op) = operates-below n code.modes st op (takes d) (p.chain, p.items)
 
 does_one-below : (n : ℕ) (code : Code) (o : Option Does) (st : State) → StateBelow n st → StateBelow n (does_one code o st)

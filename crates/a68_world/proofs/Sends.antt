@@ -16,7 +16,9 @@ use Rattle.a68_code.specs.contracts.code.Code as code
 use Rattle.a68_code.specs.contracts.code.Instr as instr
 use Rattle.a68_code.specs.contracts.code.Instrs as instrs
 use Rattle.a68_code.specs.contracts.does.Does as does
+use Rattle.a68_layout.proofs.types.Forms.TheSendSync as forms
 use Rattle.a68_layout.proofs.types.Plan.TheSendSync as plan
+use Rattle.a68_layout.proofs.types.Trims.TheSendSync as trims
 use Rattle.a68_modes.proofs.modes.Modes.TheSendSync as modes
 use Rattle.a68_store.specs.contracts.frame.Frame as frame
 use Rattle.a68_store.specs.contracts.store.Store as store
@@ -72,7 +74,7 @@ value_send =
 -- ---- the code
 
 does_send : IsSend (does.the_field).row
-does_send = search (sendable, crosses, value_send, places.the_send) depth 60 fits 8000
+does_send = search (sendable, crosses, value_send, places.the_send, forms.the_send) depth 80 fits 12000
 
 instr_send : IsSend instr.the_row
 instr_send = search (sendable, crosses, does_send) depth 20
@@ -115,7 +117,7 @@ parts_row_send : IsSend parts.the_row
 parts_row_send = let p = holes_send member-Values in let v = holes_send member-Value in search (sendable, crosses) depth 20
 
 step_row_send : IsSend step.the_row
-step_row_send = search (sendable, crosses, value_send, held.the_field_send) depth 60
+step_row_send = search (sendable, crosses, value_send, held.the_field_send, parts_row_send, bounds.the_send) depth 60 fits 8000
 
 steps_send : IsSend steps.the_row
 steps_send = search (sendable, crosses, step_row_send) depth 20
@@ -124,7 +126,7 @@ left_send : IsSend left.the_row
 left_send = search (sendable, crosses, value_send) depth 20
 
 next_send : IsSend (next.the_field).row
-next_send = search (sendable, crosses, parts_row_send, steps_send, left_send) depth 40
+next_send = search (sendable, crosses, value_send, parts_row_send, steps_send, left_send, trims.the_send) depth 60 fits 8000
 
 parameters_send : IsSend parameters.the_row
 parameters_send = search (sendable, crosses, parts_row_send) depth 20

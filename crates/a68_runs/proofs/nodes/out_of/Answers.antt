@@ -6,9 +6,6 @@ use Rattle.a68_runs.proofs.Choosing.{out_is}
 use Rattle.a68_runs.proofs.nodes.out_of.Goals as goal
 use Rattle.a68_tree.specs.declared.kind.NodeKind.{NodeKind}
 
-pub kind_at-requires : goal.kind_at-requires
-kind_at-requires c = (between-each c.args.id (length c.args.program.now.tree.nodes) (length c.args.parts.now - 1) c.args.parts.now c.requires (omega arith)).1
-
 pub returns-then-is_out-clause-out : goal.returns-then-is_out-clause-out
 returns-then-is_out-clause-out c =
     let last = get_or c.args.parts.now (length c.args.parts.now - 1) 0 in

@@ -8,8 +8,8 @@ pub loop-id-preserved : goal.loop-id-preserved
 loop-id-preserved c =
     let a = c.args.program.now in
     record {
-      least = rw c.with_node-found.ensures.found (least-more a c.loop-id.found c.loop-id.id c.loop-id.invariant.least);
-      there = there-more a c.loop-id.id c.loop-id.invariant.there c.with_node-found.ensures.there;
+      least = rw c.in_ok-found.ensures.found (least-more a c.loop-id.found c.loop-id.id c.loop-id.invariant.least);
+      there = there-more a c.loop-id.id c.loop-id.invariant.there c.in_ok-found.ensures.there;
     }
 
 pub returns-clause-least : goal.returns-clause-least

@@ -1,6 +1,6 @@
-use Rattle.std.proofs.Common.{◌≡◌, true, false}
+use Rattle.std.proofs.Common.{true, false}
 use Rattle.a68_code.proofs.Ways.{agree_where_valid, valid_from}
-use Rattle.a68_code.specs.Walk.{AreHeights, AllAgree}
+use Rattle.a68_code.specs.Walk.{AreHeights}
 use Rattle.a68_code.specs.declared.owner.Owner.TheVariants as owner
 use Rattle.a68_code.proofs.code.Code.ways_agree.Goals as goal
 

@@ -1,7 +1,17 @@
-use Rattle.a68_code.proofs.Landing.{landings_next}
+use Rattle.std.proofs.Common.{◌≡◌, ◌∙◌, ap}
+use Rattle.a68_code.specs.Flow.{leaves}
+use Rattle.a68_code.proofs.Landing.{ways_next}
 use Rattle.a68_code.proofs.walk.Walk.note_landings.Goals as goal
 
 pub returns-in_default : goal.returns-in_default
 returns-in_default c =
     let other = c.in_default in
-    rw (landings_next c.args.at c.args.does.now other.not-Jump other.not-Unless other.not-Case other.not-Step other.not-Advance other.not-Return other.not-End) c.note_all-in_default.ensures
+    rw (ways_next c.args.modes.now c.args.at c.args.does.now c.args.below other.not-Jump other.not-Unless other.not-Case other.not-Member other.not-Step other.not-Advance other.not-Return other.not-End) (rw (← c.leaves.ensures) c.note_all-in_default.ensures)
+
+pub returns-in-Case : goal.returns-in-Case
+returns-in-Case c =
+    let height : c.leaves.result ≡ 0 = c.leaves.ensures ∙ ap (leaves c.args.modes.now) c.in-Case.is in
+    rw c.in-Case.is (rw (height, c.deref.ensures.value, c.places.view_is) at c.note_places.ensures)
+
+pub returns-in-Member : goal.returns-in-Member
+returns-in-Member c = rw c.in-Member.is (rw (c.deref-in-Member.ensures.value, c.places-in-Member.view_is) at c.note_members.ensures)

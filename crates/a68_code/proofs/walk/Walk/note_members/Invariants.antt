@@ -1,0 +1,6 @@
+use Rattle.std.proofs.Common.{take}
+use Rattle.a68_code.specs.Walk.{to_members, NotesAll}
+use Rattle.a68_code.proofs.walk.Walk.note_members.Given as goal
+
+abbrev pub invariant-loop-to : goal.invariant-loop-to
+invariant-loop-to l = NotesAll (to_members l.last l.below (take l.to-index l.places)) l.fn.self.heights.items l.fn.self.todo.items l.self.heights.items l.self.todo.items

@@ -1,0 +1,255 @@
+//! New names, with their bounds.
+ghost use Rattle.std.specs.Prelude.{◌≡◌, ◌<◌, ◌&&◌, nat_lt, length, false, true};
+ghost use Rattle.a68_elab.specs.Made as made;
+ghost use Rattle.a68_elab.specs.Made.{behind, tree_at, trees_at};
+ghost use Rattle.a68_gen.specs.Listing.{stretch, stretches};
+ghost use Rattle.a68_gen.specs.Sources.{assigned_tree, named};
+ghost use Rattle.a68_gen.specs.Writers.{Wrote};
+ghost use Rattle.a68_modes.specs.Nodes.{shape_at};
+ghost use Rattle.a68_tree.specs.Trees.{AllBetween};
+
+use crate::emit::push_int;
+use crate::numbered::Numbered;
+use crate::rows::write_part;
+use crate::single::{is_heap, new_does, unbuilt};
+use crate::writer::Writer;
+use a68_annot::Note;
+use a68_code::Does;
+use a68_elab::Bound;
+use a68_modes::ModeId;
+use a68_runs::{begins_in_heap, begins_with_declarer, behind_heap, behind_ref, bounds_of};
+use a68_tree::{Node, NodeId};
+use std::alloc::Global;
+
+// Does a node stand behind another one?
+fn stands_behind(program: &Numbered, id: NodeId, other: NodeId) -> bool
+    ensures { result ≡ (nat_lt id other && nat_lt other (length program.now.tree.nodes)) }
+{
+    let count = program.len();
+    id < other && other < count
+}
+
+// A bound that is written: [bound]. One that does not stand behind its construct is not built. No annotated tree has one.
+#[cycle(units)]
+fn write_written(alloc: Global, program: &Numbered, id: NodeId, bound: NodeId, out: &mut Writer)
+    ensures { Wrote out.old out.new (stretch (behind id (tree_at program.now) bound) (length out.old.list)) }
+{
+    if stands_behind(program, id, bound) {
+        write_part(alloc, program, id, bound, out);
+    } else {
+        unbuilt(out);
+    }
+}
+
+// A bound: [bound], or Push of what is meant.
+#[cycle(units)]
+fn write_bound(
+    alloc: Global,
+    program: &Numbered,
+    id: NodeId,
+    bound: Bound,
+    place: u32,
+    out: &mut Writer,
+)
+    ensures { Wrote out.old out.new (stretch (made.bound_tree (behind id (tree_at program.now)) place bound) (length out.old.list)) }
+{
+    match bound {
+        Bound::Written(bound) => write_written(alloc, program, id, bound, out),
+        Bound::Meant(value) => out.emit(place, push_int(i64::from(value))),
+    }
+}
+
+// [bounds], one behind the other.
+#[cycle(units)]
+fn write_bounds(
+    alloc: Global,
+    program: &Numbered,
+    id: NodeId,
+    bounds: &[Bound],
+    place: u32,
+    out: &mut Writer,
+)
+    ensures { Wrote out.old out.new (stretches (made.bound_trees (behind id (tree_at program.now)) place bounds.now) (length out.old.list)) }
+{
+    for bound in bounds {
+        write_bound(alloc, program, id, *bound, place, out);
+    }
+}
+
+// [bounds] Make, or Heap. There is no memory for more bounds than an instruction can tell.
+#[cycle(units)]
+fn bounded(
+    alloc: Global,
+    program: &Numbered,
+    id: NodeId,
+    bounds: &[Bound],
+    place: u32,
+    in_heap: bool,
+    mode: ModeId,
+    out: &mut Writer,
+)
+    ensures { Wrote out.old out.new (stretch (made.new_name in_heap place mode (made.bound_trees (behind id (tree_at program.now)) place bounds.now)) (length out.old.list)) }
+{
+    match u32::try_from(bounds.len()) {
+        Ok(count) => {
+            write_bounds(alloc, program, id, bounds, place, out);
+            out.emit(place, new_does(in_heap, mode, count));
+        }
+        Err(_) => out.run_out(),
+    }
+}
+
+// A new name, with the bounds of the first of these nodes, where it is a declarer: [bounds] Make, or Heap.
+#[cycle(units)]
+fn new_name(
+    alloc: Global,
+    program: &Numbered,
+    id: NodeId,
+    parts: &[NodeId],
+    place: u32,
+    in_heap: bool,
+    mode: ModeId,
+    out: &mut Writer,
+)
+    ensures { Wrote out.old out.new (stretch (named program.now (behind id (tree_at program.now)) in_heap place mode parts.now) (length out.old.list)) }
+{
+    let Ok(bounds) = bounds_of(alloc, program.annotated(), parts) else {
+        out.run_out();
+        return;
+    };
+    bounded(alloc, program, id, &bounds, place, in_heap, mode, out);
+}
+
+/// A generator: [bounds] Make, or Heap where it says so.
+#[cycle(units)]
+pub fn generator(
+    alloc: Global,
+    program: &Numbered,
+    id: NodeId,
+    node: &Node,
+    note: &Note,
+    out: &mut Writer,
+)
+    requires { node.now.name < length program.now.tree.spellings }
+    ensures { Wrote out.old out.new (stretch (named program.now (behind id (tree_at program.now)) (made.is_one_of made.heaps (made.spelling_of program.now node.now))
+        node.now.span.from (made.behind_ref (shape_at program.now.modes note.now.mode)) node.now.parts) (length out.old.list)) }
+{
+    let in_heap = is_heap(program, node);
+    let mode = behind_ref(program.modes(), note.mode);
+    new_name(
+        alloc,
+        program,
+        id,
+        &node.parts.items,
+        node.span.from,
+        in_heap,
+        mode,
+        out,
+    );
+}
+
+// [bounds] Make, or Heap; [source] Store; Bind.
+#[cycle(units)]
+fn assigned(
+    alloc: Global,
+    program: &Numbered,
+    id: NodeId,
+    parts: &[NodeId],
+    source: NodeId,
+    place: u32,
+    in_heap: bool,
+    note: &Note,
+    out: &mut Writer,
+)
+    requires { (id < source) × (source < length program.now.tree.nodes) }
+    ensures { Wrote out.old out.new (stretch (let mode = made.behind_ref (shape_at program.now.modes note.now.mode) in
+        assigned_tree (named program.now (behind id (tree_at program.now)) in_heap place mode parts.now) place mode note.now.step.slot (behind id (tree_at program.now) source)) (length out.old.list)) }
+{
+    let mode = behind_ref(program.modes(), note.mode);
+    new_name(alloc, program, id, parts, place, in_heap, mode, out);
+    write_part(alloc, program, id, source, out);
+    out.emit(place, Does::Store(mode));
+    out.emit(place, Does::Bind(note.step.slot));
+}
+
+// A variable that a routine text begins, which is its source.
+#[cycle(units)]
+fn begun(
+    alloc: Global,
+    program: &Numbered,
+    id: NodeId,
+    parts: &[NodeId],
+    place: u32,
+    in_heap: bool,
+    note: &Note,
+    out: &mut Writer,
+)
+    requires { AllBetween id (length program.now.tree.nodes) parts.now }
+    ensures { let mode = made.behind_ref (shape_at program.now.modes note.now.mode) in
+        Wrote out.old out.new (stretch (made.variable_of (named program.now (behind id (tree_at program.now)) in_heap place mode parts.now) false place mode note.now.step.slot
+        (trees_at (behind id (tree_at program.now)) parts.now)) (length out.old.list)) }
+{
+    if parts.len() != 1 {
+        unbuilt(out);
+        return;
+    }
+    assigned(
+        alloc, program, id, parts, parts[0], place, in_heap, note, out,
+    );
+}
+
+// A variable that a declarer begins: [bounds] Make, or Heap; with a source [source] Store; Bind.
+#[cycle(units)]
+fn declared(
+    alloc: Global,
+    program: &Numbered,
+    id: NodeId,
+    parts: &[NodeId],
+    place: u32,
+    in_heap: bool,
+    note: &Note,
+    out: &mut Writer,
+)
+    requires { AllBetween id (length program.now.tree.nodes) parts.now }
+    ensures { let mode = made.behind_ref (shape_at program.now.modes note.now.mode) in
+        Wrote out.old out.new (stretch (made.variable_of (named program.now (behind id (tree_at program.now)) in_heap place mode parts.now) true place mode note.now.step.slot
+        (trees_at (behind id (tree_at program.now)) parts.now)) (length out.old.list)) }
+{
+    if parts.len() == 1 {
+        let mode = behind_ref(program.modes(), note.mode);
+        new_name(alloc, program, id, parts, place, in_heap, mode, out);
+        out.emit(place, Does::Bind(note.step.slot));
+        return;
+    }
+    if parts.len() != 2 {
+        unbuilt(out);
+        return;
+    }
+    assigned(
+        alloc, program, id, parts, parts[1], place, in_heap, note, out,
+    );
+}
+
+/// A variable, in the heap where HEAP stands before its declarer.
+#[cycle(units)]
+pub fn variable(
+    alloc: Global,
+    program: &Numbered,
+    id: NodeId,
+    parts: &[NodeId],
+    place: u32,
+    note: &Note,
+    out: &mut Writer,
+)
+    requires { AllBetween id (length program.now.tree.nodes) parts.now }
+    ensures { Wrote out.old out.new (stretch (made.variable program.now (behind id (tree_at program.now)) place (made.behind_ref (shape_at program.now.modes note.now.mode))
+        note.now.step.slot parts.now) (length out.old.list)) }
+{
+    let in_heap = begins_in_heap(program.annotated(), id, parts);
+    let rest = behind_heap(in_heap, parts);
+    if begins_with_declarer(program.annotated(), id, rest) {
+        declared(alloc, program, id, rest, place, in_heap, note, out);
+    } else {
+        begun(alloc, program, id, rest, place, in_heap, note, out);
+    }
+}

@@ -1,0 +1,158 @@
+-- Levels of cells.
+use Rattle.std.proofs.Common.{◌≡◌, ℕ, zero, suc, ◌+◌, ◌-◌, ◌<◌, ◌≤◌, Bool, true, false, ◌||◌, nat_lt, List, [], ◌∷◌, ◌++◌, length, Ok, Err, refl, ap, sym, ◌∙◌, ⊎_elim, add-one, arith}
+use Rattle.std.proofs.lemmas.Bool.{cases_lt, le-ltb, lt-ltb, or_from, or_left}
+use Rattle.std.proofs.lemmas.List.{append_assoc, length-append, nil_from_length}
+use Rattle.a68_layout.specs.Making.{Makes}
+use Rattle.a68_layout.specs.Rooms.{Room, Rooms, cell, row, several, no_rooms, ◌and_room◌, inwards, all_inwards, own_cells, reach, levels, is_far}
+use Rattle.a68_layout.specs.Stretches.{capped}
+use Rattle.a68_layout.specs.Widths.{most_cells}
+use Rattle.a68_layout.specs.declared.types.LayoutStop.{LayoutStop}
+use Rattle.a68_layout.specs.declared.types.LayoutStop.TheVariants.{Fault}
+use Rattle.a68_layout.proofs.Made.{length-own_cells}
+use Rattle.a68_values.specs.declared.act.FaultKind.{FaultKind}
+use Rattle.a68_values.specs.declared.act.FaultKind.TheVariants as fault
+use Rattle.a68_values.specs.declared.held.Held.{Held}
+
+-- how many cells so many levels have
+abbrev pub sum_levels : (count rows : ℕ) → Rooms → ℕ
+sum_levels zero n rs = 0
+sum_levels (suc count) n rs = length (all_inwards n rs) + sum_levels count (suc n) rs
+
+pub length-levels : (count n at : ℕ) (rs : Rooms) → length (levels count n at rs) ≡ sum_levels count n rs
+length-levels zero n at rs = refl
+length-levels (suc count) n at rs =
+    let next = at + length (all_inwards n rs) in
+    omega (
+      arith,
+      length-append (own_cells (at + length (all_inwards n rs)) (all_inwards n rs)) (levels count (suc n) (at + length (all_inwards n rs)) rs),
+      length-own_cells (at + length (all_inwards n rs)) (all_inwards n rs),
+      length-levels count (suc n) (at + length (all_inwards n rs)) rs,
+    )
+
+both-none : (xs ys : List Room) → xs ++ ys ≡ [] → (xs ≡ []) × (ys ≡ [])
+both-none [] ys e = (refl, e)
+both-none (x ∷ xs) ys e = absurd (cc)
+
+none-both : (xs ys : List Room) → xs ≡ [] → ys ≡ [] → xs ++ ys ≡ []
+none-both xs ys e f = rw (e, f) refl
+
+-- where nothing stands so many rows inwards, nothing stands further inwards
+mutual
+  none-inwards : (n : ℕ) (r : Room) → inwards n r ≡ [] → inwards (suc n) r ≡ []
+  none-inwards n (several parts) e = none-all n parts e
+  none-inwards zero cell e = refl
+  none-inwards zero (row b w es) e = absurd (cc)
+  none-inwards (suc n) cell e = refl
+  none-inwards (suc n) (row b w es) e = none-all n es e
+
+  none-all : (n : ℕ) (rs : Rooms) → all_inwards n rs ≡ [] → all_inwards (suc n) rs ≡ []
+  none-all n no_rooms e = refl
+  none-all n (r and_room rs) e =
+      let both = both-none (inwards n r) (all_inwards n rs) e in
+      none-both (inwards (suc n) r) (all_inwards (suc n) rs) (none-inwards n r both.0) (none-all n rs both.1)
+
+pub sum-none : (count n : ℕ) (rs : Rooms) → all_inwards n rs ≡ [] → sum_levels count n rs ≡ 0
+sum-none zero n rs e = refl
+sum-none (suc count) n rs e = omega (arith, ap length e, sum-none count (suc n) rs (none-all n rs e))
+
+pub far-none : (count n at : ℕ) (rs : Rooms) → all_inwards n rs ≡ [] → at ≤ most_cells → is_far count n at rs ≡ false
+far-none zero n at rs e few = refl
+far-none (suc count) n at rs e few =
+    let same : at + length (all_inwards n rs) ≡ at = omega (arith, ap length e) in
+    rw (same, e) (or_from _ _ (le-ltb most_cells at few) (far-none count (suc n) at rs (none-all n rs e) few))
+
+-- ---- from one level to the next
+
+sum-level : (k n : ℕ) (rs : Rooms) → n < k → sum_levels (k - n) n rs ≡ length (all_inwards n rs) + sum_levels (k - (n + 1)) (n + 1) rs
+sum-level k n rs lt =
+    let more : k - n ≡ suc (k - (n + 1)) = omega arith in
+    rw (more, add-one) refl
+
+next-level : (k n at : ℕ) (rs : Rooms) → n < k
+    → levels (k - n) n at rs ≡ own_cells (at + length (all_inwards n rs)) (all_inwards n rs) ++ levels (k - (n + 1)) (n + 1) (at + length (all_inwards n rs)) rs
+next-level k n at rs lt =
+    let more : k - n ≡ suc (k - (n + 1)) = omega arith in
+    rw (more, add-one) refl
+
+far-level : (k n at : ℕ) (rs : Rooms) → n < k
+    → is_far (k - n) n at rs ≡ (nat_lt most_cells (reach (at + length (all_inwards n rs)) (all_inwards n rs)) || is_far (k - (n + 1)) (n + 1) (at + length (all_inwards n rs)) rs)
+far-level k n at rs lt =
+    let more : k - n ≡ suc (k - (n + 1)) = omega arith in
+    rw (more, add-one) refl
+
+-- ---- counting
+
+pub count-begin : (k : ℕ) (rs : Rooms) → capped (0 + sum_levels (k - 0) 0 rs) ≡ capped (sum_levels k 0 rs)
+count-begin k rs = let same : k - 0 ≡ k = omega arith in rw same (omega arith)
+
+pub count-more : (k n counted more total : ℕ) (rs : Rooms) → n < k → more ≡ capped (counted + length (all_inwards n rs)) → capped (counted + sum_levels (k - n) n rs) ≡ capped total
+    → capped (more + sum_levels (k - (n + 1)) (n + 1) rs) ≡ capped total
+count-more k n counted more total rs lt e f = omega (arith, e, f, sum-level k n rs lt)
+
+pub count-end : (k n counted more total : ℕ) (rs : Rooms) → counted ≤ most_cells + 1 → more ≡ capped (counted + length (all_inwards n rs)) → more ≡ counted
+    → capped (counted + sum_levels k n rs) ≡ capped total → counted ≡ capped total
+count-end k n counted more total rs fits e same f =
+    ⊎_elim (λ (big : most_cells < counted). let all : counted ≡ capped total = omega arith in all)
+    (λ (few : counted ≤ most_cells).
+    let none : all_inwards n rs ≡ [] = nil_from_length (all_inwards n rs) (omega arith) in
+    let all : counted ≡ capped total = omega (arith, sum-none k n rs none) in all)
+    (cases_lt most_cells counted)
+
+pub count-all : (k n counted total : ℕ) (rs : Rooms) → counted ≤ most_cells + 1 → k ≤ n → capped (counted + sum_levels (k - n) n rs) ≡ capped total → counted ≡ capped total
+count-all k n counted total rs fits past f =
+    let none : k - n ≡ 0 = omega arith in
+    let all : capped (counted + 0) ≡ capped total = rw none at f in
+    omega arith
+
+-- ---- making
+
+pub make-begin : (k : ℕ) (rs : Rooms) (cells : List Held) → cells ≡ [] → cells ++ levels (k - 0) 0 (length cells) rs ≡ levels k 0 0 rs
+make-begin k rs cells e = let same : k - 0 ≡ k = omega arith in rw (e, same) refl
+
+pub far-begin : (k : ℕ) (rs : Rooms) (cells : List Held) → cells ≡ [] → is_far (k - 0) 0 (length cells) rs ≡ is_far k 0 0 rs
+far-begin k rs cells e = let same : k - 0 ≡ k = omega arith in rw (e, same) refl
+
+-- all are there
+far-end-by : (k n at : ℕ) (rs : Rooms) → sum_levels k n rs ≡ 0 → at ≤ most_cells → is_far k n at rs ≡ false
+far-end-by zero n at rs e few = refl
+far-end-by (suc k) n at rs e few = far-none (suc k) n at rs (nil_from_length (all_inwards n rs) (omega arith)) few
+
+pub far-end : (k n : ℕ) (rs : Rooms) (cells all : List Held) → cells ++ levels k n (length cells) rs ≡ all → length all ≡ length cells → length cells ≤ most_cells
+    → is_far k n (length cells) rs ≡ false
+far-end k n rs cells all e same few =
+    far-end-by k n (length cells) rs
+    (omega (arith, ap length e, length-append cells (levels k n (length cells) rs), length-levels k n (length cells) rs)) few
+
+pub level-few : (k n : ℕ) (rs : Rooms) (cells all : List Held) → n < k → cells ++ levels (k - n) n (length cells) rs ≡ all → length all ≤ most_cells
+    → length cells + length (all_inwards n rs) ≤ most_cells
+level-few k n rs cells all lt e few =
+    omega (arith, ap length e, length-append cells (levels (k - n) n (length cells) rs), length-levels (k - n) n (length cells) rs, sum-level k n rs lt)
+
+pub far-now : (k n at next : ℕ) (rs : Rooms) → n < k → next ≡ at + length (all_inwards n rs) → most_cells < reach next (all_inwards n rs) → is_far (k - n) n at rs ≡ true
+far-now k n at next rs lt e far =
+    far-level k n at rs lt ∙ or_left _ _ (lt-ltb most_cells (reach (at + length (all_inwards n rs)) (all_inwards n rs)) (rw e at far))
+
+pub make-more : (k n next : ℕ) (rs : Rooms) (cells cells' all : List Held) → n < k → next ≡ length cells + length (all_inwards n rs) → cells' ≡ cells ++ own_cells next (all_inwards n rs)
+    → cells ++ levels (k - n) n (length cells) rs ≡ all → cells' ++ levels (k - (n + 1)) (n + 1) (length cells') rs ≡ all
+make-more k n next rs cells cells' all lt e f g =
+    let long : length cells' ≡ next =
+    omega (arith, ap length f, length-append cells (own_cells next (all_inwards n rs)), length-own_cells next (all_inwards n rs)) in
+    rw (long, f) (append_assoc cells (own_cells next (all_inwards n rs)) (levels (k - (n + 1)) (n + 1) next rs)
+    ∙ ap (λ xs. cells ++ xs) (rw e (sym (next-level k n (length cells) rs lt))) ∙ g)
+
+near-on : (t : Bool) (rest : Bool) → t ≡ false → rest ≡ (t || rest)
+near-on t rest e = rw e refl
+
+pub far-more : (k n next next' : ℕ) (rs : Rooms) (cells cells' : List Held) (far : Bool) → n < k → next ≡ length cells + length (all_inwards n rs)
+    → Makes (Ok tt) cells next cells' next' (all_inwards n rs) → next ≤ most_cells → is_far (k - n) n (length cells) rs ≡ far
+    → is_far (k - (n + 1)) (n + 1) (length cells') rs ≡ far
+far-more k n next next' rs cells cells' far lt e m few f =
+    let long : length cells' ≡ length cells + length (all_inwards n rs) =
+    omega (arith, e, ap length m.0, length-append cells (own_cells next (all_inwards n rs)), length-own_cells next (all_inwards n rs)) in
+    let near : reach (length cells + length (all_inwards n rs)) (all_inwards n rs) ≤ most_cells = rw (← e, ← m.1) (m.2 few) in
+    rw long
+    (near-on (nat_lt most_cells (reach (length cells + length (all_inwards n rs)) (all_inwards n rs))) _ (le-ltb most_cells _ near) ∙ sym (far-level k n (length cells) rs lt) ∙ f)
+
+pub fault-met : (stop : LayoutStop) (k : FaultKind) (cells cells' : List Held) (next next' : ℕ) (xs : List Room) → stop ≡ Fault k → Makes (Err stop) cells next cells' next' xs
+    → (k ≡ fault.Cells) × (most_cells < reach next xs)
+fault-met stop k cells cells' next next' xs e m = rw e at m

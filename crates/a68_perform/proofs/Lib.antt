@@ -1,0 +1,3 @@
+pub mod Choosing
+pub mod Printing
+pub mod Resuming

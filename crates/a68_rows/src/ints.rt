@@ -1,0 +1,69 @@
+//! The integers that values are.
+ghost use Rattle.std.specs.Prelude.{◌≡◌, map, Ok, Err, IfOk, IsErrOf};
+ghost use Rattle.std.specs.List.{list_all, list_any};
+ghost use Rattle.a68_acts.specs.Rowing as rowing;
+ghost use Rattle.a68_ops.specs.Yields as yields;
+ghost use Rattle.a68_values.specs.declared.act.FaultKind.{FaultKind};
+
+use a68_base::NoMemory;
+use a68_ops::{OpStop, is_unset};
+use a68_values::{FaultKind, Plain, Value, ValueNode};
+use std::alloc::Global;
+
+// Is one of these values unset?
+fn some_unset(values: &[Value]) -> bool
+    ensures { result ≡ list_any yields.is_unset values.now }
+{
+    values.iter().any(|value| is_unset(value))
+}
+
+fn is_integer(value: &Value) -> bool
+    ensures { result ≡ rowing.is_integer value.now }
+{
+    matches!(&value.node, ValueNode::Plain(Plain::Int(_)))
+}
+
+// Are all these values integers?
+fn are_integers(values: &[Value]) -> bool
+    ensures { result ≡ list_all rowing.is_integer values.now }
+{
+    values.iter().all(|value| is_integer(value))
+}
+
+// The integer that a value is, and 0 where it is none.
+fn integer(value: &Value) -> i64
+    ensures { result ≡ rowing.integer value.now }
+{
+    match &value.node {
+        ValueNode::Plain(Plain::Int(int)) => *int,
+        _ => 0,
+    }
+}
+
+fn integers(alloc: Global, values: &[Value]) -> Result<Vec<i64>, NoMemory>
+    ensures { IfOk result (λ ints. ints.items ≡ map rowing.integer values.now) }
+{
+    let mut ints = Vec::with_capacity(alloc, values.len())?;
+    for value in values {
+        ints.push(integer(value))?;
+    }
+    Ok(ints)
+}
+
+/// The integers that these values are. The fault Unset comes exactly where one is unset, and else Kind exactly where one
+/// is of another kind.
+pub fn ints_of(alloc: Global, values: &[Value]) -> Result<Vec<i64>, OpStop>
+    ensures ints { IfOk result (λ ints. Ok ints.items ≡ rowing.ints_of values.now) }
+    ensures fault { (kind : FaultKind) → IsErrOf result (OpStop.Fault kind) → Err kind ≡ rowing.ints_of values.now }
+{
+    if some_unset(values) {
+        return Err(OpStop::Fault(FaultKind::Unset));
+    }
+    if !are_integers(values) {
+        return Err(OpStop::Fault(FaultKind::Kind));
+    }
+    match integers(alloc, values) {
+        Ok(ints) => Ok(ints),
+        Err(NoMemory) => Err(OpStop::NoMemory),
+    }
+}

@@ -1,0 +1,194 @@
+//! Slices.
+ghost use Rattle.std.specs.Prelude.{◌≡◌, ◌≤◌, ◌∷◌, [], List, drop, length, Ok, IfOk, IfSome, MatchOption, OnOk};
+ghost use Rattle.a68_acts.specs.Rowing as rowing;
+ghost use Rattle.a68_layout.specs.Views as views;
+ghost use Rattle.a68_layout.specs.declared.types.Form.{Form};
+
+use crate::ints::ints_of;
+use crate::naming::names_row;
+use a68_acts::{Doing, Next, Want};
+use a68_base::NoMemory;
+use a68_layout::{Form, Forms, LayoutStop, Trim, Trims, part_of, view};
+use a68_ops::OpStop;
+use a68_values::{Bounds, Descriptor, FaultKind, Name, Plain, Value, ValueNode, Values};
+use std::alloc::Global;
+
+// The integer at a place, where one is to be taken and is there, and the place behind it.
+fn take_if(take: bool, ints: &[i64], from: usize) -> (Option<i64>, usize)
+    requires { from ≤ length ints.now }
+    ensures value { result.0 ≡ (rowing.take_if take (drop from ints.now)).0 }
+    ensures rest { drop result.1 ints.now ≡ (rowing.take_if take (drop from ints.now)).1 }
+    ensures within { result.1 ≤ length ints.now }
+{
+    if !take || from >= ints.len() {
+        return (None, from);
+    }
+    (Some(ints[from]), from + 1)
+}
+
+// What a trimmer that is written so says with the integers from a place on, and the place behind those.
+fn trimmer(lower: bool, upper: bool, at: bool, ints: &[i64], from: usize) -> (Trim, usize)
+    requires { from ≤ length ints.now }
+    ensures trim { result.0 ≡ rowing.trim_of lower upper at (drop from ints.now) }
+    ensures rest { drop result.1 ints.now ≡ rowing.behind_trim lower upper at (drop from ints.now) }
+    ensures within { result.1 ≤ length ints.now }
+{
+    let (lower, from) = take_if(lower, ints, from);
+    let (upper, from) = take_if(upper, ints, from);
+    let (at, from) = take_if(at, ints, from);
+    (Trim::Part { lower, upper, at }, from)
+}
+
+// The subscript or trimmer that is written so with the integers from a place on, and the place behind those; none where
+// there is no integer for a subscript.
+fn trim_from(form: Form, ints: &[i64], from: usize) -> Option<(Trim, usize)>
+    requires { from ≤ length ints.now }
+    ensures trims { (forms : List Form) → MatchOption result (rowing.trims_of (form ∷ forms) (drop from ints.now) ≡ [])
+        (λ found. rowing.trims_of (form ∷ forms) (drop from ints.now) ≡ found.0 ∷ rowing.trims_of forms (drop found.1 ints.now)) }
+    ensures within { IfSome result (λ found. found.1 ≤ length ints.now) }
+{
+    match form {
+        Form::Subscript => {
+            let int = *ints.get(from)?;
+            Some((Trim::At(int), from + 1))
+        }
+        Form::Trimmer { lower, upper, at } => Some(trimmer(lower, upper, at, ints, from)),
+    }
+}
+
+// The subscripts and trimmers that are written so, with these integers, put where there are none.
+fn add_trims(forms: &[Form], ints: &[i64], trims: &mut Vec<Trim>) -> Result<(), NoMemory>
+    requires { trims.old.items ≡ [] }
+    ensures { OnOk result (trims.new.items ≡ rowing.trims_of forms.now ints.now) }
+{
+    let mut from = 0;
+    for form in forms {
+        let Some((trim, behind)) = trim_from(*form, ints, from) else {
+            return Ok(());
+        };
+        trims.push(trim)?;
+        from = behind;
+    }
+    Ok(())
+}
+
+// The subscripts and trimmers that are written so, with these integers.
+fn trims_of(alloc: Global, forms: &Forms, ints: &[i64]) -> Result<Trims, NoMemory>
+    ensures { IfOk result (λ trims. trims ≡ rowing.trims_of forms.now ints.now) }
+{
+    let mut items = Vec::with_capacity(alloc, forms.items.len())?;
+    add_trims(&forms.items, ints, &mut items)?;
+    Ok(Trims { items })
+}
+
+// The element or the part of a row.
+fn sliced_row(
+    alloc: Global,
+    bounds: &Bounds,
+    parts: &Values,
+    trims: &Trims,
+) -> Result<Doing, NoMemory>
+    ensures { IfOk result (λ doing. doing ≡ rowing.yielding (views.part_of bounds.now parts.now trims.now)) }
+{
+    match part_of(alloc, bounds, parts, &trims.items) {
+        Ok(value) => Ok(Doing::Yields(value)),
+        Err(LayoutStop::Fault(kind)) => Ok(Doing::Meets(kind)),
+        Err(LayoutStop::NoMemory) => Err(NoMemory),
+    }
+}
+
+// An element or a part of what a value is, or of the row to which it refers.
+fn sliced_by(alloc: Global, primary: &Value, trims: Trims) -> Result<Doing, NoMemory>
+    ensures { IfOk result (λ doing. doing ≡ rowing.sliced_by primary.now trims) }
+{
+    match &primary.node {
+        ValueNode::Row { bounds, parts } => {
+            let doing = sliced_row(alloc, bounds, parts, &trims)?;
+            Ok(doing)
+        }
+        ValueNode::Plain(Plain::Nil) => {
+            drop(trims);
+            Ok(Doing::Meets(FaultKind::Nil))
+        }
+        ValueNode::Plain(Plain::Name(name)) => Ok(Doing::Asks(
+            Want::Fetch { cell: name.cell },
+            Next::Sliced {
+                trims,
+                scope: name.scope,
+            },
+        )),
+        _ => {
+            drop(trims);
+            Ok(Doing::Meets(FaultKind::Kind))
+        }
+    }
+}
+
+// The same of a primary that is set.
+fn sliced_set(
+    alloc: Global,
+    forms: &Forms,
+    primary: &Value,
+    indexes: &[Value],
+) -> Result<Doing, NoMemory>
+    ensures { IfOk result (λ doing. doing ≡ rowing.sliced_set forms.now primary.now (rowing.ints_of indexes.now)) }
+{
+    match ints_of(alloc, indexes) {
+        Ok(ints) => {
+            let trims = trims_of(alloc, forms, &ints)?;
+            let doing = sliced_by(alloc, primary, trims)?;
+            Ok(doing)
+        }
+        Err(OpStop::Fault(kind)) => Ok(Doing::Meets(kind)),
+        Err(OpStop::NoMemory) => Err(NoMemory),
+    }
+}
+
+/// An element or a part of the first of these values, a row or the name of one, by the subscripts and trimmers that are
+/// written so with the others.
+pub fn sliced(alloc: Global, forms: &Forms, values: &[Value]) -> Result<Doing, NoMemory>
+    ensures { IfOk result (λ doing. doing ≡ rowing.sliced forms.now values.now) }
+{
+    let Some((primary, indexes)) = values.split_first() else {
+        return Ok(Doing::Meets(FaultKind::Kind));
+    };
+    match &primary.node {
+        ValueNode::Plain(Plain::Unset) => Ok(Doing::Meets(FaultKind::Unset)),
+        _ => {
+            let doing = sliced_set(alloc, forms, primary, indexes)?;
+            Ok(doing)
+        }
+    }
+}
+
+// The name of an element or of a part.
+fn names_seen(alloc: Global, scope: u32, part: Descriptor) -> Result<Doing, NoMemory>
+    ensures { IfOk result (λ doing. doing ≡ rowing.names_part scope (Ok part)) }
+{
+    if part.dims.items.len() == 0 {
+        let cell = part.base;
+        drop(part);
+        return Ok(Doing::Yields(Value::of(Plain::Name(Name { cell, scope }))));
+    }
+    let doing = names_row(alloc, scope, part)?;
+    Ok(doing)
+}
+
+/// The name of the element or of the part of a row that these tell, of this scope.
+pub fn names_part(
+    alloc: Global,
+    scope: u32,
+    descriptor: &Descriptor,
+    trims: &Trims,
+) -> Result<Doing, NoMemory>
+    ensures { IfOk result (λ doing. doing ≡ rowing.names_part scope (views.view descriptor.now trims.now)) }
+{
+    match view(alloc, descriptor, &trims.items) {
+        Ok(part) => {
+            let doing = names_seen(alloc, scope, part)?;
+            Ok(doing)
+        }
+        Err(LayoutStop::Fault(kind)) => Ok(Doing::Meets(kind)),
+        Err(LayoutStop::NoMemory) => Err(NoMemory),
+    }
+}

@@ -1,0 +1,4 @@
+pub mod Filled
+pub mod Parts
+pub mod Skipping
+pub mod Taking

@@ -1,0 +1,321 @@
+//! The steps of fetching and of assigning. They are put in front of others, those of the last part first.
+ghost use Rattle.std.specs.Prelude.{◌≡◌, ◌+◌, ◌≤◌, ℕ, false, length, IfOk, OnOk, MatchOption};
+ghost use Rattle.a68_values.specs.Content.{contents_of, structure};
+ghost use Rattle.std.specs.List.{All};
+ghost use Rattle.a68_layout.specs.Widths.{cells_of, most_cells, width_within, width_of, width_of_fields};
+ghost use Rattle.a68_acts.specs.Fetching as fetching;
+ghost use Rattle.a68_acts.specs.Fetching.{fetch_within, assign_within, has_parts};
+
+use a68_acts::{Step, Steps};
+use a68_base::NoMemory;
+use a68_layout::fields_width;
+use a68_modes::{ModeId, Modes, Shape};
+use a68_values::{Held, Plain, Value, ValueNode, Values};
+
+// The step of fetching a value that lies in one cell.
+fn fetch_cell(shape: &Shape, cell: u32) -> Step
+    ensures { result ≡ fetching.fetch_cell shape.now cell }
+{
+    match shape {
+        Shape::Rows { of, .. } => Step::FetchRow { of: *of, cell },
+        Shape::Union(_) => Step::FetchUnion { cell },
+        shape if shape.is_plain() => Step::Fetch { cell },
+        _ => Step::Stray,
+    }
+}
+
+// The steps of fetching a value of the mode, whose cells end before this one. Its first cell comes back. Structures are
+// looked at down to this depth.
+#[cycle(fetch)]
+fn fetch_in(
+    modes: &Modes,
+    depth: u32,
+    mode: ModeId,
+    end: u32,
+    steps: &mut Steps,
+) -> Result<u32, NoMemory>
+    requires { width_within depth modes.now mode ≤ end }
+    ensures { IfOk result (λ cell. (cell + width_within depth modes.now mode ≡ end) × (steps.new ≡ fetch_within depth modes.now mode cell steps.old)) }
+{
+    if depth == 0 {
+        steps.push(Step::Stray)?;
+        return Ok(end - 1);
+    }
+    if mode >= modes.len() {
+        steps.push(Step::Stray)?;
+        return Ok(end - 1);
+    }
+    match modes.shape(mode) {
+        Shape::Struct(fields) => {
+            let fields = &fields.items;
+            steps.push(Step::Structure {
+                count: fields.len(),
+            })?;
+            let cell = fetch_fields(modes, depth - 1, fields, end, steps)?;
+            Ok(cell)
+        }
+        Shape::Same(mode) => {
+            let cell = fetch_in(modes, depth - 1, *mode, end, steps)?;
+            Ok(cell)
+        }
+        shape => {
+            steps.push(fetch_cell(shape, end - 1))?;
+            Ok(end - 1)
+        }
+    }
+}
+
+#[cycle(fetch)]
+fn fetch_fields(
+    modes: &Modes,
+    depth: u32,
+    fields: &[(u32, ModeId)],
+    end: u32,
+    steps: &mut Steps,
+) -> Result<u32, NoMemory>
+    requires { width_of_fields (width_within depth modes.now) fields.now ≤ end }
+    ensures { IfOk result (λ cell. (cell + width_of_fields (width_within depth modes.now) fields.now ≡ end)
+        × (steps.new ≡ fetching.fetch_fields (fetch_within depth modes.now) (width_within depth modes.now) fields.now cell steps.old)) }
+{
+    let mut cell = end;
+    let mut left = fields.len();
+    while left > 0 {
+        left -= 1;
+        cell = fetch_in(modes, depth, fields[left].1, cell, steps)?;
+    }
+    Ok(cell)
+}
+
+/// The steps of fetching a value of the mode, whose cells end before this one, put in front of the steps.
+#[tactic(auto, unfolding(a68_acts::specs::Fetching::fetch_steps))]
+pub fn fetch_steps(modes: &Modes, mode: ModeId, end: u32, steps: &mut Steps) -> Result<(), NoMemory>
+    requires { width_of modes.now mode ≤ end }
+    ensures { (cell : ℕ) → cell + width_of modes.now mode ≡ end → OnOk result (steps.new ≡ fetching.fetch_steps modes.now mode cell steps.old) }
+{
+    fetch_in(modes, modes.len(), mode, end, steps)?;
+    Ok(())
+}
+
+/// The steps of fetching the elements of a row, whose first cells these are and each of which takes so many cells, put
+/// in front of the steps.
+pub fn fetch_elements(
+    modes: &Modes,
+    of: ModeId,
+    cells: &[u32],
+    width: u32,
+    steps: &mut Steps,
+) -> Result<(), NoMemory>
+    requires width { width ≡ cells_of modes.now of }
+    requires room { All (λ cell. cell + width ≤ most_cells) cells.now }
+    ensures { OnOk result (steps.new ≡ fetching.fetch_elements modes.now of cells.now steps.old) }
+{
+    let mut left = cells.len();
+    while left > 0 {
+        left -= 1;
+        fetch_steps(modes, of, cells[left] + width, steps)?;
+    }
+    Ok(())
+}
+
+// The step of assigning a value to a union.
+fn assign_union(cell: u32, value: Value) -> Step
+    ensures { result ≡ fetching.assign_union cell value }
+{
+    if value.plain() == Some(Plain::Unset) {
+        drop(value);
+        let held = Held::Plain(Plain::Unset);
+        return Step::Assign { cell, held };
+    }
+    match value.into_member() {
+        Some((mode, value)) => Step::AssignUnion { cell, mode, value },
+        None => Step::Stray,
+    }
+}
+
+// The step of assigning a row.
+fn assign_row(of: ModeId, flex: bool, cell: u32, value: Value) -> Step
+    ensures { result ≡ fetching.assign_row of flex cell value }
+{
+    match value.into_row() {
+        Some((bounds, parts)) => Step::AssignRow {
+            of,
+            flex,
+            cell,
+            bounds,
+            parts,
+        },
+        None => Step::Stray,
+    }
+}
+
+// The step of assigning a plain value.
+fn assign_plain(is_plain: bool, cell: u32, value: &Value) -> Step
+    ensures { result ≡ fetching.assign_plain is_plain cell value.now }
+{
+    match &value.node {
+        ValueNode::Plain(held) if is_plain => Step::Assign {
+            cell,
+            held: Held::Plain(*held),
+        },
+        _ => Step::Stray,
+    }
+}
+
+// The step of assigning a value that lies in one cell.
+fn assign_cell(shape: &Shape, cell: u32, value: Value) -> Step
+    ensures { result ≡ fetching.assign_cell shape.now cell value }
+{
+    match shape {
+        Shape::Union(_) => assign_union(cell, value),
+        Shape::Rows { flex, of, .. } => assign_row(*of, *flex, cell, value),
+        shape => {
+            let step = assign_plain(shape.is_plain(), cell, &value);
+            drop(value);
+            step
+        }
+    }
+}
+
+// The steps of assigning a value to the cells of a name of the mode that end before this one. The first of these cells
+// comes back. Structures are looked at down to this depth.
+#[cycle(assign)]
+fn assign_in(
+    modes: &Modes,
+    depth: u32,
+    mode: ModeId,
+    end: u32,
+    value: Value,
+    steps: &mut Steps,
+) -> Result<u32, NoMemory>
+    requires room { width_within depth modes.now mode ≤ end }
+    requires few { end ≤ most_cells }
+    ensures { IfOk result (λ cell. (cell + width_within depth modes.now mode ≡ end) × (steps.new ≡ assign_within depth modes.now mode cell value steps.old)) }
+{
+    if depth == 0 {
+        drop(value);
+        steps.push(Step::Stray)?;
+        return Ok(end - 1);
+    }
+    if mode >= modes.len() {
+        drop(value);
+        steps.push(Step::Stray)?;
+        return Ok(end - 1);
+    }
+    match modes.shape(mode) {
+        Shape::Struct(fields) => {
+            let cell = assign_structure(modes, depth - 1, &fields.items, end, value, steps)?;
+            Ok(cell)
+        }
+        Shape::Same(mode) => {
+            let cell = assign_in(modes, depth - 1, *mode, end, value, steps)?;
+            Ok(cell)
+        }
+        shape => {
+            steps.push(assign_cell(shape, end - 1, value))?;
+            Ok(end - 1)
+        }
+    }
+}
+
+// The parts of a structure, where it has so many.
+fn parts_of(value: Value, count: usize) -> Option<Values>
+    ensures { MatchOption result (has_parts value count ≡ false) (λ parts. (value ≡ structure (contents_of parts)) × (length parts ≡ count)) }
+{
+    let parts = value.into_parts()?;
+    if parts.items.len() != count {
+        drop(parts);
+        return None;
+    }
+    Some(parts)
+}
+
+#[cycle(assign)]
+fn assign_structure(
+    modes: &Modes,
+    depth: u32,
+    fields: &[(u32, ModeId)],
+    end: u32,
+    value: Value,
+    steps: &mut Steps,
+) -> Result<u32, NoMemory>
+    requires room { width_of_fields (width_within depth modes.now) fields.now ≤ end }
+    requires few { end ≤ most_cells }
+    ensures { IfOk result (λ cell. (cell + width_of_fields (width_within depth modes.now) fields.now ≡ end)
+        × (steps.new ≡ fetching.assign_structure (assign_within depth modes.now) (width_within depth modes.now) fields.now cell value steps.old)) }
+{
+    match parts_of(value, fields.len()) {
+        Some(parts) => {
+            let cell = assign_fields(modes, depth, fields, end, parts, steps)?;
+            Ok(cell)
+        }
+        None => {
+            steps.push(Step::Stray)?;
+            let cell = end - fields_width(modes, depth, fields);
+            Ok(cell)
+        }
+    }
+}
+
+#[cycle(assign)]
+fn assign_fields(
+    modes: &Modes,
+    depth: u32,
+    fields: &[(u32, ModeId)],
+    end: u32,
+    parts: Values,
+    steps: &mut Steps,
+) -> Result<u32, NoMemory>
+    requires same { length parts ≡ length fields.now }
+    requires room { width_of_fields (width_within depth modes.now) fields.now ≤ end }
+    requires few { end ≤ most_cells }
+    ensures { IfOk result (λ cell. (cell + width_of_fields (width_within depth modes.now) fields.now ≡ end)
+        × (steps.new ≡ fetching.assign_fields (assign_within depth modes.now) (width_within depth modes.now) fields.now cell (contents_of parts) steps.old)) }
+{
+    let mut cell = end;
+    let mut left = parts;
+    while let Some(part) = left.items.pop() {
+        let field = fields[left.items.len()];
+        cell = assign_in(modes, depth, field.1, cell, part, steps)?;
+    }
+    Ok(cell)
+}
+
+/// The steps of assigning a value to a name of the mode, whose cells end before this one, put in front of the steps.
+#[tactic(auto, unfolding(a68_acts::specs::Fetching::assign_steps))]
+pub fn assign_steps(
+    modes: &Modes,
+    mode: ModeId,
+    end: u32,
+    value: Value,
+    steps: &mut Steps,
+) -> Result<(), NoMemory>
+    requires room { width_of modes.now mode ≤ end }
+    requires few { end ≤ most_cells }
+    ensures { (cell : ℕ) → cell + width_of modes.now mode ≡ end → OnOk result (steps.new ≡ fetching.assign_steps modes.now mode cell value steps.old) }
+{
+    assign_in(modes, modes.len(), mode, end, value, steps)?;
+    Ok(())
+}
+
+/// The steps of assigning the elements of a row, whose first cells these are and each of which takes so many cells, put in
+/// front of the steps. There are as many cells as parts.
+pub fn assign_elements(
+    modes: &Modes,
+    of: ModeId,
+    cells: &[u32],
+    width: u32,
+    parts: Values,
+    steps: &mut Steps,
+) -> Result<(), NoMemory>
+    requires width { width ≡ cells_of modes.now of }
+    requires room { All (λ cell. cell + width ≤ most_cells) cells.now }
+    requires same { length parts ≡ length cells.now }
+    ensures { OnOk result (steps.new ≡ fetching.assign_elements modes.now of cells.now parts steps.old) }
+{
+    let mut left = parts;
+    while let Some(part) = left.items.pop() {
+        let cell = cells[left.items.len()];
+        assign_steps(modes, of, cell + width, part, steps)?;
+    }
+    Ok(())
+}
