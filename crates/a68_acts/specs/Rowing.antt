@@ -1,16 +1,15 @@
 -- Operations on rows and on the names of rows.
 use Rattle.std.specs.List.{list_all, list_any}
 use Rattle.std.specs.Option.{is_some, option_and_then, option_map_or}
-use Rattle.std.specs.Prelude.{ℕ, zero, suc, ℤ, pos, ◌+◌, Bool, true, false, not, ◌||◌, List, [], ◌∷◌, ◌++◌, length, map, replicate, None, Some, Ok, Err, slice_get, nat_eq, nat_lt, if◌then◌else◌}
+use Rattle.std.specs.Prelude.{ℕ, suc, ℤ, pos, ◌+◌, Bool, true, false, not, ◌||◌, List, [], ◌∷◌, ◌++◌, length, map, replicate, None, Some, Ok, Err, slice_get, nat_eq, if◌then◌else◌}
 use Rattle.std.specs.declared.option.Option.{Option}
 use Rattle.std.specs.declared.result.Result.{Result}
-use Rattle.a68_layout.specs.Views.{bounds_of, cells_seen, parts_in, part_of, view}
-use Rattle.a68_layout.specs.Widths.{most_cells, cells_of}
+use Rattle.a68_layout.specs.Views.{bounds_of, cells_seen, parts_in, part_of}
+use Rattle.a68_layout.specs.Widths.{cells_of}
 use Rattle.a68_layout.specs.declared.types.Form.{Form}
 use Rattle.a68_layout.specs.declared.types.Form.TheVariants as form
 use Rattle.a68_layout.specs.declared.types.Trim.{Trim}
 use Rattle.a68_layout.specs.declared.types.Trim.TheVariants as trim
-use Rattle.a68_modes.specs.Nodes.{shape_at}
 use Rattle.a68_modes.specs.declared.shape.Shape.{Shape}
 use Rattle.a68_modes.specs.declared.shape.Shape.TheVariants as shape
 use Rattle.a68_ops.specs.Printed.{places}

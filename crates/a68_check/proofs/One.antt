@@ -10,6 +10,7 @@ use Rattle.a68_declare.specs.Outcome.{ByNode}
 use Rattle.a68_meaning.specs.Meaning.{IsMeaning, IsMisused, IsUnbroken}
 use Rattle.a68_modes.specs.declared.shape.Shape.{Shape}
 use Rattle.a68_notes.specs.Notes.{AreNotes}
+use Rattle.a68_notes.specs.Rows.{with_rows}
 use Rattle.a68_op_ident.specs.Lacking.{IsUnshaped, LacksPriority}
 use Rattle.a68_op_ident.specs.Shapes.{Shaped}
 use Rattle.a68_ranges.specs.Nodes.{place_at}
@@ -50,7 +51,7 @@ pub record Laws : Type 0 where
   pub misuse : (tree : Built) → DeclaresOnce tree → (r s : Refusal) → IsMisused tree r → IsMisused tree s → AreOne r s
   pub unbroken : (of : ByNode) (a : Asked) (r : Refusal) → DeclaresOnce a.tree → IsUnbroken of a → IsMisused a.tree r → ⊥
   pub meaning : (of other : ByNode) (a b : Asked) → DeclaresOnce a.tree → a.tree ≡ b.tree → IsUnbroken of a → IsUnbroken other b → (of ≡ other) × (a ≡ b)
-  pub notes : (of : ByNode) (a : Asked) (x y : List Note) → IsMeaning of a → AreNotes of a x → AreNotes of a y → x ≡ y
+  pub notes : (of : ByNode) (a : Asked) (x y : List Note) → DeclaresOnce a.tree → IsMeaning of a → AreNotes of a x → AreNotes of a y → x ≡ y
 
 module _ (laws : Laws) where
   -- ---- of shaped trees
@@ -65,12 +66,12 @@ module _ (laws : Laws) where
     same_meaning = laws.meaning p.of q.of p.asked q.asked (subst DeclaresOnce (sym p.tree_is) p.once) (p.tree_is ∙ sym q.tree_is) p.fine q.fine
 
     same_modes : modes ≡ others
-    same_modes = p.modes_are ∙ ap (λ (a : Asked). a.nodes) same_meaning.1 ∙ sym q.modes_are
+    same_modes = p.modes_are ∙ ap (λ (a : Asked). with_rows a.nodes) same_meaning.1 ∙ sym q.modes_are
 
     same_notes : notes ≡ more
     same_notes =
         let there : AreNotes p.of p.asked more = subst (λ a. AreNotes p.of a more) (sym same_meaning.1) (subst (λ of. AreNotes of q.asked more) (sym same_meaning.0) q.notes_are) in
-        laws.notes p.of p.asked notes more p.fine.is p.notes_are there
+        laws.notes p.of p.asked notes more (subst DeclaresOnce (sym p.tree_is) p.once) p.fine.is p.notes_are there
 
   -- ---- of flat trees
 

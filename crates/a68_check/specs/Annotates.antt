@@ -7,6 +7,7 @@ use Rattle.a68_declare.specs.Outcome.{ByNode}
 use Rattle.a68_meaning.specs.Meaning.{IsMisused, IsUnbroken}
 use Rattle.a68_modes.specs.declared.shape.Shape.{Shape}
 use Rattle.a68_notes.specs.Notes.{AreNotes}
+use Rattle.a68_notes.specs.Rows.{with_rows}
 use Rattle.a68_op_ident.specs.Lacking.{IsUnshaped}
 use Rattle.a68_op_ident.specs.Shapes.{Shaped}
 use Rattle.a68_ranges.specs.Twice.{IsTwice, IsRefused}
@@ -17,14 +18,15 @@ use Rattle.a68_tree.specs.Trees.{Built}
 abbrev pub DeclaresOnce : Built → Type 0
 DeclaresOnce tree = (id : ℕ) → IsTwice tree id → ⊥
 
--- The modes of a tree whose formulas are shaped, and what is known of its nodes: none of them breaks a rule.
+-- The modes of a tree whose formulas are shaped, with the rows by way of which values become rows of several dimensions, and what is
+-- known of its nodes: none of them breaks a rule.
 pub record AreKnown (shaped : Built) (modes : List Shape) (notes : List Note) : Type 0 where
   pub once : DeclaresOnce shaped
   pub of : ByNode
   pub asked : Asked
   pub tree_is : asked.tree ≡ shaped
   pub fine : IsUnbroken of asked
-  pub modes_are : modes ≡ asked.nodes
+  pub modes_are : modes ≡ with_rows asked.nodes
   pub notes_are : AreNotes of asked notes
 
 -- The annotated tree of a flat one: its formulas are shaped, and its nodes are known.

@@ -2,14 +2,15 @@
 ghost use Rattle.std.specs.Prelude.{◌≡◌, IfOk, IfErr};
 ghost use Rattle.a68_check.specs.Annotates.{Annotates, AreKnown, DeclaresOnce, Refuses};
 ghost use Rattle.a68_meaning.specs.Meaning.{IsMisused};
+ghost use Rattle.a68_notes.specs.Rows.{with_rows};
 ghost use Rattle.a68_ranges.specs.Tables.{AreRanges};
 ghost use Rattle.a68_ranges.specs.Twice.{StopsBy};
 
 use a68_annot::{Annotated, Notes};
-use a68_base::Stop;
+use a68_base::{NoMemory, Stop};
 use a68_meaning::{Meaning, find_meaning};
 use a68_modes::Modes;
-use a68_notes::find_notes;
+use a68_notes::{add_rows, find_notes};
 use a68_op_ident::shape;
 use a68_ranges::{Ranges, ranges};
 use a68_tree::Tree;
@@ -24,7 +25,8 @@ fn known(alloc: Global, tree: &Tree) -> Result<(Modes, Notes), Stop>
     let ranges = ranges(alloc, tree)?;
     let meaning = find_meaning(alloc, tree, &ranges)?;
     let notes = find_notes(alloc, tree, &ranges, &meaning)?;
-    Ok((modes_of(meaning), notes))
+    let modes = rowed_modes(alloc, meaning)?;
+    Ok((modes, notes))
 }
 
 // Keeps the modes of what is known, and lets the rest go.
@@ -40,6 +42,15 @@ fn modes_of(meaning: Meaning) -> Modes
         positions: _,
     } = meaning;
     modes.into_modes()
+}
+
+// Keeps the modes of what is known, with the rows by way of which values become rows of several dimensions.
+fn rowed_modes(alloc: Global, meaning: Meaning) -> Result<Modes, NoMemory>
+    ensures { IfOk result (λ modes. modes ≡ with_rows meaning.modes) }
+{
+    let mut modes = modes_of(meaning);
+    add_rows(alloc, &mut modes)?;
+    Ok(modes)
 }
 
 // Annotates a tree whose formulas are shaped.

@@ -25,7 +25,7 @@ use std::alloc::Global;
 /// | Heap | mode, bounds | the bounds | name | Make | new cells, of scope 0 |
 /// | Deref | mode | name | value | Fetch | |
 /// | Store | mode | name, value | name | Assign | |
-/// | Apply | row | operands | value | Fetch, then Assign, for rows 1 to 5 | a row of the table of operators |
+/// | Apply | row | operands | value; none for rows 35 and 36 | Fetch and Assign for rows 1 to 6, and Make for those of STRING; Fetch of a name's descriptor for 24, 25, 37 and 38; Make and Assign, or Fetch, for 34; Up for 35; Down for 36 | a row of the table of operators |
 /// | Same | 0 or 1 | name, name | truth value | | whether the names refer to the same; the other way round for 1 |
 /// | Slice | forms | row or name, the subscripts and what stands in trimmers | value or name | Fetch of a name's descriptor; Make where a part is left | a subscript or trimmer for each dimension |
 /// | Display | count, mode | the elements, or rows of them | row | | |

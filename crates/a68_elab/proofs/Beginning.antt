@@ -7,10 +7,13 @@ use Rattle.a68_annot.specs.declared.annotated.Annotated.{Annotated}
 use Rattle.a68_annot.specs.declared.note.Note.{Note}
 use Rattle.a68_elab.specs.Constants.{value_in}
 use Rattle.a68_elab.specs.Made as made
-use Rattle.a68_elab.specs.Made.{body_of, last_id, parts_at, texts_in, program_of, tree_at, tree_from, trees_at, unit, coerced, behind_proc, behind_ref, all_but_last, last_tree, spelling_of, is_one_of, called, printers, wholes, items_at, begins_with, is_heap, is_declarer, behind_heap, first_bounds, new_name}
+use Rattle.a68_elab.specs.Made.{body_of, bytes_of, defined_bound, no_bound, seen, tree_in, last_id, parts_at, texts_in, program_of, tree_at, tree_from, trees_at, unit, coerced, behind_proc, behind_ref, all_but_last, last_tree, spelling_of, is_one_of, called, printers, wholes, items_at, begins_with, is_heap, is_declarer, behind_heap, first_bounds, new_name}
 use Rattle.a68_elab.specs.Places.{BeginsBy, AllBeginBy, SpecsBeginBy, TestBeginsBy, TextsBeginBy, ProgramBeginsBy}
 use Rattle.a68_elab.specs.declared.bound.Bound.{Bound}
 use Rattle.a68_elab.specs.declared.bound.Bound.TheVariants as bound
+use Rattle.a68_elab.specs.declared.sight.Sight.{Sight}
+use Rattle.a68_elab.specs.declared.sight.Sight.TheVariants as sight
+use Rattle.a68_base.specs.declared.refusal.Span.{Span}
 use Rattle.a68_elab.specs.Trees.{Tree, Trees, no_trees, ◌and_tree◌, Specs, unbuilt}
 use Rattle.a68_modes.specs.Nodes.{shape_at, is_void}
 use Rattle.a68_modes.specs.declared.coercion.Coercion.{Coercion}
@@ -70,10 +73,12 @@ module _ (end : ℕ) where
   either_begins true t u p q = p
   either_begins false t u p q = q
 
-  bounds_begin : (f : ℕ → Tree) (place : ℕ) (bounds : List Bound) → place ≤ end → ((id : ℕ) → BeginsBy end (f id)) → AllBeginBy end (made.bound_trees f place bounds)
-  bounds_begin f place [] p h = tt
-  bounds_begin f place (bound.Written id ∷ bounds) p h = (h id, bounds_begin f place bounds p h)
-  bounds_begin f place (bound.Meant n ∷ bounds) p h = ((p, tt), bounds_begin f place bounds p h)
+  bounds_begin : (g : (frames id : ℕ) → Tree) (f : ℕ → Tree) (place : ℕ) (bounds : List Bound) → place ≤ end → ((frames id : ℕ) → BeginsBy end (g frames id)) → ((id : ℕ) → BeginsBy end (f id))
+      → AllBeginBy end (made.bound_trees g f place bounds)
+  bounds_begin g f place [] p w h = tt
+  bounds_begin g f place (bound.Written id ∷ bounds) p w h = (h id, bounds_begin g f place bounds p w h)
+  bounds_begin g f place (bound.Meant n ∷ bounds) p w h = ((p, tt), bounds_begin g f place bounds p w h)
+  bounds_begin g f place (bound.Defined frames id ∷ bounds) p w h = (w frames id, bounds_begin g f place bounds p w h)
 
   call_begins : (a : Annotated) (f : ℕ → Tree) (place : ℕ) (yields : Bool) (ids : List ℕ) → place ≤ end → ((id : ℕ) → BeginsBy end (f id)) → BeginsBy end (made.call_of a f place yields ids)
   call_begins a f place yields [] p h = tt
@@ -188,75 +193,83 @@ module _ (end : ℕ) where
   formula_begins place yields note None ts p b = declared_begins place yields note note.definition ts p b
   formula_begins place yields note (Some row) ts p b = (p, b)
 
-  construct_begins : (a : Annotated) (f : ℕ → Tree) (node : Node) (note : Note) (k : NodeKind) → node.span.from ≤ end → ((id : ℕ) → BeginsBy end (f id))
-      → ((k : ℕ) (n : Node) → slice_get a.tree.nodes k ≡ Some n → n.span.from ≤ end) → BeginsBy end (made.made a f node note k)
-  construct_begins a f node note kind.Denotation p h all = denoted_begins node.span.from (option_and_then value_in (spelling_of a node)) p
-  construct_begins a f node note kind.Skip p h all = (p, tt)
-  construct_begins a f node note kind.Nil p h all = (p, tt)
-  construct_begins a f node note kind.Tag p h all = (p, tt)
-  construct_begins a f node note kind.RoutineText p h all = (p, tt)
-  construct_begins a f node note kind.OpDefinition p h all = (p, (last_begins (trees_at f node.parts) (trees_begin f node.parts h), tt))
-  construct_begins a f node note kind.Monadic p h all = formula_begins node.span.from (not (is_void (shape_at a.modes note.mode))) note note.op (trees_at f node.parts) p (trees_begin f node.parts h)
-  construct_begins a f node note kind.Dyadic p h all = formula_begins node.span.from (not (is_void (shape_at a.modes note.mode))) note note.op (trees_at f node.parts) p (trees_begin f node.parts h)
-  construct_begins a f node note kind.Assignation p h all = (p, trees_begin f node.parts h)
-  construct_begins a f node note kind.Identity p h all = (p, trees_begin f node.parts h)
-  construct_begins a f node note kind.Generator p h all =
-      new_begins (is_one_of made.heaps (spelling_of a node)) node.span.from (behind_ref (shape_at a.modes note.mode)) (made.bound_trees f node.span.from (first_bounds a node.parts)) p
-      (bounds_begin f node.span.from (first_bounds a node.parts) p h)
-  construct_begins a f node note kind.IdentityDefinition p h all = (p, (last_begins (trees_at f node.parts) (trees_begin f node.parts h), tt))
-  construct_begins a f node note kind.Variable p h all =
+  construct_begins : (a : Annotated) (g : (frames id : ℕ) → Tree) (f : ℕ → Tree) (node : Node) (note : Note) (k : NodeKind) → node.span.from ≤ end → ((frames id : ℕ) → BeginsBy end (g frames id)) → ((id : ℕ) → BeginsBy end (f id))
+      → ((k : ℕ) (n : Node) → slice_get a.tree.nodes k ≡ Some n → n.span.from ≤ end) → BeginsBy end (made.made a g f node note k)
+  construct_begins a g f node note kind.Denotation p w h all = denoted_begins node.span.from (option_and_then value_in (spelling_of a node)) p
+  construct_begins a g f node note kind.Skip p w h all = (p, tt)
+  construct_begins a g f node note kind.Nil p w h all = (p, tt)
+  construct_begins a g f node note kind.Tag p w h all = (p, tt)
+  construct_begins a g f node note kind.RoutineText p w h all = (p, tt)
+  construct_begins a g f node note kind.OpDefinition p w h all = (p, (last_begins (trees_at f node.parts) (trees_begin f node.parts h), tt))
+  construct_begins a g f node note kind.Monadic p w h all = formula_begins node.span.from (not (is_void (shape_at a.modes note.mode))) note note.op (trees_at f node.parts) p (trees_begin f node.parts h)
+  construct_begins a g f node note kind.Dyadic p w h all = formula_begins node.span.from (not (is_void (shape_at a.modes note.mode))) note note.op (trees_at f node.parts) p (trees_begin f node.parts h)
+  construct_begins a g f node note kind.Assignation p w h all = (p, trees_begin f node.parts h)
+  construct_begins a g f node note kind.Identity p w h all = (p, trees_begin f node.parts h)
+  construct_begins a g f node note kind.Generator p w h all =
+      new_begins (is_one_of made.heaps (spelling_of a node)) node.span.from (behind_ref (shape_at a.modes note.mode)) (made.bound_trees g f node.span.from (first_bounds a node.parts)) p
+      (bounds_begin g f node.span.from (first_bounds a node.parts) p w h)
+  construct_begins a g f node note kind.IdentityDefinition p w h all = (p, (last_begins (trees_at f node.parts) (trees_begin f node.parts h), tt))
+  construct_begins a g f node note kind.Variable p w h all =
       let in_heap = begins_with is_heap a node.parts in
       let parts = behind_heap in_heap node.parts in
       let mode = behind_ref (shape_at a.modes note.mode) in
-      let bounds = made.bound_trees f node.span.from (first_bounds a parts) in
+      let bounds = made.bound_trees g f node.span.from (first_bounds a parts) in
       variable_begins (new_name in_heap node.span.from mode bounds) (begins_with is_declarer a parts) node.span.from mode note.step.slot (trees_at f parts) p
-      (new_begins in_heap node.span.from mode bounds p (bounds_begin f node.span.from (first_bounds a parts) p h)) (trees_begin f parts h)
-  construct_begins a f node note kind.ModeDefinition p h all = tt
-  construct_begins a f node note kind.Priority p h all = tt
-  construct_begins a f node note kind.Joined p h all = trees_begin f node.parts h
-  construct_begins a f node note kind.Call p h all = call_begins a f node.span.from (not (is_void (shape_at a.modes note.mode))) node.parts p h
-  construct_begins a f node note kind.Cast p h all = last_begins (trees_at f node.parts) (trees_begin f node.parts h)
-  construct_begins a f node note kind.Collateral p h all = collateral_begins (shape_at a.modes note.goal) node.span.from note.goal (trees_at f node.parts) p (trees_begin f node.parts h)
-  construct_begins a f node note kind.Vacuum p h all = (p, tt)
-  construct_begins a f node note kind.Slice p h all = slice_begins a f node.span.from node.parts p h
-  construct_begins a f node note kind.Selection p h all = (p, (last_begins (trees_at f node.parts) (trees_begin f node.parts h), tt))
-  construct_begins a f node note kind.Serial p h all =
+      (new_begins in_heap node.span.from mode bounds p (bounds_begin g f node.span.from (first_bounds a parts) p w h)) (trees_begin f parts h)
+  construct_begins a g f node note kind.ModeDefinition p w h all = tt
+  construct_begins a g f node note kind.Priority p w h all = tt
+  construct_begins a g f node note kind.Joined p w h all = trees_begin f node.parts h
+  construct_begins a g f node note kind.Call p w h all = call_begins a f node.span.from (not (is_void (shape_at a.modes note.mode))) node.parts p h
+  construct_begins a g f node note kind.Cast p w h all = last_begins (trees_at f node.parts) (trees_begin f node.parts h)
+  construct_begins a g f node note kind.Collateral p w h all = collateral_begins (shape_at a.modes note.goal) node.span.from note.goal (trees_at f node.parts) p (trees_begin f node.parts h)
+  construct_begins a g f node note kind.Vacuum p w h all = (p, tt)
+  construct_begins a g f node note kind.Slice p w h all = slice_begins a f node.span.from node.parts p h
+  construct_begins a g f node note kind.Selection p w h all = (p, (last_begins (trees_at f node.parts) (trees_begin f node.parts h), tt))
+  construct_begins a g f node note kind.Serial p w h all =
       serial_begins node.span.from note.slots (not (is_void (shape_at a.modes note.goal))) (trees_at f node.parts) p (trees_begin f node.parts h)
-  construct_begins a f node note kind.Closed p h all = only_begins (trees_at f node.parts) (trees_begin f node.parts h)
-  construct_begins a f node note kind.Out p h all = only_begins (trees_at f node.parts) (trees_begin f node.parts h)
-  construct_begins a f node note kind.From p h all = only_begins (trees_at f node.parts) (trees_begin f node.parts h)
-  construct_begins a f node note kind.By p h all = only_begins (trees_at f node.parts) (trees_begin f node.parts h)
-  construct_begins a f node note kind.To p h all = only_begins (trees_at f node.parts) (trees_begin f node.parts h)
-  construct_begins a f node note kind.Lower p h all = only_begins (trees_at f node.parts) (trees_begin f node.parts h)
-  construct_begins a f node note kind.Upper p h all = only_begins (trees_at f node.parts) (trees_begin f node.parts h)
-  construct_begins a f node note kind.At p h all = only_begins (trees_at f node.parts) (trees_begin f node.parts h)
-  construct_begins a f node note kind.While p h all = only_begins (trees_at f node.parts) (trees_begin f node.parts h)
-  construct_begins a f node note kind.Conditional p h all = choice_begins a f node.span.from note.goal (not (is_void (shape_at a.modes note.goal))) node.parts p all h
-  construct_begins a f node note kind.Case p h all = case_begins a f node.span.from note.goal (not (is_void (shape_at a.modes note.goal))) node.parts p all h
-  construct_begins a f node note kind.Conformity p h all =
+  construct_begins a g f node note kind.Closed p w h all = only_begins (trees_at f node.parts) (trees_begin f node.parts h)
+  construct_begins a g f node note kind.Out p w h all = only_begins (trees_at f node.parts) (trees_begin f node.parts h)
+  construct_begins a g f node note kind.From p w h all = only_begins (trees_at f node.parts) (trees_begin f node.parts h)
+  construct_begins a g f node note kind.By p w h all = only_begins (trees_at f node.parts) (trees_begin f node.parts h)
+  construct_begins a g f node note kind.To p w h all = only_begins (trees_at f node.parts) (trees_begin f node.parts h)
+  construct_begins a g f node note kind.Lower p w h all = only_begins (trees_at f node.parts) (trees_begin f node.parts h)
+  construct_begins a g f node note kind.Upper p w h all = only_begins (trees_at f node.parts) (trees_begin f node.parts h)
+  construct_begins a g f node note kind.At p w h all = only_begins (trees_at f node.parts) (trees_begin f node.parts h)
+  construct_begins a g f node note kind.While p w h all = only_begins (trees_at f node.parts) (trees_begin f node.parts h)
+  construct_begins a g f node note kind.Conditional p w h all = choice_begins a f node.span.from note.goal (not (is_void (shape_at a.modes note.goal))) node.parts p all h
+  construct_begins a g f node note kind.Case p w h all = case_begins a f node.span.from note.goal (not (is_void (shape_at a.modes note.goal))) node.parts p all h
+  construct_begins a g f node note kind.Conformity p w h all =
       conformity_begins a f node.span.from note.goal (not (is_void (shape_at a.modes note.goal))) node.parts p all h
-  construct_begins a f node note kind.Loop p h all = loop_begins a f node.span.from (is_some (made.if_first made.is_for a node.parts)) _ _ _ _ _ p all h
-  construct_begins a f node note _ p h all = tt
+  construct_begins a g f node note kind.Loop p w h all = loop_begins a f node.span.from (is_some (made.if_first made.is_for a node.parts)) _ _ _ _ _ p all h
+  construct_begins a g f node note _ p w h all = tt
 
-  node_begins : (a : Annotated) (base : ℕ) (nodes : List Node) (notes : List Note) → ((k : ℕ) (n : Node) → slice_get a.tree.nodes k ≡ Some n → n.span.from ≤ end)
-      → ((k : ℕ) (n : Node) → slice_get nodes k ≡ Some n → n.span.from ≤ end) → (id : ℕ) → BeginsBy end (tree_from a base nodes notes id)
-  node_begins a base [] notes all h id = tt
-  node_begins a base (node ∷ nodes) [] all h id = tt
-  node_begins a base (node ∷ nodes) (note ∷ notes) all h id =
-      let f = tree_from a (suc base) nodes notes in
-      let rest : (i : ℕ) → BeginsBy end (f i) = λ i. node_begins a (suc base) nodes notes all (λ k n e. h (suc k) n e) i in
+  node_begins : (a : Annotated) (sight : Sight) (g : (frames id : ℕ) → Tree) (base : ℕ) (nodes : List Node) (notes : List Note) → ((frames id : ℕ) → BeginsBy end (g frames id))
+      → ((k : ℕ) (n : Node) → slice_get a.tree.nodes k ≡ Some n → n.span.from ≤ end) → ((k : ℕ) (n : Node) → slice_get nodes k ≡ Some n → n.span.from ≤ end) → (id : ℕ)
+      → BeginsBy end (tree_from a sight g base nodes notes id)
+  node_begins a sight g base [] notes w all h id = tt
+  node_begins a sight g base (node ∷ nodes) [] w all h id = tt
+  node_begins a sight g base (node ∷ nodes) (note ∷ notes) w all h id =
+      let f = tree_from a sight g (suc base) nodes notes in
+      let rest : (i : ℕ) → BeginsBy end (f i) = λ i. node_begins a sight g (suc base) nodes notes w all (λ k n e. h (suc k) n e) i in
       let here : node.span.from ≤ end = h 0 node refl in
-      either_begins (nat_eq id base) (unit a f node note) (f id)
-      (coerced_begins a.modes node.span.from note.goal note.mode note.path (made.made a f node note node.kind) here (construct_begins a f node note node.kind here rest all))
+      let as_seen = seen a sight note in
+      either_begins (nat_eq id base) (unit a g f node as_seen) (f id)
+      (coerced_begins a.modes node.span.from as_seen.goal as_seen.mode as_seen.path (made.made a g f node as_seen node.kind) here (construct_begins a g f node as_seen node.kind here w rest all))
       (rest id)
 
   first_begins : (o : Option Node) → ((n : Node) → o ≡ Some n → n.span.from ≤ end) → option_map_or (λ (n : Node). n.span.from) o 0 ≤ end
   first_begins None h = omega arith
   first_begins (Some n) h = h n refl
 
+  -- what is within the bounds of a definition
+  within_begins : (a : Annotated) (frames : ℕ) (bytes : Span) → ((id : ℕ) (n : Node) → slice_get a.tree.nodes id ≡ Some n → n.span.from ≤ end) → (id : ℕ)
+      → BeginsBy end (tree_from a (sight.Within frames bytes) no_bound 0 a.tree.nodes a.notes id)
+  within_begins a frames bytes h id = node_begins a (sight.Within frames bytes) no_bound 0 a.tree.nodes a.notes (λ hops k. (omega arith, tt)) h h id
+
   tree_at_begins : (program : Annotated) → ((id : ℕ) (n : Node) → slice_get program.tree.nodes id ≡ Some n → n.span.from ≤ end) → (id : ℕ) → BeginsBy end (tree_at program id)
-  unfolding tree_at
-  tree_at_begins program h id = node_begins program 0 program.tree.nodes program.notes h h id
+  unfolding tree_in
+  tree_at_begins program h id =
+      node_begins program sight.Here (defined_bound program sight.Here) 0 program.tree.nodes program.notes (λ frames k. within_begins program frames (bytes_of program k) h k) h h id
 
   texts_begin : (a : Annotated) (ids : List ℕ) → ((id : ℕ) (n : Node) → slice_get a.tree.nodes id ≡ Some n → n.span.from ≤ end) → TextsBeginBy end (map (body_of a) ids)
   texts_begin a [] h = tt

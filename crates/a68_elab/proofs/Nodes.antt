@@ -5,7 +5,9 @@ use Rattle.std.proofs.lemmas.Bool.{cases_lt}
 use Rattle.std.specs.Prelude.{if◌then◌else◌}
 use Rattle.a68_annot.specs.declared.annotated.Annotated.{Annotated}
 use Rattle.a68_annot.specs.declared.note.Note.{Note}
-use Rattle.a68_elab.specs.Made.{behind, tree_from, tree_at, unit, trees_at}
+use Rattle.a68_elab.specs.Made.{behind, bytes_of, defined_bound, no_bound, seen, tree_from, tree_in, unit, trees_at}
+use Rattle.a68_elab.specs.declared.sight.Sight.{Sight}
+use Rattle.a68_elab.specs.declared.sight.Sight.TheVariants as sight
 use Rattle.a68_elab.specs.Trees.{Tree, Trees, unbuilt, ◌and_tree◌}
 use Rattle.a68_tree.specs.Trees.{AllBetween}
 use Rattle.a68_tree.specs.declared.node.Node.{Node}
@@ -35,60 +37,72 @@ behind_twice base id f le = fun_ext (λ i. same i (cases_lt id i))
 
 -- ---- the trees of a list of nodes
 
--- a node other than the first
-skips : (a : Annotated) (base : ℕ) (node : Node) (nodes : List Node) (note : Note) (notes : List Note) (id : ℕ) → id ≢ base
-    → tree_from a base (node ∷ nodes) (note ∷ notes) id ≡ tree_from a (suc base) nodes notes id
-skips a base node nodes note notes id ne =
-    ap (λ (b : Bool). if b then unit a (tree_from a (suc base) nodes notes) node note else tree_from a (suc base) nodes notes id) (ne_eqb id base ne)
+module _ (a : Annotated) (sight : Sight) (g : (frames id : ℕ) → Tree) where
+  -- a node other than the first
+  skips : (base : ℕ) (node : Node) (nodes : List Node) (note : Note) (notes : List Note) (id : ℕ) → id ≢ base
+      → tree_from a sight g base (node ∷ nodes) (note ∷ notes) id ≡ tree_from a sight g (suc base) nodes notes id
+  skips base node nodes note notes id ne =
+      let rest = tree_from a sight g (suc base) nodes notes in
+      ap (λ (b : Bool). if b then unit a g rest node (seen a sight note) else rest id) (ne_eqb id base ne)
 
--- a node before all of them
-before_all : (a : Annotated) (base : ℕ) (nodes : List Node) (notes : List Note) (id : ℕ) → id < base → tree_from a base nodes notes id ≡ unbuilt
-before_all a base [] notes id less = refl
-before_all a base (node ∷ nodes) [] id less = refl
-before_all a base (node ∷ nodes) (note ∷ notes) id less =
-    let ne : id ≢ base = λ e. omega arith in skips a base node nodes note notes id ne ∙ before_all a (suc base) nodes notes id (omega arith)
+  -- a node before all of them
+  before_all : (base : ℕ) (nodes : List Node) (notes : List Note) (id : ℕ) → id < base → tree_from a sight g base nodes notes id ≡ unbuilt
+  before_all base [] notes id less = refl
+  before_all base (node ∷ nodes) [] id less = refl
+  before_all base (node ∷ nodes) (note ∷ notes) id less =
+      let ne : id ≢ base = λ e. omega arith in skips base node nodes note notes id ne ∙ before_all (suc base) nodes notes id (omega arith)
 
--- the nodes but the first are those behind it
-rest_is : (a : Annotated) (base : ℕ) (node : Node) (nodes : List Node) (note : Note) (notes : List Note)
-    → tree_from a (suc base) nodes notes ≡ behind base (tree_from a base (node ∷ nodes) (note ∷ notes))
-rest_is a base node nodes note notes = fun_ext (λ i. same i (cases_lt base i))
-  where
-    same : (i : ℕ) → (base < i) ⊎ (i ≤ base) → tree_from a (suc base) nodes notes i ≡ behind base (tree_from a base (node ∷ nodes) (note ∷ notes)) i
-    same i c =
-        ⊎_elim (λ h. let ne : i ≢ base = λ e. omega arith in
-        sym (skips a base node nodes note notes i ne) ∙ sym (behind_is base i (tree_from a base (node ∷ nodes) (note ∷ notes)) h))
-        (λ h. before_all a (suc base) nodes notes i (omega arith) ∙ sym (behind_none base i (tree_from a base (node ∷ nodes) (note ∷ notes)) h)) c
+  -- the nodes but the first are those behind it
+  rest_is : (base : ℕ) (node : Node) (nodes : List Node) (note : Note) (notes : List Note)
+      → tree_from a sight g (suc base) nodes notes ≡ behind base (tree_from a sight g base (node ∷ nodes) (note ∷ notes))
+  rest_is base node nodes note notes = fun_ext (λ i. same i (cases_lt base i))
+    where
+      same : (i : ℕ) → (base < i) ⊎ (i ≤ base) → tree_from a sight g (suc base) nodes notes i ≡ behind base (tree_from a sight g base (node ∷ nodes) (note ∷ notes)) i
+      same i c =
+          let all = tree_from a sight g base (node ∷ nodes) (note ∷ notes) in
+          ⊎_elim (λ h. let ne : i ≢ base = λ e. omega arith in sym (skips base node nodes note notes i ne) ∙ sym (behind_is base i all h))
+          (λ h. before_all (suc base) nodes notes i (omega arith) ∙ sym (behind_none base i all h)) c
 
-tree_of_node : (a : Annotated) (base : ℕ) (nodes : List Node) (notes : List Note) (k : ℕ) (node : Node) (note : Note) → slice_get nodes k ≡ Some node → slice_get notes k ≡ Some note
-    → tree_from a base nodes notes (base + k) ≡ unit a (behind (base + k) (tree_from a base nodes notes)) node note
-tree_of_node a base [] notes k node note e f = absurd (cc)
-tree_of_node a base (n ∷ nodes) [] k node note e f = absurd (cc)
-tree_of_node a base (first ∷ nodes) (about ∷ notes) zero node note e f =
-    let all = tree_from a base (first ∷ nodes) (about ∷ notes) in
-    let is : first ≡ node = cc in
-    let is_note : about ≡ note = cc in
-    let q : base + 0 ≡ base = omega arith in
-    ap all q
-    ∙ ap (λ (b : Bool). if b then unit a (tree_from a (suc base) nodes notes) first about else tree_from a (suc base) nodes notes base) (eq-eqb base base refl)
-    ∙ ap (λ (g : ℕ → Tree). unit a g first about) (rest_is a base first nodes about notes)
-    ∙ ap (λ (n : ℕ). unit a (behind n all) first about) (sym q)
-    ∙ ap (λ n. unit a (behind (base + 0) all) n about) is
-    ∙ ap (λ n. unit a (behind (base + 0) all) node n) is_note
-tree_of_node a base (first ∷ nodes) (about ∷ notes) (suc k) node note e f =
-    let all = tree_from a base (first ∷ nodes) (about ∷ notes) in
-    let q : base + suc k ≡ suc base + k = omega arith in
-    let ne : base + suc k ≢ base = λ x. omega arith in
-    skips a base first nodes about notes (base + suc k) ne
-    ∙ ap (tree_from a (suc base) nodes notes) q
-    ∙ tree_of_node a (suc base) nodes notes k node note e f
-    ∙ ap (λ (g : ℕ → Tree). unit a (behind (suc base + k) g) node note) (rest_is a base first nodes about notes)
-    ∙ ap (λ (g : ℕ → Tree). unit a g node note) (behind_twice base (suc base + k) all (omega arith))
-    ∙ ap (λ (n : ℕ). unit a (behind n all) node note) (sym q)
+  tree_of_node : (base : ℕ) (nodes : List Node) (notes : List Note) (k : ℕ) (node : Node) (note : Note) → slice_get nodes k ≡ Some node → slice_get notes k ≡ Some note
+      → tree_from a sight g base nodes notes (base + k) ≡ unit a g (behind (base + k) (tree_from a sight g base nodes notes)) node (seen a sight note)
+  tree_of_node base [] notes k node note e f = absurd (cc)
+  tree_of_node base (n ∷ nodes) [] k node note e f = absurd (cc)
+  tree_of_node base (first ∷ nodes) (about ∷ notes) zero node note e f =
+      let all = tree_from a sight g base (first ∷ nodes) (about ∷ notes) in
+      let rest = tree_from a sight g (suc base) nodes notes in
+      let is : first ≡ node = cc in
+      let is_note : about ≡ note = cc in
+      let q : base + 0 ≡ base = omega arith in
+      ap all q
+      ∙ ap (λ (b : Bool). if b then unit a g rest first (seen a sight about) else rest base) (eq-eqb base base refl)
+      ∙ ap (λ (t : ℕ → Tree). unit a g t first (seen a sight about)) (rest_is base first nodes about notes)
+      ∙ ap (λ (n : ℕ). unit a g (behind n all) first (seen a sight about)) (sym q)
+      ∙ ap (λ (n : Node). unit a g (behind (base + 0) all) n (seen a sight about)) is
+      ∙ ap (λ (n : Note). unit a g (behind (base + 0) all) node (seen a sight n)) is_note
+  tree_of_node base (first ∷ nodes) (about ∷ notes) (suc k) node note e f =
+      let all = tree_from a sight g base (first ∷ nodes) (about ∷ notes) in
+      let q : base + suc k ≡ suc base + k = omega arith in
+      let ne : base + suc k ≢ base = λ x. omega arith in
+      skips base first nodes about notes (base + suc k) ne
+      ∙ ap (tree_from a sight g (suc base) nodes notes) q
+      ∙ tree_of_node (suc base) nodes notes k node note e f
+      ∙ ap (λ (t : ℕ → Tree). unit a g (behind (suc base + k) t) node (seen a sight note)) (rest_is base first nodes about notes)
+      ∙ ap (λ (t : ℕ → Tree). unit a g t node (seen a sight note)) (behind_twice base (suc base + k) all (omega arith))
+      ∙ ap (λ (n : ℕ). unit a g (behind n all) node (seen a sight note)) (sym q)
 
-pub tree_of_nodes : (program : Annotated) (id : ℕ) (node : Node) (note : Note) → slice_get program.tree.nodes id ≡ Some node → slice_get program.notes id ≡ Some note
-    → tree_at program id ≡ unit program (behind id (tree_at program)) node note
-unfolding tree_at
-tree_of_nodes program id node note e f =
-    let all = tree_from program 0 program.tree.nodes program.notes in
+pub tree_of_nodes : (program : Annotated) (sight : Sight) (id : ℕ) (node : Node) (note : Note) → slice_get program.tree.nodes id ≡ Some node → slice_get program.notes id ≡ Some note
+    → tree_in program sight id ≡ unit program (defined_bound program sight) (behind id (tree_in program sight)) node (seen program sight note)
+unfolding tree_in
+tree_of_nodes program sight id node note e f =
+    let g = defined_bound program sight in
+    let all = tree_from program sight g 0 program.tree.nodes program.notes in
     let q : 0 + id ≡ id = omega arith in
-    ap all (sym q) ∙ tree_of_node program 0 program.tree.nodes program.notes id node note e f ∙ ap (λ (n : ℕ). unit program (behind n all) node note) q
+    ap all (sym q) ∙ tree_of_node program sight g 0 program.tree.nodes program.notes id node note e f ∙ ap (λ (n : ℕ). unit program g (behind n all) node (seen program sight note)) q
+
+-- a bound of a definition is one that is seen from within it
+pub defined_is : (program : Annotated) (frames id : ℕ) → defined_bound program sight.Here frames id ≡ tree_in program (sight.Within frames (bytes_of program id)) id
+unfolding tree_in
+defined_is program frames id =
+    let from_within = sight.Within frames (bytes_of program id) in
+    let same : no_bound ≡ defined_bound program from_within = fun_ext (λ hops. fun_ext (λ k. refl)) in
+    ap (λ (g : (hops k : ℕ) → Tree). tree_from program from_within g 0 program.tree.nodes program.notes id) same

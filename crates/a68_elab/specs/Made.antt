@@ -1,5 +1,5 @@
 -- The tree of a program, of the list of its annotated nodes.
-use Rattle.std.specs.Prelude.{ℕ, zero, suc, pos, max, Bool, true, false, not, ◌&&◌, ◌||◌, List, [], ◌∷◌, ◌++◌, length, map, None, Some, codes, slice_get, nat_eq, nat_lt, if◌then◌else◌}
+use Rattle.std.specs.Prelude.{ℕ, zero, suc, ◌+◌, pos, max, min, Bool, true, false, not, ◌&&◌, ◌||◌, List, [], ◌∷◌, ◌++◌, length, map, None, Some, codes, slice_get, take, nat_eq, nat_le, nat_lt, if◌then◌else◌}
 use Rattle.std.specs.List.{list_any}
 use Rattle.std.specs.Option.{is_some, option_map_or, option_and_then}
 use Rattle.std.specs.declared.option.Option.{Option}
@@ -8,10 +8,15 @@ use Rattle.a68_annot.specs.declared.annotated.Annotated.{Annotated}
 use Rattle.a68_annot.specs.declared.note.Note.{Note}
 use Rattle.a68_acts.specs.Members.{members_of}
 use Rattle.a68_base.specs.Tables.{is_listed}
+use Rattle.a68_base.specs.declared.limits.TheConstants.{MOST_INSTRUCTIONS}
+use Rattle.a68_base.specs.declared.refusal.Span.{Span}
 use Rattle.a68_elab.specs.Constants.{value_in, standard_in}
 use Rattle.a68_elab.specs.declared.bound.Bound.{Bound}
 use Rattle.a68_elab.specs.declared.bound.Bound.TheVariants as bound
+use Rattle.a68_elab.specs.declared.sight.Sight.{Sight}
+use Rattle.a68_elab.specs.declared.sight.Sight.TheVariants as sight
 use Rattle.a68_elab.specs.Trees.{collateral, serial, Tree, Trees, operation, together, phrases, range, choice, cases, conformity, loop, call, unbuilt, Specs, no_specs, spec, Test, no_test, while_in, no_trees, ◌and_tree◌, count, Body, Program}
+use Rattle.a68_layout.specs.Rooms.{bounds_needed}
 use Rattle.a68_layout.specs.declared.types.Form.{Form}
 use Rattle.a68_layout.specs.declared.types.Form.TheVariants as form
 use Rattle.a68_modes.specs.Nodes.{shape_at, is_void}
@@ -48,6 +53,35 @@ leaf place op = operation place op serial no_trees
 abbrev pub trees_at : (ℕ → Tree) → List ℕ → Trees
 trees_at f [] = no_trees
 trees_at f (id ∷ ids) = f id and_tree trees_at f ids
+
+-- ---- how constructs are seen
+
+-- the bytes of a node
+abbrev pub bytes_of : Annotated → (id : ℕ) → Span
+bytes_of a id = option_map_or (λ (n : Node). n.span) (slice_get a.tree.nodes id) (record { from = 0; to = 0 })
+
+-- so many frames more; more than a number of 32 bits tells are not told (own)
+abbrev pub further : (frames hops : ℕ) → ℕ
+further frames hops = min (hops + frames) 4294967295
+
+-- a definition begins outside these bytes
+abbrev pub begins_outside : Span → Option Node → Bool
+begins_outside bytes None = false
+begins_outside bytes (Some n) = not (nat_le bytes.from n.span.from && nat_lt n.span.from bytes.to)
+
+-- what a node applies is defined outside these bytes; what the standard environ defines is nowhere
+abbrev pub is_outside : Annotated → Span → (definition : Option ℕ) → Bool
+is_outside a bytes definition = option_map_or (λ d. begins_outside bytes (slice_get a.tree.nodes d)) definition false
+
+-- How many frames outwards that stands which a node applies: as many as its note tells; within a bound that is elaborated
+-- so many frames further in, so many more where it is defined outside the bound (Report, 4.6.2; own).
+abbrev pub hops_seen : Annotated → Sight → Note → ℕ
+hops_seen a sight.Here note = note.step.hops
+hops_seen a (sight.Within frames bytes) note = if is_outside a bytes note.definition then further frames note.step.hops else note.step.hops
+
+-- what is known of a node, as it is seen
+abbrev pub seen : Annotated → Sight → Note → Note
+seen a sight note = record note { step = record { hops = hops_seen a sight note; slot = note.step.slot } }
 
 -- the kind of a node; that of VOID where there is no such node
 abbrev pub kind_at : Annotated → (id : ℕ) → NodeKind
@@ -161,6 +195,15 @@ tag_of None hops slot = tag hops slot
 
 -- ---- bounds of actual declarers (Report, 4.6)
 
+-- the last of some nodes; the first node of all where there is none
+abbrev pub last_id : List ℕ → ℕ
+last_id [] = 0
+last_id (id ∷ []) = id
+last_id (id ∷ (i ∷ ids)) = last_id (i ∷ ids)
+
+abbrev pub mode_of : Annotated → (id : ℕ) → ℕ
+mode_of a id = option_map_or (λ (n : Note). n.mode) (slice_get a.notes id) 0
+
 abbrev pub is_bound : NodeKind → Bool
 is_bound kind.Bound = true
 is_bound _ = false
@@ -209,32 +252,50 @@ strings = codes "STRING" ∷ []
 abbrev pub named_at : Annotated → List (List ℕ) → (id : ℕ) → Bool
 named_at a words id = option_map_or (λ (node : Node). is_one_of words (spelling_of a node)) (slice_get a.tree.nodes id) false
 
--- STRING is FLEX [1:0] CHAR. Behind a name, in a procedure and in a union there are no actual bounds. Those of a mode word
--- are not built yet.
+-- a bound of a definition that stands so many frames further out
+abbrev pub from_definition : (frames : ℕ) → Bound → Bound
+from_definition frames (bound.Written id) = bound.Defined frames id
+from_definition frames (bound.Meant n) = bound.Meant n
+from_definition frames (bound.Defined hops id) = bound.Defined (further frames hops) id
+
+-- A mode word that stands for a definition has the bounds of the definition's declarer, which see what the definition sees;
+-- any other declarer those of its fields.
+abbrev pub word_bounds : Annotated → (inner : ℕ → List Bound) → Option Note → List ℕ → List Bound
+word_bounds a inner None ids = []
+word_bounds a inner (Some note) ids =
+    option_map_or (λ d. map (from_definition note.step.hops) (inner (last_id (parts_at a d)))) note.definition (field_bounds a inner [] ids)
+
+-- STRING is FLEX [1:0] CHAR. Behind a name, in a procedure and in a union there are no actual bounds.
 abbrev pub bounds_by : Annotated → (inner : ℕ → List Bound) → (id : ℕ) → List ℕ → List Bound
 bounds_by a inner id ids =
     if named_at a strings id then bound.Meant 1 ∷ bound.Meant 0 ∷ []
-    else (if begins_with is_bound a ids then row_bounds a inner ids else field_bounds a inner [] ids)
+    else (if begins_with is_bound a ids then row_bounds a inner ids else word_bounds a inner (slice_get a.notes id) ids)
 
--- declarers lie at most so deep within others
+-- declarers, and mode words with their definitions, lie at most so deep within others; where a mode has no rows there are
+-- none
 abbrev pub bounds_within : (depth : ℕ) → Annotated → (id : ℕ) → List Bound
 bounds_within zero a id = []
-bounds_within (suc n) a id = bounds_by a (bounds_within n a) id (parts_at a id)
+bounds_within (suc n) a id = if nat_eq 0 (bounds_needed a.modes (mode_of a id)) then [] else bounds_by a (bounds_within n a) id (parts_at a id)
+
+-- one more than there may be instructions: so many bounds are too many, and further ones are not looked for (own)
+unfoldable pub most_bounds : ℕ
+most_bounds = suc MOST_INSTRUCTIONS
 
 -- those of the first of these nodes, where it is a declarer: a lower and an upper one for each dimension of each row, from
 -- outside inwards, fields in order
 abbrev pub first_bounds : Annotated → List ℕ → List Bound
 first_bounds a [] = []
-first_bounds a (id ∷ ids) = if is_declarer (kind_at a id) then bounds_within (length a.tree.nodes) a id else []
+first_bounds a (id ∷ ids) = if is_declarer (kind_at a id) then take most_bounds (bounds_within (length a.tree.nodes) a id) else []
 
 -- what is elaborated for a bound of the construct that begins at a place
-abbrev pub bound_tree : (ℕ → Tree) → (place : ℕ) → Bound → Tree
-bound_tree f place (bound.Written id) = f id
-bound_tree f place (bound.Meant n) = leaf place (constant (plain (value.Int (pos n))))
+abbrev pub bound_tree : (g : (frames id : ℕ) → Tree) (f : ℕ → Tree) → (place : ℕ) → Bound → Tree
+bound_tree g f place (bound.Written id) = f id
+bound_tree g f place (bound.Meant n) = leaf place (constant (plain (value.Int (pos n))))
+bound_tree g f place (bound.Defined frames id) = g frames id
 
-abbrev pub bound_trees : (ℕ → Tree) → (place : ℕ) → List Bound → Trees
-bound_trees f place [] = no_trees
-bound_trees f place (b ∷ bounds) = bound_tree f place b and_tree bound_trees f place bounds
+abbrev pub bound_trees : (g : (frames id : ℕ) → Tree) (f : ℕ → Tree) → (place : ℕ) → List Bound → Trees
+bound_trees g f place [] = no_trees
+bound_trees g f place (b ∷ bounds) = bound_tree g f place b and_tree bound_trees g f place bounds
 
 -- a new name, of scope 0 or of that of the frame, with these bounds (Report, 5.2.3)
 abbrev pub new_name : (in_heap : Bool) (place mode : ℕ) → (bounds : Trees) → Tree
@@ -256,11 +317,11 @@ variable_of new false place mode slot (source and_tree no_trees) =
     operation place (bind slot) serial (only (operation place (store mode) serial (new and_tree only source)))
 variable_of new _ place mode slot _ = unbuilt
 
-abbrev pub variable : Annotated → (ℕ → Tree) → (place mode slot : ℕ) → List ℕ → Tree
-variable a f place mode slot ids =
+abbrev pub variable : Annotated → (g : (frames id : ℕ) → Tree) (f : ℕ → Tree) → (place mode slot : ℕ) → List ℕ → Tree
+variable a g f place mode slot ids =
     let in_heap = begins_with is_heap a ids in
     let parts = behind_heap in_heap ids in
-    variable_of (new_name in_heap place mode (bound_trees f place (first_bounds a parts))) (begins_with is_declarer a parts) place mode slot (trees_at f parts)
+    variable_of (new_name in_heap place mode (bound_trees g f place (first_bounds a parts))) (begins_with is_declarer a parts) place mode slot (trees_at f parts)
 
 -- a part that is left out is a skip of the mode that is asked of it
 abbrev pub left_out : (place mode : ℕ) → Tree
@@ -571,61 +632,74 @@ behind_all (n ∷ ns) = max (suc n.span.from) (behind_all ns)
 abbrev pub texts_in : Annotated → List ℕ
 texts_in a = texts_before a (behind_all a.tree.nodes)
 
--- The construct that a node stands for: `f` gives the trees of the nodes behind it. One row for each kind of node; the
--- others are not built yet.
-abbrev pub made : Annotated → (f : ℕ → Tree) → Node → Note → NodeKind → Tree
-made a f node note kind.Denotation = denoted node.span.from (option_and_then value_in (spelling_of a node))
-made a f node note kind.Skip = leaf node.span.from (skip note.goal)
-made a f node note kind.Nil = leaf node.span.from nil
-made a f node note kind.RoutineText = leaf node.span.from (routine (text_number a node.span.from) note.need)
-made a f node note kind.Tag = leaf node.span.from (tag_of (standard_of note.definition (spelling_of a node)) note.step.hops note.step.slot)
-made a f node note kind.Monadic = formula node.span.from (not (is_void (shape_at a.modes note.mode))) note (trees_at f node.parts)
-made a f node note kind.Dyadic = formula node.span.from (not (is_void (shape_at a.modes note.mode))) note (trees_at f node.parts)
-made a f node note kind.Assignation = operation node.span.from (store (behind_ref (shape_at a.modes note.mode))) collateral (trees_at f node.parts)
-made a f node note kind.Identity = operation node.span.from (same (negated (is_one_of isnt (spelling_of a node)))) collateral (trees_at f node.parts)
-made a f node note kind.Generator =
-    new_name (is_one_of heaps (spelling_of a node)) node.span.from (behind_ref (shape_at a.modes note.mode)) (bound_trees f node.span.from (first_bounds a node.parts))
-made a f node note kind.OpDefinition = operation node.span.from (bind note.step.slot) serial (only (last_tree (trees_at f node.parts)))
-made a f node note kind.IdentityDefinition = operation node.span.from (bind note.step.slot) serial (only (last_tree (trees_at f node.parts)))
-made a f node note kind.Variable = variable a f node.span.from (behind_ref (shape_at a.modes note.mode)) note.step.slot node.parts
-made a f node note kind.ModeDefinition = together no_trees
-made a f node note kind.Priority = together no_trees
-made a f node note kind.Joined = together (trees_at f node.parts)
-made a f node note kind.Call = call_of a f node.span.from (not (is_void (shape_at a.modes note.mode))) node.parts
-made a f node note kind.Cast = last_tree (trees_at f node.parts)
-made a f node note kind.Collateral = collateral_of (shape_at a.modes note.goal) node.span.from note.goal (trees_at f node.parts)
-made a f node note kind.Vacuum = leaf node.span.from (vacuum note.goal)
-made a f node note kind.Slice = slice_of a f node.span.from node.parts
-made a f node note kind.Selection = selection_of a.modes node.span.from (first_goal a node.parts) node.name (trees_at f node.parts)
-made a f node note kind.Serial = serial_of node.span.from note.slots (not (is_void (shape_at a.modes note.goal))) (trees_at f node.parts)
-made a f node note kind.Closed = only_of (trees_at f node.parts)
-made a f node note kind.Out = only_of (trees_at f node.parts)
-made a f node note kind.From = only_of (trees_at f node.parts)
-made a f node note kind.By = only_of (trees_at f node.parts)
-made a f node note kind.To = only_of (trees_at f node.parts)
-made a f node note kind.Lower = only_of (trees_at f node.parts)
-made a f node note kind.Upper = only_of (trees_at f node.parts)
-made a f node note kind.At = only_of (trees_at f node.parts)
-made a f node note kind.While = only_of (trees_at f node.parts)
-made a f node note kind.Conditional = choice_of a f node.span.from note.goal (not (is_void (shape_at a.modes note.goal))) node.parts
-made a f node note kind.Case = case_of a f node.span.from note.goal (not (is_void (shape_at a.modes note.goal))) node.parts
-made a f node note kind.Conformity = conformity_of a f node.span.from note.goal (not (is_void (shape_at a.modes note.goal))) node.parts
-made a f node note kind.Loop = loop_of a f node.span.from node.parts
-made a f node note _ = unbuilt
+-- The construct that a node stands for: `f` gives the trees of the nodes behind it, and `g` those of the bounds that stand in
+-- definitions of mode words, so many frames further out. One row for each kind of node; the others are not built yet.
+abbrev pub made : Annotated → (g : (frames id : ℕ) → Tree) (f : ℕ → Tree) → Node → Note → NodeKind → Tree
+made a g f node note kind.Denotation = denoted node.span.from (option_and_then value_in (spelling_of a node))
+made a g f node note kind.Skip = leaf node.span.from (skip note.goal)
+made a g f node note kind.Nil = leaf node.span.from nil
+made a g f node note kind.RoutineText = leaf node.span.from (routine (text_number a node.span.from) note.need)
+made a g f node note kind.Tag = leaf node.span.from (tag_of (standard_of note.definition (spelling_of a node)) note.step.hops note.step.slot)
+made a g f node note kind.Monadic = formula node.span.from (not (is_void (shape_at a.modes note.mode))) note (trees_at f node.parts)
+made a g f node note kind.Dyadic = formula node.span.from (not (is_void (shape_at a.modes note.mode))) note (trees_at f node.parts)
+made a g f node note kind.Assignation = operation node.span.from (store (behind_ref (shape_at a.modes note.mode))) collateral (trees_at f node.parts)
+made a g f node note kind.Identity = operation node.span.from (same (negated (is_one_of isnt (spelling_of a node)))) collateral (trees_at f node.parts)
+made a g f node note kind.Generator =
+    new_name (is_one_of heaps (spelling_of a node)) node.span.from (behind_ref (shape_at a.modes note.mode)) (bound_trees g f node.span.from (first_bounds a node.parts))
+made a g f node note kind.OpDefinition = operation node.span.from (bind note.step.slot) serial (only (last_tree (trees_at f node.parts)))
+made a g f node note kind.IdentityDefinition = operation node.span.from (bind note.step.slot) serial (only (last_tree (trees_at f node.parts)))
+made a g f node note kind.Variable = variable a g f node.span.from (behind_ref (shape_at a.modes note.mode)) note.step.slot node.parts
+made a g f node note kind.ModeDefinition = together no_trees
+made a g f node note kind.Priority = together no_trees
+made a g f node note kind.Joined = together (trees_at f node.parts)
+made a g f node note kind.Call = call_of a f node.span.from (not (is_void (shape_at a.modes note.mode))) node.parts
+made a g f node note kind.Cast = last_tree (trees_at f node.parts)
+made a g f node note kind.Collateral = collateral_of (shape_at a.modes note.goal) node.span.from note.goal (trees_at f node.parts)
+made a g f node note kind.Vacuum = leaf node.span.from (vacuum note.goal)
+made a g f node note kind.Slice = slice_of a f node.span.from node.parts
+made a g f node note kind.Selection = selection_of a.modes node.span.from (first_goal a node.parts) node.name (trees_at f node.parts)
+made a g f node note kind.Serial = serial_of node.span.from note.slots (not (is_void (shape_at a.modes note.goal))) (trees_at f node.parts)
+made a g f node note kind.Closed = only_of (trees_at f node.parts)
+made a g f node note kind.Out = only_of (trees_at f node.parts)
+made a g f node note kind.From = only_of (trees_at f node.parts)
+made a g f node note kind.By = only_of (trees_at f node.parts)
+made a g f node note kind.To = only_of (trees_at f node.parts)
+made a g f node note kind.Lower = only_of (trees_at f node.parts)
+made a g f node note kind.Upper = only_of (trees_at f node.parts)
+made a g f node note kind.At = only_of (trees_at f node.parts)
+made a g f node note kind.While = only_of (trees_at f node.parts)
+made a g f node note kind.Conditional = choice_of a f node.span.from note.goal (not (is_void (shape_at a.modes note.goal))) node.parts
+made a g f node note kind.Case = case_of a f node.span.from note.goal (not (is_void (shape_at a.modes note.goal))) node.parts
+made a g f node note kind.Conformity = conformity_of a f node.span.from note.goal (not (is_void (shape_at a.modes note.goal))) node.parts
+made a g f node note kind.Loop = loop_of a f node.span.from node.parts
+made a g f node note _ = unbuilt
 
-abbrev pub unit : Annotated → (ℕ → Tree) → Node → Note → Tree
-unit a f node note = coerced a.modes node.span.from note.goal note.mode note.path (made a f node note node.kind)
+abbrev pub unit : Annotated → (g : (frames id : ℕ) → Tree) (f : ℕ → Tree) → Node → Note → Tree
+unit a g f node note = coerced a.modes node.span.from note.goal note.mode note.path (made a g f node note node.kind)
 
--- the tree of node `id`, where the lists begin with node `base`: the parts of a node stand behind it
-abbrev pub tree_from : Annotated → (base : ℕ) → List Node → List Note → (id : ℕ) → Tree
-tree_from a base [] notes id = unbuilt
-tree_from a base (node ∷ nodes) [] id = unbuilt
-tree_from a base (node ∷ nodes) (note ∷ notes) id =
-    if nat_eq id base then unit a (tree_from a (suc base) nodes notes) node note else tree_from a (suc base) nodes notes id
+-- the tree of node `id` as it is seen, where the lists begin with node `base`: the parts of a node stand behind it
+abbrev pub tree_from : Annotated → Sight → (g : (frames id : ℕ) → Tree) (base : ℕ) → List Node → List Note → (id : ℕ) → Tree
+tree_from a sight g base [] notes id = unbuilt
+tree_from a sight g base (node ∷ nodes) [] id = unbuilt
+tree_from a sight g base (node ∷ nodes) (note ∷ notes) id =
+    if nat_eq id base then unit a g (tree_from a sight g (suc base) nodes notes) node (seen a sight note) else tree_from a sight g (suc base) nodes notes id
 
--- the tree of a node
-unfoldable pub tree_at : Annotated → (id : ℕ) → Tree
-tree_at a id = tree_from a 0 a.tree.nodes a.notes id
+-- within the bounds of a definition no mode word has bounds: what breaks this is refused, and 0 stands in its place (own)
+abbrev pub no_bound : (frames id : ℕ) → Tree
+no_bound frames id = leaf 0 (constant (plain (value.Int (pos 0))))
+
+-- the tree of a bound in the definition of a mode word that is applied so many frames further in
+abbrev pub defined_bound : Annotated → Sight → (frames id : ℕ) → Tree
+defined_bound a sight.Here frames id = tree_from a (sight.Within frames (bytes_of a id)) no_bound 0 a.tree.nodes a.notes id
+defined_bound a (sight.Within hops bytes) frames id = no_bound frames id
+
+-- the tree of a node as it is seen
+unfoldable pub tree_in : Annotated → Sight → (id : ℕ) → Tree
+tree_in a sight id = tree_from a sight (defined_bound a sight) 0 a.tree.nodes a.notes id
+
+-- the tree of a node where it is written
+abbrev pub tree_at : Annotated → (id : ℕ) → Tree
+tree_at a id = tree_in a sight.Here id
 
 -- the trees of the nodes behind a node; nothing else is looked at
 abbrev pub behind : (id : ℕ) → (ℕ → Tree) → ℕ → Tree
@@ -633,17 +707,8 @@ behind id f i = if nat_lt id i then f i else unbuilt
 
 -- ---- programs
 
--- the last of some nodes; the first node of all where there is none
-abbrev pub last_id : List ℕ → ℕ
-last_id [] = 0
-last_id (id ∷ []) = id
-last_id (id ∷ (i ∷ ids)) = last_id (i ∷ ids)
-
 abbrev pub place_of : Annotated → (id : ℕ) → ℕ
 place_of a id = option_map_or (λ (n : Node). n.span.from) (slice_get a.tree.nodes id) 0
-
-abbrev pub mode_of : Annotated → (id : ℕ) → ℕ
-mode_of a id = option_map_or (λ (n : Note). n.mode) (slice_get a.notes id) 0
 
 -- the body of a routine text is its last part; it leaves a value where the mode of the routine is not one without a yield
 abbrev pub body_of : Annotated → (id : ℕ) → Body

@@ -8,4 +8,6 @@ pub enum Bound {
     Written(NodeId),
     /// The value of one that is left out.
     Meant(u32),
+    /// The Lower or the Upper that is written in the definition of a mode word, so many frames further out.
+    Defined { frames: u32, id: NodeId },
 }

@@ -13,7 +13,7 @@ use Rattle.a68_code.specs.declared.code.Instr.{Instr}
 use Rattle.a68_code.specs.declared.does.Does.{Does}
 use Rattle.a68_code.specs.declared.does.Does.TheVariants as does
 use Rattle.a68_elab.proofs.Nodes.{behind_all}
-use Rattle.a68_elab.specs.Made.{before_out, begun_by, behind, conformity_of, framed, goal_at, has_tag, left_out, out_of, parts_at, phrases_of, spec_mode, spec_of, specs_of, tree_at, trees_at}
+use Rattle.a68_elab.specs.Made.{before_out, begun_by, behind, conformity_of, framed, goal_at, has_tag, left_out, out_of, parts_at, phrases_of, spec_mode, spec_of, specs_of, trees_at}
 use Rattle.a68_elab.specs.Trees.{Tree, Trees, conformity, Specs, no_specs, spec, while_in}
 use Rattle.a68_gen.proofs.Chaining.{framed_list, kept_writes, never_none, was_none}
 use Rattle.a68_gen.proofs.Constructs.{parts_are}
@@ -320,16 +320,15 @@ tagged_writes s0 s1 s2 s3 s4 l0 l1 l2 l3 l4 place kept yields t ek w1 w2 w3 w4 =
 
 -- ---- a conformity clause is made of the trees behind its node
 
-pub conform_is : (a : Annotated) (id place goal : ℕ) (yields : Bool) (e : ℕ) (rest ids units : List ℕ) (other : Option ℕ) (node : Node) (note : Note) → slice_get a.tree.nodes e ≡ Some node
+pub conform_is : (a : Annotated) (f : ℕ → Tree) (id place goal : ℕ) (yields : Bool) (e : ℕ) (rest ids units : List ℕ) (other : Option ℕ) (node : Node) (note : Note) → slice_get a.tree.nodes e ≡ Some node
     → slice_get a.notes e ≡ Some note → option_map (λ (n : Node). n.parts) (slice_get a.tree.nodes e) ≡ Some ids → AllBetween e (length a.tree.nodes) ids → id < e
     → units ≡ before_out a rest → other ≡ out_of a rest → IfSome other (λ p. (id < p) × (p < length a.tree.nodes))
     → framed node.span.from place note.slots yields
-    (conformity place (goal_at a e) (members_of (shape_at a.modes (goal_at a e))) yields (phrases_of node.span.from (trees_at (behind e (tree_at a)) ids)) (specs_of a (behind id (tree_at a)) units)
-    (option_map_or (tree_at a) other (left_out place goal)))
-    ≡ conformity_of a (behind id (tree_at a)) place goal yields (e ∷ rest)
-conform_is a id place goal yields e rest ids units other node note is noted parts all below eu eo within =
+    (conformity place (goal_at a e) (members_of (shape_at a.modes (goal_at a e))) yields (phrases_of node.span.from (trees_at (behind e f) ids)) (specs_of a (behind id f) units)
+    (option_map_or f other (left_out place goal)))
+    ≡ conformity_of a (behind id f) place goal yields (e ∷ rest)
+conform_is a f id place goal yields e rest ids units other node note is noted parts all below eu eo within =
     let n = length a.tree.nodes in
-    let f = tree_at a in
     let g = behind id f in
     let at = node.span.from in
     let union = goal_at a e in

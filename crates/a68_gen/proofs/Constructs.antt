@@ -14,8 +14,9 @@ use Rattle.a68_acts.specs.Operations.{bind, tag, compose, display, row_up, row_u
 use Rattle.a68_code.specs.declared.does.Does.{Does}
 use Rattle.a68_code.specs.declared.does.Does.TheVariants as does
 use Rattle.a68_elab.specs.Made as made
-use Rattle.a68_elab.specs.Made.{coerced, behind_proc, behind_ref, leaf, only, rowed_to, tree_at, trees_at, all_but_last, last_tree}
+use Rattle.a68_elab.specs.Made.{coerced, behind_proc, behind_ref, leaf, only, rowed_to, tree_in, trees_at, all_but_last, last_tree}
 use Rattle.a68_elab.specs.declared.bound.Bound.{Bound}
+use Rattle.a68_elab.specs.declared.sight.Sight.{Sight}
 use Rattle.a68_elab.specs.Trees.{Tree, Trees, operation, together, collateral, serial, choice, call, unbuilt, no_trees, ◌and_tree◌, count}
 use Rattle.a68_gen.specs.Coercing.{coercions, are_built}
 use Rattle.a68_gen.specs.Forms.{form_of}
@@ -146,36 +147,36 @@ pub new_list : (in_heap : Bool) (place mode at : ℕ) (bounds : Trees)
 new_list true place mode at bounds = refl
 new_list false place mode at bounds = refl
 
-pub count_bounds : (f : ℕ → Tree) (place : ℕ) (bounds : List Bound) → count (made.bound_trees f place bounds) ≡ length bounds
-count_bounds f place [] = refl
-count_bounds f place (b ∷ bounds) = ap (λ n. suc n) (count_bounds f place bounds)
+pub count_bounds : (g : (frames id : ℕ) → Tree) (f : ℕ → Tree) (place : ℕ) (bounds : List Bound) → count (made.bound_trees g f place bounds) ≡ length bounds
+count_bounds g f place [] = refl
+count_bounds g f place (b ∷ bounds) = ap (λ n. suc n) (count_bounds g f place bounds)
 
 -- bounds from one on
-pub bound-cons : (f : ℕ → Tree) (place at i : ℕ) (bounds : List Bound) (d : Bound) → i < length bounds
-    → stretches (made.bound_trees f place (drop i bounds)) at
-    ≡ stretch (made.bound_tree f place (get_or bounds i d)) at
-    ++ stretches (made.bound_trees f place (drop (i + 1) bounds)) (at + length (stretch (made.bound_tree f place (get_or bounds i d)) at))
-bound-cons f place at i bounds d p = rw (add-one, drop-cons bounds i d, size_stretch (made.bound_tree f place (get_or bounds i d)) at) refl
+pub bound-cons : (g : (frames id : ℕ) → Tree) (f : ℕ → Tree) (place at i : ℕ) (bounds : List Bound) (d : Bound) → i < length bounds
+    → stretches (made.bound_trees g f place (drop i bounds)) at
+    ≡ stretch (made.bound_tree g f place (get_or bounds i d)) at
+    ++ stretches (made.bound_trees g f place (drop (i + 1) bounds)) (at + length (stretch (made.bound_tree g f place (get_or bounds i d)) at))
+bound-cons g f place at i bounds d p = rw (add-one, drop-cons bounds i d, size_stretch (made.bound_tree g f place (get_or bounds i d)) at) refl
 
 -- a number of no node has no tree
-tree-past : (a : Annotated) (base k : ℕ) (nodes : List Node) (notes : List Note) → base + length nodes ≤ k → made.tree_from a base nodes notes k ≡ unbuilt
-tree-past a base k [] notes past = refl
-tree-past a base k (n ∷ nodes) [] past = refl
-tree-past a base k (n ∷ nodes) (m ∷ notes) past =
-    let f = made.tree_from a (suc base) nodes notes in
+tree-past : (a : Annotated) (s : Sight) (g : (frames id : ℕ) → Tree) (base k : ℕ) (nodes : List Node) (notes : List Note) → base + length nodes ≤ k → made.tree_from a s g base nodes notes k ≡ unbuilt
+tree-past a s g base k [] notes past = refl
+tree-past a s g base k (n ∷ nodes) [] past = refl
+tree-past a s g base k (n ∷ nodes) (m ∷ notes) past =
+    let f = made.tree_from a s g (suc base) nodes notes in
     let other : k ≢ base = λ e. omega (arith, past, e) in
-    ap (λ (b : Bool). if b then made.unit a f n m else f k) (ne_eqb k base other) ∙ tree-past a (suc base) k nodes notes (omega (arith, past))
+    ap (λ (b : Bool). if b then made.unit a g f n (made.seen a s m) else f k) (ne_eqb k base other) ∙ tree-past a s g (suc base) k nodes notes (omega (arith, past))
 
-pub none-past : (a : Annotated) (k : ℕ) → length a.tree.nodes ≤ k → tree_at a k ≡ unbuilt
-unfolding tree_at
-none-past a k past = tree-past a 0 k a.tree.nodes a.notes (omega (arith, past))
+pub none-past : (a : Annotated) (s : Sight) (k : ℕ) → length a.tree.nodes ≤ k → tree_in a s k ≡ unbuilt
+unfolding tree_in
+none-past a s k past = tree-past a s (made.defined_bound a s) 0 k a.tree.nodes a.notes (omega (arith, past))
 
 -- nor has one that does not stand behind a node
-pub none-behind : (a : Annotated) (id k : ℕ) → (nat_lt id k && nat_lt k (length a.tree.nodes)) ≡ false → made.behind id (tree_at a) k ≡ unbuilt
-none-behind a id k is = go (nat_lt id k) is
+pub none-behind : (a : Annotated) (s : Sight) (id k : ℕ) → (nat_lt id k && nat_lt k (length a.tree.nodes)) ≡ false → made.behind id (tree_in a s) k ≡ unbuilt
+none-behind a s id k is = go (nat_lt id k) is
   where
-    go : (b : Bool) → (b && nat_lt k (length a.tree.nodes)) ≡ false → (if b then tree_at a k else unbuilt) ≡ unbuilt
-    go true e = none-past a k (ltb-false k (length a.tree.nodes) e)
+    go : (b : Bool) → (b && nat_lt k (length a.tree.nodes)) ≡ false → (if b then tree_in a s k else unbuilt) ≡ unbuilt
+    go true e = none-past a s k (ltb-false k (length a.tree.nodes) e)
     go false e = refl
 
 pub stands-behind : (id k n : ℕ) → (nat_lt id k && nat_lt k n) ≡ true → (id < k) × (k < n)

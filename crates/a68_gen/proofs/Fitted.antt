@@ -1,9 +1,9 @@
 -- Trees that fit what is taken of them, coercions among them.
-use Rattle.std.proofs.Common.{◌≡◌, ◌≢◌, ne_eqb, ℕ, zero, suc, ◌<◌, ◌≤◌, Bool, true, false, List, [], ◌∷◌, length, refl, sym, ◌∙◌, ap, subst, arith, None, Some}
-use Rattle.std.proofs.lemmas.Bool.{false≢true, eqb-true, lt-ltb, ltb-true, ltb-false, leb-true, le-leb}
+use Rattle.std.proofs.Common.{◌≡◌, ℕ, zero, suc, ◌<◌, Bool, true, false, List, [], ◌∷◌, length, refl, sym, ◌∙◌, ap, subst, arith, None, Some}
+use Rattle.std.proofs.lemmas.Bool.{false≢true, lt-ltb, ltb-true, ltb-false}
 use Rattle.std.proofs.lemmas.Option.{same_Some}
 use Rattle.std.specs.Option.{is_some, option_and_then, option_map_or}
-use Rattle.std.specs.Prelude.{IsTrue, not, nat_eq, nat_le, nat_lt, ◌&&◌, ◌||◌, if◌then◌else◌}
+use Rattle.std.specs.Prelude.{IsTrue, not, nat_lt, ◌&&◌, if◌then◌else◌}
 use Rattle.std.specs.declared.option.Option.{Option}
 use Rattle.a68_acts.specs.Operations.{Operation, constant, routine, tag, deref, fields_of, unite, row_up, row_up_name, widen, drop, leaves}
 use Rattle.a68_code.specs.Flow.{takes}
@@ -14,7 +14,7 @@ use Rattle.a68_elab.specs.Made.{all_but_last, before_out, behind, behind_all, be
 use Rattle.a68_elab.specs.Trees.{Order, serial, Tree, Trees, operation, call, unbuilt, no_trees, ◌and_tree◌, count, Specs}
 use Rattle.a68_gen.specs.Fits.{Fits, AllFit, SpecsFit}
 use Rattle.a68_gen.specs.Operands.{FitsModes, FitAll, SpecsFitModes}
-use Rattle.a68_runs.specs.Runs.{applies, if_so, is_outcome, is_row, is_there, outcome, path_leaves}
+use Rattle.a68_runs.specs.Runs.{if_so, is_outcome, is_row, is_there, outcome, path_leaves}
 use Rattle.a68_gen.specs.Stretches.{does_of}
 use Rattle.a68_layout.proofs.Shaping.{no-shape}
 use Rattle.a68_modes.specs.Nodes.{shape_at, is_void}
@@ -94,30 +94,6 @@ module _ (ms : List Shape) where
           ap (λ (s : Shape). length (option_map_or (λ (fields : List (ℕ × ℕ)). fields) (fields_of ms s) [])) (no-shape ms m (ltb-false m (length ms) is)) in
           let less = ltb-true k (length (fields_at ms m)) some in
           absurd (omega (arith, none, less))
-
--- ---- operators
-
--- an operator that runs is one of the table, and leaves a value
-pub applies-within : (row : ℕ) → IsTrue (applies row) → (1 ≤ row) × (row ≤ 38) × (row ≢ 35) × (row ≢ 36)
-applies-within row e = go (nat_le 1 row) (nat_le row 33) (nat_eq row 37) (nat_eq row 38) refl refl refl refl e
-  where
-    go : (p q r s : Bool) → nat_le 1 row ≡ p → nat_le row 33 ≡ q → nat_eq row 37 ≡ r → nat_eq row 38 ≡ s → IsTrue ((p && q) || (r || s)) → (1 ≤ row) × (row ≤ 38) × (row ≢ 35) × (row ≢ 36)
-    go true true r s is_p is_q is_r is_s h =
-        let low = leb-true 1 row is_p in let high = leb-true row 33 is_q in (low, omega (arith, high), (λ x. omega (arith, high, x)), (λ x. omega (arith, high, x)))
-    go true false true s is_p is_q is_r is_s h = let at = eqb-true row 37 is_r in (omega (arith, at), omega (arith, at), (λ x. omega (arith, at, x)), (λ x. omega (arith, at, x)))
-    go false q true s is_p is_q is_r is_s h = let at = eqb-true row 37 is_r in (omega (arith, at), omega (arith, at), (λ x. omega (arith, at, x)), (λ x. omega (arith, at, x)))
-    go true false false true is_p is_q is_r is_s h = let at = eqb-true row 38 is_s in (omega (arith, at), omega (arith, at), (λ x. omega (arith, at, x)), (λ x. omega (arith, at, x)))
-    go false q false true is_p is_q is_r is_s h = let at = eqb-true row 38 is_s in (omega (arith, at), omega (arith, at), (λ x. omega (arith, at, x)), (λ x. omega (arith, at, x)))
-    go true false false false is_p is_q is_r is_s h = absurd (false≢true h)
-    go false q false false is_p is_q is_r is_s h = absurd (false≢true h)
-
-pub applies-made : (row : ℕ) → IsTrue (applies row) → IsTrue (nat_le 1 row && nat_le row 38)
-applies-made row e = let w = applies-within row e in both (nat_le 1 row) (nat_le row 38) (le-leb 1 row w.0) (le-leb row 38 w.1)
-
-pub applies-leaves : (row : ℕ) → IsTrue (applies row) → true ≡ not (nat_eq row 35 || nat_eq row 36)
-applies-leaves row e =
-    let w = applies-within row e in
-    sym (ap (λ (b : Bool). not (b || nat_eq row 36)) (ne_eqb row 35 w.2) ∙ ap (λ (b : Bool). not b) (ne_eqb row 36 w.3))
 
 -- ---- trees that fit
 

@@ -3,15 +3,18 @@ use Rattle.std.proofs.Common.{◌≡◌, ℕ, zero, suc, ◌+◌, ◌<◌, ◌�
 use Rattle.std.proofs.lemmas.Bool.{false≢true, eq-eqb}
 use Rattle.std.proofs.lemmas.Option.{same_Some, slice_get_within}
 use Rattle.std.specs.Option.{option_and_then, option_map_or}
-use Rattle.std.specs.Prelude.{IsTrue, nat_eq, map, ◌-◌, ◌&&◌, if◌then◌else◌}
+use Rattle.std.specs.Prelude.{IsTrue, pos, nat_eq, map, ◌-◌, ◌&&◌, if◌then◌else◌}
 use Rattle.std.specs.declared.option.Option.{Option}
-use Rattle.a68_acts.specs.Operations.{skip, nil, store, same, vacuum}
+use Rattle.a68_acts.specs.Operations.{constant, skip, nil, store, same, vacuum}
 use Rattle.a68_annot.specs.declared.annotated.Annotated.{Annotated}
 use Rattle.a68_annot.specs.declared.note.Note.{Note}
-use Rattle.a68_elab.proofs.Nodes.{behind_is, tree_of_nodes}
+use Rattle.a68_base.specs.declared.refusal.Span.{Span}
+use Rattle.a68_elab.proofs.Nodes.{behind_is, defined_is, tree_of_nodes}
 use Rattle.a68_elab.specs.Constants.{value_in}
 use Rattle.a68_elab.specs.Made as made
-use Rattle.a68_elab.specs.Made.{all_but_last, before_out, behind, behind_all, behind_heap, behind_proc, behind_ref, begins_with, body_of, called, coerced, field_in, fields_at, first_bounds, first_goal, form_of, forms_of, if_first, index_units, is_by, is_collateral, is_declarer, is_for, is_from, is_heap, is_one_of, is_out, is_routine_text, is_to, is_while, isnt, items_at, kind_at, last_id, last_tree, leaf, mode_of, new_name, only, only_id, out_of, parts_at, past, printers, program_of, rowed_to, spelling_of, standard_of, tag_of, text_among, text_number, texts_before, texts_in, tree_at, trees_at, wholes}
+use Rattle.a68_elab.specs.Made.{bytes_of, defined_bound, hops_seen, seen, tree_in, all_but_last, before_out, behind, behind_all, behind_heap, behind_proc, behind_ref, begins_with, body_of, called, coerced, field_in, fields_at, first_bounds, first_goal, form_of, forms_of, if_first, index_units, is_by, is_collateral, is_declarer, is_for, is_from, is_heap, is_one_of, is_out, is_routine_text, is_to, is_while, isnt, items_at, kind_at, last_id, last_tree, leaf, mode_of, new_name, only, only_id, out_of, parts_at, past, printers, program_of, rowed_to, spelling_of, standard_of, tag_of, text_among, text_number, texts_before, texts_in, tree_at, trees_at, wholes}
+use Rattle.a68_elab.specs.declared.sight.Sight.{Sight}
+use Rattle.a68_elab.specs.declared.sight.Sight.TheVariants as sight
 use Rattle.a68_elab.specs.Trees.{collateral, serial, Tree, Body}
 use Rattle.a68_gen.proofs.Ordered.{all-before}
 use Rattle.a68_gen.specs.Fits.{TextsFit}
@@ -24,8 +27,10 @@ use Rattle.a68_tree.specs.Trees.{AllBetween}
 use Rattle.a68_tree.specs.declared.kind.NodeKind.{NodeKind}
 use Rattle.a68_tree.specs.declared.kind.NodeKind.TheVariants as kind
 use Rattle.a68_tree.specs.declared.node.Node.{Node}
+use Rattle.a68_values.specs.Content.{plain}
+use Rattle.a68_values.specs.declared.plain.Plain.TheVariants as value
 use Rattle.a68_gen.proofs.Fitted.{IsFit, both, coerced-fits, denoted-fits, first, fit-none, is-wanted, negated-fits, routine-fits, row-there, second, so-holds, so-is, tag-fits, then-is, wanted-is}
-use Rattle.a68_gen.proofs.FittingParts.{Given, all-fit, behind-between, call-by, collateral-fits, definition-fits, formula-fits, last-fits, named-fits, only-fits, selection-fits, serial-fits, texts_of, values-fit, variable-fits}
+use Rattle.a68_gen.proofs.FittingParts.{Given, GivenBounds, all-fit, behind-between, call-by, collateral-fits, definition-fits, formula-fits, last-fits, named-fits, only-fits, selection-fits, serial-fits, texts_of, values-fit, variable-fits}
 use Rattle.a68_gen.proofs.FittingChoices.{case-fits, choice-fits, first-bounds-behind, loop-fits, nothing-fits, parts-behind, slice-fits, conformity-fits}
 
 module _ (a : Annotated) (there : AreThere a (length a.tree.nodes)) (nodes : HoldsNodes a.modes) (id : ℕ) (f : ℕ → Tree) (given : Given a id f) where
@@ -49,78 +54,80 @@ module _ (a : Annotated) (there : AreThere a (length a.tree.nodes)) (nodes : Hol
   by-so : (test outcome left : Bool) (t : Tree) → if_so test outcome ≡ Some left → (IsTrue test → IsFit a.modes (texts_of a) outcome t) → IsFit a.modes (texts_of a) left t
   by-so test outcome left t e fit = subst (λ g. IsFit a.modes (texts_of a) g t) (so-is test outcome left e) (fit (so-holds test outcome left e))
 
-  made-fits : (node : Node) (note : Note) (left : Bool) (k : NodeKind) → (IsTrue (is_routine_text k) → text_number a node.span.from < texts_of a) → AllBetween id (length a.tree.nodes) node.parts
-      → leaves_as a node note k ≡ Some left → IsFit a.modes (texts_of a) left (made.made a f node note k)
-  made-fits node note left kind.Denotation r b e = by-so _ true left _ e (denoted-fits a.modes (texts_of a) node.span.from (option_and_then value_in (spelling_of a node)))
-  made-fits node note left kind.Skip r b e =
+  -- a construct, as it is seen
+  made-fits : (s : Sight) (g : (frames id : ℕ) → Tree) → GivenBounds a g → (node : Node) (note : Note) (left : Bool) (k : NodeKind)
+      → (IsTrue (is_routine_text k) → text_number a node.span.from < texts_of a) → AllBetween id (length a.tree.nodes) node.parts
+      → leaves_as a node note k ≡ Some left → IsFit a.modes (texts_of a) left (made.made a g f node (seen a s note) k)
+  made-fits s g defined node note left kind.Denotation r b e = by-so _ true left _ e (denoted-fits a.modes (texts_of a) node.span.from (option_and_then value_in (spelling_of a node)))
+  made-fits s g defined node note left kind.Skip r b e =
       by-so (is_there a.modes note.goal) (asks_value a note) left _ e (λ w. fit-none a.modes (texts_of a) (asks_value a note) node.span.from (skip note.goal) serial refl refl w)
-  made-fits node note left kind.Nil r b e =
+  made-fits s g defined node note left kind.Nil r b e =
       subst (λ g. IsFit a.modes (texts_of a) g (leaf node.span.from nil)) (same_Some true left e) (fit-none a.modes (texts_of a) true node.span.from nil serial refl refl refl)
-  made-fits node note left kind.Tag r b e =
-      subst (λ g. IsFit a.modes (texts_of a) g (leaf node.span.from (tag_of (standard_of note.definition (spelling_of a node)) note.step.hops note.step.slot))) (same_Some true left e)
-      (tag-fits a.modes (texts_of a) node.span.from (standard_of note.definition (spelling_of a node)) note.step.hops note.step.slot)
-  made-fits node note left kind.RoutineText r b e =
+  made-fits s g defined node note left kind.Tag r b e =
+      subst (λ g. IsFit a.modes (texts_of a) g (leaf node.span.from (tag_of (standard_of note.definition (spelling_of a node)) (hops_seen a s note) note.step.slot))) (same_Some true left e)
+      (tag-fits a.modes (texts_of a) node.span.from (standard_of note.definition (spelling_of a node)) (hops_seen a s note) note.step.slot)
+  made-fits s g defined node note left kind.RoutineText r b e =
       by-so (is_outcome (proc_yields a note.mode) (last_outcome a node.parts)) true left _ e
       (λ h. routine-fits a.modes (texts_of a) node.span.from (text_number a node.span.from) note.need (r refl))
-  made-fits node note left kind.Monadic r b e =
-      formula-fits a id (length a.tree.nodes) f given node.span.from (yields_value a note) left note note.op node.parts b e
-  made-fits node note left kind.Dyadic r b e =
-      formula-fits a id (length a.tree.nodes) f given node.span.from (yields_value a note) left note note.op node.parts b e
-  made-fits node note left kind.Assignation r b e =
+  made-fits s g defined node note left kind.Monadic r b e =
+      formula-fits a id (length a.tree.nodes) f given node.span.from (yields_value a note) left (seen a s note) note.op node.parts b e
+  made-fits s g defined node note left kind.Dyadic r b e =
+      formula-fits a id (length a.tree.nodes) f given node.span.from (yields_value a note) left (seen a s note) note.op node.parts b e
+  made-fits s g defined node note left kind.Assignation r b e =
       by-so (refers a note.mode && are_values a 2 node.parts) true left _ e
       (λ h. values-fit a id (length a.tree.nodes) f given 2 true node.span.from (store (behind_ref (shape_at a.modes note.mode))) collateral node.parts b
       (second (refers a note.mode) (are_values a 2 node.parts) h) refl refl (first (refers a note.mode) (are_values a 2 node.parts) h))
-  made-fits node note left kind.Identity r b e =
+  made-fits s g defined node note left kind.Identity r b e =
       by-so (are_values a 2 node.parts) true left _ e
       (λ h. values-fit a id (length a.tree.nodes) f given 2 true node.span.from (same (made.negated (is_one_of isnt (spelling_of a node)))) collateral node.parts b h refl refl
       (negated-fits a.modes (texts_of a) (is_one_of isnt (spelling_of a node))))
-  made-fits node note left kind.Generator r b e =
+  made-fits s g defined node note left kind.Generator r b e =
       by-so (new_runs a note.mode node.parts) true left _ e
-      (named-fits a id (length a.tree.nodes) f given (is_one_of made.heaps (spelling_of a node)) node.span.from note.mode node.parts (first-bounds-behind a there id node.parts b))
-  made-fits node note left kind.OpDefinition r b e =
+      (named-fits a id (length a.tree.nodes) f given g defined (is_one_of made.heaps (spelling_of a node)) node.span.from note.mode node.parts (first-bounds-behind a there id node.parts b))
+  made-fits s g defined node note left kind.OpDefinition r b e =
       by-so (is_outcome true (last_outcome a node.parts)) false left _ e (definition-fits a id (length a.tree.nodes) f given node.span.from note.step.slot node.parts b)
-  made-fits node note left kind.IdentityDefinition r b e =
+  made-fits s g defined node note left kind.IdentityDefinition r b e =
       by-so (is_outcome true (last_outcome a node.parts)) false left _ e (definition-fits a id (length a.tree.nodes) f given node.span.from note.step.slot node.parts b)
-  made-fits node note left kind.Variable r b e =
+  made-fits s g defined node note left kind.Variable r b e =
       let in_heap = begins_with is_heap a node.parts in
       by-so (variable_runs a note.mode node.parts) false left _ e
-      (variable-fits a id (length a.tree.nodes) f given node.span.from note.mode note.step.slot node.parts b
+      (variable-fits a id (length a.tree.nodes) f given g defined node.span.from note.mode note.step.slot node.parts b
       (first-bounds-behind a there id (behind_heap in_heap node.parts) (behind-between a id (length a.tree.nodes) f given in_heap node.parts b)))
-  made-fits node note left kind.ModeDefinition r b e = nothing-fits a there nodes id f given left e
-  made-fits node note left kind.Priority r b e = nothing-fits a there nodes id f given left e
-  made-fits node note left kind.Joined r b e =
+  made-fits s g defined node note left kind.ModeDefinition r b e = nothing-fits a there nodes id f given left e
+  made-fits s g defined node note left kind.Priority r b e = nothing-fits a there nodes id f given left e
+  made-fits s g defined node note left kind.Joined r b e =
       by-so (all_leave a false node.parts) false left _ e
       (λ h. let all = all-fit a id (length a.tree.nodes) f given false node.parts b h in record { fits = (refl, all.fits); operands = all.operands })
-  made-fits node note left kind.Call r b e = call-fits node.span.from (yields_value a note) left node.parts b e
-  made-fits node note left kind.Cast r b e = last-fits a id (length a.tree.nodes) f given left node.parts b e
-  made-fits node note left kind.Collateral r b e =
+  made-fits s g defined node note left kind.Call r b e = call-fits node.span.from (yields_value a note) left node.parts b e
+  made-fits s g defined node note left kind.Cast r b e = last-fits a id (length a.tree.nodes) f given left node.parts b e
+  made-fits s g defined node note left kind.Collateral r b e =
       collateral-fits a id (length a.tree.nodes) f given node.span.from note.goal left (shape_at a.modes note.goal) node.parts (row-there a.modes note.goal) b e
-  made-fits node note left kind.Vacuum r b e =
+  made-fits s g defined node note left kind.Vacuum r b e =
       by-so (is_row (shape_at a.modes note.goal)) true left _ e
       (λ h. fit-none a.modes (texts_of a) true node.span.from (vacuum note.goal) serial refl refl (row-there a.modes note.goal h))
-  made-fits node note left kind.Slice r b e = by-so (slice_runs a node.parts) true left _ e (slice-fits a there nodes id f given node.span.from node.parts b)
-  made-fits node note left kind.Selection r b e =
+  made-fits s g defined node note left kind.Slice r b e = by-so (slice_runs a node.parts) true left _ e (slice-fits a there nodes id f given node.span.from node.parts b)
+  made-fits s g defined node note left kind.Selection r b e =
       by-so (selects a node.name node.parts && is_outcome true (last_outcome a node.parts)) true left _ e
       (selection-fits a id (length a.tree.nodes) f given node.span.from node.name node.parts b)
-  made-fits node note left kind.Serial r b e =
+  made-fits s g defined node note left kind.Serial r b e =
       by-so (are_phrases a (asks_value a note) node.parts) (asks_value a note) left _ e
       (serial-fits a id (length a.tree.nodes) f given (asks_value a note) node.span.from note.slots node.parts b)
-  made-fits node note left kind.Closed r b e = only-fits a id (length a.tree.nodes) f given left node.parts b e
-  made-fits node note left kind.Out r b e = only-fits a id (length a.tree.nodes) f given left node.parts b e
-  made-fits node note left kind.From r b e = only-fits a id (length a.tree.nodes) f given left node.parts b e
-  made-fits node note left kind.By r b e = only-fits a id (length a.tree.nodes) f given left node.parts b e
-  made-fits node note left kind.Lower r b e = only-fits a id (length a.tree.nodes) f given left node.parts b e
-  made-fits node note left kind.Upper r b e = only-fits a id (length a.tree.nodes) f given left node.parts b e
-  made-fits node note left kind.At r b e = only-fits a id (length a.tree.nodes) f given left node.parts b e
-  made-fits node note left kind.To r b e = only-fits a id (length a.tree.nodes) f given left node.parts b e
-  made-fits node note left kind.Conditional r b e =
+  made-fits s g defined node note left kind.Closed r b e = only-fits a id (length a.tree.nodes) f given left node.parts b e
+  made-fits s g defined node note left kind.Out r b e = only-fits a id (length a.tree.nodes) f given left node.parts b e
+  made-fits s g defined node note left kind.From r b e = only-fits a id (length a.tree.nodes) f given left node.parts b e
+  made-fits s g defined node note left kind.By r b e = only-fits a id (length a.tree.nodes) f given left node.parts b e
+  made-fits s g defined node note left kind.Lower r b e = only-fits a id (length a.tree.nodes) f given left node.parts b e
+  made-fits s g defined node note left kind.Upper r b e = only-fits a id (length a.tree.nodes) f given left node.parts b e
+  made-fits s g defined node note left kind.At r b e = only-fits a id (length a.tree.nodes) f given left node.parts b e
+  made-fits s g defined node note left kind.To r b e = only-fits a id (length a.tree.nodes) f given left node.parts b e
+  made-fits s g defined node note left kind.Conditional r b e =
       by-so (choice_runs a note.goal (asks_value a note) node.parts) (asks_value a note) left _ e (choice-fits a there nodes id f given node.span.from note.goal node.parts b)
-  made-fits node note left kind.Case r b e =
+  made-fits s g defined node note left kind.Case r b e =
       by-so (case_runs a note.goal (asks_value a note) node.parts) (asks_value a note) left _ e (case-fits a there nodes id f given node.span.from note.goal node.parts b)
-  made-fits node note left kind.Conformity r b e =
+  made-fits s g defined node note left kind.Conformity r b e =
       by-so (conformity_runs a note.goal (asks_value a note) node.parts) (asks_value a note) left _ e (conformity-fits a there nodes id f given node.span.from note.goal node.parts b)
-  made-fits node note left kind.Loop r b e = by-so (loop_runs a node.parts) false left _ e (loop-fits a there nodes id f given node.span.from node.parts b)
-  made-fits node note left _ r b e = absurd (cc)
+  made-fits s g defined node note left kind.Loop r b e = by-so (loop_runs a node.parts) false left _ e (loop-fits a there nodes id f given node.span.from node.parts b)
+  made-fits s g defined node note left _ r b e = absurd (cc)
 
 -- ---- routine texts
 
@@ -230,25 +237,35 @@ unfolding runs
 whole-leaves a e = first (is_outcome false (outcome a 0)) (agrees_at a (slice_get a.tree.nodes 0) (slice_get a.notes 0)) e
 
 module _ (a : Annotated) (there : AreThere a (length a.tree.nodes)) (nodes : HoldsNodes a.modes) (all : AllRun a) where
-  -- from the last node to the first
-  node-fits : (left id : ℕ) (wanted : Bool) → length a.tree.nodes ≤ id + left → IsTrue (is_outcome wanted (outcome a id)) → IsFit a.modes (texts_of a) wanted (tree_at a id)
-  node-fits zero id wanted le e =
+  -- from the last node to the first, as they are seen
+  node-fits : (s : Sight) → GivenBounds a (defined_bound a s) → (left id : ℕ) (wanted : Bool) → length a.tree.nodes ≤ id + left → IsTrue (is_outcome wanted (outcome a id))
+      → IsFit a.modes (texts_of a) wanted (tree_in a s id)
+  node-fits s defined zero id wanted le e =
       let h = has-outcome a id wanted e in
       let within = slice_get_within a.tree.nodes id h.node h.is in
       absurd (omega (arith, within, le))
-  node-fits (suc left) id wanted le e =
+  node-fits s defined (suc left) id wanted le e =
       let h = has-outcome a id wanted e in
       let within = slice_get_within a.tree.nodes id h.node h.is in
       let t = there id within in
       let parts : AllBetween id (length a.tree.nodes) h.node.parts = subst (λ (m : Node). AllBetween id (length a.tree.nodes) m.parts) (same_Some t.node h.node (sym t.is ∙ h.is)) t.behind in
-      let f = behind id (tree_at a) in
-      let given : Given a id f = λ p g less o. subst (λ u. IsFit a.modes (texts_of a) g u) (sym (behind_is id p (tree_at a) less)) (node-fits left p g (omega (arith, le, less)) o) in
+      let f = behind id (tree_in a s) in
+      let given : Given a id f = λ p g less o. subst (λ u. IsFit a.modes (texts_of a) g u) (sym (behind_is id p (tree_in a s) less)) (node-fits s defined left p g (omega (arith, le, less)) o) in
       let l = then-is (leaves_as a h.node h.note h.node.kind) (λ l. path_leaves a.modes h.note.goal h.note.mode l h.note.path) wanted (leaves-it a id wanted h (all id within)) in
-      let m = made-fits a there nodes id f given h.node h.note l.0 h.node.kind (number-within a id h.node h.is) parts l.1 in
-      subst (λ u. IsFit a.modes (texts_of a) wanted u) (sym (tree_of_nodes a id h.node h.note h.is h.noted)) (coerced-fits a.modes (texts_of a) h.node.span.from h.note.goal h.note.mode l.0 wanted h.note.path _ l.2 m)
+      let m = made-fits a there nodes id f given s (defined_bound a s) defined h.node h.note l.0 h.node.kind (number-within a id h.node h.is) parts l.1 in
+      subst (λ u. IsFit a.modes (texts_of a) wanted u) (sym (tree_of_nodes a s id h.node h.note h.is h.noted)) (coerced-fits a.modes (texts_of a) h.node.span.from h.note.goal h.note.mode l.0 wanted h.note.path _ l.2 m)
+
+  -- within bounds of definitions, where 0 stands for each of their own, and then where all is written
+  within-fits : (frames : ℕ) (bytes : Span) → GivenBounds a (defined_bound a (sight.Within frames bytes))
+  within-fits frames bytes hops p e = fit-none a.modes (texts_of a) true 0 (constant (plain (value.Int (pos 0)))) serial refl refl refl
+
+  here-fits : GivenBounds a (defined_bound a sight.Here)
+  here-fits frames p e =
+      let bytes = bytes_of a p in
+      subst (λ u. IsFit a.modes (texts_of a) true u) (sym (defined_is a frames p)) (node-fits (sight.Within frames bytes) (within-fits frames bytes) (length a.tree.nodes) p true (omega arith) e)
 
   pub whole-fits : 0 < length a.tree.nodes → IsFit a.modes (texts_of a) false (tree_at a 0)
-  whole-fits some = node-fits (length a.tree.nodes) 0 false (omega arith) (whole-leaves a (all 0 some))
+  whole-fits some = node-fits sight.Here here-fits (length a.tree.nodes) 0 false (omega arith) (whole-leaves a (all 0 some))
 
   -- what is left by the body of a routine text is what its mode says
   body-leaves : (id : ℕ) (n : Node) (is : slice_get a.tree.nodes id ≡ Some n) (k : IsTrue (is_routine_text n.kind)) (t : IsThere a id) → (n ≡ t.node)
@@ -267,7 +284,7 @@ module _ (a : Annotated) (there : AreThere a (length a.tree.nodes)) (nodes : Hol
       let t = there id (slice_get_within a.tree.nodes id n is) in
       let is_same : n ≡ t.node = same_Some n t.node (sym is ∙ t.is) in
       let left = last-outcome a n.parts (proc_yields a t.note.mode) (body-leaves id n is k t is_same) in
-      let fit = node-fits (length a.tree.nodes) (last_id n.parts) (proc_yields a t.note.mode) (omega arith) (is-wanted (proc_yields a t.note.mode) (outcome a (last_id n.parts)) left) in
+      let fit = node-fits sight.Here here-fits (length a.tree.nodes) (last_id n.parts) (proc_yields a t.note.mode) (omega arith) (is-wanted (proc_yields a t.note.mode) (outcome a (last_id n.parts)) left) in
       let parts_are : parts_at a id ≡ n.parts = ap (λ (o : Option Node). option_map_or (λ (x : Node). x.parts) o []) is in
       let mode_is : mode_of a id ≡ t.note.mode = ap (λ (o : Option Note). option_map_or (λ (x : Note). x.mode) o 0) t.noted in
       subst (λ (x : List ℕ). IsFit a.modes (texts_of a) (proc_yields a (mode_of a id)) (tree_at a (last_id x))) (sym parts_are)

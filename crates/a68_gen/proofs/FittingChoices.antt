@@ -5,7 +5,7 @@ use Rattle.std.proofs.lemmas.List.Sums.{sum_by-cons}
 use Rattle.std.proofs.lemmas.Option.{same_Some, slice_get_within}
 use Rattle.std.specs.List.{list_all}
 use Rattle.std.specs.Option.{is_some, option_map_or}
-use Rattle.std.specs.Prelude.{IsTrue, not, pos, nat_lt, ◌&&◌, ◌==◌, if◌then◌else◌, slice_index_or}
+use Rattle.std.specs.Prelude.{IsTrue, map, not, pos, nat_eq, nat_lt, ◌&&◌, ◌==◌, if◌then◌else◌, slice_index_or}
 use Rattle.std.specs.declared.option.Option.{Option}
 use Rattle.a68_acts.specs.Operations.{constant, skip}
 use Rattle.a68_annot.specs.declared.annotated.Annotated.{Annotated}
@@ -22,6 +22,7 @@ use Rattle.a68_gen.specs.Operands.{TestFitsModes}
 use Rattle.a68_runs.specs.Runs.{all_leave, are_phrases, asks, body_runs, case_runs, choice_runs, control_runs, enquiry_runs, is_index, is_outcome, is_there, loop_by_runs, loop_runs, out_runs, outcome, slice_runs, test_runs, conformity_runs, specs_run}
 use Rattle.a68_runs.proofs.Between.{between-above}
 use Rattle.a68_runs.specs.Unready.{AreThere}
+use Rattle.a68_layout.specs.Rooms.{bounds_needed}
 use Rattle.a68_modes.specs.Nodes.{shape_at, is_void, HoldsNodes, standard_shapes}
 use Rattle.a68_modes.specs.declared.shape.Shape.{Shape}
 use Rattle.a68_modes.specs.declared.shape.Shape.TheVariants as shape
@@ -84,11 +85,28 @@ pub bounds-append : (id : ℕ) (xs ys : List Bound) → AreBehind id xs → AreB
 bounds-append id [] ys p q = q
 bounds-append id (bound.Written k ∷ xs) ys p q = (p.0, bounds-append id xs ys p.1 q)
 bounds-append id (bound.Meant n ∷ xs) ys p q = bounds-append id xs ys p q
+bounds-append id (bound.Defined frames k ∷ xs) ys p q = bounds-append id xs ys p q
 
 pub bounds-above : (id k : ℕ) (bounds : List Bound) → id < k → AreBehind k bounds → AreBehind id bounds
 bounds-above id k [] less p = tt
 bounds-above id k (bound.Written i ∷ bounds) less p = let q = p.0 in (omega (arith, less, q), bounds-above id k bounds less p.1)
 bounds-above id k (bound.Meant n ∷ bounds) less p = bounds-above id k bounds less p
+bounds-above id k (bound.Defined frames i ∷ bounds) less p = bounds-above id k bounds less p
+
+-- so do some of them
+pub take-behind : (id n : ℕ) (bounds : List Bound) → AreBehind id bounds → AreBehind id (take n bounds)
+take-behind id zero bounds p = tt
+take-behind id (suc n) [] p = tt
+take-behind id (suc n) (bound.Written k ∷ bounds) p = (p.0, take-behind id n bounds p.1)
+take-behind id (suc n) (bound.Meant m ∷ bounds) p = take-behind id n bounds p
+take-behind id (suc n) (bound.Defined frames k ∷ bounds) p = take-behind id n bounds p
+
+-- bounds of a definition stand anywhere
+pub defined-behind : (id hops : ℕ) (bounds : List Bound) → AreBehind id (map (made.from_definition hops) bounds)
+defined-behind id hops [] = tt
+defined-behind id hops (bound.Written k ∷ bounds) = defined-behind id hops bounds
+defined-behind id hops (bound.Meant m ∷ bounds) = defined-behind id hops bounds
+defined-behind id hops (bound.Defined frames k ∷ bounds) = defined-behind id hops bounds
 
 pub written-behind : (id end : ℕ) (ids : List ℕ) → AllBetween id end ids → AreBehind id (made.all_written ids)
 written-behind id end [] b = tt
@@ -117,20 +135,32 @@ module _ (a : Annotated) (there : AreThere a (length a.tree.nodes)) where
       either-behind id (made.is_field (kind_at a x)) _ _ (bounds-append id last (made.field_bounds a inner last ids) p (fields-behind inner each id last ids p b.2))
       (fields-behind inner each id (inner x) ids (bounds-above id x (inner x) b.0 (each x)) b.2)
 
+  pub word-behind : (inner : ℕ → List Bound) → ((k : ℕ) → AreBehind k (inner k)) → (id : ℕ) (o : Option Note) (ids : List ℕ) → AllBetween id (length a.tree.nodes) ids
+      → AreBehind id (made.word_bounds a inner o ids)
+  word-behind inner each id None ids b = tt
+  word-behind inner each id (Some note) ids b = go note.definition
+    where
+      go : (o : Option ℕ)
+          → AreBehind id (option_map_or (λ d. map (made.from_definition note.step.hops) (inner (last_id (parts_at a d)))) o (made.field_bounds a inner [] ids))
+      go None = fields-behind inner each id [] ids tt b
+      go (Some d) = defined-behind id note.step.hops (inner (last_id (parts_at a d)))
+
   pub within-behind : (depth id : ℕ) → AreBehind id (made.bounds_within depth a id)
   within-behind zero id = tt
   within-behind (suc n) id =
       let inner = made.bounds_within n a in
       let parts = parts-behind a there id in
-      either-behind id (made.named_at a made.strings id) _ _ tt
+      either-behind id (nat_eq 0 (bounds_needed a.modes (mode_of a id))) _ _ tt
+      (either-behind id (made.named_at a made.strings id) _ _ tt
       (either-behind id (begins_with made.is_bound a (parts_at a id)) _ _ (rows-behind inner (within-behind n) id (parts_at a id) parts)
-      (fields-behind inner (within-behind n) id [] (parts_at a id) tt parts))
+      (word-behind inner (within-behind n) id (slice_get a.notes id) (parts_at a id) parts)))
 
   pub first-bounds-behind : (id : ℕ) (ids : List ℕ) → AllBetween id (length a.tree.nodes) ids → AreBehind id (first_bounds a ids)
   first-bounds-behind id [] b = tt
   first-bounds-behind id (x ∷ ids) b =
       either-behind id (is_declarer (kind_at a x)) _ _
-      (bounds-above id x (made.bounds_within (length a.tree.nodes) a x) b.0 (within-behind (length a.tree.nodes) x)) tt
+      (take-behind id made.most_bounds (made.bounds_within (length a.tree.nodes) a x)
+      (bounds-above id x (made.bounds_within (length a.tree.nodes) a x) b.0 (within-behind (length a.tree.nodes) x))) tt
 
 -- INT is the first mode behind VOID
 pub int-is : (nodes : List Shape) → HoldsNodes nodes → shape_at nodes 1 ≡ shape.Int

@@ -3,11 +3,12 @@ use Rattle.std.proofs.Common.{◌≡◌, ℕ, ◌<◌, Bool, true, false, List, 
 use Rattle.std.proofs.lemmas.Bool.{false≢true, eqb-true}
 use Rattle.std.specs.List.{list_all}
 use Rattle.std.specs.Option.{option_map_or}
-use Rattle.std.specs.Prelude.{IsTrue, not, pos, nat_eq, nat_lt, ◌&&◌, ◌==◌, if◌then◌else◌}
+use Rattle.std.specs.Prelude.{IsTrue, not, pos, nat_eq, nat_lt, ◌&&◌, ◌||◌, ◌==◌, if◌then◌else◌}
 use Rattle.std.specs.declared.option.Option.{Option}
 use Rattle.a68_acts.specs.Operations.{Operation, constant, skip, bind, store, apply, display, compose, select, print, whole, leaves}
 use Rattle.a68_annot.specs.declared.annotated.Annotated.{Annotated}
 use Rattle.a68_annot.specs.declared.note.Note.{Note}
+use Rattle.a68_base.specs.declared.limits.TheConstants.{MOST_INSTRUCTIONS}
 use Rattle.a68_code.specs.Flow.{operands_of, takes}
 use Rattle.a68_code.specs.Operands.{is_well_made}
 use Rattle.a68_elab.specs.Made as made
@@ -17,7 +18,7 @@ use Rattle.a68_elab.specs.declared.bound.Bound.TheVariants as bound
 use Rattle.a68_elab.specs.Trees.{Order, collateral, serial, Tree, operation, call, ◌and_tree◌, count, Specs}
 use Rattle.a68_gen.proofs.Conforming.{spec_is}
 use Rattle.a68_gen.proofs.Constructs.{count_trees}
-use Rattle.a68_runs.specs.Runs.{all_leave, applies, are_phrases, are_values, bounds_run, collateral_leaves, declared_leaves, declared_runs, formula_leaves, formula_runs, if_so, is_bounding, is_outcome, is_row, last_outcome, new_runs, only_outcome, out_runs, outcome, refers, routine_runs, selects, source_runs, variable_runs, specs_run}
+use Rattle.a68_runs.specs.Runs.{all_leave, applies, are_phrases, are_values, bounds_run, collateral_leaves, declared_leaves, declared_runs, formula_leaves, formula_runs, gives, if_so, is_bounding, is_outcome, is_row, last_outcome, new_runs, only_outcome, out_runs, outcome, refers, routine_runs, selects, source_runs, variable_runs, specs_run}
 use Rattle.a68_gen.specs.Stretches.{does_of}
 use Rattle.a68_layout.specs.Rooms.{bounds_needed}
 use Rattle.a68_modes.specs.Nodes.{shape_at, is_void}
@@ -26,7 +27,7 @@ use Rattle.a68_modes.specs.declared.shape.Shape.TheVariants as shape
 use Rattle.a68_tree.specs.Trees.{AllBetween}
 use Rattle.a68_values.specs.Content.{plain}
 use Rattle.a68_values.specs.declared.plain.Plain.TheVariants as value
-use Rattle.a68_gen.proofs.Fitted.{AreFit, IsFit, applies-leaves, applies-made, first, fit-all, fit-none, fit-one, fit-two, framed-fits, is-wanted, new-fits, second, selected-there, so-holds, so-is, tag-fits, wanted-is, SpecsAreFit}
+use Rattle.a68_gen.proofs.Fitted.{AreFit, IsFit, first, fit-all, fit-none, fit-one, fit-two, framed-fits, is-wanted, new-fits, second, selected-there, so-holds, so-is, tag-fits, wanted-is, SpecsAreFit}
 
 -- ---- parts
 
@@ -38,10 +39,15 @@ abbrev pub AreBehind : (id : ℕ) → List Bound → Type 0
 AreBehind id [] = Unit {0}
 AreBehind id (bound.Written k ∷ bounds) = (id < k) × AreBehind id bounds
 AreBehind id (bound.Meant n ∷ bounds) = AreBehind id bounds
+AreBehind id (bound.Defined frames k ∷ bounds) = AreBehind id bounds
 
 -- the trees of the nodes behind a node fit, as far as these are constructs
 abbrev pub Given : (a : Annotated) (id : ℕ) (f : ℕ → Tree) → Type 0
 Given a id f = (p : ℕ) (wanted : Bool) → id < p → IsTrue (is_outcome wanted (outcome a p)) → IsFit a.modes (texts_of a) wanted (f p)
+
+-- so do those of the bounds of definitions
+abbrev pub GivenBounds : (a : Annotated) (g : (frames id : ℕ) → Tree) → Type 0
+GivenBounds a g = (frames p : ℕ) → IsTrue (is_outcome true (outcome a p)) → IsFit a.modes (texts_of a) true (g frames p)
 
 module _ (a : Annotated) (id end : ℕ) (f : ℕ → Tree) (given : Given a id f) where
   pub all-fit : (wanted : Bool) (ids : List ℕ) → AllBetween id end ids → IsTrue (all_leave a wanted ids) → AreFit a.modes (texts_of a) wanted (trees_at f ids)
@@ -106,11 +112,11 @@ module _ (a : Annotated) (id end : ℕ) (f : ℕ → Tree) (given : Given a id f
       → IsFit a.modes (texts_of a) left (made.formula_by place yields note op (trees_at f ids))
   formula-fits place yields left note None ids b e = declared-formula-fits place yields left note note.definition ids b e
   formula-fits place yields left note (Some row) ids b e =
-      let runs_so = so-holds (formula_runs a row ids) true left e in
+      let runs_so = so-holds (formula_runs a row ids) (gives row) left e in
       let applies_so = first (applies row) (are_values a (operands_of row) ids) runs_so in
       let v = second (applies row) (are_values a (operands_of row) ids) runs_so in
-      subst (λ g. IsFit a.modes (texts_of a) g (operation place (apply row) collateral (trees_at f ids))) (so-is (formula_runs a row ids) true left e)
-      (values-fit (operands_of row) true place (apply row) collateral ids b v (applies-leaves row applies_so) refl (applies-made row applies_so))
+      subst (λ g. IsFit a.modes (texts_of a) g (operation place (apply row) collateral (trees_at f ids))) (so-is (formula_runs a row ids) (gives row) left e)
+      (values-fit (operands_of row) (gives row) place (apply row) collateral ids b v refl refl applies_so)
 
   pub definition-fits : (place slot : ℕ) (ids : List ℕ) → AllBetween id end ids → IsTrue (is_outcome true (last_outcome a ids))
       → IsFit a.modes (texts_of a) false (operation place (bind slot) serial (only (last_tree (trees_at f ids))))
@@ -135,37 +141,43 @@ module _ (a : Annotated) (id end : ℕ) (f : ℕ → Tree) (given : Given a id f
   behind-between true (x ∷ xs) b = b.2
   behind-between false ids b = b
 
-  pub bounds-fit : (place : ℕ) (bounds : List Bound) → AreBehind id bounds → IsTrue (list_all (is_bounding a) bounds) → AreFit a.modes (texts_of a) true (made.bound_trees f place bounds)
-  bounds-fit place [] h e = record { fits = tt; operands = tt }
-  bounds-fit place (bound.Written p ∷ bounds) h e =
+  pub bounds-fit : (g : (frames id : ℕ) → Tree) → GivenBounds a g → (place : ℕ) (bounds : List Bound) → AreBehind id bounds → IsTrue (list_all (is_bounding a) bounds)
+      → AreFit a.modes (texts_of a) true (made.bound_trees g f place bounds)
+  bounds-fit g defined place [] h e = record { fits = tt; operands = tt }
+  bounds-fit g defined place (bound.Written p ∷ bounds) h e =
       let here = given p true h.0 (first (is_outcome true (outcome a p)) (list_all (is_bounding a) bounds) e) in
-      let rest = bounds-fit place bounds h.1 (second (is_outcome true (outcome a p)) (list_all (is_bounding a) bounds) e) in
+      let rest = bounds-fit g defined place bounds h.1 (second (is_outcome true (outcome a p)) (list_all (is_bounding a) bounds) e) in
       record { fits = (here.fits, rest.fits); operands = (here.operands, rest.operands) }
-  bounds-fit place (bound.Meant n ∷ bounds) h e =
+  bounds-fit g defined place (bound.Meant n ∷ bounds) h e =
       let here = fit-none a.modes (texts_of a) true place (constant (plain (value.Int (pos n)))) serial refl refl refl in
-      let rest = bounds-fit place bounds h e in
+      let rest = bounds-fit g defined place bounds h e in
+      record { fits = (here.fits, rest.fits); operands = (here.operands, rest.operands) }
+  bounds-fit g defined place (bound.Defined frames p ∷ bounds) h e =
+      let here = defined frames p (first (is_outcome true (outcome a p)) (list_all (is_bounding a) bounds) e) in
+      let rest = bounds-fit g defined place bounds h (second (is_outcome true (outcome a p)) (list_all (is_bounding a) bounds) e) in
       record { fits = (here.fits, rest.fits); operands = (here.operands, rest.operands) }
 
   -- a new name with the bounds of a declarer
-  pub named-fits : (in_heap : Bool) (place mode : ℕ) (ids : List ℕ) → AreBehind id (first_bounds a ids) → IsTrue (new_runs a mode ids)
-      → IsFit a.modes (texts_of a) true (new_name in_heap place (behind_ref (shape_at a.modes mode)) (made.bound_trees f place (first_bounds a ids)))
-  named-fits in_heap place mode ids h e =
+  pub named-fits : (g : (frames id : ℕ) → Tree) → GivenBounds a g → (in_heap : Bool) (place mode : ℕ) (ids : List ℕ) → AreBehind id (first_bounds a ids) → IsTrue (new_runs a mode ids)
+      → IsFit a.modes (texts_of a) true (new_name in_heap place (behind_ref (shape_at a.modes mode)) (made.bound_trees g f place (first_bounds a ids)))
+  named-fits g defined in_heap place mode ids h e =
       let to = behind_ref (shape_at a.modes mode) in
       let bounds = first_bounds a ids in
       let there = first (refers a mode) (bounds_run a to bounds) e in
       let run = second (refers a mode) (bounds_run a to bounds) e in
-      new-fits a.modes (texts_of a) in_heap place to (made.bound_trees f place bounds) there
-      (bounds-fit place bounds h (first (list_all (is_bounding a) bounds) (nat_eq (length bounds) (bounds_needed a.modes to)) run))
+      new-fits a.modes (texts_of a) in_heap place to (made.bound_trees g f place bounds) there
+      (bounds-fit g defined place bounds h (first (list_all (is_bounding a) bounds) (nat_lt MOST_INSTRUCTIONS (length bounds) || nat_eq (length bounds) (bounds_needed a.modes to)) run))
 
-  pub variable-fits : (place mode slot : ℕ) (ids : List ℕ) → AllBetween id end ids → AreBehind id (first_bounds a (behind_heap (begins_with is_heap a ids) ids)) → IsTrue (variable_runs a mode ids)
-      → IsFit a.modes (texts_of a) false (made.variable a f place (behind_ref (shape_at a.modes mode)) slot ids)
-  variable-fits place mode slot ids b h e =
+  pub variable-fits : (g : (frames id : ℕ) → Tree) → GivenBounds a g → (place mode slot : ℕ) (ids : List ℕ) → AllBetween id end ids
+      → AreBehind id (first_bounds a (behind_heap (begins_with is_heap a ids) ids)) → IsTrue (variable_runs a mode ids)
+      → IsFit a.modes (texts_of a) false (made.variable a g f place (behind_ref (shape_at a.modes mode)) slot ids)
+  variable-fits g defined place mode slot ids b h e =
       let in_heap = begins_with is_heap a ids in
       let rest = behind_heap in_heap ids in
       let to = behind_ref (shape_at a.modes mode) in
       let new = first (new_runs a mode rest) (declared_runs a rest) e in
       declared-fits _ (begins_with is_declarer a rest) place to slot rest (behind-between in_heap ids b) (first (refers a mode) (bounds_run a to (first_bounds a rest)) new)
-      (named-fits in_heap place mode rest h new) (second (new_runs a mode rest) (declared_runs a rest) e)
+      (named-fits g defined in_heap place mode rest h new) (second (new_runs a mode rest) (declared_runs a rest) e)
 
   -- a call, by what is called
   pub call-by : (prints words yields left : Bool) (place primary : ℕ) (items ids : List ℕ) → AllBetween id end items → AllBetween id end (primary ∷ ids)

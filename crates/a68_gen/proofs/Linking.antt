@@ -6,7 +6,8 @@ use Rattle.std.specs.declared.option.Option.{Option}
 use Rattle.a68_annot.specs.declared.annotated.Annotated.{Annotated}
 use Rattle.a68_annot.specs.declared.note.Note.{Note}
 use Rattle.a68_elab.proofs.Nodes.{tree_of_nodes, behind_is, behind_all}
-use Rattle.a68_elab.specs.Made.{before_out, begun_by, behind, case_of, choice_of, coerced, framed, left_out, made, out_of, parts_at, phrases_of, tree_at, trees_at}
+use Rattle.a68_elab.specs.Made.{before_out, begun_by, behind, case_of, choice_of, coerced, defined_bound, framed, left_out, made, out_of, parts_at, phrases_of, seen, tree_in, trees_at}
+use Rattle.a68_elab.specs.declared.sight.Sight.{Sight}
 use Rattle.a68_elab.specs.Trees.{Tree, Trees, cases, choice, unbuilt}
 use Rattle.a68_gen.specs.Chains.{enquiry_tree, IsWithin, link_tree, other_tree}
 use Rattle.a68_gen.specs.declared.chains.Link.{Link}
@@ -38,38 +39,38 @@ link_behind a id f l within same =
     ∙ ap (λ (t : Tree). whole (enquiry_tree a f l) (f l.part) t) (other_behind id n l.place l.goal f l.other o)
 
 -- the tree of a node that is a choice without coercions
-pub next_tree : (program : Annotated) (id : ℕ) (node : Node) (note : Note) (o : Option Link) (place goal : ℕ) (ids : List ℕ) → slice_get program.tree.nodes id ≡ Some node
+pub next_tree : (program : Annotated) (s : Sight) (id : ℕ) (node : Node) (note : Note) (o : Option Link) (place goal : ℕ) (ids : List ℕ) → slice_get program.tree.nodes id ≡ Some node
     → slice_get program.notes id ≡ Some note → node.kind ≡ kind.Conditional → note.path ≡ [] → place ≡ node.span.from → goal ≡ note.goal → ids ≡ node.parts
     → ((f : ℕ → Tree) → MatchOption o (choice_of program f place goal (not (is_void (shape_at program.modes goal))) ids ≡ unbuilt)
     (λ l. choice_of program f place goal (not (is_void (shape_at program.modes goal))) ids ≡ link_tree program f l))
-    → IfSome o (IsWithin program) → IfSome o (λ l. l.id ≡ id) → IfSome o (λ l. tree_at program l.id ≡ link_tree program (tree_at program) l)
-next_tree program id node note None place goal ids e f is_choice bare at asked these m within same = tt
-next_tree program id node note (Some l) place goal ids e f is_choice bare at asked these m within same =
-    let g = behind id (tree_at program) in
+    → IfSome o (IsWithin program) → IfSome o (λ l. l.id ≡ id) → IfSome o (λ l. tree_in program s l.id ≡ link_tree program (tree_in program s) l)
+next_tree program s id node note None place goal ids e f is_choice bare at asked these m within same = tt
+next_tree program s id node note (Some l) place goal ids e f is_choice bare at asked these m within same =
+    let g = behind id (tree_in program s) in
+    let b = defined_bound program s in
     let of : ℕ → ℕ → List ℕ → Tree = λ p q is. choice_of program g p q (not (is_void (shape_at program.modes q))) is in
-    ap (tree_at program) same ∙ tree_of_nodes program id node note e f
-    ∙ ap (λ (path : List Coercion). coerced program.modes node.span.from note.goal note.mode path (made program g node note node.kind)) bare
-    ∙ ap (λ (k : NodeKind). made program g node note k) is_choice
+    ap (tree_in program s) same ∙ tree_of_nodes program s id node note e f
+    ∙ ap (λ (path : List Coercion). coerced program.modes node.span.from note.goal note.mode path (made program b g node (seen program s note) node.kind)) bare
+    ∙ ap (λ (k : NodeKind). made program b g node (seen program s note) k) is_choice
     ∙ ap (λ (p : ℕ). of p note.goal node.parts) (sym at) ∙ ap (λ (q : ℕ). of place q node.parts) (sym asked) ∙ ap (λ (is : List ℕ). of place goal is) (sym these) ∙ m g
-    ∙ link_behind program id (tree_at program) l within same
+    ∙ link_behind program id (tree_in program s) l within same
 
 -- the enquiry of a node with these phrases is made of the trees behind it
-pub enquiry_is : (a : Annotated) (enquiry at : ℕ) (ids : List ℕ) → option_map (λ (n : Node). n.parts) (slice_get a.tree.nodes enquiry) ≡ Some ids → AllBetween enquiry (length a.tree.nodes) ids
-    → phrases_of at (trees_at (behind enquiry (tree_at a)) ids) ≡ phrases_of at (trees_at (tree_at a) (parts_at a enquiry))
-enquiry_is a enquiry at ids is all =
-    ap (λ (ts : Trees). phrases_of at ts) (behind_all enquiry (length a.tree.nodes) (tree_at a) ids all)
-    ∙ ap (λ (l : List ℕ). phrases_of at (trees_at (tree_at a) l)) (sym (parts_are (slice_get a.tree.nodes enquiry) ids is))
+pub enquiry_is : (a : Annotated) (f : ℕ → Tree) (enquiry at : ℕ) (ids : List ℕ) → option_map (λ (n : Node). n.parts) (slice_get a.tree.nodes enquiry) ≡ Some ids → AllBetween enquiry (length a.tree.nodes) ids
+    → phrases_of at (trees_at (behind enquiry f) ids) ≡ phrases_of at (trees_at f (parts_at a enquiry))
+enquiry_is a f enquiry at ids is all =
+    ap (λ (ts : Trees). phrases_of at ts) (behind_all enquiry (length a.tree.nodes) f ids all)
+    ∙ ap (λ (l : List ℕ). phrases_of at (trees_at f l)) (sym (parts_are (slice_get a.tree.nodes enquiry) ids is))
 
 -- a choice by a number is made of the trees behind its node
-pub case_is : (a : Annotated) (id place goal : ℕ) (yields : Bool) (e : ℕ) (rest ids units : List ℕ) (other : Option ℕ) (node : Node) (note : Note) → slice_get a.tree.nodes e ≡ Some node
+pub case_is : (a : Annotated) (f : ℕ → Tree) (id place goal : ℕ) (yields : Bool) (e : ℕ) (rest ids units : List ℕ) (other : Option ℕ) (node : Node) (note : Note) → slice_get a.tree.nodes e ≡ Some node
     → slice_get a.notes e ≡ Some note → option_map (λ (n : Node). n.parts) (slice_get a.tree.nodes e) ≡ Some ids → AllBetween e (length a.tree.nodes) ids → id < e
     → units ≡ before_out a rest → other ≡ out_of a rest → IfSome other (λ p. (id < p) × (p < length a.tree.nodes))
-    → framed node.span.from place note.slots yields (cases place (phrases_of node.span.from (trees_at (behind e (tree_at a)) ids)) (trees_at (behind id (tree_at a)) units)
-    (option_map_or (tree_at a) other (left_out place goal)))
-    ≡ case_of a (behind id (tree_at a)) place goal yields (e ∷ rest)
-case_is a id place goal yields e rest ids units other node note is noted parts all below eu eo within =
+    → framed node.span.from place note.slots yields (cases place (phrases_of node.span.from (trees_at (behind e f) ids)) (trees_at (behind id f) units)
+    (option_map_or f other (left_out place goal)))
+    ≡ case_of a (behind id f) place goal yields (e ∷ rest)
+case_is a f id place goal yields e rest ids units other node note is noted parts all below eu eo within =
     let n = length a.tree.nodes in
-    let f = tree_at a in
     let g = behind id f in
     let at = node.span.from in
     let whole : Trees → Trees → Tree → Tree = λ ph us o. framed at place note.slots yields (cases place (phrases_of at ph) us o) in

@@ -11,5 +11,6 @@ pub mod Runs
 pub mod Sources
 pub mod Stretches
 pub mod Texts
+pub mod Views
 pub mod Writers
 pub mod Writing

@@ -7,8 +7,8 @@ use Rattle.a68_elab.specs.Made.{bound_trees, first_bounds, new_name, only}
 use Rattle.a68_elab.specs.Trees.{Tree, operation, serial, ◌and_tree◌}
 
 -- a new name, with the bounds of the first of these nodes, where it is a declarer
-abbrev pub named : Annotated → (f : ℕ → Tree) → (in_heap : Bool) (place mode : ℕ) → List ℕ → Tree
-named a f in_heap place mode ids = new_name in_heap place mode (bound_trees f place (first_bounds a ids))
+abbrev pub named : Annotated → (g : (frames id : ℕ) → Tree) (f : ℕ → Tree) → (in_heap : Bool) (place mode : ℕ) → List ℕ → Tree
+named a g f in_heap place mode ids = new_name in_heap place mode (bound_trees g f place (first_bounds a ids))
 
 -- a new name, to which the source is assigned, and to which the slot is bound
 abbrev pub assigned_tree : (new : Tree) (place mode slot : ℕ) (source : Tree) → Tree

@@ -2,17 +2,18 @@
 ghost use Rattle.a68_acts.specs.Operations as operations;
 ghost use Rattle.std.specs.Prelude.{◌<◌, not, length};
 ghost use Rattle.a68_elab.specs.Made as made;
-ghost use Rattle.a68_elab.specs.Made.{behind, tree_at, trees_at};
+ghost use Rattle.a68_elab.specs.Made.{behind, trees_at};
 ghost use Rattle.a68_elab.specs.Trees as trees;
 ghost use Rattle.a68_elab.specs.Trees.{◌and_tree◌};
 ghost use Rattle.a68_gen.specs.Listing.{stretch};
+ghost use Rattle.a68_gen.specs.Views.{note_of, tree_of};
 ghost use Rattle.a68_gen.specs.Writers.{Wrote};
 ghost use Rattle.a68_modes.specs.Nodes.{shape_at, is_void};
 ghost use Rattle.a68_tree.specs.Trees.{AllBetween};
 
-use crate::numbered::Numbered;
 use crate::rows::operation;
 use crate::single::unbuilt;
+use crate::view::{View, hops};
 use crate::writer::Writer;
 use a68_annot::Note;
 use a68_code::Does;
@@ -24,24 +25,24 @@ use std::alloc::Global;
 #[cycle(units)]
 fn applied(
     alloc: Global,
-    program: &Numbered,
+    program: &View,
     id: NodeId,
     parts: &[NodeId],
     place: u32,
     note: &Note,
     out: &mut Writer,
 )
-    requires { AllBetween id (length program.now.tree.nodes) parts.now }
-    ensures { Wrote out.old out.new (stretch (trees.call place (not (is_void (shape_at program.now.modes note.now.mode)))
-        (made.leaf place (operations.tag note.now.step.hops note.now.step.slot) and_tree trees_at (behind id (tree_at program.now)) parts.now)) (length out.old.list)) }
+    requires { AllBetween id (length program.now.of.now.tree.nodes) parts.now }
+    ensures { Wrote out.old out.new (stretch (trees.call place (not (is_void (shape_at program.now.of.now.modes note.now.mode)))
+        (made.leaf place (operations.tag (made.hops_seen program.now.of.now program.now.sight note.now) note.now.step.slot) and_tree trees_at (behind id (tree_of program.now)) parts.now)) (length out.old.list)) }
 {
-    let gives = !program.is_void(note.mode);
+    let gives = !program.of.is_void(note.mode);
     match u32::try_from(parts.len()) {
         Ok(count) => {
             out.emit(
                 place,
                 Does::Tag {
-                    hops: note.step.hops,
+                    hops: hops(program, note),
                     slot: note.step.slot,
                 },
             );
@@ -63,16 +64,16 @@ fn applied(
 #[cycle(units)]
 fn declared_formula(
     alloc: Global,
-    program: &Numbered,
+    program: &View,
     id: NodeId,
     parts: &[NodeId],
     place: u32,
     note: &Note,
     out: &mut Writer,
 )
-    requires { AllBetween id (length program.now.tree.nodes) parts.now }
-    ensures { Wrote out.old out.new (stretch (made.declared_formula place (not (is_void (shape_at program.now.modes note.now.mode))) note.now note.now.definition
-        (trees_at (behind id (tree_at program.now)) parts.now)) (length out.old.list)) }
+    requires { AllBetween id (length program.now.of.now.tree.nodes) parts.now }
+    ensures { Wrote out.old out.new (stretch (made.declared_formula place (not (is_void (shape_at program.now.of.now.modes note.now.mode))) (note_of program.now note.now) note.now.definition
+        (trees_at (behind id (tree_of program.now)) parts.now)) (length out.old.list)) }
 {
     match note.definition {
         Some(_) => applied(alloc, program, id, parts, place, note, out),
@@ -84,16 +85,16 @@ fn declared_formula(
 #[cycle(units)]
 pub fn formula(
     alloc: Global,
-    program: &Numbered,
+    program: &View,
     id: NodeId,
     parts: &[NodeId],
     place: u32,
     note: &Note,
     out: &mut Writer,
 )
-    requires { AllBetween id (length program.now.tree.nodes) parts.now }
-    ensures { Wrote out.old out.new (stretch (made.formula place (not (is_void (shape_at program.now.modes note.now.mode))) note.now
-        (trees_at (behind id (tree_at program.now)) parts.now)) (length out.old.list)) }
+    requires { AllBetween id (length program.now.of.now.tree.nodes) parts.now }
+    ensures { Wrote out.old out.new (stretch (made.formula place (not (is_void (shape_at program.now.of.now.modes note.now.mode))) (note_of program.now note.now)
+        (trees_at (behind id (tree_of program.now)) parts.now)) (length out.old.list)) }
 {
     match note.op {
         Some(row) => operation(alloc, program, id, parts, place, Does::Apply(row), out),
@@ -103,16 +104,9 @@ pub fn formula(
 
 // [items] Print. There is no memory for more items than an instruction can tell.
 #[cycle(units)]
-fn prints(
-    alloc: Global,
-    program: &Numbered,
-    id: NodeId,
-    items: &[NodeId],
-    place: u32,
-    out: &mut Writer,
-)
-    requires { AllBetween id (length program.now.tree.nodes) items.now }
-    ensures { Wrote out.old out.new (stretch (trees.operation place operations.print trees.collateral (trees_at (behind id (tree_at program.now)) items.now)) (length out.old.list)) }
+fn prints(alloc: Global, program: &View, id: NodeId, items: &[NodeId], place: u32, out: &mut Writer)
+    requires { AllBetween id (length program.now.of.now.tree.nodes) items.now }
+    ensures { Wrote out.old out.new (stretch (trees.operation place operations.print trees.collateral (trees_at (behind id (tree_of program.now)) items.now)) (length out.old.list)) }
 {
     match u32::try_from(items.len()) {
         Ok(count) => operation(alloc, program, id, items, place, Does::Print(count), out),
@@ -124,19 +118,19 @@ fn prints(
 #[cycle(units)]
 fn routine(
     alloc: Global,
-    program: &Numbered,
+    program: &View,
     id: NodeId,
     parts: &[NodeId],
     place: u32,
     note: &Note,
     out: &mut Writer,
 )
-    requires between { AllBetween id (length program.now.tree.nodes) parts.now }
+    requires between { AllBetween id (length program.now.of.now.tree.nodes) parts.now }
     requires some { 0 < length parts.now }
-    ensures { Wrote out.old out.new (stretch (trees.call place (not (is_void (shape_at program.now.modes note.now.mode)))
-        (trees_at (behind id (tree_at program.now)) parts.now)) (length out.old.list)) }
+    ensures { Wrote out.old out.new (stretch (trees.call place (not (is_void (shape_at program.now.of.now.modes note.now.mode)))
+        (trees_at (behind id (tree_of program.now)) parts.now)) (length out.old.list)) }
 {
-    let gives = !program.is_void(note.mode);
+    let gives = !program.of.is_void(note.mode);
     match u32::try_from(parts.len() - 1) {
         Ok(count) => operation(
             alloc,
@@ -155,29 +149,29 @@ fn routine(
 #[cycle(units)]
 pub fn call(
     alloc: Global,
-    program: &Numbered,
+    program: &View,
     id: NodeId,
     parts: &[NodeId],
     place: u32,
     note: &Note,
     out: &mut Writer,
 )
-    requires { AllBetween id (length program.now.tree.nodes) parts.now }
-    ensures { Wrote out.old out.new (stretch (made.call_of program.now (behind id (tree_at program.now)) place (not (is_void (shape_at program.now.modes note.now.mode))) parts.now)
+    requires { AllBetween id (length program.now.of.now.tree.nodes) parts.now }
+    ensures { Wrote out.old out.new (stretch (made.call_of program.now.of.now (behind id (tree_of program.now)) place (not (is_void (shape_at program.now.of.now.modes note.now.mode))) parts.now)
         (length out.old.list)) }
 {
     if parts.len() == 0 {
         unbuilt(out);
         return;
     }
-    let name = called(program.annotated(), parts[0]);
+    let name = called(program.of.annotated(), parts[0]);
     let rest = &parts[1..];
     if is_one_of(printers(), name) {
         prints(
             alloc,
             program,
             id,
-            items_at(program.annotated(), id, rest),
+            items_at(program.of.annotated(), id, rest),
             place,
             out,
         );

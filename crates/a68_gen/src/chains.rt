@@ -1,14 +1,15 @@
 //! Chains of choices: each but the first is the other part of the one before it.
 ghost use Rattle.std.specs.Option.{option_map_or};
 ghost use Rattle.std.specs.Prelude.{◌≡◌, ◌<◌, ℕ, [], length, not, IfSome, IsTrue, MatchOption};
-ghost use Rattle.a68_elab.specs.Made.{choice_of, left_out, tree_at, with_enquiry};
+ghost use Rattle.a68_elab.specs.Made.{choice_of, left_out, with_enquiry};
 ghost use Rattle.a68_elab.specs.Trees as trees;
 ghost use Rattle.a68_elab.specs.Trees.{Tree};
 ghost use Rattle.a68_gen.specs.Chains.{IsWithin, link_tree};
+ghost use Rattle.a68_gen.specs.Views.{tree_of};
 ghost use Rattle.a68_modes.specs.Nodes.{shape_at, is_void};
 ghost use Rattle.a68_tree.specs.Trees.{AllBetween};
 
-use crate::numbered::Numbered;
+use crate::view::View;
 use a68_annot::Note;
 use a68_modes::ModeId;
 use a68_tree::{Node, NodeId, NodeKind};
@@ -30,7 +31,7 @@ pub struct Link {
 
 // The choice of these parts, with what its enquiry begins.
 fn link_with(
-    program: &Numbered,
+    program: &View,
     id: NodeId,
     enquiry: NodeId,
     part: NodeId,
@@ -38,17 +39,17 @@ fn link_with(
     place: u32,
     goal: ModeId,
 ) -> Link
-    requires enquiry { (id < enquiry) × (enquiry < length program.now.tree.nodes) }
-    requires part { (id < part) × (part < length program.now.tree.nodes) }
-    requires other { IfSome other (λ p. (id < p) × (p < length program.now.tree.nodes)) }
-    ensures tree { (f : ℕ → Tree) → with_enquiry program.now f place (not (is_void (shape_at program.now.modes goal))) enquiry
-        (λ e. trees.choice place e (f part) (option_map_or f other (left_out place goal))) ≡ link_tree program.now f result }
-    ensures within { IsWithin program.now result }
+    requires enquiry { (id < enquiry) × (enquiry < length program.now.of.now.tree.nodes) }
+    requires part { (id < part) × (part < length program.now.of.now.tree.nodes) }
+    requires other { IfSome other (λ p. (id < p) × (p < length program.now.of.now.tree.nodes)) }
+    ensures tree { (f : ℕ → Tree) → with_enquiry program.now.of.now f place (not (is_void (shape_at program.now.of.now.modes goal))) enquiry
+        (λ e. trees.choice place e (f part) (option_map_or f other (left_out place goal))) ≡ link_tree program.now.of.now f result }
+    ensures within { IsWithin program.now.of.now result }
     ensures node { result.id ≡ id }
 {
-    let node = program.node(enquiry);
-    let _parts = program.parts(enquiry);
-    let slots = program.note(enquiry).slots;
+    let node = program.of.node(enquiry);
+    let _parts = program.of.parts(enquiry);
+    let slots = program.of.note(enquiry).slots;
     Link {
         id,
         enquiry,
@@ -56,7 +57,7 @@ fn link_with(
         other,
         place,
         goal,
-        yields: !program.is_void(goal),
+        yields: !program.of.is_void(goal),
         at: node.span.from,
         slots,
     }
@@ -64,16 +65,16 @@ fn link_with(
 
 /// The choice of a node with these parts, where there are two or three.
 pub fn link_of(
-    program: &Numbered,
+    program: &View,
     id: NodeId,
     parts: &[NodeId],
     place: u32,
     goal: ModeId,
 ) -> Option<Link>
-    requires { AllBetween id (length program.now.tree.nodes) parts.now }
-    ensures tree { (f : ℕ → Tree) → MatchOption result (choice_of program.now f place goal (not (is_void (shape_at program.now.modes goal))) parts.now ≡ trees.unbuilt)
-        (λ link. choice_of program.now f place goal (not (is_void (shape_at program.now.modes goal))) parts.now ≡ link_tree program.now f link) }
-    ensures within { IfSome result (IsWithin program.now) }
+    requires { AllBetween id (length program.now.of.now.tree.nodes) parts.now }
+    ensures tree { (f : ℕ → Tree) → MatchOption result (choice_of program.now.of.now f place goal (not (is_void (shape_at program.now.of.now.modes goal))) parts.now ≡ trees.unbuilt)
+        (λ link. choice_of program.now.of.now f place goal (not (is_void (shape_at program.now.of.now.modes goal))) parts.now ≡ link_tree program.now.of.now f link) }
+    ensures within { IfSome result (IsWithin program.now.of.now) }
     ensures node { IfSome result (λ link. link.id ≡ id) }
 {
     if parts.len() == 2 {
@@ -94,17 +95,17 @@ fn is_link(node: &Node, note: &Note) -> bool
 }
 
 /// The next choice of a chain, where there is one.
-pub fn next_link(program: &Numbered, link: &Link) -> Option<Link>
-    requires { IsWithin program.now link.now }
-    ensures tree { IfSome result (λ next. tree_at program.now next.id ≡ link_tree program.now (tree_at program.now) next) }
-    ensures within { IfSome result (IsWithin program.now) }
+pub fn next_link(program: &View, link: &Link) -> Option<Link>
+    requires { IsWithin program.now.of.now link.now }
+    ensures tree { IfSome result (λ next. tree_of program.now next.id ≡ link_tree program.now.of.now (tree_of program.now) next) }
+    ensures within { IfSome result (IsWithin program.now.of.now) }
     ensures there { IfSome result (λ next. (link.now.other ≡ Some next.id) × (link.now.id < next.id)) }
 {
     let Some(id) = link.other else {
         return None;
     };
-    let node = program.node(id);
-    let note = program.note(id);
+    let node = program.of.node(id);
+    let note = program.of.note(id);
     if !is_link(node, note) {
         return None;
     }

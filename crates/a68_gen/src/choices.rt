@@ -2,10 +2,11 @@
 ghost use Rattle.std.specs.Option.{option_map_or};
 ghost use Rattle.std.specs.Prelude.{◌≡◌, ◌<◌, ◌≤◌, ◌+◌, ◌∷◌, ◌++◌, [], not, length, IfSome};
 ghost use Rattle.a68_elab.specs.Made as made;
-ghost use Rattle.a68_elab.specs.Made.{behind, tree_at, trees_at};
+ghost use Rattle.a68_elab.specs.Made.{behind, trees_at};
 ghost use Rattle.a68_gen.specs.Chains.{IsOpen, IsWhole, IsWithin, enquiry_tree, jump_of, link_list, link_tree, other_tree};
 ghost use Rattle.a68_gen.specs.Listing.{arm_places, arm_stretches, instr, size, stretch};
 ghost use Rattle.a68_gen.specs.Numbers.{arm_jumps, case_list};
+ghost use Rattle.a68_gen.specs.Views.{tree_of};
 ghost use Rattle.a68_gen.specs.Writers.{Wrote};
 ghost use Rattle.a68_modes.specs.Nodes.{shape_at, is_void};
 ghost use Rattle.a68_tree.specs.Trees.{AllBetween};
@@ -13,10 +14,10 @@ ghost use Rattle.a68_tree.specs.Trees.{AllBetween};
 use crate::chains::{Link, link_of, next_link};
 use crate::emit::zeros;
 use crate::ends::{Opened, close_all, keep, keep_open, shut};
-use crate::numbered::Numbered;
 use crate::rows::{unit, write_part};
 use crate::single::unbuilt;
 use crate::turns::enquire;
+use crate::view::View;
 use crate::writer::Writer;
 use a68_code::{Does, Places};
 use a68_modes::ModeId;
@@ -28,15 +29,15 @@ use std::alloc::Global;
 #[cycle(units)]
 pub fn otherwise(
     alloc: Global,
-    program: &Numbered,
+    program: &View,
     id: NodeId,
     part: Option<NodeId>,
     place: u32,
     goal: ModeId,
     out: &mut Writer,
 )
-    requires { IfSome part (λ p. (id < p) × (p < length program.now.tree.nodes)) }
-    ensures { Wrote out.old out.new (stretch (option_map_or (tree_at program.now) part (made.left_out place goal)) (length out.old.list)) }
+    requires { IfSome part (λ p. (id < p) × (p < length program.now.of.now.tree.nodes)) }
+    ensures { Wrote out.old out.new (stretch (option_map_or (tree_of program.now) part (made.left_out place goal)) (length out.old.list)) }
 {
     match part {
         Some(part) => unit(alloc, program, part, out),
@@ -46,15 +47,15 @@ pub fn otherwise(
 
 // [enquiry] Unless x [part] Jump 0 x: and gives the number of the Jump. With slots Enter stands before it.
 #[cycle(units)]
-fn write_link(alloc: Global, program: &Numbered, link: &Link, out: &mut Writer) -> u32
-    requires { IsWithin program.now link.now }
-    ensures writes { Wrote out.old out.new (link_list link.now.at link.now.slots link.now.place (enquiry_tree program.now (tree_at program.now) link.now)
-        (tree_at program.now link.now.part) (length out.old.list)) }
-    ensures jump { out.new.stop ≡ None → result ≡ jump_of link.now.at link.now.slots (enquiry_tree program.now (tree_at program.now) link.now)
-        (tree_at program.now link.now.part) (length out.old.list) }
+fn write_link(alloc: Global, program: &View, link: &Link, out: &mut Writer) -> u32
+    requires { IsWithin program.now.of.now link.now }
+    ensures writes { Wrote out.old out.new (link_list link.now.at link.now.slots link.now.place (enquiry_tree program.now.of.now (tree_of program.now) link.now)
+        (tree_of program.now link.now.part) (length out.old.list)) }
+    ensures jump { out.new.stop ≡ None → result ≡ jump_of link.now.at link.now.slots (enquiry_tree program.now.of.now (tree_of program.now) link.now)
+        (tree_of program.now link.now.part) (length out.old.list) }
 {
     let place = link.place;
-    let phrases = program.parts(link.enquiry);
+    let phrases = program.of.parts(link.enquiry);
     enquire(
         alloc,
         program,
@@ -79,16 +80,16 @@ fn write_link(alloc: Global, program: &Numbered, link: &Link, out: &mut Writer) 
 #[cycle(units)]
 fn write_links(
     alloc: Global,
-    program: &Numbered,
+    program: &View,
     first: Link,
     opens: &mut Vec<Opened>,
     out: &mut Writer,
 ) -> Link
-    requires within { IsWithin program.now first }
+    requires within { IsWithin program.now.of.now first }
     requires empty { opens.old.items ≡ [] }
-    ensures within { IsWithin program.now result }
+    ensures within { IsWithin program.now.of.now result }
     ensures behind { first.id ≤ result.id }
-    ensures chain { IsOpen (IsWhole (link_tree program.now (tree_at program.now) first) out.old.stop out.old.list) opens.new.items (other_tree (tree_at program.now) result)
+    ensures chain { IsOpen (IsWhole (link_tree program.now.of.now (tree_of program.now) first) out.old.stop out.old.list) opens.new.items (other_tree (tree_of program.now) result)
         out.new.stop out.new.list }
 {
     let mut link = first;
@@ -104,9 +105,9 @@ fn write_links(
 
 // A chain of choices: no more of the stack is needed however long it is.
 #[cycle(units)]
-fn chain(alloc: Global, program: &Numbered, first: Link, out: &mut Writer)
-    requires { IsWithin program.now first }
-    ensures { Wrote out.old out.new (stretch (link_tree program.now (tree_at program.now) first) (length out.old.list)) }
+fn chain(alloc: Global, program: &View, first: Link, out: &mut Writer)
+    requires { IsWithin program.now.of.now first }
+    ensures { Wrote out.old out.new (stretch (link_tree program.now.of.now (tree_of program.now) first) (length out.old.list)) }
 {
     let mut opens = Vec::new(alloc);
     let last = write_links(alloc, program, first, &mut opens, out);
@@ -120,16 +121,16 @@ fn chain(alloc: Global, program: &Numbered, first: Link, out: &mut Writer)
 #[cycle(units)]
 pub fn conditional(
     alloc: Global,
-    program: &Numbered,
+    program: &View,
     id: NodeId,
     parts: &[NodeId],
     place: u32,
     goal: ModeId,
     out: &mut Writer,
 )
-    requires { AllBetween id (length program.now.tree.nodes) parts.now }
-    ensures { Wrote out.old out.new (stretch (made.choice_of program.now (behind id (tree_at program.now)) place goal
-        (not (is_void (shape_at program.now.modes goal))) parts.now) (length out.old.list)) }
+    requires { AllBetween id (length program.now.of.now.tree.nodes) parts.now }
+    ensures { Wrote out.old out.new (stretch (made.choice_of program.now.of.now (behind id (tree_of program.now)) place goal
+        (not (is_void (shape_at program.now.of.now.modes goal))) parts.now) (length out.old.list)) }
 {
     match link_of(program, id, parts, place, goal) {
         Some(first) => chain(alloc, program, first, out),
@@ -141,7 +142,7 @@ pub fn conditional(
 #[cycle(units)]
 fn write_arm(
     alloc: Global,
-    program: &Numbered,
+    program: &View,
     id: NodeId,
     part: NodeId,
     place: u32,
@@ -149,10 +150,10 @@ fn write_arm(
     jumps: &mut Vec<u32>,
     out: &mut Writer,
 )
-    requires { (id < part) × (part < length program.now.tree.nodes) }
-    ensures writes { Wrote out.old out.new (stretch (behind id (tree_at program.now) part) (length out.old.list) ++ instr place (Does.Jump 0) ∷ []) }
+    requires { (id < part) × (part < length program.now.of.now.tree.nodes) }
+    ensures writes { Wrote out.old out.new (stretch (behind id (tree_of program.now) part) (length out.old.list) ++ instr place (Does.Jump 0) ∷ []) }
     ensures starts { out.new.stop ≡ None → starts.new.items ≡ starts.old.items ++ length out.old.list ∷ [] }
-    ensures jumps { out.new.stop ≡ None → jumps.new.items ≡ jumps.old.items ++ (length out.old.list + size (behind id (tree_at program.now) part)) ∷ [] }
+    ensures jumps { out.new.stop ≡ None → jumps.new.items ≡ jumps.old.items ++ (length out.old.list + size (behind id (tree_of program.now) part)) ∷ [] }
 {
     let start = out.len();
     keep(starts, start, out);
@@ -167,7 +168,7 @@ fn write_arm(
 #[cycle(units)]
 fn write_arms(
     alloc: Global,
-    program: &Numbered,
+    program: &View,
     id: NodeId,
     parts: &[NodeId],
     place: u32,
@@ -175,12 +176,12 @@ fn write_arms(
     jumps: &mut Vec<u32>,
     out: &mut Writer,
 )
-    requires between { AllBetween id (length program.now.tree.nodes) parts.now }
+    requires between { AllBetween id (length program.now.of.now.tree.nodes) parts.now }
     requires no_starts { starts.old.items ≡ [] }
     requires no_jumps { jumps.old.items ≡ [] }
-    ensures writes { Wrote out.old out.new (arm_stretches place 0 (trees_at (behind id (tree_at program.now)) parts.now) (length out.old.list)) }
-    ensures starts { out.new.stop ≡ None → starts.new.items ≡ arm_places (trees_at (behind id (tree_at program.now)) parts.now) (length out.old.list) ++ length out.new.list ∷ [] }
-    ensures jumps { out.new.stop ≡ None → jumps.new.items ≡ arm_jumps (trees_at (behind id (tree_at program.now)) parts.now) (length out.old.list) }
+    ensures writes { Wrote out.old out.new (arm_stretches place 0 (trees_at (behind id (tree_of program.now)) parts.now) (length out.old.list)) }
+    ensures starts { out.new.stop ≡ None → starts.new.items ≡ arm_places (trees_at (behind id (tree_of program.now)) parts.now) (length out.old.list) ++ length out.new.list ∷ [] }
+    ensures jumps { out.new.stop ≡ None → jumps.new.items ≡ arm_jumps (trees_at (behind id (tree_of program.now)) parts.now) (length out.old.list) }
 {
     for part in parts {
         write_arm(alloc, program, id, *part, place, starts, jumps, out);
@@ -193,7 +194,7 @@ fn write_arms(
 #[cycle(units)]
 fn choose(
     alloc: Global,
-    program: &Numbered,
+    program: &View,
     id: NodeId,
     parts: &[NodeId],
     other: Option<NodeId>,
@@ -201,9 +202,9 @@ fn choose(
     goal: ModeId,
     out: &mut Writer,
 )
-    requires between { AllBetween id (length program.now.tree.nodes) parts.now }
-    requires other { IfSome other (λ p. (id < p) × (p < length program.now.tree.nodes)) }
-    ensures { Wrote out.old out.new (case_list place (trees_at (behind id (tree_at program.now)) parts.now) (option_map_or (tree_at program.now) other (made.left_out place goal))
+    requires between { AllBetween id (length program.now.of.now.tree.nodes) parts.now }
+    requires other { IfSome other (λ p. (id < p) × (p < length program.now.of.now.tree.nodes)) }
+    ensures { Wrote out.old out.new (case_list place (trees_at (behind id (tree_of program.now)) parts.now) (option_map_or (tree_of program.now) other (made.left_out place goal))
         (length out.old.list)) }
 {
     let Ok(items) = zeros(alloc, parts.len() + 1) else {
@@ -234,16 +235,16 @@ fn choose(
 #[cycle(units)]
 pub fn case(
     alloc: Global,
-    program: &Numbered,
+    program: &View,
     id: NodeId,
     parts: &[NodeId],
     place: u32,
     goal: ModeId,
     out: &mut Writer,
 )
-    requires { AllBetween id (length program.now.tree.nodes) parts.now }
-    ensures { Wrote out.old out.new (stretch (made.case_of program.now (behind id (tree_at program.now)) place goal
-        (not (is_void (shape_at program.now.modes goal))) parts.now) (length out.old.list)) }
+    requires { AllBetween id (length program.now.of.now.tree.nodes) parts.now }
+    ensures { Wrote out.old out.new (stretch (made.case_of program.now.of.now (behind id (tree_of program.now)) place goal
+        (not (is_void (shape_at program.now.of.now.modes goal))) parts.now) (length out.old.list)) }
 {
     if parts.len() == 0 {
         unbuilt(out);
@@ -251,12 +252,12 @@ pub fn case(
     }
     let enquiry = parts[0];
     let rest = &parts[1..];
-    let begin = program.node(enquiry).span.from;
-    let slots = program.note(enquiry).slots;
-    let phrases = program.parts(enquiry);
+    let begin = program.of.node(enquiry).span.from;
+    let slots = program.of.note(enquiry).slots;
+    let phrases = program.of.parts(enquiry);
     enquire(alloc, program, enquiry, phrases, begin, slots, out);
-    let units = before_out(program.annotated(), id, rest);
-    let other = out_of(program.annotated(), id, rest);
+    let units = before_out(program.of.annotated(), id, rest);
+    let other = out_of(program.of.annotated(), id, rest);
     choose(alloc, program, id, units, other, place, goal, out);
-    shut(place, slots, !program.is_void(goal), out);
+    shut(place, slots, !program.of.is_void(goal), out);
 }

@@ -4,13 +4,14 @@ ghost use Rattle.std.specs.Prelude.{◌≡◌, ◌<◌, ◌+◌, ◌⊎◌, ◌�
 ghost use Rattle.a68_acts.specs.Members.{members_of};
 ghost use Rattle.a68_acts.specs.Operations as operations;
 ghost use Rattle.a68_elab.specs.Made as made;
-ghost use Rattle.a68_elab.specs.Made.{behind, specs_of, tree_at};
+ghost use Rattle.a68_elab.specs.Made.{behind, specs_of};
 ghost use Rattle.a68_elab.specs.Rows.{is_among};
 ghost use Rattle.a68_elab.specs.Trees.{Tree};
 ghost use Rattle.a68_gen.specs.Conforming.{IsUnaimed, conform_list, spec_body, spec_jumps, spec_size, takes_of};
 ghost use Rattle.a68_gen.specs.Listing.{instr, spec_places, spec_stretches, stretch};
 ghost use Rattle.a68_gen.specs.Numbers.{put_all};
 ghost use Rattle.a68_gen.specs.Stretches.{member_places, place_for, whole_for, wholes_of};
+ghost use Rattle.a68_gen.specs.Views.{tree_of};
 ghost use Rattle.a68_gen.specs.Writers.{Wrote};
 ghost use Rattle.a68_gen.specs.Writing.{ran_out};
 ghost use Rattle.a68_modes.specs.Nodes.{shape_at, is_void};
@@ -19,10 +20,10 @@ ghost use Rattle.a68_tree.specs.Trees.{AllBetween};
 use crate::choices::otherwise;
 use crate::emit::zeros;
 use crate::ends::{keep, shut};
-use crate::numbered::Numbered;
 use crate::rows::write_part;
 use crate::single::unbuilt;
 use crate::turns::enquire;
+use crate::view::View;
 use crate::writer::Writer;
 use a68_base::NoMemory;
 use a68_code::{Does, Places};
@@ -32,19 +33,19 @@ use a68_tree::NodeId;
 use std::alloc::Global;
 
 // The mode that is asked of a node.
-fn goal_at(program: &Numbered, id: NodeId) -> ModeId
-    requires { id < length program.now.tree.nodes }
-    ensures { result ≡ made.goal_at program.now id }
+fn goal_at(program: &View, id: NodeId) -> ModeId
+    requires { id < length program.now.of.now.tree.nodes }
+    ensures { result ≡ made.goal_at program.now.of.now id }
 {
-    program.note(id).goal
+    program.of.note(id).goal
 }
 
 // The mode of a specification: that of its declarer.
-fn spec_mode(program: &Numbered, id: NodeId) -> ModeId
-    requires { id < length program.now.tree.nodes }
-    ensures { result ≡ made.spec_mode program.now (made.parts_at program.now id) }
+fn spec_mode(program: &View, id: NodeId) -> ModeId
+    requires { id < length program.now.of.now.tree.nodes }
+    ensures { result ≡ made.spec_mode program.now.of.now (made.parts_at program.now.of.now id) }
 {
-    let parts = program.parts(id);
+    let parts = program.of.parts(id);
     if parts.len() == 0 {
         return 0;
     }
@@ -52,11 +53,11 @@ fn spec_mode(program: &Numbered, id: NodeId) -> ModeId
 }
 
 // Has a specification a tag?
-fn has_tag(program: &Numbered, id: NodeId) -> bool
-    requires { id < length program.now.tree.nodes }
-    ensures { result ≡ made.has_tag (made.parts_at program.now id) }
+fn has_tag(program: &View, id: NodeId) -> bool
+    requires { id < length program.now.of.now.tree.nodes }
+    ensures { result ≡ made.has_tag (made.parts_at program.now.of.now id) }
 {
-    program.parts(id).len() == 2
+    program.of.parts(id).len() == 2
 }
 
 // Is a mode one of these?
@@ -104,15 +105,15 @@ fn takes(modes: &Modes, mode: ModeId, member: ModeId) -> bool
 
 // The place of the first of these specifications that takes a member, of these places; that for none where there is none.
 fn place_for(
-    program: &Numbered,
+    program: &View,
     id: NodeId,
     specs: &[NodeId],
     member: ModeId,
     starts: &[u32],
     none: u32,
 ) -> u32
-    requires { AllBetween id (length program.now.tree.nodes) specs.now }
-    ensures { (f : ℕ → Tree) → result ≡ place_for member (specs_of program.now f specs.now) starts.now none }
+    requires { AllBetween id (length program.now.of.now.tree.nodes) specs.now }
+    ensures { (f : ℕ → Tree) → result ≡ place_for member (specs_of program.now.of.now f specs.now) starts.now none }
 {
     let mut at = 0;
     let mut which = 0;
@@ -120,7 +121,7 @@ fn place_for(
         if which >= starts.len() {
             return none;
         }
-        if takes(program.modes(), spec_mode(program, specs[at]), member) {
+        if takes(program.of.modes(), spec_mode(program, specs[at]), member) {
             return starts[which];
         }
         which += 1;
@@ -130,15 +131,15 @@ fn place_for(
 }
 
 // 1 where the first of these specifications that takes a member takes the united value.
-fn whole_for(program: &Numbered, id: NodeId, specs: &[NodeId], member: ModeId) -> u32
-    requires { AllBetween id (length program.now.tree.nodes) specs.now }
-    ensures { (f : ℕ → Tree) → result ≡ whole_for member (specs_of program.now f specs.now) }
+fn whole_for(program: &View, id: NodeId, specs: &[NodeId], member: ModeId) -> u32
+    requires { AllBetween id (length program.now.of.now.tree.nodes) specs.now }
+    ensures { (f : ℕ → Tree) → result ≡ whole_for member (specs_of program.now.of.now f specs.now) }
 {
     let mut at = 0;
     while at + 1 < specs.len() {
         let mode = spec_mode(program, specs[at]);
-        if takes(program.modes(), mode, member) {
-            return u32::from(is_union(program.modes(), mode));
+        if takes(program.of.modes(), mode, member) {
+            return u32::from(is_union(program.of.modes(), mode));
         }
         at += 2;
     }
@@ -148,15 +149,15 @@ fn whole_for(program: &Numbered, id: NodeId, specs: &[NodeId], member: ModeId) -
 // Where each of these members is taken, and the place for none.
 fn places_for(
     alloc: Global,
-    program: &Numbered,
+    program: &View,
     id: NodeId,
     specs: &[NodeId],
     members: &[ModeId],
     starts: &[u32],
     none: u32,
 ) -> Result<Vec<u32>, NoMemory>
-    requires { AllBetween id (length program.now.tree.nodes) specs.now }
-    ensures { IfOk result (λ places. places.items ≡ member_places members.now (specs_of program.now (behind id (tree_at program.now)) specs.now) starts.now none) }
+    requires { AllBetween id (length program.now.of.now.tree.nodes) specs.now }
+    ensures { IfOk result (λ places. places.items ≡ member_places members.now (specs_of program.now.of.now (behind id (tree_of program.now)) specs.now) starts.now none) }
 {
     let mut places = Vec::new(alloc);
     for member in members {
@@ -169,13 +170,13 @@ fn places_for(
 // Which of these members are left united.
 fn wholes_for(
     alloc: Global,
-    program: &Numbered,
+    program: &View,
     id: NodeId,
     specs: &[NodeId],
     members: &[ModeId],
 ) -> Result<Vec<u32>, NoMemory>
-    requires { AllBetween id (length program.now.tree.nodes) specs.now }
-    ensures { IfOk result (λ wholes. wholes.items ≡ wholes_of members.now (specs_of program.now (behind id (tree_at program.now)) specs.now)) }
+    requires { AllBetween id (length program.now.of.now.tree.nodes) specs.now }
+    ensures { IfOk result (λ wholes. wholes.items ≡ wholes_of members.now (specs_of program.now.of.now (behind id (tree_of program.now)) specs.now)) }
 {
     let mut wholes = Vec::new(alloc);
     for member in members {
@@ -187,14 +188,14 @@ fn wholes_for(
 // A Member whose places are yet to come.
 fn unaimed(
     alloc: Global,
-    program: &Numbered,
+    program: &View,
     id: NodeId,
     specs: &[NodeId],
     union: ModeId,
     members: &[ModeId],
 ) -> Result<Does, NoMemory>
-    requires { AllBetween id (length program.now.tree.nodes) specs.now }
-    ensures { IfOk result (IsUnaimed union (length members.now + 1) (wholes_of members.now (specs_of program.now (behind id (tree_at program.now)) specs.now))) }
+    requires { AllBetween id (length program.now.of.now.tree.nodes) specs.now }
+    ensures { IfOk result (IsUnaimed union (length members.now + 1) (wholes_of members.now (specs_of program.now.of.now (behind id (tree_of program.now)) specs.now))) }
 {
     let places = zeros(alloc, members.len() + 1)?;
     let whole = wholes_for(alloc, program, id, specs, members)?;
@@ -208,7 +209,7 @@ fn unaimed(
 // Puts its places into a Member.
 fn aim_member(
     alloc: Global,
-    program: &Numbered,
+    program: &View,
     id: NodeId,
     specs: &[NodeId],
     members: &[ModeId],
@@ -217,8 +218,8 @@ fn aim_member(
     none: u32,
     out: &mut Writer,
 )
-    requires { AllBetween id (length program.now.tree.nodes) specs.now }
-    ensures { ((out.new.list ≡ put_all out.old.list at 0 (member_places members.now (specs_of program.now (behind id (tree_at program.now)) specs.now) starts.now none))
+    requires { AllBetween id (length program.now.of.now.tree.nodes) specs.now }
+    ensures { ((out.new.list ≡ put_all out.old.list at 0 (member_places members.now (specs_of program.now.of.now (behind id (tree_of program.now)) specs.now) starts.now none))
         × (out.new.stop ≡ out.old.stop)) ⊎ (out.new.stop ≡ ran_out out.old.stop) }
 {
     match places_for(alloc, program, id, specs, members, starts, none) {
@@ -231,7 +232,7 @@ fn aim_member(
 #[cycle(units)]
 fn write_specified(
     alloc: Global,
-    program: &Numbered,
+    program: &View,
     id: NodeId,
     part: NodeId,
     tagged: bool,
@@ -239,8 +240,8 @@ fn write_specified(
     place: u32,
     out: &mut Writer,
 )
-    requires { (id < part) × (part < length program.now.tree.nodes) }
-    ensures { Wrote out.old out.new (spec_body place yields tagged (behind id (tree_at program.now) part) (length out.old.list)) }
+    requires { (id < part) × (part < length program.now.of.now.tree.nodes) }
+    ensures { Wrote out.old out.new (spec_body place yields tagged (behind id (tree_of program.now) part) (length out.old.list)) }
 {
     if !tagged {
         out.emit(place, Does::Drop);
@@ -257,7 +258,7 @@ fn write_specified(
 #[cycle(units)]
 fn write_spec(
     alloc: Global,
-    program: &Numbered,
+    program: &View,
     id: NodeId,
     part: NodeId,
     tagged: bool,
@@ -267,10 +268,10 @@ fn write_spec(
     jumps: &mut Vec<u32>,
     out: &mut Writer,
 )
-    requires { (id < part) × (part < length program.now.tree.nodes) }
-    ensures writes { Wrote out.old out.new (spec_body place yields tagged (behind id (tree_at program.now) part) (length out.old.list) ++ instr place (Does.Jump 0) ∷ []) }
+    requires { (id < part) × (part < length program.now.of.now.tree.nodes) }
+    ensures writes { Wrote out.old out.new (spec_body place yields tagged (behind id (tree_of program.now) part) (length out.old.list) ++ instr place (Does.Jump 0) ∷ []) }
     ensures starts { out.new.stop ≡ None → starts.new.items ≡ starts.old.items ++ length out.old.list ∷ [] }
-    ensures jumps { out.new.stop ≡ None → jumps.new.items ≡ jumps.old.items ++ (length out.old.list + spec_size tagged (behind id (tree_at program.now) part)) ∷ [] }
+    ensures jumps { out.new.stop ≡ None → jumps.new.items ≡ jumps.old.items ++ (length out.old.list + spec_size tagged (behind id (tree_of program.now) part)) ∷ [] }
 {
     let start = out.len();
     keep(starts, start, out);
@@ -285,7 +286,7 @@ fn write_spec(
 #[cycle(units)]
 fn write_specs(
     alloc: Global,
-    program: &Numbered,
+    program: &View,
     id: NodeId,
     specs: &[NodeId],
     yields: bool,
@@ -294,12 +295,12 @@ fn write_specs(
     jumps: &mut Vec<u32>,
     out: &mut Writer,
 )
-    requires between { AllBetween id (length program.now.tree.nodes) specs.now }
+    requires between { AllBetween id (length program.now.of.now.tree.nodes) specs.now }
     requires no_starts { starts.old.items ≡ [] }
     requires no_jumps { jumps.old.items ≡ [] }
-    ensures writes { Wrote out.old out.new (spec_stretches place 0 yields (specs_of program.now (behind id (tree_at program.now)) specs.now) (length out.old.list)) }
-    ensures starts { out.new.stop ≡ None → starts.new.items ≡ spec_places (specs_of program.now (behind id (tree_at program.now)) specs.now) (length out.old.list) }
-    ensures jumps { out.new.stop ≡ None → jumps.new.items ≡ spec_jumps (specs_of program.now (behind id (tree_at program.now)) specs.now) (length out.old.list) }
+    ensures writes { Wrote out.old out.new (spec_stretches place 0 yields (specs_of program.now.of.now (behind id (tree_of program.now)) specs.now) (length out.old.list)) }
+    ensures starts { out.new.stop ≡ None → starts.new.items ≡ spec_places (specs_of program.now.of.now (behind id (tree_of program.now)) specs.now) (length out.old.list) }
+    ensures jumps { out.new.stop ≡ None → jumps.new.items ≡ spec_jumps (specs_of program.now.of.now (behind id (tree_of program.now)) specs.now) (length out.old.list) }
 {
     let mut at = 0;
     while at + 1 < specs.len() {
@@ -324,7 +325,7 @@ fn write_specs(
 #[cycle(units)]
 fn conform(
     alloc: Global,
-    program: &Numbered,
+    program: &View,
     id: NodeId,
     specs: &[NodeId],
     other: Option<NodeId>,
@@ -333,12 +334,12 @@ fn conform(
     goal: ModeId,
     out: &mut Writer,
 )
-    requires between { AllBetween id (length program.now.tree.nodes) specs.now }
-    requires other { IfSome other (λ p. (id < p) × (p < length program.now.tree.nodes)) }
-    ensures { Wrote out.old out.new (conform_list place union (members_of (shape_at program.now.modes union)) (not (is_void (shape_at program.now.modes goal)))
-        (specs_of program.now (behind id (tree_at program.now)) specs.now) (option_map_or (tree_at program.now) other (made.left_out place goal)) (length out.old.list)) }
+    requires between { AllBetween id (length program.now.of.now.tree.nodes) specs.now }
+    requires other { IfSome other (λ p. (id < p) × (p < length program.now.of.now.tree.nodes)) }
+    ensures { Wrote out.old out.new (conform_list place union (members_of (shape_at program.now.of.now.modes union)) (not (is_void (shape_at program.now.of.now.modes goal)))
+        (specs_of program.now.of.now (behind id (tree_of program.now)) specs.now) (option_map_or (tree_of program.now) other (made.left_out place goal)) (length out.old.list)) }
 {
-    let members = members_of(program.modes(), union);
+    let members = members_of(program.of.modes(), union);
     let Ok(does) = unaimed(alloc, program, id, specs, union, members) else {
         out.run_out();
         return;
@@ -347,7 +348,7 @@ fn conform(
     out.emit(place, does);
     let mut starts = Vec::new(alloc);
     let mut jumps = Vec::new(alloc);
-    let yields = !program.is_void(goal);
+    let yields = !program.of.is_void(goal);
     write_specs(
         alloc,
         program,
@@ -372,16 +373,16 @@ fn conform(
 #[cycle(units)]
 pub fn conformity(
     alloc: Global,
-    program: &Numbered,
+    program: &View,
     id: NodeId,
     parts: &[NodeId],
     place: u32,
     goal: ModeId,
     out: &mut Writer,
 )
-    requires { AllBetween id (length program.now.tree.nodes) parts.now }
-    ensures { Wrote out.old out.new (stretch (made.conformity_of program.now (behind id (tree_at program.now)) place goal
-        (not (is_void (shape_at program.now.modes goal))) parts.now) (length out.old.list)) }
+    requires { AllBetween id (length program.now.of.now.tree.nodes) parts.now }
+    ensures { Wrote out.old out.new (stretch (made.conformity_of program.now.of.now (behind id (tree_of program.now)) place goal
+        (not (is_void (shape_at program.now.of.now.modes goal))) parts.now) (length out.old.list)) }
 {
     if parts.len() == 0 {
         unbuilt(out);
@@ -389,13 +390,13 @@ pub fn conformity(
     }
     let enquiry = parts[0];
     let rest = &parts[1..];
-    let begin = program.node(enquiry).span.from;
-    let slots = program.note(enquiry).slots;
-    let phrases = program.parts(enquiry);
+    let begin = program.of.node(enquiry).span.from;
+    let slots = program.of.note(enquiry).slots;
+    let phrases = program.of.parts(enquiry);
     enquire(alloc, program, enquiry, phrases, begin, slots, out);
-    let specs = before_out(program.annotated(), id, rest);
-    let other = out_of(program.annotated(), id, rest);
+    let specs = before_out(program.of.annotated(), id, rest);
+    let other = out_of(program.of.annotated(), id, rest);
     let union = goal_at(program, enquiry);
     conform(alloc, program, id, specs, other, union, place, goal, out);
-    shut(place, slots, !program.is_void(goal), out);
+    shut(place, slots, !program.of.is_void(goal), out);
 }

@@ -16,6 +16,7 @@ mod rows;
 mod single;
 mod translate;
 mod turns;
+mod view;
 mod writer;
 
 pub use translate::{generate, translations_are_listings};

@@ -7,27 +7,27 @@ ghost use Rattle.a68_gen.specs.Listing as listing;
 ghost use Rattle.a68_gen.specs.Listing.{instr};
 ghost use Rattle.a68_gen.specs.Writers.{Wrote};
 
-use crate::numbered::Numbered;
+use crate::view::View;
 use crate::writer::Writer;
 use a68_code::Does;
 use a68_runs::{LoopParts, only_id};
 use a68_tree::NodeId;
 
 // Has the range of WHILE a frame?
-fn is_deeper(program: &Numbered, id: NodeId) -> bool
-    requires { id < length program.now.tree.nodes }
-    ensures { (f : ℕ → Tree) (n : ℕ) → trees.deeper_in (made.test_of program.now f (Some id)) n ≡ (if result then n + 1 else n) }
+fn is_deeper(program: &View, id: NodeId) -> bool
+    requires { id < length program.now.of.now.tree.nodes }
+    ensures { (f : ℕ → Tree) (n : ℕ) → trees.deeper_in (made.test_of program.now.of.now f (Some id)) n ≡ (if result then n + 1 else n) }
 {
-    match only_id(program.parts(id)) {
-        Some(clause) => program.note(clause).slots > 0,
+    match only_id(program.of.parts(id)) {
+        Some(clause) => program.of.note(clause).slots > 0,
         None => false,
     }
 }
 
 /// How many frames a turn of a loop makes: that of FOR, and that of WHILE.
-pub fn depth(program: &Numbered, parts: &LoopParts) -> u32
-    requires { IfSome parts.now.test (λ p. p < length program.now.tree.nodes) }
-    ensures frames { (f : ℕ → Tree) → result ≡ trees.depth_of parts.now.counts (made.test_of program.now f parts.now.test) }
+pub fn depth(program: &View, parts: &LoopParts) -> u32
+    requires { IfSome parts.now.test (λ p. p < length program.now.of.now.tree.nodes) }
+    ensures frames { (f : ℕ → Tree) → result ≡ trees.depth_of parts.now.counts (made.test_of program.now.of.now f parts.now.test) }
     ensures few { result ≤ 2 }
 {
     let counts = u32::from(parts.counts);

@@ -1,38 +1,41 @@
 //! New names, with their bounds.
 ghost use Rattle.std.specs.Prelude.{◌≡◌, ◌<◌, ◌&&◌, nat_lt, length, false, true};
 ghost use Rattle.a68_elab.specs.Made as made;
-ghost use Rattle.a68_elab.specs.Made.{behind, tree_at, trees_at};
+ghost use Rattle.a68_elab.specs.Made.{behind, trees_at};
+ghost use Rattle.a68_elab.specs.declared.sight.Sight.TheVariants as sights;
 ghost use Rattle.a68_gen.specs.Listing.{stretch, stretches};
 ghost use Rattle.a68_gen.specs.Sources.{assigned_tree, named};
+ghost use Rattle.a68_gen.specs.Views.{bound_of, tree_of};
 ghost use Rattle.a68_gen.specs.Writers.{Wrote};
 ghost use Rattle.a68_modes.specs.Nodes.{shape_at};
 ghost use Rattle.a68_tree.specs.Trees.{AllBetween};
 
 use crate::emit::push_int;
 use crate::numbered::Numbered;
-use crate::rows::write_part;
+use crate::rows::{unit, write_part};
 use crate::single::{is_heap, new_does, unbuilt};
+use crate::view::View;
 use crate::writer::Writer;
 use a68_annot::Note;
 use a68_code::Does;
-use a68_elab::Bound;
+use a68_elab::{Bound, Sight};
 use a68_modes::ModeId;
 use a68_runs::{begins_in_heap, begins_with_declarer, behind_heap, behind_ref, bounds_of};
 use a68_tree::{Node, NodeId};
 use std::alloc::Global;
 
 // Does a node stand behind another one?
-fn stands_behind(program: &Numbered, id: NodeId, other: NodeId) -> bool
-    ensures { result ≡ (nat_lt id other && nat_lt other (length program.now.tree.nodes)) }
+fn stands_behind(program: &View, id: NodeId, other: NodeId) -> bool
+    ensures { result ≡ (nat_lt id other && nat_lt other (length program.now.of.now.tree.nodes)) }
 {
-    let count = program.len();
+    let count = program.of.len();
     id < other && other < count
 }
 
 // A bound that is written: [bound]. One that does not stand behind its construct is not built. No annotated tree has one.
 #[cycle(units)]
-fn write_written(alloc: Global, program: &Numbered, id: NodeId, bound: NodeId, out: &mut Writer)
-    ensures { Wrote out.old out.new (stretch (behind id (tree_at program.now) bound) (length out.old.list)) }
+fn write_written(alloc: Global, program: &View, id: NodeId, bound: NodeId, out: &mut Writer)
+    ensures { Wrote out.old out.new (stretch (behind id (tree_of program.now) bound) (length out.old.list)) }
 {
     if stands_behind(program, id, bound) {
         write_part(alloc, program, id, bound, out);
@@ -41,21 +44,50 @@ fn write_written(alloc: Global, program: &Numbered, id: NodeId, bound: NodeId, o
     }
 }
 
+// A bound of a definition that stands so many frames further out than where it is elaborated: [bound], as it is seen there.
+#[cycle(units)]
+fn write_outside(alloc: Global, program: &Numbered, frames: u32, bound: NodeId, out: &mut Writer)
+    ensures { Wrote out.old out.new (stretch (made.defined_bound program.now sights.Here frames bound) (length out.old.list)) }
+{
+    if bound >= program.len() {
+        unbuilt(out);
+        return;
+    }
+    let bytes = program.node(bound).span;
+    let within = View {
+        of: &*program,
+        sight: Sight::Within { frames, bytes },
+    };
+    unit(alloc, &within, bound, out);
+}
+
+// A bound of a definition: [bound]. Within such a bound no other is elaborated, and Push of 0 stands in its place.
+#[cycle(units)]
+fn write_defined(alloc: Global, program: &View, frames: u32, bound: NodeId, out: &mut Writer)
+    ensures { Wrote out.old out.new (stretch (bound_of program.now frames bound) (length out.old.list)) }
+{
+    match program.sight {
+        Sight::Here => write_outside(alloc, program.of, frames, bound, out),
+        Sight::Within { .. } => out.emit(0, push_int(0)),
+    }
+}
+
 // A bound: [bound], or Push of what is meant.
 #[cycle(units)]
 fn write_bound(
     alloc: Global,
-    program: &Numbered,
+    program: &View,
     id: NodeId,
     bound: Bound,
     place: u32,
     out: &mut Writer,
 )
-    ensures { Wrote out.old out.new (stretch (made.bound_tree (behind id (tree_at program.now)) place bound) (length out.old.list)) }
+    ensures { Wrote out.old out.new (stretch (made.bound_tree (bound_of program.now) (behind id (tree_of program.now)) place bound) (length out.old.list)) }
 {
     match bound {
         Bound::Written(bound) => write_written(alloc, program, id, bound, out),
         Bound::Meant(value) => out.emit(place, push_int(i64::from(value))),
+        Bound::Defined { frames, id } => write_defined(alloc, program, frames, id, out),
     }
 }
 
@@ -63,13 +95,13 @@ fn write_bound(
 #[cycle(units)]
 fn write_bounds(
     alloc: Global,
-    program: &Numbered,
+    program: &View,
     id: NodeId,
     bounds: &[Bound],
     place: u32,
     out: &mut Writer,
 )
-    ensures { Wrote out.old out.new (stretches (made.bound_trees (behind id (tree_at program.now)) place bounds.now) (length out.old.list)) }
+    ensures { Wrote out.old out.new (stretches (made.bound_trees (bound_of program.now) (behind id (tree_of program.now)) place bounds.now) (length out.old.list)) }
 {
     for bound in bounds {
         write_bound(alloc, program, id, *bound, place, out);
@@ -80,7 +112,7 @@ fn write_bounds(
 #[cycle(units)]
 fn bounded(
     alloc: Global,
-    program: &Numbered,
+    program: &View,
     id: NodeId,
     bounds: &[Bound],
     place: u32,
@@ -88,7 +120,7 @@ fn bounded(
     mode: ModeId,
     out: &mut Writer,
 )
-    ensures { Wrote out.old out.new (stretch (made.new_name in_heap place mode (made.bound_trees (behind id (tree_at program.now)) place bounds.now)) (length out.old.list)) }
+    ensures { Wrote out.old out.new (stretch (made.new_name in_heap place mode (made.bound_trees (bound_of program.now) (behind id (tree_of program.now)) place bounds.now)) (length out.old.list)) }
 {
     match u32::try_from(bounds.len()) {
         Ok(count) => {
@@ -103,7 +135,7 @@ fn bounded(
 #[cycle(units)]
 fn new_name(
     alloc: Global,
-    program: &Numbered,
+    program: &View,
     id: NodeId,
     parts: &[NodeId],
     place: u32,
@@ -111,9 +143,9 @@ fn new_name(
     mode: ModeId,
     out: &mut Writer,
 )
-    ensures { Wrote out.old out.new (stretch (named program.now (behind id (tree_at program.now)) in_heap place mode parts.now) (length out.old.list)) }
+    ensures { Wrote out.old out.new (stretch (named program.now.of.now (bound_of program.now) (behind id (tree_of program.now)) in_heap place mode parts.now) (length out.old.list)) }
 {
-    let Ok(bounds) = bounds_of(alloc, program.annotated(), parts) else {
+    let Ok(bounds) = bounds_of(alloc, program.of.annotated(), parts) else {
         out.run_out();
         return;
     };
@@ -124,18 +156,18 @@ fn new_name(
 #[cycle(units)]
 pub fn generator(
     alloc: Global,
-    program: &Numbered,
+    program: &View,
     id: NodeId,
     node: &Node,
     note: &Note,
     out: &mut Writer,
 )
-    requires { node.now.name < length program.now.tree.spellings }
-    ensures { Wrote out.old out.new (stretch (named program.now (behind id (tree_at program.now)) (made.is_one_of made.heaps (made.spelling_of program.now node.now))
-        node.now.span.from (made.behind_ref (shape_at program.now.modes note.now.mode)) node.now.parts) (length out.old.list)) }
+    requires { node.now.name < length program.now.of.now.tree.spellings }
+    ensures { Wrote out.old out.new (stretch (named program.now.of.now (bound_of program.now) (behind id (tree_of program.now)) (made.is_one_of made.heaps (made.spelling_of program.now.of.now node.now))
+        node.now.span.from (made.behind_ref (shape_at program.now.of.now.modes note.now.mode)) node.now.parts) (length out.old.list)) }
 {
     let in_heap = is_heap(program, node);
-    let mode = behind_ref(program.modes(), note.mode);
+    let mode = behind_ref(program.of.modes(), note.mode);
     new_name(
         alloc,
         program,
@@ -152,7 +184,7 @@ pub fn generator(
 #[cycle(units)]
 fn assigned(
     alloc: Global,
-    program: &Numbered,
+    program: &View,
     id: NodeId,
     parts: &[NodeId],
     source: NodeId,
@@ -161,11 +193,11 @@ fn assigned(
     note: &Note,
     out: &mut Writer,
 )
-    requires { (id < source) × (source < length program.now.tree.nodes) }
-    ensures { Wrote out.old out.new (stretch (let mode = made.behind_ref (shape_at program.now.modes note.now.mode) in
-        assigned_tree (named program.now (behind id (tree_at program.now)) in_heap place mode parts.now) place mode note.now.step.slot (behind id (tree_at program.now) source)) (length out.old.list)) }
+    requires { (id < source) × (source < length program.now.of.now.tree.nodes) }
+    ensures { Wrote out.old out.new (stretch (let mode = made.behind_ref (shape_at program.now.of.now.modes note.now.mode) in
+        assigned_tree (named program.now.of.now (bound_of program.now) (behind id (tree_of program.now)) in_heap place mode parts.now) place mode note.now.step.slot (behind id (tree_of program.now) source)) (length out.old.list)) }
 {
-    let mode = behind_ref(program.modes(), note.mode);
+    let mode = behind_ref(program.of.modes(), note.mode);
     new_name(alloc, program, id, parts, place, in_heap, mode, out);
     write_part(alloc, program, id, source, out);
     out.emit(place, Does::Store(mode));
@@ -176,7 +208,7 @@ fn assigned(
 #[cycle(units)]
 fn begun(
     alloc: Global,
-    program: &Numbered,
+    program: &View,
     id: NodeId,
     parts: &[NodeId],
     place: u32,
@@ -184,10 +216,10 @@ fn begun(
     note: &Note,
     out: &mut Writer,
 )
-    requires { AllBetween id (length program.now.tree.nodes) parts.now }
-    ensures { let mode = made.behind_ref (shape_at program.now.modes note.now.mode) in
-        Wrote out.old out.new (stretch (made.variable_of (named program.now (behind id (tree_at program.now)) in_heap place mode parts.now) false place mode note.now.step.slot
-        (trees_at (behind id (tree_at program.now)) parts.now)) (length out.old.list)) }
+    requires { AllBetween id (length program.now.of.now.tree.nodes) parts.now }
+    ensures { let mode = made.behind_ref (shape_at program.now.of.now.modes note.now.mode) in
+        Wrote out.old out.new (stretch (made.variable_of (named program.now.of.now (bound_of program.now) (behind id (tree_of program.now)) in_heap place mode parts.now) false place mode note.now.step.slot
+        (trees_at (behind id (tree_of program.now)) parts.now)) (length out.old.list)) }
 {
     if parts.len() != 1 {
         unbuilt(out);
@@ -202,7 +234,7 @@ fn begun(
 #[cycle(units)]
 fn declared(
     alloc: Global,
-    program: &Numbered,
+    program: &View,
     id: NodeId,
     parts: &[NodeId],
     place: u32,
@@ -210,13 +242,13 @@ fn declared(
     note: &Note,
     out: &mut Writer,
 )
-    requires { AllBetween id (length program.now.tree.nodes) parts.now }
-    ensures { let mode = made.behind_ref (shape_at program.now.modes note.now.mode) in
-        Wrote out.old out.new (stretch (made.variable_of (named program.now (behind id (tree_at program.now)) in_heap place mode parts.now) true place mode note.now.step.slot
-        (trees_at (behind id (tree_at program.now)) parts.now)) (length out.old.list)) }
+    requires { AllBetween id (length program.now.of.now.tree.nodes) parts.now }
+    ensures { let mode = made.behind_ref (shape_at program.now.of.now.modes note.now.mode) in
+        Wrote out.old out.new (stretch (made.variable_of (named program.now.of.now (bound_of program.now) (behind id (tree_of program.now)) in_heap place mode parts.now) true place mode note.now.step.slot
+        (trees_at (behind id (tree_of program.now)) parts.now)) (length out.old.list)) }
 {
     if parts.len() == 1 {
-        let mode = behind_ref(program.modes(), note.mode);
+        let mode = behind_ref(program.of.modes(), note.mode);
         new_name(alloc, program, id, parts, place, in_heap, mode, out);
         out.emit(place, Does::Bind(note.step.slot));
         return;
@@ -230,26 +262,51 @@ fn declared(
     );
 }
 
-/// A variable, in the heap where HEAP stands before its declarer.
+// A variable of these parts, in the heap where HEAP stands before its declarer.
 #[cycle(units)]
-pub fn variable(
+fn variable_of(
     alloc: Global,
-    program: &Numbered,
+    program: &View,
     id: NodeId,
     parts: &[NodeId],
     place: u32,
     note: &Note,
     out: &mut Writer,
 )
-    requires { AllBetween id (length program.now.tree.nodes) parts.now }
-    ensures { Wrote out.old out.new (stretch (made.variable program.now (behind id (tree_at program.now)) place (made.behind_ref (shape_at program.now.modes note.now.mode))
+    requires { AllBetween id (length program.now.of.now.tree.nodes) parts.now }
+    ensures { Wrote out.old out.new (stretch (made.variable program.now.of.now (bound_of program.now) (behind id (tree_of program.now)) place (made.behind_ref (shape_at program.now.of.now.modes note.now.mode))
         note.now.step.slot parts.now) (length out.old.list)) }
 {
-    let in_heap = begins_in_heap(program.annotated(), id, parts);
+    let in_heap = begins_in_heap(program.of.annotated(), id, parts);
     let rest = behind_heap(in_heap, parts);
-    if begins_with_declarer(program.annotated(), id, rest) {
+    if begins_with_declarer(program.of.annotated(), id, rest) {
         declared(alloc, program, id, rest, place, in_heap, note, out);
     } else {
         begun(alloc, program, id, rest, place, in_heap, note, out);
     }
+}
+
+/// A variable.
+#[cycle(units)]
+pub fn variable(
+    alloc: Global,
+    program: &View,
+    id: NodeId,
+    node: &Node,
+    note: &Note,
+    out: &mut Writer,
+)
+    requires { AllBetween id (length program.now.of.now.tree.nodes) node.now.parts }
+    ensures { Wrote out.old out.new (stretch (made.variable program.now.of.now (bound_of program.now) (behind id (tree_of program.now)) node.now.span.from
+        (made.behind_ref (shape_at program.now.of.now.modes note.now.mode)) note.now.step.slot node.now.parts) (length out.old.list)) }
+{
+    variable_of(
+        alloc,
+        program,
+        id,
+        &node.parts.items,
+        node.span.from,
+        note,
+        out,
+    );
 }

@@ -2,16 +2,17 @@
 ghost use Rattle.a68_acts.specs.Operations as operations;
 ghost use Rattle.std.specs.Prelude.{◌<◌, length};
 ghost use Rattle.a68_elab.specs.Made as made;
-ghost use Rattle.a68_elab.specs.Made.{behind, tree_at, trees_at};
+ghost use Rattle.a68_elab.specs.Made.{behind, trees_at};
 ghost use Rattle.a68_elab.specs.Trees as trees;
 ghost use Rattle.a68_gen.specs.Listing.{stretch, stretches};
+ghost use Rattle.a68_gen.specs.Views.{tree_of};
 ghost use Rattle.a68_gen.specs.Writers.{Wrote};
 ghost use Rattle.a68_modes.specs.Nodes.{shape_at};
 ghost use Rattle.a68_tree.specs.Trees.{AllBetween};
 
-use crate::numbered::Numbered;
 use crate::rows::{all, last, operation, write_part};
 use crate::single::{Form, field, form_at, forms_of, mode_in_front, unbuilt};
+use crate::view::View;
 use crate::writer::Writer;
 use a68_annot::Note;
 use a68_code::Does;
@@ -23,14 +24,14 @@ use std::alloc::Global;
 #[cycle(units)]
 fn structure(
     alloc: Global,
-    program: &Numbered,
+    program: &View,
     id: NodeId,
     parts: &[NodeId],
     place: u32,
     out: &mut Writer,
 )
-    requires { AllBetween id (length program.now.tree.nodes) parts.now }
-    ensures { let parts = trees_at (behind id (tree_at program.now)) parts.now in
+    requires { AllBetween id (length program.now.of.now.tree.nodes) parts.now }
+    ensures { let parts = trees_at (behind id (tree_of program.now)) parts.now in
         Wrote out.old out.new (stretch (trees.operation place (operations.compose (trees.count parts)) trees.collateral parts) (length out.old.list)) }
 {
     match u32::try_from(parts.len()) {
@@ -43,15 +44,15 @@ fn structure(
 #[cycle(units)]
 fn row(
     alloc: Global,
-    program: &Numbered,
+    program: &View,
     id: NodeId,
     parts: &[NodeId],
     place: u32,
     mode: ModeId,
     out: &mut Writer,
 )
-    requires { AllBetween id (length program.now.tree.nodes) parts.now }
-    ensures { let parts = trees_at (behind id (tree_at program.now)) parts.now in
+    requires { AllBetween id (length program.now.of.now.tree.nodes) parts.now }
+    ensures { let parts = trees_at (behind id (tree_of program.now)) parts.now in
         Wrote out.old out.new (stretch (trees.operation place (operations.display (trees.count parts) mode) trees.collateral parts) (length out.old.list)) }
 {
     match u32::try_from(parts.len()) {
@@ -72,15 +73,15 @@ fn row(
 #[cycle(units)]
 pub fn collateral(
     alloc: Global,
-    program: &Numbered,
+    program: &View,
     id: NodeId,
     parts: &[NodeId],
     place: u32,
     note: &Note,
     out: &mut Writer,
 )
-    requires { AllBetween id (length program.now.tree.nodes) parts.now }
-    ensures { Wrote out.old out.new (stretch (made.collateral_of (shape_at program.now.modes note.now.goal) place note.now.goal (trees_at (behind id (tree_at program.now)) parts.now))
+    requires { AllBetween id (length program.now.of.now.tree.nodes) parts.now }
+    ensures { Wrote out.old out.new (stretch (made.collateral_of (shape_at program.now.of.now.modes note.now.goal) place note.now.goal (trees_at (behind id (tree_of program.now)) parts.now))
         (length out.old.list)) }
 {
     match form_at(program, note.goal) {
@@ -95,16 +96,16 @@ pub fn collateral(
 #[cycle(units)]
 pub fn selection(
     alloc: Global,
-    program: &Numbered,
+    program: &View,
     id: NodeId,
     parts: &[NodeId],
     place: u32,
     name: u32,
     out: &mut Writer,
 )
-    requires { AllBetween id (length program.now.tree.nodes) parts.now }
-    ensures { Wrote out.old out.new (stretch (made.selection_of program.now.modes place (made.first_goal program.now parts.now) name
-        (trees_at (behind id (tree_at program.now)) parts.now)) (length out.old.list)) }
+    requires { AllBetween id (length program.now.of.now.tree.nodes) parts.now }
+    ensures { Wrote out.old out.new (stretch (made.selection_of program.now.of.now.modes place (made.first_goal program.now.of.now parts.now) name
+        (trees_at (behind id (tree_of program.now)) parts.now)) (length out.old.list)) }
 {
     let mode = mode_in_front(program, parts);
     match u32::try_from(field(program, mode, name)) {
@@ -118,24 +119,18 @@ pub fn selection(
 
 // The units of an index: [units].
 #[cycle(units)]
-fn write_index(alloc: Global, program: &Numbered, id: NodeId, index: NodeId, out: &mut Writer)
-    requires { (id < index) × (index < length program.now.tree.nodes) }
-    ensures { Wrote out.old out.new (stretches (trees_at (behind id (tree_at program.now)) (made.parts_at program.now index)) (length out.old.list)) }
+fn write_index(alloc: Global, program: &View, id: NodeId, index: NodeId, out: &mut Writer)
+    requires { (id < index) × (index < length program.now.of.now.tree.nodes) }
+    ensures { Wrote out.old out.new (stretches (trees_at (behind id (tree_of program.now)) (made.parts_at program.now.of.now index)) (length out.old.list)) }
 {
-    all(alloc, program, id, program.parts(index), out);
+    all(alloc, program, id, program.of.parts(index), out);
 }
 
 // [units] of each index, in order.
 #[cycle(units)]
-fn write_indexes(
-    alloc: Global,
-    program: &Numbered,
-    id: NodeId,
-    indexes: &[NodeId],
-    out: &mut Writer,
-)
-    requires { AllBetween id (length program.now.tree.nodes) indexes.now }
-    ensures { Wrote out.old out.new (stretches (trees_at (behind id (tree_at program.now)) (made.index_units program.now indexes.now)) (length out.old.list)) }
+fn write_indexes(alloc: Global, program: &View, id: NodeId, indexes: &[NodeId], out: &mut Writer)
+    requires { AllBetween id (length program.now.of.now.tree.nodes) indexes.now }
+    ensures { Wrote out.old out.new (stretches (trees_at (behind id (tree_of program.now)) (made.index_units program.now.of.now indexes.now)) (length out.old.list)) }
 {
     for index in indexes {
         write_index(alloc, program, id, *index, out);
@@ -146,14 +141,14 @@ fn write_indexes(
 #[cycle(units)]
 pub fn slice(
     alloc: Global,
-    program: &Numbered,
+    program: &View,
     id: NodeId,
     parts: &[NodeId],
     place: u32,
     out: &mut Writer,
 )
-    requires { AllBetween id (length program.now.tree.nodes) parts.now }
-    ensures { Wrote out.old out.new (stretch (made.slice_of program.now (behind id (tree_at program.now)) place parts.now) (length out.old.list)) }
+    requires { AllBetween id (length program.now.of.now.tree.nodes) parts.now }
+    ensures { Wrote out.old out.new (stretch (made.slice_of program.now.of.now (behind id (tree_of program.now)) place parts.now) (length out.old.list)) }
 {
     if parts.len() == 0 {
         unbuilt(out);

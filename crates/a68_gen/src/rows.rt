@@ -2,9 +2,10 @@
 ghost use Rattle.a68_acts.specs.Operations as operations;
 ghost use Rattle.std.specs.Prelude.{◌≡◌, ◌<◌, ◌∷◌, ◌++◌, [], not, length};
 ghost use Rattle.a68_elab.specs.Made as made;
-ghost use Rattle.a68_elab.specs.Made.{behind, tree_at, trees_at};
+ghost use Rattle.a68_elab.specs.Made.{behind, trees_at};
 ghost use Rattle.a68_elab.specs.Trees as trees;
 ghost use Rattle.a68_gen.specs.Listing.{instr, stretch, stretches};
+ghost use Rattle.a68_gen.specs.Views.{bound_of, note_of, tree_of};
 ghost use Rattle.a68_gen.specs.Writers.{Wrote};
 ghost use Rattle.a68_modes.specs.Nodes.{shape_at, is_void};
 ghost use Rattle.a68_tree.specs.Trees.{AllBetween};
@@ -14,10 +15,10 @@ use crate::choices::{case, conditional};
 use crate::coerce::{are_built, coerce};
 use crate::conformity::conformity;
 use crate::names::{generator, variable};
-use crate::numbered::Numbered;
 use crate::parts::{collateral, selection, slice};
 use crate::single::{denotation, leave, nothing, same, store, tag, unbuilt};
 use crate::turns::repeat;
+use crate::view::View;
 use crate::writer::Writer;
 use a68_annot::Note;
 use a68_code::Does;
@@ -26,44 +27,37 @@ use std::alloc::Global;
 
 /// Writes a unit and its coercions: [construct] coercions.
 #[cycle(units)]
-pub fn unit(alloc: Global, program: &Numbered, id: NodeId, out: &mut Writer)
-    requires { id < length program.now.tree.nodes }
-    ensures { Wrote out.old out.new (stretch (tree_at program.now id) (length out.old.list)) }
+pub fn unit(alloc: Global, program: &View, id: NodeId, out: &mut Writer)
+    requires { id < length program.now.of.now.tree.nodes }
+    ensures { Wrote out.old out.new (stretch (tree_of program.now id) (length out.old.list)) }
 {
-    let node = program.node(id);
-    let note = program.note(id);
-    if !are_built(program.modes(), note) {
+    let node = program.of.node(id);
+    let note = program.of.note(id);
+    if !are_built(program.of.modes(), note) {
         unbuilt(out);
         return;
     }
     construct(alloc, program, id, node, note, out);
-    coerce(program.modes(), node.span.from, note, out);
+    coerce(program.of.modes(), node.span.from, note, out);
 }
 
 /// One of the parts of a node.
 #[cycle(units)]
-pub fn write_part(alloc: Global, program: &Numbered, id: NodeId, part: NodeId, out: &mut Writer)
-    requires { (id < part) × (part < length program.now.tree.nodes) }
-    ensures { Wrote out.old out.new (stretch (behind id (tree_at program.now) part) (length out.old.list)) }
+pub fn write_part(alloc: Global, program: &View, id: NodeId, part: NodeId, out: &mut Writer)
+    requires { (id < part) × (part < length program.now.of.now.tree.nodes) }
+    ensures { Wrote out.old out.new (stretch (behind id (tree_of program.now) part) (length out.old.list)) }
 {
     unit(alloc, program, part, out);
 }
 
 // One row for each kind of node that runs.
 #[cycle(units)]
-fn construct(
-    alloc: Global,
-    program: &Numbered,
-    id: NodeId,
-    node: &Node,
-    note: &Note,
-    out: &mut Writer,
-)
-    requires there { id < length program.now.tree.nodes }
-    requires between { AllBetween id (length program.now.tree.nodes) node.now.parts }
-    requires named { node.now.name < length program.now.tree.spellings }
-    requires begins { node.now.span.from < made.behind_all program.now.tree.nodes }
-    ensures { Wrote out.old out.new (stretch (made.made program.now (behind id (tree_at program.now)) node.now note.now node.now.kind) (length out.old.list)) }
+fn construct(alloc: Global, program: &View, id: NodeId, node: &Node, note: &Note, out: &mut Writer)
+    requires there { id < length program.now.of.now.tree.nodes }
+    requires between { AllBetween id (length program.now.of.now.tree.nodes) node.now.parts }
+    requires named { node.now.name < length program.now.of.now.tree.spellings }
+    requires begins { node.now.span.from < made.behind_all program.now.of.now.tree.nodes }
+    ensures { Wrote out.old out.new (stretch (made.made program.now.of.now (bound_of program.now) (behind id (tree_of program.now)) node.now (note_of program.now note.now) node.now.kind) (length out.old.list)) }
 {
     let place = node.span.from;
     let parts = &node.parts.items;
@@ -72,7 +66,7 @@ fn construct(
         NodeKind::Skip => out.emit(place, Does::Skip(note.goal)),
         NodeKind::Nil => out.emit(place, Does::Nil),
         NodeKind::RoutineText => {
-            let text = program.text_number(place);
+            let text = program.of.text_number(place);
             out.emit(
                 place,
                 Does::Routine {
@@ -97,7 +91,7 @@ fn construct(
         NodeKind::OpDefinition | NodeKind::IdentityDefinition => {
             definition(alloc, program, id, parts, place, note, out)
         }
-        NodeKind::Variable => variable(alloc, program, id, parts, place, note, out),
+        NodeKind::Variable => variable(alloc, program, id, node, note, out),
         NodeKind::ModeDefinition | NodeKind::Priority => nothing(out),
         NodeKind::Joined => all(alloc, program, id, parts, out),
         NodeKind::Collateral => collateral(alloc, program, id, parts, place, note, out),
@@ -126,9 +120,9 @@ fn construct(
 
 /// [parts], one behind the other.
 #[cycle(units)]
-pub fn all(alloc: Global, program: &Numbered, id: NodeId, parts: &[NodeId], out: &mut Writer)
-    requires { AllBetween id (length program.now.tree.nodes) parts.now }
-    ensures { Wrote out.old out.new (stretches (trees_at (behind id (tree_at program.now)) parts.now) (length out.old.list)) }
+pub fn all(alloc: Global, program: &View, id: NodeId, parts: &[NodeId], out: &mut Writer)
+    requires { AllBetween id (length program.now.of.now.tree.nodes) parts.now }
+    ensures { Wrote out.old out.new (stretches (trees_at (behind id (tree_of program.now)) parts.now) (length out.old.list)) }
 {
     for part in parts {
         write_part(alloc, program, id, *part, out);
@@ -139,15 +133,15 @@ pub fn all(alloc: Global, program: &Numbered, id: NodeId, parts: &[NodeId], out:
 #[cycle(units)]
 pub fn operation(
     alloc: Global,
-    program: &Numbered,
+    program: &View,
     id: NodeId,
     parts: &[NodeId],
     place: u32,
     does: Does,
     out: &mut Writer,
 )
-    requires { AllBetween id (length program.now.tree.nodes) parts.now }
-    ensures { Wrote out.old out.new (stretches (trees_at (behind id (tree_at program.now)) parts.now) (length out.old.list) ++ instr place does ∷ []) }
+    requires { AllBetween id (length program.now.of.now.tree.nodes) parts.now }
+    ensures { Wrote out.old out.new (stretches (trees_at (behind id (tree_of program.now)) parts.now) (length out.old.list) ++ instr place does ∷ []) }
 {
     all(alloc, program, id, parts, out);
     out.emit(place, does);
@@ -155,9 +149,9 @@ pub fn operation(
 
 /// The last part: [part].
 #[cycle(units)]
-pub fn last(alloc: Global, program: &Numbered, id: NodeId, parts: &[NodeId], out: &mut Writer)
-    requires { AllBetween id (length program.now.tree.nodes) parts.now }
-    ensures { Wrote out.old out.new (stretch (made.last_tree (trees_at (behind id (tree_at program.now)) parts.now)) (length out.old.list)) }
+pub fn last(alloc: Global, program: &View, id: NodeId, parts: &[NodeId], out: &mut Writer)
+    requires { AllBetween id (length program.now.of.now.tree.nodes) parts.now }
+    ensures { Wrote out.old out.new (stretch (made.last_tree (trees_at (behind id (tree_of program.now)) parts.now)) (length out.old.list)) }
 {
     if parts.len() == 0 {
         unbuilt(out);
@@ -170,16 +164,16 @@ pub fn last(alloc: Global, program: &Numbered, id: NodeId, parts: &[NodeId], out
 #[cycle(units)]
 fn definition(
     alloc: Global,
-    program: &Numbered,
+    program: &View,
     id: NodeId,
     parts: &[NodeId],
     place: u32,
     note: &Note,
     out: &mut Writer,
 )
-    requires { AllBetween id (length program.now.tree.nodes) parts.now }
+    requires { AllBetween id (length program.now.of.now.tree.nodes) parts.now }
     ensures { Wrote out.old out.new (stretch (trees.operation place (operations.bind note.now.step.slot) trees.serial
-        (made.only (made.last_tree (trees_at (behind id (tree_at program.now)) parts.now)))) (length out.old.list)) }
+        (made.only (made.last_tree (trees_at (behind id (tree_of program.now)) parts.now)))) (length out.old.list)) }
 {
     last(alloc, program, id, parts, out);
     out.emit(place, Does::Bind(note.step.slot));
@@ -189,16 +183,16 @@ fn definition(
 #[cycle(units)]
 fn serial(
     alloc: Global,
-    program: &Numbered,
+    program: &View,
     id: NodeId,
     parts: &[NodeId],
     place: u32,
     note: &Note,
     out: &mut Writer,
 )
-    requires { AllBetween id (length program.now.tree.nodes) parts.now }
-    ensures { Wrote out.old out.new (stretch (made.serial_of place note.now.slots (not (is_void (shape_at program.now.modes note.now.goal)))
-        (trees_at (behind id (tree_at program.now)) parts.now)) (length out.old.list)) }
+    requires { AllBetween id (length program.now.of.now.tree.nodes) parts.now }
+    ensures { Wrote out.old out.new (stretch (made.serial_of place note.now.slots (not (is_void (shape_at program.now.of.now.modes note.now.goal)))
+        (trees_at (behind id (tree_of program.now)) parts.now)) (length out.old.list)) }
 {
     if parts.len() == 0 {
         unbuilt(out);
@@ -215,9 +209,9 @@ fn serial(
 
 // [part], the only one.
 #[cycle(units)]
-fn only(alloc: Global, program: &Numbered, id: NodeId, parts: &[NodeId], out: &mut Writer)
-    requires { AllBetween id (length program.now.tree.nodes) parts.now }
-    ensures { Wrote out.old out.new (stretch (made.only_of (trees_at (behind id (tree_at program.now)) parts.now)) (length out.old.list)) }
+fn only(alloc: Global, program: &View, id: NodeId, parts: &[NodeId], out: &mut Writer)
+    requires { AllBetween id (length program.now.of.now.tree.nodes) parts.now }
+    ensures { Wrote out.old out.new (stretch (made.only_of (trees_at (behind id (tree_of program.now)) parts.now)) (length out.old.list)) }
 {
     if parts.len() != 1 {
         unbuilt(out);

@@ -10,7 +10,7 @@ ghost use Rattle.a68_gen.specs.Stretches.{does_of};
 ghost use Rattle.a68_gen.specs.Writers.{Wrote};
 ghost use Rattle.a68_modes.specs.Nodes.{shape_at, is_void};
 
-use crate::numbered::Numbered;
+use crate::view::{View, hops};
 use crate::writer::Writer;
 use a68_annot::{Annotated, Note};
 use a68_base::NoMemory;
@@ -46,42 +46,42 @@ fn denoted(place: u32, value: Option<Value>, out: &mut Writer)
 }
 
 /// Push the value of a denotation.
-pub fn denotation(alloc: Global, program: &Numbered, node: &Node, out: &mut Writer)
-    requires { node.now.name < length program.now.tree.spellings }
-    ensures { Wrote out.old out.new (stretch (made.denoted node.now.span.from (option_and_then value_in (made.spelling_of program.now node.now))) (length out.old.list)) }
+pub fn denotation(alloc: Global, program: &View, node: &Node, out: &mut Writer)
+    requires { node.now.name < length program.now.of.now.tree.spellings }
+    ensures { Wrote out.old out.new (stretch (made.denoted node.now.span.from (option_and_then value_in (made.spelling_of program.now.of.now node.now))) (length out.old.list)) }
 {
-    match value_in(alloc, program.annotated().tree.spelling(node.name)) {
+    match value_in(alloc, program.of.annotated().tree.spelling(node.name)) {
         Ok(value) => denoted(node.span.from, value, out),
         Err(_) => out.run_out(),
     }
 }
 
 /// Push the value of a tag of the standard environ, or Tag: hops and slot.
-pub fn tag(program: &Numbered, node: &Node, note: &Note) -> Does
-    requires { node.now.name < length program.now.tree.spellings }
-    ensures { result ≡ does_of (made.tag_of (made.standard_of note.now.definition (made.spelling_of program.now node.now)) note.now.step.hops note.now.step.slot) 0 }
+pub fn tag(program: &View, node: &Node, note: &Note) -> Does
+    requires { node.now.name < length program.now.of.now.tree.spellings }
+    ensures { result ≡ does_of (made.tag_of (made.standard_of note.now.definition (made.spelling_of program.now.of.now node.now)) (made.hops_seen program.now.of.now program.now.sight note.now) note.now.step.slot) 0 }
 {
-    match standard_of(program.annotated(), node, note) {
+    match standard_of(program.of.annotated(), node, note) {
         Some(value) => Does::Push(value),
         None => Does::Tag {
-            hops: note.step.hops,
+            hops: hops(program, note),
             slot: note.step.slot,
         },
     }
 }
 
 /// Store: the mode behind that of the name.
-pub fn store(program: &Numbered, note: &Note) -> Does
-    ensures { result ≡ Does.Store (made.behind_ref (shape_at program.now.modes note.now.mode)) }
+pub fn store(program: &View, note: &Note) -> Does
+    ensures { result ≡ Does.Store (made.behind_ref (shape_at program.now.of.now.modes note.now.mode)) }
 {
-    Does::Store(behind_ref(program.modes(), note.mode))
+    Does::Store(behind_ref(program.of.modes(), note.mode))
 }
 
 /// Leave 1 where a value is yielded, else Leave 0.
-pub fn leave(program: &Numbered, note: &Note) -> Does
-    ensures { result ≡ Does.Leave (if not (is_void (shape_at program.now.modes note.now.goal)) then 1 else 0) }
+pub fn leave(program: &View, note: &Note) -> Does
+    ensures { result ≡ Does.Leave (if not (is_void (shape_at program.now.of.now.modes note.now.goal)) then 1 else 0) }
 {
-    if program.is_void(note.goal) {
+    if program.of.is_void(note.goal) {
         Does::Leave(0)
     } else {
         Does::Leave(1)
@@ -97,13 +97,13 @@ pub enum Form {
 }
 
 /// What a mode is: VOID, a structure, a row, or none of these.
-pub fn form_at(program: &Numbered, mode: ModeId) -> Form
-    ensures { result ≡ form_of (shape_at program.now.modes mode) }
+pub fn form_at(program: &View, mode: ModeId) -> Form
+    ensures { result ≡ form_of (shape_at program.now.of.now.modes mode) }
 {
-    if mode >= program.modes().len() {
+    if mode >= program.of.modes().len() {
         return Form::Other;
     }
-    match program.modes().shape(mode) {
+    match program.of.modes().shape(mode) {
         Shape::Void => Form::Void,
         Shape::Struct(_) => Form::Structure,
         Shape::Rows { .. } => Form::Row,
@@ -112,17 +112,17 @@ pub fn form_at(program: &Numbered, mode: ModeId) -> Form
 }
 
 /// The mode that is asked of the first of these nodes.
-pub fn mode_in_front(program: &Numbered, parts: &[NodeId]) -> ModeId
-    ensures { result ≡ made.first_goal program.now parts.now }
+pub fn mode_in_front(program: &View, parts: &[NodeId]) -> ModeId
+    ensures { result ≡ made.first_goal program.now.of.now parts.now }
 {
-    first_goal(program.annotated(), parts)
+    first_goal(program.of.annotated(), parts)
 }
 
 /// The place of the field of that tag, in a structure of that mode or in one to which a name of that mode refers.
-pub fn field(program: &Numbered, mode: ModeId, name: u32) -> usize
-    ensures { result ≡ made.field_in name (made.fields_at program.now.modes mode) }
+pub fn field(program: &View, mode: ModeId, name: u32) -> usize
+    ensures { result ≡ made.field_in name (made.fields_at program.now.of.now.modes mode) }
 {
-    field_in(name, fields_at(program.modes(), mode))
+    field_in(name, fields_at(program.of.modes(), mode))
 }
 
 // The words and marks that negate an identity relation.
@@ -133,11 +133,14 @@ fn isnt() -> &'static [&'static str]
 }
 
 /// Same: 1 where the relation is negated.
-pub fn same(program: &Numbered, node: &Node) -> Does
-    requires { node.now.name < length program.now.tree.spellings }
-    ensures { result ≡ Does.Same (made.negated (made.is_one_of made.isnt (made.spelling_of program.now node.now))) }
+pub fn same(program: &View, node: &Node) -> Does
+    requires { node.now.name < length program.now.of.now.tree.spellings }
+    ensures { result ≡ Does.Same (made.negated (made.is_one_of made.isnt (made.spelling_of program.now.of.now node.now))) }
 {
-    let is_negated = is_one_of(isnt(), Some(program.annotated().tree.spelling(node.name)));
+    let is_negated = is_one_of(
+        isnt(),
+        Some(program.of.annotated().tree.spelling(node.name)),
+    );
     Does::Same(u32::from(is_negated))
 }
 
@@ -149,11 +152,14 @@ fn heaps() -> &'static [&'static str]
 }
 
 /// Is a generator's name one that stays?
-pub fn is_heap(program: &Numbered, node: &Node) -> bool
-    requires { node.now.name < length program.now.tree.spellings }
-    ensures { result ≡ made.is_one_of made.heaps (made.spelling_of program.now node.now) }
+pub fn is_heap(program: &View, node: &Node) -> bool
+    requires { node.now.name < length program.now.of.now.tree.spellings }
+    ensures { result ≡ made.is_one_of made.heaps (made.spelling_of program.now.of.now node.now) }
 {
-    is_one_of(heaps(), Some(program.annotated().tree.spelling(node.name)))
+    is_one_of(
+        heaps(),
+        Some(program.of.annotated().tree.spelling(node.name)),
+    )
 }
 
 /// Heap or Make: a new name, with so many bounds.
@@ -182,10 +188,10 @@ fn add_forms(
 }
 
 /// How the indexes of a slice are written.
-pub fn forms_of(alloc: Global, program: &Numbered, ids: &[NodeId]) -> Result<Forms, NoMemory>
-    ensures { IfOk result (λ forms. forms ≡ made.forms_of program.now ids.now) }
+pub fn forms_of(alloc: Global, program: &View, ids: &[NodeId]) -> Result<Forms, NoMemory>
+    ensures { IfOk result (λ forms. forms ≡ made.forms_of program.now.of.now ids.now) }
 {
     let mut items = Vec::new(alloc);
-    add_forms(program.annotated(), ids, &mut items)?;
+    add_forms(program.of.annotated(), ids, &mut items)?;
     Ok(Forms { items })
 }

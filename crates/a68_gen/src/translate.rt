@@ -24,10 +24,12 @@ ghost use Rattle.a68_tree.specs.declared.node.Node.{Node};
 
 use crate::numbered::Numbered;
 use crate::rows::unit;
+use crate::view::View;
 use crate::writer::Writer;
 use a68_annot::Annotated;
 use a68_base::{Refusal, Rule, Stop};
 use a68_code::{Code, Does, RoutineEntrance, Routines};
+use a68_elab::Sight;
 use a68_runs::{behind_proc, first_unready};
 use a68_tree::NodeId;
 use std::alloc::Global;
@@ -84,7 +86,11 @@ fn write_program(alloc: Global, program: &Numbered, out: &mut Writer)
 {
     let root = program.root();
     let place = program.node(root).span.from;
-    unit(alloc, program, root, out);
+    let view = View {
+        of: program,
+        sight: Sight::Here,
+    };
+    unit(alloc, &view, root, out);
     out.emit(place, Does::End);
 }
 
@@ -103,7 +109,11 @@ fn write_text(
     let place = program.node(id).span.from;
     let start = out.len();
     enter(texts, start, yields(program, id), out);
-    unit(alloc, program, body(program, id), out);
+    let view = View {
+        of: program,
+        sight: Sight::Here,
+    };
+    unit(alloc, &view, body(program, id), out);
     out.emit(place, Does::Return);
 }
 

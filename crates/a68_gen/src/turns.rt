@@ -2,19 +2,20 @@
 ghost use Rattle.std.specs.Option.{option_map_or};
 ghost use Rattle.std.specs.Prelude.{◌≡◌, ◌<◌, ◌∷◌, [], length, IfSome};
 ghost use Rattle.a68_elab.specs.Made as made;
-ghost use Rattle.a68_elab.specs.Made.{behind, tree_at, trees_at};
+ghost use Rattle.a68_elab.specs.Made.{behind, trees_at};
 ghost use Rattle.a68_elab.specs.Trees as trees;
 ghost use Rattle.a68_gen.specs.Listing.{instr, stretch, test_stretch};
 ghost use Rattle.a68_gen.specs.Loops.{asked, counted, unless_at};
+ghost use Rattle.a68_gen.specs.Views.{tree_of};
 ghost use Rattle.a68_gen.specs.Writers.{Wrote};
 ghost use Rattle.a68_runs.specs.Loops.{AreWithin};
 ghost use Rattle.a68_tree.specs.Trees.{AllBetween};
 
 use crate::emit::push_int;
 use crate::loops::{depth, leave_frames, limit, open, turn};
-use crate::numbered::Numbered;
 use crate::rows::{all, write_part};
 use crate::single::unbuilt;
+use crate::view::View;
 use crate::writer::Writer;
 use a68_code::Does;
 use a68_runs::{LoopParts, loop_parts, only_id};
@@ -25,15 +26,15 @@ use std::alloc::Global;
 #[cycle(units)]
 fn control(
     alloc: Global,
-    program: &Numbered,
+    program: &View,
     id: NodeId,
     part: Option<NodeId>,
     left_out: Does,
     place: u32,
     out: &mut Writer,
 )
-    requires { IfSome part (λ p. (id < p) × (p < length program.now.tree.nodes)) }
-    ensures { Wrote out.old out.new (option_map_or (λ p. stretch (behind id (tree_at program.now) p) (length out.old.list)) part (instr place left_out ∷ [])) }
+    requires { IfSome part (λ p. (id < p) × (p < length program.now.of.now.tree.nodes)) }
+    ensures { Wrote out.old out.new (option_map_or (λ p. stretch (behind id (tree_of program.now) p) (length out.old.list)) part (instr place left_out ∷ [])) }
 {
     match part {
         Some(part) => write_part(alloc, program, id, part, out),
@@ -43,16 +44,9 @@ fn control(
 
 // [FROM] [BY] [TO] Counter; with TO [FROM] [BY] [TO] Apply 26 Counter.
 #[cycle(units)]
-fn count(
-    alloc: Global,
-    program: &Numbered,
-    id: NodeId,
-    parts: &LoopParts,
-    place: u32,
-    out: &mut Writer,
-)
-    requires { AreWithin id (length program.now.tree.nodes) parts.now }
-    ensures { Wrote out.old out.new (counted (behind id (tree_at program.now)) place parts.now.from parts.now.by parts.now.to (length out.old.list)) }
+fn count(alloc: Global, program: &View, id: NodeId, parts: &LoopParts, place: u32, out: &mut Writer)
+    requires { AreWithin id (length program.now.of.now.tree.nodes) parts.now }
+    ensures { Wrote out.old out.new (counted (behind id (tree_of program.now)) place parts.now.from parts.now.by parts.now.to (length out.old.list)) }
 {
     control(alloc, program, id, parts.from, push_int(1), place, out);
     control(alloc, program, id, parts.by, push_int(1), place, out);
@@ -65,15 +59,15 @@ fn count(
 #[cycle(units)]
 pub fn enquire(
     alloc: Global,
-    program: &Numbered,
+    program: &View,
     id: NodeId,
     parts: &[NodeId],
     place: u32,
     slots: u32,
     out: &mut Writer,
 )
-    requires { AllBetween id (length program.now.tree.nodes) parts.now }
-    ensures { Wrote out.old out.new (asked (trees.while_in place slots (made.phrases_of place (trees_at (behind id (tree_at program.now)) parts.now))) (length out.old.list)) }
+    requires { AllBetween id (length program.now.of.now.tree.nodes) parts.now }
+    ensures { Wrote out.old out.new (asked (trees.while_in place slots (made.phrases_of place (trees_at (behind id (tree_of program.now)) parts.now))) (length out.old.list)) }
 {
     open(place, slots, out);
     all(alloc, program, id, parts, out);
@@ -81,15 +75,15 @@ pub fn enquire(
 
 // The enquiry behind WHILE.
 #[cycle(units)]
-fn ask(alloc: Global, program: &Numbered, id: NodeId, clause: Option<NodeId>, out: &mut Writer)
-    requires { IfSome clause (λ p. (id < p) × (p < length program.now.tree.nodes)) }
-    ensures { Wrote out.old out.new (asked (made.enquiry_at program.now (behind id (tree_at program.now)) clause) (length out.old.list)) }
+fn ask(alloc: Global, program: &View, id: NodeId, clause: Option<NodeId>, out: &mut Writer)
+    requires { IfSome clause (λ p. (id < p) × (p < length program.now.of.now.tree.nodes)) }
+    ensures { Wrote out.old out.new (asked (made.enquiry_at program.now.of.now (behind id (tree_of program.now)) clause) (length out.old.list)) }
 {
     match clause {
         Some(clause) => {
-            let place = program.node(clause).span.from;
-            let slots = program.note(clause).slots;
-            let parts = program.parts(clause);
+            let place = program.of.node(clause).span.from;
+            let slots = program.of.note(clause).slots;
+            let parts = program.of.parts(clause);
             enquire(alloc, program, id, parts, place, slots, out)
         }
         None => unbuilt(out),
@@ -100,20 +94,20 @@ fn ask(alloc: Global, program: &Numbered, id: NodeId, clause: Option<NodeId>, ou
 #[cycle(units)]
 fn test(
     alloc: Global,
-    program: &Numbered,
+    program: &View,
     id: NodeId,
     test: Option<NodeId>,
     place: u32,
     out: &mut Writer,
 ) -> Option<u32>
-    requires { IfSome test (λ p. (id < p) × (p < length program.now.tree.nodes)) }
-    ensures writes { Wrote out.old out.new (test_stretch place 0 (made.test_of program.now (behind id (tree_at program.now)) test) (length out.old.list)) }
-    ensures unless { out.new.stop ≡ None → result ≡ unless_at (made.test_of program.now (behind id (tree_at program.now)) test) (length out.old.list) }
+    requires { IfSome test (λ p. (id < p) × (p < length program.now.of.now.tree.nodes)) }
+    ensures writes { Wrote out.old out.new (test_stretch place 0 (made.test_of program.now.of.now (behind id (tree_of program.now)) test) (length out.old.list)) }
+    ensures unless { out.new.stop ≡ None → result ≡ unless_at (made.test_of program.now.of.now (behind id (tree_of program.now)) test) (length out.old.list) }
 {
     let Some(part) = test else {
         return None;
     };
-    ask(alloc, program, id, only_id(program.parts(part)), out);
+    ask(alloc, program, id, only_id(program.of.parts(part)), out);
     let unless = out.len();
     out.emit(place, Does::Unless(0));
     Some(unless)
@@ -121,9 +115,9 @@ fn test(
 
 // The body of a loop.
 #[cycle(units)]
-fn body(alloc: Global, program: &Numbered, id: NodeId, part: Option<NodeId>, out: &mut Writer)
-    requires { IfSome part (λ p. (id < p) × (p < length program.now.tree.nodes)) }
-    ensures { Wrote out.old out.new (stretch (option_map_or (behind id (tree_at program.now)) part trees.unbuilt) (length out.old.list)) }
+fn body(alloc: Global, program: &View, id: NodeId, part: Option<NodeId>, out: &mut Writer)
+    requires { IfSome part (λ p. (id < p) × (p < length program.now.of.now.tree.nodes)) }
+    ensures { Wrote out.old out.new (stretch (option_map_or (behind id (tree_of program.now)) part trees.unbuilt) (length out.old.list)) }
 {
     match part {
         Some(part) => write_part(alloc, program, id, part, out),
@@ -136,16 +130,16 @@ fn body(alloc: Global, program: &Numbered, id: NodeId, part: Option<NodeId>, out
 #[cycle(units)]
 pub fn repeat(
     alloc: Global,
-    program: &Numbered,
+    program: &View,
     id: NodeId,
     parts: &[NodeId],
     place: u32,
     out: &mut Writer,
 )
-    requires { AllBetween id (length program.now.tree.nodes) parts.now }
-    ensures { Wrote out.old out.new (stretch (made.loop_of program.now (behind id (tree_at program.now)) place parts.now) (length out.old.list)) }
+    requires { AllBetween id (length program.now.of.now.tree.nodes) parts.now }
+    ensures { Wrote out.old out.new (stretch (made.loop_of program.now.of.now (behind id (tree_of program.now)) place parts.now) (length out.old.list)) }
 {
-    let parts = loop_parts(program.annotated(), id, parts);
+    let parts = loop_parts(program.of.annotated(), id, parts);
     let frames = depth(program, &parts);
     count(alloc, program, id, &parts, place, out);
     let step = out.len();

@@ -6,6 +6,7 @@ ghost use Rattle.a68_acts.specs.Store.{opening_store, standard_frame};
 ghost use Rattle.a68_machine_tests.specs.Stores.{entered, bound};
 
 use crate::table::holds;
+use a68_acts::Want;
 use a68_layout::Plan;
 use a68_rules_tests::{plain, plain_in};
 use a68_store::{Store, StoreStop};
@@ -17,6 +18,10 @@ use std::process::Abort;
 const UNSET: StoreStop = StoreStop::Fault(FaultKind::Unset);
 
 const FULL: StoreStop = StoreStop::Fault(FaultKind::Cells);
+
+const KIND: StoreStop = StoreStop::Fault(FaultKind::Kind);
+
+const OVERFLOW: StoreStop = StoreStop::Fault(FaultKind::Overflow);
 
 const FRAMES: [Environ; 2] = [
     Environ { frame: 1, scope: 1 },
@@ -193,4 +198,72 @@ fn text(rt: HostRuntime) {
     prints(&rt, &mut store, b"a", 0, 1);
     prints(&rt, &mut store, b"bc", 1, 3);
     drop(store);
+}
+
+/// What a cell holds, what comes of a semaphore in it that is raised, and what the cell holds then.
+const RAISED: &[(Plain, Result<(), StoreStop>, Plain)] = &[
+    (Plain::Int(1), Ok(()), Plain::Int(2)),
+    (Plain::Int(0), Ok(()), Plain::Int(1)),
+    (Plain::Int(-1), Ok(()), Plain::Int(0)),
+    (
+        Plain::Int(9223372036854775806),
+        Ok(()),
+        Plain::Int(9223372036854775807),
+    ),
+    (
+        Plain::Int(9223372036854775807),
+        Err(OVERFLOW),
+        Plain::Int(9223372036854775807),
+    ),
+    (Plain::Unset, Err(KIND), Plain::Unset),
+    (Plain::Sema(0), Err(KIND), Plain::Sema(0)),
+];
+
+/// The same of one that is lowered.
+const LOWERED: &[(Plain, Result<(), StoreStop>, Plain)] = &[
+    (Plain::Int(2), Ok(()), Plain::Int(1)),
+    (Plain::Int(1), Ok(()), Plain::Int(0)),
+    (Plain::Int(0), Err(StoreStop::Waits), Plain::Int(0)),
+    (Plain::Int(-1), Err(StoreStop::Waits), Plain::Int(-1)),
+    (
+        Plain::Int(9223372036854775807),
+        Ok(()),
+        Plain::Int(9223372036854775806),
+    ),
+    (Plain::Unset, Err(KIND), Plain::Unset),
+    (Plain::Sema(0), Err(KIND), Plain::Sema(0)),
+];
+
+// A store of one cell that holds this.
+fn one_cell(rt: &impl Abort, alloc: Global, held: Plain) -> Store {
+    let mut store = Store::new(alloc).expect(rt, "memory");
+    make(rt, alloc, &mut store);
+    holds(rt, store.cells() == 1, "one cell");
+    store.assign(0, Held::Plain(held));
+    store
+}
+
+#[test]
+fn semaphores_are_raised(rt: HostRuntime) {
+    for (old, answer, new) in RAISED {
+        let mut store = one_cell(&rt, rt.alloc(), *old);
+        holds(&rt, store.up(1) == Err(KIND), "a cell that is not there");
+        holds(&rt, store.up(0) == *answer, "what comes of it");
+        holds(&rt, store.plain_in(0) == Some(*new), "its count");
+        drop(store);
+    }
+}
+
+#[test]
+fn semaphores_are_lowered(rt: HostRuntime) {
+    for (old, answer, new) in LOWERED {
+        let mut store = one_cell(&rt, rt.alloc(), *old);
+        holds(&rt, store.down(1) == Err(KIND), "a cell that is not there");
+        let waits = store.waits(&Want::Down { cell: 0 });
+        let has_to = *answer == Err(StoreStop::Waits);
+        holds(&rt, waits == has_to, "what has to wait");
+        holds(&rt, store.down(0) == *answer, "what comes of it");
+        holds(&rt, store.plain_in(0) == Some(*new), "its count");
+        drop(store);
+    }
 }

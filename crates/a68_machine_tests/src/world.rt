@@ -87,6 +87,23 @@ const KIND_AT_3: End = End::Fault {
     strand: 0,
 };
 
+/// ( SEMA s = LEVEL 0; UP s; DOWN s; DOWN s )
+const RAISED_ONCE: &str =
+    "Enter 1, Push 0, Apply 34, Bind 0, Tag 0 0, Apply 35, Tag 0 0, Apply 36, Tag 0 0, Apply 36, Leave 0, End";
+
+/// UP LEVEL (2 ** 62 - 1 + 2 ** 62)
+const RAISED_BEYOND: &str =
+    "Push 2, Push 62, Apply 21, Push 1, Apply 16, Push 2, Push 62, Apply 21, Apply 15, Apply 34, Apply 35, End";
+
+/// DOWN LEVEL 0
+const HALTED: &str = "Push 0, Apply 34, Apply 36, End";
+
+const OVERFLOW_AT_10: End = End::Fault {
+    kind: FaultKind::Overflow,
+    place: 10,
+    strand: 0,
+};
+
 const CELLS_AT_1: End = End::Fault {
     kind: FaultKind::Cells,
     place: 1,
@@ -198,6 +215,21 @@ const RUNS: &[(&str, u32, u64, End)] = &[
         2,
         End::Done,
     ),
+    ("Push 5, Apply 34, Apply 34, Print 1, End", 9, 4, End::Done),
+    ("Push 1, Apply 34, Apply 36, End", 3, 3, End::Done),
+    ("Push 1, Apply 34, Apply 36, End", 2, 2, End::Spent),
+    (HALTED, 9, 2, End::AllHalted),
+    (HALTED, 2, 2, End::AllHalted),
+    (HALTED, 1, 1, End::Spent),
+    (
+        "Push 1, Apply 27, Apply 34, Apply 36, End",
+        9,
+        2,
+        End::AllHalted,
+    ),
+    ("Push 0, Apply 34, Apply 35, End", 3, 3, End::Done),
+    (RAISED_ONCE, 99, 9, End::AllHalted),
+    (RAISED_BEYOND, 9, 2, OVERFLOW_AT_10),
 ];
 
 // The code of these instructions, which is valid.
@@ -328,6 +360,28 @@ fn turns(rt: HostRuntime) {
     turns_once(&rt, alloc, &mut world);
     let mut world = world.finish().err().expect(&rt, "a run that goes on");
     is_spent(&rt, alloc, &mut world);
+    drop(world);
+}
+
+// The end of a run whose only strand has to wait is set with the event before the wait.
+#[test]
+fn halts(rt: HostRuntime) {
+    let alloc = rt.alloc();
+    let mut world = world(&rt, alloc, HALTED, 9);
+    let made = matches!(world.turn(alloc, 0), Turned::Acted);
+    holds(&rt, (made, world.end()) == (true, None), "a semaphore");
+    let counted = matches!(world.turn(alloc, 0), Turned::Acted);
+    let end = (world.end(), world.next(0));
+    holds(
+        &rt,
+        (counted, end) == (true, (Some(End::AllHalted), None)),
+        "its count",
+    );
+    holds(
+        &rt,
+        over(world.turn(alloc, 0)) == Some(End::AllHalted),
+        "the end",
+    );
     drop(world);
 }
 

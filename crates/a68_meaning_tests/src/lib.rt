@@ -8,6 +8,8 @@ mod check;
 #[cfg(test)]
 mod listings;
 #[cfg(test)]
+mod notes;
+#[cfg(test)]
 mod op_ident;
 #[cfg(test)]
 mod ranges;

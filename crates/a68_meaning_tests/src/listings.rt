@@ -151,6 +151,11 @@ const LISTINGS: &[(&str, &str)] = &[
         "( [] INT v = 7; SKIP )",
         "2 Enter 1;13 Push 7;13 RowUp 13;9 Bind;16 Skip;2 Leave;0 End",
     ),
+    // A value that becomes a row of two dimensions by way of a row of one, which stands behind all other modes.
+    (
+        "( [,] INT a = 3; print(a[1,1]) )",
+        "2 Enter 1;14 Push 3;14 RowUp 14;14 RowUp 13;10 Bind;23 Tag;25 Push 1;27 Push 1;23 Slice 2 2;23 Unite 1;17 Print 1;2 Leave;0 End",
+    ),
     // Bounds of fields, those of STRING among them.
     (
         "( STRUCT ([2] INT a, STRING b) s; SKIP )",
@@ -168,7 +173,8 @@ const LISTINGS: &[(&str, &str)] = &[
     ),
 ];
 
-fn tree_of(rt: &impl Abort, alloc: Global, text: &str) -> Tree {
+/// The tree of a text.
+pub fn tree_of(rt: &impl Abort, alloc: Global, text: &str) -> Tree {
     let found = symbols(alloc, text.as_bytes()).expect(rt, "symbols");
     let classes = words(alloc, &found).expect(rt, "classes");
     symbols_are_bounded();

@@ -148,8 +148,8 @@ fn tree_of(rt: &impl Abort, alloc: Global, text: &str) -> Result<Tree, Stop> {
     tree
 }
 
-// The node of that kind that begins at that byte.
-fn node_at(rt: &impl Abort, tree: &Tree, kind: NodeKind, place: u32) -> NodeId
+/// The node of that kind that begins at that byte.
+pub fn node_at(rt: &impl Abort, tree: &Tree, kind: NodeKind, place: u32) -> NodeId
     ensures { result < length tree.now.nodes }
 {
     for id in 0..tree.len() {

@@ -1,4 +1,6 @@
 pub mod Noting
+pub mod Applying
+pub mod Rowing
 pub mod Needing
 pub mod Ones
 pub mod Leading

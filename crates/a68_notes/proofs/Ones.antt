@@ -11,7 +11,7 @@ use Rattle.a68_coerce.specs.declared.leaf.Leaf.TheVariants as leaf
 use Rattle.a68_declare.specs.Outcome.{AreModesOf, ByNode}
 use Rattle.a68_definitions.specs.Defined.{AllBelow, AreBelow, AreDefined}
 use Rattle.a68_equiv.specs.Related.{as_it_stands}
-use Rattle.a68_frames.specs.Frames.{has_slot, WaysAreOne}
+use Rattle.a68_frames.specs.Frames.{WaysAreOne}
 use Rattle.a68_identify.specs.Operators.{AreThere}
 use Rattle.a68_meaning.specs.Meaning.{IsMeaning}
 use Rattle.a68_mode_table.specs.Growing.{AreSound}
@@ -19,14 +19,15 @@ use Rattle.a68_modes.specs.declared.coercion.Coercion.{Coercion}
 use Rattle.a68_modes.specs.declared.coercion.Sort.{Sort}
 use Rattle.a68_modes.specs.declared.coercion.Sort.TheVariants as by
 use Rattle.a68_modes.specs.declared.shape.Shape.{Shape}
+use Rattle.a68_notes.proofs.Applying.{one_definition, one_distance}
 use Rattle.a68_notes.proofs.Needing.{one_need}
-use Rattle.a68_notes.specs.Notes.{mode_of, step_or_none, target_of, AreCoercions, AreNotes, IsNeedOf, IsNote, IsPathOf, IsPathTo, IsStrongPath, IsVoidPath, IsStep, UsesFrame}
-use Rattle.a68_positions.specs.Given.{position_at}
+use Rattle.a68_notes.specs.Notes.{mode_of, step_or_none, AreCoercions, AreNotes, IsNeedOf, IsNote, IsPathOf, IsPathTo, IsStrongPath, IsVoidPath, IsStep, IsStepOf, UsesFrame}
+use Rattle.a68_positions.specs.Given.{finding_at, position_at}
 use Rattle.a68_positions.specs.Positions.{ArePositions}
 use Rattle.a68_positions.specs.declared.position.Position.{Position}
 use Rattle.a68_positions.specs.declared.position.Position.TheVariants as position
-use Rattle.a68_ranges.specs.Definitions.{defines}
 use Rattle.a68_ranges.specs.Nodes.{kind_at}
+use Rattle.a68_ranges.specs.Twice.{IsTwice}
 use Rattle.a68_refusals.specs.First.{Asked}
 use Rattle.a68_tree.specs.Trees.{Built}
 use Rattle.a68_notes.specs.Voiding.{is_voided}
@@ -109,26 +110,29 @@ one_step : WaysAreOne → (tree : Built) (n : ℕ) (target : Option ℕ) (s t : 
 one_step ways tree n None s t a b = a ∙ sym b
 one_step ways tree n (Some d) s t a b = a.2 ∙ ap step_or_none (ways tree n d a.0 b.0 a.1 b.1) ∙ sym b.2
 
+one_step_of : WaysAreOne → (tree : Built) (n : ℕ) (form : NodeKind) (d : Option ℕ) (s t : FrameStep) → IsStepOf tree n form d s → IsStepOf tree n form d t → s ≡ t
+one_step_of ways tree n kind.Declarer d s t a b = one_distance tree n d s t a b
+one_step_of ways tree n _ d s t a b = one_step ways tree n _ s t a b
+
 one_need_of : (a : Asked) (n : ℕ) (form : NodeKind) (x y : Option ℕ) → IsNeedOf a n form x → IsNeedOf a n form y → x ≡ y
 one_need_of a n kind.RoutineText x y p q = one_need (UsesFrame a n) x y p q
 one_need_of a n _ x y p q = p ∙ sym q
 
 -- ---- a note, and all of them
 
-module _ (paths : PathsAreOne) (ways : WaysAreOne) (of : ByNode) (a : Asked) (sound : AreSound a.nodes) (units : AreUnitsBelow (length a.nodes) a.ys) where
+module _ (paths : PathsAreOne) (ways : WaysAreOne) (of : ByNode) (a : Asked) (once : (id : ℕ) → IsTwice a.tree id → ⊥) (sound : AreSound a.nodes) (units : AreUnitsBelow (length a.nodes) a.ys) where
   one_note : (n : ℕ) (x y : Note) → IsNote of a n x → IsNote of a n y → x ≡ y
   one_note n x y p q =
       let goal : x.goal ≡ y.goal = p.goal ∙ sym q.goal in
-      let definition : x.definition ≡ y.definition = p.definition ∙ sym q.definition in
-      let there : IsStep a.tree n (target_of n x.definition (has_slot (defines (kind_at a.tree n)))) y.step =
-      subst (λ d. IsStep a.tree n (target_of n d (has_slot (defines (kind_at a.tree n)))) y.step) (sym definition) q.step in
+      let definition : x.definition ≡ y.definition = one_definition a.tree once a.tags n (finding_at a.fs n) (kind_at a.tree n) x.definition y.definition p.definition q.definition in
+      let there : IsStepOf a.tree n (kind_at a.tree n) x.definition y.step = subst (λ d. IsStepOf a.tree n (kind_at a.tree n) d y.step) (sym definition) q.step in
       same_note x y
       (p.mode ∙ ap (λ g. mode_of of a.defined n g (yield_at a.ys n) (kind_at a.tree n)) goal ∙ sym q.mode)
       (one_path paths a.nodes sound (kind_at a.tree n) (position_at a.ps n) (yield_at a.ys n) x.path y.path (units n) p.path q.path)
       goal
       (p.op ∙ sym q.op)
       definition
-      (one_step ways a.tree n (target_of n x.definition (has_slot (defines (kind_at a.tree n)))) x.step y.step p.step there)
+      (one_step_of ways a.tree n (kind_at a.tree n) x.definition x.step y.step p.step there)
       (p.slots ∙ sym q.slots)
       (one_need_of a n (kind_at a.tree n) x.need y.need p.need q.need)
 
@@ -154,7 +158,7 @@ pub record Laws : Type 0 where
   pub positions_longer : (k : Known) (ys : List Yielding) (fs : List Finding) (start nodes : List Shape) (ps : List Position)
       → ArePositions k ys fs start nodes ps → length start ≤ length nodes
 
-module _ (laws : Laws) (of : ByNode) (a : Asked) (is : IsMeaning of a) where
+module _ (laws : Laws) (of : ByNode) (a : Asked) (once : (id : ℕ) → IsTwice a.tree id → ⊥) (is : IsMeaning of a) where
   abbrev known : Known
   known = record { tree = a.tree; tags = a.tags; of = of; defined = a.defined }
 
@@ -180,4 +184,4 @@ module _ (laws : Laws) (of : ByNode) (a : Asked) (is : IsMeaning of a) where
   units_below n l e = leaf_longer (length is.yielded) (length a.nodes) l longer (is.tables.units n l e)
 
   pub one_notes : (x y : List Note) → AreNotes of a x → AreNotes of a y → x ≡ y
-  one_notes x y p q = one_list laws.paths laws.ways of a nodes_sound units_below x y p q
+  one_notes x y p q = one_list laws.paths laws.ways of a once nodes_sound units_below x y p q

@@ -1,14 +1,17 @@
--- What is known of each node of a tree that breaks no rule (Report, 2.1.1.3, 3.2, 4.4, 5.4.2, 6.1.1 and 7.2.2).
-use Rattle.std.specs.Prelude.{◌≡◌, ℕ, List, [], length, nat_lt, slice_get, slice_index_or, Option, Some, None, Bool, true, false, if◌then◌else◌}
+-- What is known of each node of a tree that breaks no rule (Report, 2.1.1.3, 3.2, 4.4, 4.8, 5.4.2, 6.1.1 and 7.2.2).
+use Rattle.std.specs.Prelude.{◌≡◌, ◌-◌, ℕ, List, [], length, nat_lt, slice_get, slice_index_or, Option, Some, None, Bool, true, false, if◌then◌else◌}
 use Rattle.std.specs.Option.{option_map_or}
 use Rattle.a68_annot.specs.declared.note.Note.{Note}
 use Rattle.a68_coerce.specs.Paths.{Finds, Leads}
 use Rattle.a68_coerce.specs.declared.leaf.Leaf.{Leaf}
 use Rattle.a68_coerce.specs.declared.leaf.Leaf.TheVariants as leaf
 use Rattle.a68_declare.specs.Outcome.{ByNode}
+use Rattle.a68_declarers.specs.Declarers.{form_at}
+use Rattle.a68_declarers.specs.declared.form.Form.{Form}
+use Rattle.a68_declarers.specs.declared.form.Form.TheVariants as forms
 use Rattle.a68_definitions.specs.Defined.{fixed_mode_at, mode_at, part_number}
 use Rattle.a68_equiv.specs.Related.{as_it_stands}
-use Rattle.a68_frames.specs.Frames.{has_slot, slots_in, IsFirstWay}
+use Rattle.a68_frames.specs.Frames.{frames_of, has_slot, slots_in, IsFirstWay}
 use Rattle.a68_frames.specs.Needs.{IsNeed, UsesSlotAt, UsesTag}
 use Rattle.a68_identify.specs.declared.identified.Identified.{Identified}
 use Rattle.a68_identify.specs.declared.identified.Identified.TheVariants.{Declared, Standard}
@@ -22,7 +25,9 @@ use Rattle.a68_positions.specs.Given.{finding_at, position_at}
 use Rattle.a68_positions.specs.declared.position.Position.{Position}
 use Rattle.a68_positions.specs.declared.position.Position.TheVariants as position
 use Rattle.a68_ranges.specs.Definitions.{defines}
-use Rattle.a68_ranges.specs.Nodes.{kind_at}
+use Rattle.a68_ranges.specs.Nodes.{kind_at, name_at}
+use Rattle.a68_ranges.specs.Standard.{IsModeWordOf}
+use Rattle.a68_ranges.specs.Surroundings.{Lies}
 use Rattle.a68_refusals.specs.First.{Asked}
 use Rattle.a68_tree.specs.Trees.{Built}
 use Rattle.a68_tree.specs.declared.kind.NodeKind.{NodeKind}
@@ -90,10 +95,20 @@ applied_operator found kind.Monadic = operator_of found
 applied_operator found kind.Dyadic = operator_of found
 applied_operator found _ = None
 
--- where what a node applies is defined: a tag, or the operator of a formula; none in the standard environ
+-- where the value is defined that a node applies: a tag, or the operator of a formula; none in the standard environ
 abbrev pub definition_of : Built → (tags : List (Option ℕ)) → (n : ℕ) → Finding → NodeKind → Option ℕ
 definition_of tree tags n found kind.Tag = in_text (length tree.nodes) (slice_index_or tags n None)
 definition_of tree tags n found form = applied_operator found form
+
+-- a mode word stands for its definition in a surrounding range (Report, 4.8); no other declarer stands for one
+abbrev pub IsWordOf : Built → (n : ℕ) → Form → Option ℕ → Type 0
+IsWordOf tree n forms.Word definition = IsModeWordOf tree n (name_at tree n) definition
+IsWordOf tree n _ definition = definition ≡ None
+
+-- where what a node applies is defined: the mode word that a declarer is, or a value
+abbrev pub IsDefinitionOf : Built → (tags : List (Option ℕ)) → (n : ℕ) → Finding → NodeKind → Option ℕ → Type 0
+IsDefinitionOf tree tags n found kind.Declarer definition = IsWordOf tree n (form_at tree n) definition
+IsDefinitionOf tree tags n found form definition = definition ≡ definition_of tree tags n found form
 
 -- to what the step of a node leads: to what it applies, or to the slot of what it defines
 abbrev pub target_of : (n : ℕ) → (applied : Option ℕ) → (has_slot : Bool) → Option ℕ
@@ -109,6 +124,21 @@ step_or_none found = option_map_or (λ (s : FrameStep). s) found (record { hops 
 abbrev pub IsStep : Built → (n : ℕ) → Option ℕ → FrameStep → Type 0
 IsStep tree n None step = step ≡ step_or_none None
 IsStep tree n (Some d) step = (found : Option FrameStep) × IsFirstWay tree n d found × (step ≡ step_or_none found)
+
+-- so many frames stand about a node
+abbrev pub HasFrames : Built → (n count : ℕ) → Type 0
+HasFrames tree n count = (ranges : List ℕ) × Lies tree n ranges × (count ≡ frames_of tree ranges)
+
+-- how many frames further in a mode word stands than its definition
+abbrev pub IsDistance : Built → (n : ℕ) → Option ℕ → FrameStep → Type 0
+IsDistance tree n None step = step ≡ step_or_none None
+IsDistance tree n (Some d) step =
+    (here : ℕ) × (there : ℕ) × HasFrames tree n here × HasFrames tree d there × (step ≡ record { hops = here - there; slot = 0 })
+
+-- the distance of a mode word, or the way to the value that a node applies or defines
+abbrev pub IsStepOf : Built → (n : ℕ) → NodeKind → (definition : Option ℕ) → FrameStep → Type 0
+IsStepOf tree n kind.Declarer definition step = IsDistance tree n definition step
+IsStepOf tree n form definition step = IsStep tree n (target_of n definition (has_slot (defines form))) step
 
 -- the coercions from a mode to another by that sort; none where nothing leads
 abbrev pub AreCoercions : List Shape → Sort → (from to : ℕ) → List Coercion → Type 0
@@ -159,8 +189,8 @@ pub record IsNote (of : ByNode) (a : Asked) (n : ℕ) (note : Note) : Type 0 whe
   pub goal : note.goal ≡ goal_by of n (position_at a.ps n) (kind_at a.tree n)
   pub path : IsPathOf a.nodes (kind_at a.tree n) (position_at a.ps n) (yield_at a.ys n) note.path
   pub op : note.op ≡ row_of (finding_at a.fs n)
-  pub definition : note.definition ≡ definition_of a.tree a.tags n (finding_at a.fs n) (kind_at a.tree n)
-  pub step : IsStep a.tree n (target_of n note.definition (has_slot (defines (kind_at a.tree n)))) note.step
+  pub definition : IsDefinitionOf a.tree a.tags n (finding_at a.fs n) (kind_at a.tree n) note.definition
+  pub step : IsStepOf a.tree n (kind_at a.tree n) note.definition note.step
   pub slots : note.slots ≡ length (slots_in a.tree n)
   pub need : IsNeedOf a n (kind_at a.tree n) note.need
 

@@ -121,7 +121,7 @@ fn in_text(nodes: u32, found: Option<NodeId>) -> Option<NodeId>
     }
 }
 
-/// Gives the definition of what a node applies: a tag, or the operator of a formula; none of one of the standard environ.
+/// Gives the definition of the value that a node applies: a tag, or the operator of a formula; none of one of the standard environ.
 pub fn definition_of(
     tree: &Tree,
     tags: &Tags,

@@ -12,6 +12,7 @@ ghost use Rattle.a68_notes.specs.Voiding.{is_voided};
 ghost use Rattle.a68_positions.specs.Given.{position_at};
 ghost use Rattle.a68_positions.specs.declared.position.Position.TheVariants as position;
 ghost use Rattle.a68_ranges.specs.Nodes.{kind_at};
+ghost use Rattle.a68_ranges.specs.Twice.{IsTwice};
 ghost use Rattle.a68_refusals.specs.First.{Asked};
 ghost use Rattle.a68_yields.specs.Leaves.{yield_at};
 ghost use Rattle.a68_yields.specs.declared.yielding.Yielding.TheVariants as yields;
@@ -22,9 +23,10 @@ use a68_frames::ways_are_one;
 use a68_positions::{positions_are_sound, positions_keep_shapes};
 use a68_yields::yields_are_sound;
 
-/// A law: a tree of one meaning has one list of notes.
+/// A law: where no range declares a word twice, a tree of one meaning has one list of notes.
 pub fn notes_are_one()
-    ensures { (of : ByNode) (a : Asked) (x y : List Note) → IsMeaning of a → AreNotes of a x → AreNotes of a y → x ≡ y }
+    ensures { (of : ByNode) (a : Asked) (x y : List Note) → ((id : ℕ) → IsTwice a.tree id → ⊥) → IsMeaning of a → AreNotes of a x → AreNotes of a y
+        → x ≡ y }
 {
     paths_are_one();
     ways_are_one();

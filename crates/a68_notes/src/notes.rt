@@ -7,14 +7,14 @@ ghost use Rattle.a68_positions.specs.Below.{ArePositionsBelow};
 ghost use Rattle.a68_ranges.specs.Tables.{AreRanges};
 ghost use Rattle.a68_yields.specs.Below.{AreTablesBelow};
 
-use crate::field::{definition_of, goal_by, mode_of, row_of};
+use crate::applied::find_applied;
+use crate::field::{goal_by, mode_of, row_of};
 use crate::needs::{need_of, needs_of};
 use crate::path::path_of;
-use crate::step::{step_of, target_of};
 use a68_annot::{Note, Notes};
 use a68_base::NoMemory;
 use a68_definitions::kind_of;
-use a68_frames::{FrameMap, frames, has_slot};
+use a68_frames::{FrameMap, frames};
 use a68_meaning::Meaning;
 use a68_positions::{finding_of, position_of};
 use a68_ranges::Ranges;
@@ -26,11 +26,13 @@ use std::alloc::Global;
 fn note_of(
     alloc: Global,
     tree: &Tree,
+    ranges: &Ranges,
     map: &FrameMap,
     meaning: &Meaning,
     needs: &[Option<u32>],
     node: NodeId,
 ) -> Result<Note, NoMemory>
+    requires ranges { AreRanges tree.now ranges.now }
     requires frames { AreFrames tree.now map.now }
     requires needs { AreNeeds tree.now (UsesFrame (asked_of tree.now meaning.now)) (length tree.now.nodes) needs.now }
     requires there { node < length tree.now.nodes }
@@ -44,8 +46,7 @@ fn note_of(
     let found = finding_of(&meaning.yields.findings, node);
     let goal = goal_by(&meaning.of, node, own, kind);
     let mode = mode_of(&meaning.of, &meaning.defined, node, goal, yielding, kind);
-    let definition = definition_of(tree, &meaning.tags, node, found, kind);
-    let step = step_of(map, node, target_of(node, definition, has_slot(kind)));
+    let applied = find_applied(tree, ranges, map, &meaning.tags, node, found, kind);
     let slots = map.slots(node);
     let path = path_of(alloc, &meaning.modes, kind, own, yielding)?;
     Ok(Note {
@@ -53,8 +54,8 @@ fn note_of(
         path,
         goal,
         op: row_of(found),
-        definition,
-        step,
+        definition: applied.definition,
+        step: applied.step,
         slots,
         need: need_of(needs, node, kind),
     })
@@ -65,11 +66,13 @@ fn add_notes(
     items: &mut Vec<Note>,
     alloc: Global,
     tree: &Tree,
+    ranges: &Ranges,
     map: &FrameMap,
     meaning: &Meaning,
     needs: &[Option<u32>],
 ) -> Result<(), NoMemory>
     requires none { items.old.items ≡ [] }
+    requires ranges { AreRanges tree.now ranges.now }
     requires frames { AreFrames tree.now map.now }
     requires needs { AreNeeds tree.now (UsesFrame (asked_of tree.now meaning.now)) (length tree.now.nodes) needs.now }
     requires tables { AreTablesBelow (length meaning.now.modes) (length tree.now.nodes) meaning.now.yields.yields.items meaning.now.yields.findings.items }
@@ -77,7 +80,7 @@ fn add_notes(
     ensures { OnOk result (AreNotes meaning.now.of (asked_of tree.now meaning.now) items.new.items) }
 {
     for node in 0..tree.len() {
-        let note = note_of(alloc, tree, map, meaning, needs, node)?;
+        let note = note_of(alloc, tree, ranges, map, meaning, needs, node)?;
         items.push(note)?;
     }
     Ok(())
@@ -98,6 +101,6 @@ pub fn find_notes(
     let map = frames(alloc, tree, ranges)?;
     let needs = needs_of(alloc, tree, &map, meaning)?;
     let mut items = Vec::new(alloc);
-    add_notes(&mut items, alloc, tree, &map, meaning, &needs)?;
+    add_notes(&mut items, alloc, tree, ranges, &map, meaning, &needs)?;
     Ok(Notes { items })
 }

@@ -2,7 +2,7 @@
 use crate::table::{agrees, holds};
 use a68_acts::{Doing, Next, Reply};
 use a68_modes::Modes;
-use a68_perform::{applied, case_of, made, print_next, resumed, updating};
+use a68_perform::{applied, applied_to_one, case_of, made, print_next, resumed, updating};
 use a68_values::{Chain, Environ, Held, Name, Plain, Value, ValueNode, Values};
 use std::alloc::Global;
 use std::panic::Expect;
@@ -166,6 +166,69 @@ fn an_update_yields_its_name(rt: HostRuntime) {
     let named = behind(&rt, rt.alloc(), doing, Reply::Go);
     let name = "Name(Name { cell: 7, scope: 3 })";
     is_shown(&rt, rt.alloc(), named, name, "the name");
+}
+
+/// LEVEL, UP and DOWN, with an operand, and what comes of them before their first act.
+const SEMAPHORES: &[(u32, Plain, &str)] = &[
+    (34, Plain::Int(-1), "Make 1"),
+    (34, Plain::Sema(7), "Fetch 7"),
+    (34, Plain::Unset, "Unset"),
+    (34, Plain::Bool(true), "Kind"),
+    (35, Plain::Sema(7), "Up 7"),
+    (35, Plain::Unset, "Unset"),
+    (35, Plain::Int(1), "Kind"),
+    (36, Plain::Sema(7), "Down 7"),
+    (36, Plain::Unset, "Unset"),
+    (36, Plain::Int(1), "Kind"),
+];
+
+// What comes of an operator before one operand.
+fn before(rt: &impl Abort, alloc: Global, row: u32, operand: Plain) -> Doing {
+    let operand = Value::of(operand);
+    let doing = applied_to_one(alloc, row, &operand);
+    drop(operand);
+    doing.expect(rt, "memory")
+}
+
+#[test]
+fn semaphores(rt: HostRuntime) {
+    for (row, operand, expected) in SEMAPHORES {
+        let doing = before(&rt, rt.alloc(), *row, *operand);
+        is_shown(&rt, rt.alloc(), doing, expected, expected);
+    }
+}
+
+// A new semaphore has its count once that is assigned to its cell, and is then the yield.
+#[test]
+fn a_semaphore_is_made(rt: HostRuntime) {
+    let alloc = rt.alloc();
+    let doing = before(&rt, alloc, 34, Plain::Int(-1));
+    let counted = behind(&rt, alloc, doing, Reply::Base(7));
+    let shown = crate::doing(alloc, &counted).expect(&rt, "memory");
+    agrees(&rt, &shown, "Assign 7 Int(-1)", "its count");
+    drop(shown);
+    let made = behind(&rt, alloc, counted, Reply::Go);
+    is_shown(&rt, alloc, made, "Sema(7)", "a semaphore");
+}
+
+#[test]
+fn a_semaphore_tells_its_count(rt: HostRuntime) {
+    let alloc = rt.alloc();
+    let doing = before(&rt, alloc, 34, Plain::Sema(7));
+    let count = behind(&rt, alloc, doing, Reply::Held(Held::Plain(Plain::Int(-1))));
+    is_shown(&rt, alloc, count, "Int(-1)", "its count");
+}
+
+// UP and DOWN yield nothing.
+#[test]
+fn semaphores_are_raised_and_lowered(rt: HostRuntime) {
+    let alloc = rt.alloc();
+    for row in 35..37 {
+        let doing = before(&rt, alloc, row, Plain::Sema(7));
+        let done = behind(&rt, alloc, doing, Reply::Go);
+        holds(&rt, is_void(&done), "no yield");
+        drop(done);
+    }
 }
 
 /// A number, how many parts there are, and which of them it chooses, from 0.

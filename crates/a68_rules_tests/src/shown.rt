@@ -106,6 +106,8 @@ fn parts(want: &Want) -> Told {
             let value = plain_in(held).unwrap_or(Plain::Unset);
             ("Assign", Some(*cell as usize), None, None, Some(value))
         }
+        Want::Up { cell } => ("Up", Some(*cell as usize), None, None, None),
+        Want::Down { cell } => ("Down", Some(*cell as usize), None, None, None),
         Want::Turn => ("Turn", None, None, None, None),
         _ => ("another", None, None, None, None),
     }

@@ -1,5 +1,6 @@
 pub mod Between
 pub mod Choosing
+pub mod Listing
 pub mod Quoting
 pub mod Specifying
 pub mod Unready

@@ -1,3 +1,4 @@
+pub mod Bounds
 pub mod Loops
 pub mod Runs
 pub mod Unready

@@ -6,6 +6,7 @@ use Rattle.std.specs.declared.option.Option.{Option}
 use Rattle.a68_acts.specs.Operations.{is_union}
 use Rattle.a68_annot.specs.declared.annotated.Annotated.{Annotated}
 use Rattle.a68_annot.specs.declared.note.Note.{Note}
+use Rattle.a68_base.specs.declared.limits.TheConstants.{MOST_INSTRUCTIONS}
 use Rattle.a68_code.specs.Flow.{operands_of, units_in}
 use Rattle.a68_elab.specs.Constants.{value_in}
 use Rattle.a68_elab.specs.Made.{before_out, behind_heap, field_in, fields_at, first_bounds, first_goal, goal_at, form_of, behind_proc, behind_ref, begins_with, called, if_first, is_by, is_declarer, is_for, is_from, is_heap, is_one_of, is_to, is_while, items_at, only_id, out_of, parts_at, past, printers, rowed_to, spelling_of, standard_of, wholes}
@@ -141,9 +142,13 @@ is_row _ = false
 
 -- ---- what is asked of a node of a kind
 
--- an operator that runs: all but LEVEL, UP and DOWN
+-- an operator that runs: each of the table
 abbrev pub applies : (row : ℕ) → Bool
-applies row = (nat_le 1 row && nat_le row 33) || (nat_eq row 37 || nat_eq row 38)
+applies row = nat_le 1 row && nat_le row 38
+
+-- an operator that leaves a value: each but UP and DOWN
+abbrev pub gives : (row : ℕ) → Bool
+gives row = not (nat_eq row 35 || nat_eq row 36)
 
 -- on as many values as it takes (Report, 5.4.2)
 abbrev pub formula_runs : Annotated → (row : ℕ) → List ℕ → Bool
@@ -156,16 +161,19 @@ declared_leaves a yields (Some d) ids = if_so (all_leave a true ids) yields
 
 abbrev pub formula_leaves : Annotated → (yields : Bool) → (op definition : Option ℕ) → List ℕ → Option Bool
 formula_leaves a yields None definition ids = declared_leaves a yields definition ids
-formula_leaves a yields (Some row) definition ids = if_so (formula_runs a row ids) true
+formula_leaves a yields (Some row) definition ids = if_so (formula_runs a row ids) (gives row)
 
 -- a bound that is written leaves a value
 abbrev pub is_bounding : Annotated → Bound → Bool
 is_bounding a (bound.Written id) = is_outcome true (outcome a id)
 is_bounding a (bound.Meant n) = true
+is_bounding a (bound.Defined frames id) = is_outcome true (outcome a id)
 
--- bounds that leave values, as many as a name of a mode has (Report, 4.6)
+-- Bounds that leave values, as many as a name of a mode has (Report, 4.6). More than there may be instructions are not
+-- counted: such a program is refused for its length (own).
 abbrev pub bounds_run : Annotated → (mode : ℕ) → List Bound → Bool
-bounds_run a mode bounds = list_all (is_bounding a) bounds && nat_eq (length bounds) (bounds_needed a.modes mode)
+bounds_run a mode bounds =
+    list_all (is_bounding a) bounds && (nat_lt MOST_INSTRUCTIONS (length bounds) || nat_eq (length bounds) (bounds_needed a.modes mode))
 
 -- a new name of what a name of this mode refers to, with the bounds of the first of these nodes
 abbrev pub new_runs : Annotated → (mode : ℕ) → List ℕ → Bool

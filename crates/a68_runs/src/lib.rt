@@ -13,7 +13,7 @@ mod rowing;
 mod runs;
 mod slices;
 
-pub use bounds::bounds_of;
+pub use bounds::{bounds_of, further};
 pub use constants::{standard_of, value_in};
 pub use fields::{field_in, fields_at, first_goal};
 pub use loops::{LoopParts, loop_parts, only_id};

@@ -40,6 +40,26 @@ pub fn parts_at(program: &Annotated, id: NodeId) -> &[NodeId]
     program.tree.parts(id)
 }
 
+/// The mode of a node; VOID where there is no such node.
+pub fn mode_at(program: &Annotated, id: NodeId) -> ModeId
+    ensures { result ≡ made.mode_of program.now id }
+{
+    if id >= program.tree.len() {
+        return 0;
+    }
+    program.note(id).mode
+}
+
+/// The last of these nodes; the first node of all where there is none.
+pub fn last_id(ids: &[NodeId]) -> NodeId
+    ensures { result ≡ made.last_id ids.now }
+{
+    if ids.len() == 0 {
+        return 0;
+    }
+    ids[ids.len() - 1]
+}
+
 /// Does the first of these nodes stand for HEAP?
 pub fn begins_in_heap(program: &Annotated, id: NodeId, parts: &[NodeId]) -> bool
     requires { AllBetween id (length program.now.tree.nodes) parts.now }

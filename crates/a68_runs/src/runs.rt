@@ -45,11 +45,18 @@ fn has_value(text: &[u8]) -> bool
     find(truths(), text).is_some() || is_quoted(text)
 }
 
-// Does an operator run, by its row: is it none of LEVEL, UP and DOWN?
+// Does an operator run, by its row: is it one of the table?
 fn applies(row: u32) -> bool
     ensures { result ≡ runs.applies row }
 {
-    (1 <= row && row <= 33) || row == 37 || row == 38
+    1 <= row && row <= 38
+}
+
+// Does an operator leave a value, by its row: is it neither UP nor DOWN?
+fn gives(row: u32) -> bool
+    ensures { result ≡ runs.gives row }
+{
+    !(row == 35 || row == 36)
 }
 
 // Does a formula run: a standard operator, on as many values as it takes?
@@ -59,12 +66,12 @@ fn formula_runs(program: &Annotated, row: u32, parts: &[NodeId]) -> bool
     applies(row) && are_values(program, operands_of(row) as usize, parts)
 }
 
-// What a formula leaves: a value, or what the routine yields that its operator stands for.
+// What a formula leaves: a value, nothing behind UP and DOWN, or what the routine yields that its operator stands for.
 fn formula_leaves(program: &Annotated, note: &Note, parts: &[NodeId]) -> Option<bool>
     ensures { result ≡ runs.formula_leaves program.now (runs.yields_value program.now note.now) note.now.op note.now.definition parts.now }
 {
     match (note.op, note.definition) {
-        (Some(row), _) => if_so(formula_runs(program, row, parts), true),
+        (Some(row), _) => if_so(formula_runs(program, row, parts), gives(row)),
         (None, Some(_)) => if_so(all_leave(program, true, parts), yields_value(program, note)),
         (None, None) => None,
     }

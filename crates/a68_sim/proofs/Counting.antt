@@ -11,7 +11,7 @@ use Rattle.a68_acts.specs.declared.want.Want.TheVariants as want
 use Rattle.a68_ops.specs.Applied.{applied}
 use Rattle.a68_code.specs.declared.code.Code.{Code}
 use Rattle.a68_code.specs.declared.does.Does.TheVariants as does
-use Rattle.a68_elab.specs.Made.{program_of, tree_at}
+use Rattle.a68_elab.specs.Made.{program_of, most_bounds, tree_in}
 use Rattle.a68_elab.specs.Permitted.{Permitted}
 use Rattle.a68_elab.specs.Trees.{Tree, operation, phrases, range, loop, while_in, no_trees, ◌and_tree◌, collateral, serial, Program}
 use Rattle.a68_gen.specs.Stretches.{Translates}
@@ -66,7 +66,7 @@ program = record {
 
 -- it is that of the annotated text
 is_program_of : program_of three_counted ≡ program
-unfolding tree_at
+unfolding tree_in bounds_needed most_bounds
 is_program_of = refl
 
 abbrev code : Code

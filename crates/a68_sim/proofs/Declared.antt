@@ -6,7 +6,8 @@ use Rattle.a68_acts.specs.Operations.{constant, tag, heap, bind, deref, store, u
 use Rattle.a68_annot.specs.declared.annotated.Annotated.{Annotated}
 use Rattle.a68_annot.specs.declared.note.Note.{Note}
 use Rattle.a68_code.specs.declared.does.Does.TheVariants as does
-use Rattle.a68_elab.specs.Made.{program_of, tree_at}
+use Rattle.a68_layout.specs.Rooms.{bounds_needed}
+use Rattle.a68_elab.specs.Made.{program_of, most_bounds, tree_in}
 use Rattle.a68_elab.specs.Trees.{Tree, operation, together, phrases, range, no_trees, ◌and_tree◌, collateral, serial, Program}
 use Rattle.a68_gen.specs.Listing.{listing}
 use Rattle.a68_modes.specs.Nodes.{standard_shapes}
@@ -60,7 +61,7 @@ by_hand = record {
 }
 
 pub made_by_hand : program_of declared ≡ by_hand
-unfolding tree_at
+unfolding tree_in bounds_needed most_bounds
 made_by_hand = refl
 
 pub listed_by_hand : listing by_hand

@@ -4,7 +4,8 @@ use Rattle.std.specs.Prelude.{codes}
 use Rattle.a68_acts.specs.Operations.{constant, tag, bind, apply, unite, print}
 use Rattle.a68_annot.specs.declared.annotated.Annotated.{Annotated}
 use Rattle.a68_code.specs.declared.does.Does.TheVariants as does
-use Rattle.a68_elab.specs.Made.{program_of, tree_at}
+use Rattle.a68_layout.specs.Rooms.{bounds_needed}
+use Rattle.a68_elab.specs.Made.{program_of, most_bounds, tree_in}
 use Rattle.a68_elab.specs.Trees.{Tree, operation, phrases, loop, while_in, no_trees, ◌and_tree◌, collateral, serial, Program}
 use Rattle.a68_gen.specs.Listing.{listing}
 use Rattle.a68_modes.specs.Nodes.{standard_shapes}
@@ -53,7 +54,7 @@ by_hand = record {
 }
 
 pub made_by_hand : program_of looped ≡ by_hand
-unfolding tree_at
+unfolding tree_in bounds_needed most_bounds
 made_by_hand = refl
 
 -- the loop's Step is instruction 5; a test that fails goes to 24, and a loop that has no more turns to 26

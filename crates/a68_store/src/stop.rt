@@ -11,6 +11,8 @@ use std::alloc::{AllocError, AllocFailed};
 pub enum StoreStop {
     /// The strand meets this fault.
     Fault(FaultKind),
+    /// The strand has to wait.
+    Waits,
     NoMemory,
 }
 

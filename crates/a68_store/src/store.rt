@@ -1,9 +1,9 @@
 //! The store.
-ghost use Rattle.std.specs.Prelude.{◌≡◌, ◌<◌, ◌+◌, ◌-◌, ◌^◌, [], true, None, Some, length, map, replicate, slice_get, slice_set, vec_len, IfOk, IfSome, OnOk};
+ghost use Rattle.std.specs.Prelude.{◌≡◌, ◌<◌, ◌+◌, ◌-◌, ◌^◌, [], true, pos, int_lt, None, Some, length, map, replicate, slice_get, slice_set, vec_len, IfOk, IfSome, OnOk};
 ghost use Rattle.std.specs.Option.{option_copied, option_map_or};
-ghost use Rattle.a68_acts.specs.Does.{does, did, refused};
+ghost use Rattle.a68_acts.specs.Does.{count_held, count_in, does, did, refused, with_count};
 ghost use Rattle.a68_acts.specs.Store.{opening_store};
-ghost use Rattle.a68_store.specs.Acts.{DoesAct};
+ghost use Rattle.a68_store.specs.Acts.{DoesAct, has_to_wait};
 ghost use Rattle.a68_store.specs.Frames.{HasSlot, frame_of, plain_bound, plain_held, slot_in};
 
 use crate::chains::chain_behind;
@@ -105,6 +105,23 @@ fn plain_of(held: &Held) -> Option<Plain>
         Held::Rows(_) => None,
         Held::Member { .. } => None,
     }
+}
+
+// The count that is held, if one is.
+fn count_of(held: &Held) -> Option<i64>
+    ensures { result ≡ count_held held.now }
+{
+    match held {
+        Held::Plain(Plain::Int(count)) => Some(*count),
+        _ => None,
+    }
+}
+
+// Does a semaphore of this count let no strand pass?
+fn halts(count: i64) -> bool
+    ensures { result ≡ int_lt count (pos 1) }
+{
+    count < 1
 }
 
 #[tactic(auto, unfolding(a68_acts::specs::Does::does))]
@@ -259,6 +276,36 @@ impl Store {
         drop(old);
     }
 
+    /// Raises a semaphore by 1, and takes no memory. The fault Overflow comes where its count would be no INT, Kind where
+    /// the cell is not there or holds no count.
+    pub fn up(&mut self, cell: u32) -> Result<(), StoreStop>
+        ensures { DoesAct result (λ u. Act.Up cell) (λ u. Reply.Go) (does (Want.Up cell) self.old) self.old self.new }
+    {
+        let Some(count) = self.count(cell) else {
+            return Err(StoreStop::Fault(FaultKind::Kind));
+        };
+        if count == i64::MAX {
+            return Err(StoreStop::Fault(FaultKind::Overflow));
+        }
+        self.set_count(cell, count + 1);
+        Ok(())
+    }
+
+    /// Lowers a semaphore by 1, and takes no memory. The strand has to wait where its count is below 1; the fault Kind
+    /// comes where the cell is not there or holds no count.
+    pub fn down(&mut self, cell: u32) -> Result<(), StoreStop>
+        ensures { DoesAct result (λ u. Act.Down cell) (λ u. Reply.Go) (does (Want.Down cell) self.old) self.old self.new }
+    {
+        let Some(count) = self.count(cell) else {
+            return Err(StoreStop::Fault(FaultKind::Kind));
+        };
+        if halts(count) {
+            return Err(StoreStop::Waits);
+        }
+        self.set_count(cell, count - 1);
+        Ok(())
+    }
+
     /// Prints bytes behind those printed before. Which they are comes back.
     pub fn print(&mut self, piece: &[u8]) -> Result<Span, StoreStop>
         ensures { DoesAct result (λ span. Act.Print span.from span.to) (λ span. Reply.Go)
@@ -281,6 +328,22 @@ impl Store {
     {
         let frame = self.frames.get(frame as usize)?;
         frame.slots.get(slot as usize)
+    }
+
+    // The count of a semaphore; none where its cell is not there or holds another value.
+    fn count(&self, cell: u32) -> Option<i64>
+        ensures { result ≡ count_in self.now cell }
+    {
+        let held = self.cells.get(cell as usize)?;
+        count_of(held)
+    }
+
+    // Gives a semaphore this count.
+    fn set_count(&mut self, cell: u32, count: i64)
+        requires { cell < length self.old.cells }
+        ensures { self.new ≡ with_count self.old cell count }
+    {
+        self.assign(cell, Held::Plain(Plain::Int(count)));
     }
 
     fn fault_of_enter(&self, outer: u32, scope: u32, slots: u32) -> Option<FaultKind>
@@ -339,6 +402,27 @@ impl Store {
         None
     }
 
+    fn fault_of_up(&self, cell: u32) -> Option<FaultKind>
+        ensures { result ≡ refused (does (Want.Up cell) self.now) }
+    {
+        let Some(count) = self.count(cell) else {
+            return Some(FaultKind::Kind);
+        };
+        if count == i64::MAX {
+            return Some(FaultKind::Overflow);
+        }
+        None
+    }
+
+    fn fault_of_down(&self, cell: u32) -> Option<FaultKind>
+        ensures { result ≡ refused (does (Want.Down cell) self.now) }
+    {
+        match self.count(cell) {
+            None => Some(FaultKind::Kind),
+            Some(_) => None,
+        }
+    }
+
     /// The fault that an act would meet, where it would meet one. It takes no memory.
     pub fn fault_of(&self, want: &Want) -> Option<FaultKind>
         ensures { result ≡ refused (does want.now self.now) }
@@ -361,9 +445,30 @@ impl Store {
             }
             Want::Print(text) => self.fault_of_print(&text.items),
             Want::Turn => None,
-            Want::Up { .. } | Want::Down { .. } | Want::Fork(_) | Want::Close => {
-                Some(FaultKind::Kind)
-            }
+            Want::Up { cell } => self.fault_of_up(*cell),
+            Want::Down { cell } => self.fault_of_down(*cell),
+            Want::Fork(_) | Want::Close => Some(FaultKind::Kind),
+        }
+    }
+
+    // Would a Down of this semaphore have to wait?
+    fn down_waits(&self, cell: u32) -> bool
+        ensures { result ≡ has_to_wait (does (Want.Down cell) self.now) }
+    {
+        match self.count(cell) {
+            None => false,
+            Some(count) => halts(count),
+        }
+    }
+
+    /// Would an act have to wait? None has to but a Down. It takes no memory.
+    #[inline(always)]
+    pub fn waits(&self, want: &Want) -> bool
+        ensures { result ≡ has_to_wait (does want.now self.now) }
+    {
+        match want {
+            Want::Down { cell } => self.down_waits(*cell),
+            _ => false,
         }
     }
 

@@ -267,6 +267,16 @@ const PRINTING: &[(&str, &str)] = &[
         SEVEN,
     ),
     ("( OP - = (BOOL b) BOOL: NOT b; print(- FALSE) )", "T"),
+    ("( [1 : 2] INT a; a[2] := 7; print(a[2]) )", SEVEN),
+    (
+        "( INT n := 2; MODE R = [n] INT; R a; n := 7; ( INT m = 1; R b; print(UPB b * m) ) )",
+        SEVEN,
+    ),
+    (
+        "( INT n = 2; MODE R = [(INT m = 4; (INT k = 1; n + m + k))] INT; ( INT k = 9; print(UPB HEAP R) ) )",
+        SEVEN,
+    ),
+    ("( SEMA s = LEVEL 7; print(LEVEL s) )", SEVEN),
 ];
 
 #[test]
@@ -292,21 +302,15 @@ const REFUSED: &[(&str, u8, &str)] = &[
     ("BEGIN SKIP END ~", 1, "a68: refused S2 at byte 15\n"),
     ("BEGIN print(1) END CO", 1, "a68: refused S1 at byte 19\n"),
     ("BEGIN print(#)#1)", 1, "a68: refused S6 at byte 17\n"),
-    ("( [1 : 2] INT a; SKIP )", 1, "a68: refused X0 at byte 14\n"),
     (
         "( print(1); PAR (SKIP, SKIP); [] INT a = 1; SKIP )",
         1,
         "a68: refused X0 at byte 12\n",
     ),
     (
-        "( SEMA s = LEVEL 1; SKIP )",
-        1,
-        "a68: refused X0 at byte 11\n",
-    ),
-    (
         "( REF STRING (NIL) +:= \"a\" )",
-        1,
-        "a68: refused X0 at byte 2\n",
+        3,
+        "a68: fault Nil at byte 2\n",
     ),
     ("( print(1 + TRUE) )", 1, "a68: refused O1 at byte 10\n"),
     ("( INT x := TRUE; SKIP )", 1, "a68: refused C1 at byte 11\n"),

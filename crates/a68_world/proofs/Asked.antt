@@ -5,8 +5,8 @@ use Rattle.std.specs.Option.{is_some, option_map_or}
 use Rattle.std.specs.declared.option.Option.{Option}
 use Rattle.std.specs.declared.result.Result.{Result}
 use Rattle.a68_acts.specs.Fetching.{fetch_steps, fetch_elements, assign_steps, assign_elements}
-use Rattle.a68_acts.specs.Rowing.{yielding, ints_of, sliced, sliced_by, sliced_set, sliced_with, trims_of, names_part, names_row, bounds_of_rows, row_of, row_of_rows, displayed, displayed_in, displayed_rows, dims_of_shape, no_bounds, vacuous, widened_row, rowed, rowed_as, names_one, rowed_in, rowed_name, with_dimension, widened, bound_of, bounded, bounded_by, extending, updating_text, extended, extends}
-use Rattle.a68_acts.specs.Steps.{silent, last_left, told, makes, updates, replaces, asked, acting, goes, is_beyond, fetches_row, assigns_elements, same_bounds, assigns_row, assigns_new, assigns, replied, stepped}
+use Rattle.a68_acts.specs.Rowing.{yielding, ints_of, sliced, sliced_by, sliced_set, sliced_with, trims_of, names_part, names_row, bounds_of_rows, row_of, row_of_rows, displayed_in, displayed_rows, dims_of_shape, no_bounds, vacuous, widened_row, rowed_as, names_one, rowed_in, rowed_name, widened, bound_of, bounded, bounded_by, extending, updating_text, extended, extends}
+use Rattle.a68_acts.specs.Steps.{silent, last_left, told, makes, updates, replaces, asked, acting, goes, is_beyond, fetches_row, assigns_elements, same_bounds, assigns_new, assigns, replied, stepped}
 use Rattle.a68_acts.specs.Operations.{Operation, constant, skip, nil, routine, tag, make, heap, bind, deref, store, apply, same, slice, display, vacuum, compose, select, unite, row_up, row_up_name, widen, drop, print, whole, start, resumed, resumed_by, resumed_with, skipped, skipped_parts, skip_within, routine_of, fetched, fetched_parts, making, made_by, given, given_parts, assigned, composed, part_at, fields_at, fields_of, names_rows, name_behind, named_rows, selects_from_row, selected_from, selected_in, shape_behind, is_update, updating_by, updating, put, is_same, related, printing, print_next, worded, whole_of, leveled, counted, on_sema, applied_to_two, applied_to_one}
 use Rattle.a68_acts.specs.declared.operation.Doing.{Doing}
 use Rattle.a68_acts.specs.declared.operation.Doing.TheVariants.{Yields, Asks, Meets}

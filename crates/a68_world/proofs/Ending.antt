@@ -1,15 +1,15 @@
 -- Where a run stands without a further turn, and what a strand shows there.
-use Rattle.std.proofs.Common.{◌≡◌, ℕ, zero, suc, List, [], ◌∷◌, refl, ap, sym, ◌∙◌, inl, inr}
-use Rattle.std.specs.Prelude.{None, Some, IfSome}
+use Rattle.std.proofs.Common.{◌≡◌, ℕ, zero, suc, Bool, true, false, List, [], ◌∷◌, refl, ap, sym, ◌∙◌, inl, inr}
+use Rattle.std.specs.Prelude.{None, Some, IfSome, if◌then◌else◌}
 use Rattle.std.specs.declared.option.Option.{Option}
 use Rattle.a68_acts.specs.Does.{Outcome, did, refuses, waits, refused, does}
-use Rattle.a68_acts.proofs.Waiting.{never_waits}
 use Rattle.a68_acts.specs.Store.{Store}
 use Rattle.a68_acts.specs.declared.want.Want.{Want}
 use Rattle.a68_code.specs.declared.code.Code.{Code}
+use Rattle.a68_store.specs.Acts.{has_to_wait}
 use Rattle.a68_strand.specs.Bodies.{stance_in}
 use Rattle.a68_strand.specs.Cyclic.{HasTurn}
-use Rattle.a68_strand.specs.Ends.{fault_in, fault_of, HasEnded, EndsWith, done, all_halted}
+use Rattle.a68_strand.specs.Ends.{fault_in, fault_of, HasEnded, CanAct, EndsWith, done, all_halted}
 use Rattle.a68_strand.specs.Machine.{State, asked, place_at}
 use Rattle.a68_strand.specs.Runs.{World, after, acts_in, acted}
 use Rattle.a68_strand.specs.Strands.{standing}
@@ -44,21 +44,33 @@ next-act code store st w x e = ap (λ (m : Stance). acts_in m code (alone store 
 pub next-fault : (store : Store) (st : State) → fault_of (alone store st) 0 ≡ fault_in st.stance store
 next-fault store st = refl
 
--- a strand that has not ended has a turn
-pub has-turn : (code : Code) (store : Store) (st : State) → (st.stance ≡ Idle → ⊥) → HasTurn code (alone store st) 0
-has-turn code store st open_ = by_stance st.stance refl
+-- a strand whose act need not wait has a turn
+asks-turn : (code : Code) (store : Store) (st : State) (w : Want) (x : Waiting) → st.stance ≡ Asking w x → has_to_wait (does w store) ≡ false → HasTurn code (alone store st) 0
+asks-turn code store st w x e no_wait = by_act (does w store) refl no_wait
   where
-    by_act : (w : Want) (x : Waiting) → st.stance ≡ Asking w x → (o : Outcome) → does w store ≡ o → HasTurn code (alone store st) 0
-    by_act w x e (did act told behind) f =
+    by_act : (o : Outcome) → does w store ≡ o → has_to_wait o ≡ false → HasTurn code (alone store st) 0
+    by_act (did act told behind) f no_wait =
         inl (λ n. let some = next-act code store st w x e ∙ ap (after code (alone store st) 0 st) f in absurd (cc))
-    by_act w x e (refuses why) f =
+    by_act (refuses why) f no_wait =
         inr (λ n. let some = ap (λ (m : Stance). fault_in m store) e ∙ ap refused f in absurd (cc))
-    by_act w x e waits f = absurd (never_waits w store f)
+    by_act waits f no_wait = absurd (cc)
 
-    by_stance : (m : Stance) → st.stance ≡ m → HasTurn code (alone store st) 0
-    by_stance Idle e = absurd (open_ e)
-    by_stance (Asking w x) e = by_act w x e (does w store) refl
-    by_stance (Failed why) e = inr (λ n. let some = ap (λ (m : Stance). fault_in m store) e in absurd (cc))
+-- so has one that stands before a fault
+failed-turn : (code : Code) (store : Store) (st : State) (why : FaultKind) → st.stance ≡ Failed why → HasTurn code (alone store st) 0
+failed-turn code store st why e = inr (λ n. let some = ap (λ (m : Stance). fault_in m store) e in absurd (cc))
+
+-- one whose act has to wait has none
+waiting-act : (code : Code) (store : Store) (st : State) (w : Want) (x : Waiting) → st.stance ≡ Asking w x → does w store ≡ waits → acted code (alone store st) 0 ≡ None
+waiting-act code store st w x e f = next-act code store st w x e ∙ ap (after code (alone store st) 0 st) f
+
+waiting-fault : (store : Store) (st : State) (w : Want) (x : Waiting) → st.stance ≡ Asking w x → does w store ≡ waits → fault_of (alone store st) 0 ≡ None
+waiting-fault store st w x e f = next-fault store st ∙ ap (λ (m : Stance). fault_in m store) e ∙ ap refused f
+
+pub no-turn : (code : Code) (store : Store) (st : State) (w : Want) (x : Waiting) → st.stance ≡ Asking w x → does w store ≡ waits → (n : ℕ) → HasTurn code (alone store st) n → ⊥
+no-turn code store st w x e f zero (inl can) = can (waiting-act code store st w x e f)
+no-turn code store st w x e f zero (inr stands) = stands (waiting-fault store st w x e f)
+no-turn code store st w x e f (suc n) (inl can) = can refl
+no-turn code store st w x e f (suc n) (inr stands) = stands refl
 
 -- no strand but the one has a turn
 pub one-turn : (code : Code) (store : Store) (st : State) (n : ℕ) → HasTurn code (alone store st) n → n ≡ 0
@@ -66,9 +78,29 @@ one-turn code store st zero h = refl
 one-turn code store st (suc n) (inl h) = absurd (h refl)
 one-turn code store st (suc n) (inr h) = absurd (h refl)
 
+-- a strand that stands before no fault in a run that goes on can act
+pub can-act : (code : Code) (store : Store) (st : State) (n : ℕ) → HasTurn code (alone store st) n → fault_of (alone store st) 0 ≡ None → CanAct code (alone store st) 0
+can-act code store st zero (inl can) none = can
+can-act code store st zero (inr stands) none = absurd (stands none)
+can-act code store st (suc n) (inl can) none = absurd (can refl)
+can-act code store st (suc n) (inr stands) none = absurd (stands refl)
+
 -- ---- the end without a further turn
 
-ends-without-in : (code : Code) (store : Store) (st : State) (place : ℕ) (a : Ask) → a ≡ asked place st.stance → EndsWithoutTurn code (alone store st) (end_shown a)
+has-waited : (o : Outcome) → has_to_wait o ≡ true → o ≡ waits
+has-waited (did act told behind) e = absurd (cc)
+has-waited (refuses why) e = absurd (cc)
+has-waited waits e = refl
+
+ends-asking : (code : Code) (store : Store) (st : State) (w : Want) (x : Waiting) → st.stance ≡ Asking w x → (HasEnded (alone store st) 0 → ⊥)
+    → EndsWithoutTurn code (alone store st) (end_shown (ask.Want w) store)
+ends-asking code store st w x e open_ = by_test (has_to_wait (does w store)) refl
+  where
+    by_test : (b : Bool) → has_to_wait (does w store) ≡ b → EndsWithoutTurn code (alone store st) (if b then Some ends.AllHalted else None)
+    by_test true f = (open_, no-turn code store st w x e (has-waited (does w store) f))
+    by_test false f = (open_, (0, asks-turn code store st w x e f))
+
+ends-without-in : (code : Code) (store : Store) (st : State) (place : ℕ) (a : Ask) → a ≡ asked place st.stance → EndsWithoutTurn code (alone store st) (end_shown a store)
 ends-without-in code store st place a is = by_stance st.stance refl
   where
     open_ : (m : Stance) → st.stance ≡ m → (m ≡ Idle → ⊥) → HasEnded (alone store st) 0 → ⊥
@@ -79,12 +111,13 @@ ends-without-in code store st place a is = by_stance st.stance refl
     shown : (m : Stance) → st.stance ≡ m → a ≡ asked place m
     shown m e = is ∙ ap (asked place) e
 
-    by_stance : (m : Stance) → st.stance ≡ m → EndsWithoutTurn code (alone store st) (end_shown a)
+    by_stance : (m : Stance) → st.stance ≡ m → EndsWithoutTurn code (alone store st) (end_shown a store)
     by_stance Idle e = rw (shown Idle e) (record { st = st; there = refl; idle = e })
-    by_stance (Asking w x) e = rw (shown (Asking w x) e) (open_ (Asking w x) e (λ f. absurd (cc)), (0, has-turn code store st (λ f. absurd (cc))))
-    by_stance (Failed why) e = rw (shown (Failed why) e) (open_ (Failed why) e (λ f. absurd (cc)), (0, has-turn code store st (λ f. absurd (cc))))
+    by_stance (Asking w x) e = rw (shown (Asking w x) e) (ends-asking code store st w x e (open_ (Asking w x) e (λ f. absurd (cc))))
+    by_stance (Failed why) e = rw (shown (Failed why) e) (open_ (Failed why) e (λ f. absurd (cc)), (0, failed-turn code store st why e))
 
-pub ends-without : (code : Code) (store : Store) (strand : Strand) → Shows code strand → EndsWithoutTurn code (alone store (standing strand)) (end_shown strand.about.ask)
+pub ends-without : (code : Code) (store : Store) (strand : Strand) → Shows code strand
+    → EndsWithoutTurn code (alone store (standing strand)) (end_shown strand.about.ask store)
 ends-without code store strand shows = ends-without-in code store (standing strand) (place_at code.list strand.body.at) strand.about.ask shows.ask
 
 -- such an end is the machine's

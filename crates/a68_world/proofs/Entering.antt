@@ -1,16 +1,17 @@
 -- What an act makes of the scopes of frames.
-use Rattle.std.proofs.Common.{◌≡◌, ℕ, zero, suc, ◌+◌, ◌<◌, ◌≤◌, Bool, true, false, List, [], ◌∷◌, ◌++◌, length, refl, ap, inl, inr, arith, length-append}
-use Rattle.std.specs.Prelude.{⊤, None, Some, slice_get, slice_set, nat_eq, nat_lt, replicate, if◌then◌else◌}
+use Rattle.std.proofs.Common.{◌≡◌, ℕ, zero, suc, ◌+◌, ℤ, ◌<◌, ◌≤◌, Bool, true, false, List, [], ◌∷◌, ◌++◌, length, refl, ap, inl, inr, arith, length-append}
+use Rattle.std.specs.Prelude.{⊤, None, Some, pos, ◌+ℤ◌, ◌-ℤ◌, slice_get, slice_set, nat_eq, nat_lt, int_lt, replicate, if◌then◌else◌}
 use Rattle.std.specs.Option.{option_map_or}
 use Rattle.std.proofs.Math.ListN.{length-set}
 use Rattle.std.specs.declared.option.Option.{Option}
-use Rattle.a68_acts.specs.Does.{Outcome, did, refuses, waits, does, entered, bound, looked, made, within_count, cells_from, is_closed}
+use Rattle.a68_acts.specs.Does.{Outcome, did, refuses, waits, does, entered, bound, looked, made, within_count, cells_from, is_closed, count_in, with_count, raised, lowered}
 use Rattle.a68_acts.specs.Store.{Store, Frame, chain_step, chain_within, chain_of, counted, slot_weight, most_counted, most_printed}
 use Rattle.a68_acts.specs.declared.want.Reply.{Reply}
 use Rattle.a68_acts.specs.declared.want.Reply.TheVariants as reply
 use Rattle.a68_acts.specs.declared.want.Want.{Want}
 use Rattle.a68_acts.specs.declared.want.Want.TheVariants as want
 use Rattle.a68_layout.specs.declared.types.Plan.{Plan}
+use Rattle.a68_ops.specs.Yields.{is_int}
 use Rattle.a68_store.proofs.FramesLemmas.{get-append_cases, get-set_cases}
 use Rattle.a68_values.specs.Content.{Content}
 use Rattle.a68_values.specs.declared.act.Act.TheVariants as act
@@ -150,6 +151,22 @@ assign-in : (s : Store) (c : ℕ) (held : Held) (o : Option Held) → FramesBelo
 assign-in s c held None p = tt
 assign-in s c held (Some old) p = same-room s reply.Go (record s { cells = slice_set s.cells c held }) p refl tt
 
+raise-in : (s : Store) (c : ℕ) (o : Option ℤ) → FramesBelow (length s.frames) s.frames → RoomBehind (length s.frames) (option_map_or (raised s c) o (refuses fault.Kind))
+raise-in s c None p = tt
+raise-in s c (Some i) p = test (is_int (i +ℤ pos 1))
+  where
+    test : (b : Bool) → RoomBehind (length s.frames) (if b then did (act.Up c) reply.Go (with_count s c (i +ℤ pos 1)) else refuses fault.Overflow)
+    test true = same-room s reply.Go (with_count s c (i +ℤ pos 1)) p refl tt
+    test false = tt
+
+lower-in : (s : Store) (c : ℕ) (o : Option ℤ) → FramesBelow (length s.frames) s.frames → RoomBehind (length s.frames) (option_map_or (lowered s c) o (refuses fault.Kind))
+lower-in s c None p = tt
+lower-in s c (Some i) p = test (int_lt i (pos 1))
+  where
+    test : (b : Bool) → RoomBehind (length s.frames) (if b then waits else did (act.Down c) reply.Go (with_count s c (i -ℤ pos 1)))
+    test true = tt
+    test false = same-room s reply.Go (with_count s c (i -ℤ pos 1)) p refl tt
+
 print-in : (s : Store) (text : List ℕ) (b : Bool) → FramesBelow (length s.frames) s.frames
     → RoomBehind (length s.frames) (if b then refuses fault.Text else did (act.Print (length s.text) (length s.text + length text)) reply.Go (record s { text = s.text ++ text }))
 print-in s text true p = tt
@@ -166,7 +183,7 @@ does-room (want.Fetch c) s p q = fetch-in s c (slice_get s.cells c) p
 does-room (want.Assign c held) s p q = assign-in s c held (slice_get s.cells c) p
 does-room (want.Print text) s p q = print-in s text (nat_lt most_printed (length s.text + length text)) p
 does-room want.Turn s p q = same-room s reply.Go s p refl tt
-does-room (want.Up c) s p q = tt
-does-room (want.Down c) s p q = tt
+does-room (want.Up c) s p q = raise-in s c (count_in s c) p
+does-room (want.Down c) s p q = lower-in s c (count_in s c) p
 does-room (want.Fork entrances) s p q = tt
 does-room want.Close s p q = tt

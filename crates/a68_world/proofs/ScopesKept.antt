@@ -1,5 +1,5 @@
 -- Silent steps keep scopes below a number.
-use Rattle.std.proofs.Common.{◌≡◌, ℕ, zero, suc, ◌<◌, ◌≤◌, ◌+◌, ◌*◌, ◌-◌, ◌^◌, Bool, true, false, List, [], ◌∷◌, length, refl, arith}
+use Rattle.std.proofs.Common.{ℕ, zero, suc, ◌<◌, ◌≤◌, ◌+◌, ◌*◌, ◌-◌, ◌^◌, Bool, true, false, List, [], ◌∷◌, length, refl, arith}
 use Rattle.std.specs.Prelude.{None, Some, Ok, Err, IfSome, IsTrue, map, reverse, slice_get, slice_index_or, nat_eq, nat_lt, if◌then◌else◌}
 use Rattle.std.specs.Option.{option_map_or}
 use Rattle.std.specs.declared.option.Option.{Option}
@@ -21,7 +21,7 @@ use Rattle.a68_code.specs.declared.does.Does.{Does}
 use Rattle.a68_code.specs.declared.does.Does.TheVariants as does
 use Rattle.a68_modes.specs.Nodes.{shape_at}
 use Rattle.a68_modes.specs.declared.shape.Shape.{Shape}
-use Rattle.a68_strand.specs.Machine.{State, stack_of, goes_on, goes_to, fails, follows, operates, enters, yields_to, leaves_frame, branches, unless, chooses, cases, kept_of, to_member, members, with_counter, counts, indexes, steps, advances, forgets, calling, calls, enters_body, begins_body, binds, into_routine, returns_to, returns, operation_of, controls, exec, at_end, does_one, silently, next_state, settle_in, settle, leaves_at, told_by, replied_in, replied}
+use Rattle.a68_strand.specs.Machine.{State, stack_of, goes_on, goes_to, fails, follows, operates, enters, yields_to, leaves_frame, branches, unless, chooses, cases, kept_of, to_member, members, with_counter, counts, indexes, steps, advances, forgets, calling, calls, enters_body, begins_body, binds, returns_to, returns, operation_of, controls, exec, at_end, does_one, silently, next_state, settle_in, settle, leaves_at, told_by, replied_in, replied}
 use Rattle.a68_stack.specs.Room.{has_room}
 use Rattle.a68_strand.specs.Room.{brings_room}
 use Rattle.a68_stack.specs.Values.{callers, pop_values, top_counter, top_value}

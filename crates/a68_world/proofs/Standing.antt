@@ -46,7 +46,7 @@ pub record Made (code : Code) (fuel : ℕ) (journal : Vec Entry Global) (store :
   pub room : vec_capacity journal ≡ fuel
   pub store_is : store ≡ opening_store
   pub settled : HasSettled code (beginning 0 (record { frame = 0; scope = 0 } ∷ [])) strand
-  pub end_is : end ≡ end_shown strand.about.ask
+  pub end_is : end ≡ end_shown strand.about.ask store
 
 shown : (place : ℕ) (b : Ask) (m : Stance) → b ≡ asked place m → is_spent b ≡ false
 shown place b Idle e = ap is_spent e

@@ -8,7 +8,7 @@ use Rattle.std.specs.declared.alloc.Global.{Global}
 use Rattle.std.specs.Option.{option_and_then}
 use Rattle.std.specs.declared.option.Option.{Option}
 use Rattle.std.specs.declared.vec.Vec.{Vec}
-use Rattle.a68_acts.specs.Does.{Outcome, did, does}
+use Rattle.a68_acts.specs.Does.{Outcome, did, waits, refused, does}
 use Rattle.a68_acts.specs.Store.{Store}
 use Rattle.a68_acts.specs.declared.want.Reply.{Reply}
 use Rattle.a68_acts.specs.declared.want.Want.{Want}
@@ -33,7 +33,7 @@ use Rattle.a68_world.specs.Run.{Run, EndsWithoutTurn}
 use Rattle.a68_world.specs.Scopes.{WantBelow, StanceBelow, StateBelow}
 use Rattle.a68_world.specs.Turns.{GoesOn, EndsAt, IsDue, Acts, FindsNoMemory}
 use Rattle.a68_world.specs.declared.world.World.TheInside.{Inside}
-use Rattle.a68_world.proofs.Ending.{alone, asking, next-act, ends-without, is-end}
+use Rattle.a68_world.proofs.Ending.{alone, asking, next-act, next-fault, no-turn, can-act, ends-without, is-end}
 use Rattle.a68_world.proofs.Entering.{RoomAfter, RoomBehind, does-room}
 use Rattle.a68_world.proofs.Running.{machine-more}
 use Rattle.a68_world.proofs.ScopesKept.{settle-below, replied-below, state-more, brings_room-below}
@@ -206,7 +206,7 @@ longer s w d r store journal a noted = ap (λ l. length l) noted.items ∙ lengt
 
 -- the run behind the act
 pub acted-sound : (s : Inside) (w : Want) (d : Act) (r : Reply) (store : Store) (journal : Vec Entry Global) (strand : Strand) (end : Option End) → Asked s w d r store → Noted s d journal
-    → HasSettled s.code (replied s.code (standing s.strand) r) strand → end ≡ end_shown strand.about.ask
+    → HasSettled s.code (replied s.code (standing s.strand) r) strand → end ≡ end_shown strand.about.ask store
     → IsSound (record s { journal = journal; store = store; strand = strand; end = end })
 acted-sound s w d r store journal strand end a noted told ends =
     let run = a.sound.run in
@@ -245,7 +245,7 @@ acted-sound s w d r store journal strand end a noted told ends =
     not-both b place (Failed why) e f = let is = ap is_spent e in absurd (cc)
 
 pub acted-is : (s : Inside) (w : Want) (d : Act) (r : Reply) (store : Store) (journal : Vec Entry Global) (strand : Strand) (end : Option End) → Asked s w d r store → Noted s d journal
-    → HasSettled s.code (replied s.code (standing s.strand) r) strand → end ≡ end_shown strand.about.ask
+    → HasSettled s.code (replied s.code (standing s.strand) r) strand → end ≡ end_shown strand.about.ask store
     → Acts (run_of s) 0 (run_of (record s { journal = journal; store = store; strand = strand; end = end }))
 acted-is s w d r store journal strand end a noted told ends =
     let shows : Shows s.code strand = record { ask = told.ask; place = told.place } in
@@ -298,6 +298,24 @@ spent-sound s w d r store journal strand a noted none =
       frames = room.below;
       strand = λ e. absurd (cc);
     }
+
+-- at a turn with no fuel, where the act meets no fault
+pub spent-here : (s : Inside) (w : Want) → IsSound s → GoesOn (run_of s) → s.strand.about.ask ≡ ask.Want w → refused (does w s.store) ≡ None → s.fuel ≤ length s.journal.items
+    → EndsAt (run_of s) 0 ends.Spent
+spent-here s w sound goes e calm full =
+    let stance = asks-stance s w sound goes.kept e in
+    let turn = (sound.run.goes_on (not-spent s sound goes.kept) goes.unended).1 in
+    let within = sound.run.within in (
+      omega (arith, full, within),
+      can-act s.code s.store (standing s.strand) turn.0 turn.1 (next-fault s.store (standing s.strand) ∙ ap (λ (m : Stance). fault_in m s.store) stance.1 ∙ calm),
+    )
+
+-- in a run that goes on no act has to wait
+pub needs-no-wait : (s : Inside) (w : Want) → IsSound s → GoesOn (run_of s) → s.strand.about.ask ≡ ask.Want w → does w s.store ≡ waits → ⊥
+needs-no-wait s w sound goes e f =
+    let stance = asks-stance s w sound goes.kept e in
+    let turn = (sound.run.goes_on (not-spent s sound goes.kept) goes.unended).1 in
+    no-turn s.code s.store (standing s.strand) w stance.0 stance.1 f turn.0 turn.1
 
 pub due-here : (s : Inside) (w : Want) → IsSound s → GoesOn (run_of s) → s.strand.about.ask ≡ ask.Want w → length s.journal.items < s.fuel → IsDue (run_of s) 0
 due-here s w sound goes e fuel =

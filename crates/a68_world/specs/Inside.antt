@@ -1,9 +1,12 @@
 -- Inner: the headline does not rest on this file.
 -- The run as the code keeps it.
-use Rattle.std.specs.Prelude.{◌≡◌, ◌+◌, ◌≤◌, false, [], ◌∷◌, length, None, Some}
+use Rattle.std.specs.Prelude.{◌≡◌, ◌+◌, ◌≤◌, false, [], ◌∷◌, length, None, Some, if◌then◌else◌}
 use Rattle.std.specs.Vec.{vec_capacity}
 use Rattle.std.specs.declared.option.Option.{Option}
+use Rattle.a68_acts.specs.Does.{does}
+use Rattle.a68_acts.specs.Store.{Store}
 use Rattle.a68_code.specs.declared.code.Code.{Code}
+use Rattle.a68_store.specs.Acts.{has_to_wait}
 use Rattle.a68_strand.specs.Machine.{ask_of, place_at}
 use Rattle.a68_strand.specs.Strands.{standing, is_spent}
 use Rattle.a68_strand.specs.declared.ask.Ask.{Ask}
@@ -31,10 +34,11 @@ pub record Shows (code : Code) (strand : Strand) : Type 0 where
   pub ask : strand.about.ask ≡ ask_of code (standing strand)
   pub place : strand.place ≡ place_at code.list strand.body.at
 
--- the end of a run whose only strand shows this
-abbrev pub end_shown : Ask → Option End
-end_shown ask.Ended = Some ends.Done
-end_shown _ = None
+-- the end without a further turn of a run whose only strand shows this over this store
+abbrev pub end_shown : Ask → Store → Option End
+end_shown ask.Ended store = Some ends.Done
+end_shown (ask.Want w) store = if has_to_wait (does w store) then Some ends.AllHalted else None
+end_shown _ store = None
 
 pub record IsSound (s : Inside) : Type 0 where
   pub run : IsRun (run_of s)

@@ -23,12 +23,19 @@ use std::alloc::Global;
 // The frame of the standard environ.
 const STANDARD: Environ = Environ { frame: 0, scope: 0 };
 
-// The end of a run whose only strand shows this.
-fn end_shown(ask: &Ask) -> Option<End>
-    ensures { result ≡ end_shown ask.now }
+// The end without a further turn of a run whose only strand shows this over this store.
+fn end_shown(ask: &Ask, store: &Store) -> Option<End>
+    ensures { result ≡ end_shown ask.now store.now }
 {
     match ask {
         Ask::Ended => Some(End::Done),
+        Ask::Want(want) => {
+            if store.waits(want) {
+                Some(End::AllHalted)
+            } else {
+                None
+            }
+        }
         _ => None,
     }
 }
@@ -70,7 +77,7 @@ impl World {
     {
         match parts(alloc, &code, fuel) {
             Ok((journal, store, strand)) => {
-                let end = end_shown(strand.ask());
+                let end = end_shown(strand.ask(), &store);
                 Ok(World {
                     code,
                     fuel,
@@ -189,7 +196,7 @@ impl World {
                 Some(Turned::NoMemory)
             }
             Ok(()) => {
-                self.end = end_shown(self.strand.ask());
+                self.end = end_shown(self.strand.ask(), &self.store);
                 Some(Turned::Acted)
             }
         }
@@ -218,6 +225,8 @@ impl World {
                     strand,
                 });
             }
+            // An act that has to wait ends the run before its turn.
+            Err(StoreStop::Waits) => unreachable!(),
             Err(StoreStop::NoMemory) => {
                 drop(reply);
                 return self.lose();
@@ -234,7 +243,7 @@ impl World {
                 Turned::NoMemory
             }
             Ok(()) => {
-                self.end = end_shown(self.strand.ask());
+                self.end = end_shown(self.strand.ask(), &self.store);
                 Turned::Acted
             }
         }

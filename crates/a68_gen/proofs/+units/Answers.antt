@@ -4,14 +4,16 @@ use Rattle.std.proofs.lemmas.List.{drop_all, nil_from_length, take_all, append-n
 use Rattle.std.proofs.lemmas.Option.{same_Some}
 use Rattle.a68_annot.specs.declared.annotated.Annotated.{Annotated}
 use Rattle.a68_code.specs.declared.does.Does.TheVariants as does
-use Rattle.a68_elab.proofs.Nodes.{tree_of_nodes, behind_is}
+use Rattle.a68_base.specs.declared.refusal.Span.{Span}
+use Rattle.a68_elab.proofs.Nodes.{behind_is, defined_is, tree_of_nodes}
+use Rattle.a68_elab.specs.declared.sight.Sight.TheVariants as sight
 use Rattle.a68_gen.proofs.Linking.{case_is, enquiry_is, link_behind}
 use Rattle.a68_elab.specs.Made as made
 use Rattle.a68_elab.specs.declared.bound.Bound.{Bound}
 use Rattle.a68_elab.specs.declared.bound.Bound.TheVariants as bound
 use Rattle.a68_layout.specs.declared.types.Form.{Form}
 use Rattle.a68_elab.specs.Trees.{Tree, Test, operation, serial, while_in, unbuilt, ◌and_tree◌, count, Specs, no_specs, spec}
-use Rattle.a68_elab.specs.Made.{behind, tree_at, trees_at, behind_ref, specs_of}
+use Rattle.a68_elab.specs.Made.{behind, trees_at, behind_ref, specs_of}
 use Rattle.a68_gen.specs.Coercing.{coercions}
 use Rattle.a68_gen.specs.Listing.{instr, limits, opens, stretch, stretches, test_stretch}
 use Rattle.a68_gen.specs.Loops.{asked, unless_at}
@@ -19,11 +21,12 @@ use Rattle.a68_code.specs.declared.code.Instr.{Instr}
 use Rattle.a68_gen.specs.Writing.{aim_all, ran_out, Writes}
 use Rattle.a68_gen.specs.Numbers.{put_all}
 use Rattle.a68_gen.specs.Sources.{assigned_tree, named}
+use Rattle.a68_gen.specs.Views.{bound_of, tree_of}
 use Rattle.a68_modes.specs.declared.shape.Shape.{Shape}
 use Rattle.a68_gen.specs.Chains.{enquiry_tree, Finishes, IsOpen, IsWhole, link_tree, other_tree, shuts}
 use Rattle.a68_gen.specs.declared.ends.Opened.{Opened}
 use Rattle.a68_gen.proofs.Chaining.{open_more}
-use Rattle.a68_gen.proofs.Constructs.{coerced_list, coerced_unbuilt, part-cons, one_part, rest_parts, some_parts, definition_whole, last_is, count_trees, new_does, new_list, count_bounds, bound-cons, none-behind, stands-behind, index-units-next, slice_list, plain_serial, framed_serial, declared_plain, declared_none, begun_none, begun_tree, declared_tree, assigned_list, applied_list, call_list, void_collateral, structure_collateral, row_collateral, other_collateral, select_whole, only_none, control_list, three_list, phrases_whole, asked_whole, unless_stands, test_is}
+use Rattle.a68_gen.proofs.Constructs.{coerced_list, coerced_unbuilt, part-cons, one_part, rest_parts, some_parts, definition_whole, last_is, count_trees, new_does, new_list, count_bounds, bound-cons, none-behind, none-past, stands-behind, index-units-next, slice_list, plain_serial, framed_serial, declared_plain, declared_none, begun_none, begun_tree, declared_tree, assigned_list, applied_list, call_list, void_collateral, structure_collateral, row_collateral, other_collateral, select_whole, only_none, control_list, three_list, phrases_whole, asked_whole, unless_stands, test_is}
 use Rattle.a68_runs.proofs.Between.{between-each, between-above}
 use Rattle.a68_gen.proofs.Numbering.{ArmsAhead, arm_end, arm_writes, arms_on, case_framed, case_writes}
 use Rattle.a68_gen.proofs.Ordered.{all-before}
@@ -47,48 +50,50 @@ pub rows::unit-returns-then-not-are_built : goal.rows::unit-returns-then-not-are
 rows::unit-returns-then-not-are_built t c =
     let note = c.note-note.result.now in
     let node = c.node-node.result.now in
-    let tree = tree_of_nodes c.args.program.now c.args.id node note c.node-node.ensures.is c.note-note.ensures in
+    let tree = tree_of_nodes c.args.program.now.of.now c.args.program.now.sight c.args.id node note c.node-node.ensures.is c.note-note.ensures in
     let built = rw c.modes.ensures at c.are_built.ensures in
-    rw (tree, coerced_unbuilt c.args.program.now.modes node.span.from note.goal note.mode note.path _ (sym built ∙ c.if-not-are_built.true)) c.unbuilt.ensures
+    rw (tree, coerced_unbuilt c.args.program.now.of.now.modes node.span.from note.goal note.mode note.path _ (sym built ∙ c.if-not-are_built.true)) c.unbuilt.ensures
 
 pub rows::unit-returns : goal.rows::unit-returns
 rows::unit-returns t c =
     let note = c.note-note.result.now in
     let node = c.node-node.result.now in
-    let tree = tree_of_nodes c.args.program.now c.args.id node note c.node-node.ensures.is c.note-note.ensures in
-    let path = coercions c.args.program.now.modes node.span.from note.goal note.mode note.path in
+    let tree = tree_of_nodes c.args.program.now.of.now c.args.program.now.sight c.args.id node note c.node-node.ensures.is c.note-note.ensures in
+    let path = coercions c.args.program.now.of.now.modes node.span.from note.goal note.mode note.path in
     let built = rw c.modes.ensures at c.are_built.ensures in
     let coerced : Writes c.construct.new.out.stop c.coerce.new.out.stop c.construct.new.out.list c.coerce.new.out.list path = rw c.modes-2.ensures at c.coerce.ensures in
-    rw (tree, coerced_list c.args.program.now.modes node.span.from note.goal note.mode (length c.args.out.now.list) note.path _ (sym built ∙ c.if-not-are_built.false))
+    rw (tree, coerced_list c.args.program.now.of.now.modes node.span.from note.goal note.mode (length c.args.out.now.list) note.path _ (sym built ∙ c.if-not-are_built.false))
     (and_behind c.args.out.now.stop c.construct.new.out.stop c.coerce.new.out.stop c.args.out.now.list c.construct.new.out.list c.coerce.new.out.list _ (λ n. path) c.construct.ensures coerced)
 
 pub rows::unit-construct-requires : goal.rows::unit-construct-requires
 rows::unit-construct-requires t c =
-    let begins = all-before c.args.program.now.tree.nodes c.args.id c.node-node.result.now c.node-node.ensures.is in
+    let begins = all-before c.args.program.now.of.now.tree.nodes c.args.id c.node-node.result.now c.node-node.ensures.is in
     (omega arith, (c.requires, (c.node-node.ensures.behind, (c.node-node.ensures.named, begins))))
 
 pub calls::applied-returns-in-Ok : goal.calls::applied-returns-in-Ok
 calls::applied-returns-in-Ok t c =
-    let f = behind c.args.id (tree_at c.args.program.now) in
+    let f = behind c.args.id (tree_of c.args.program.now) in
     let ids = c.args.parts.now in
     let place = c.args.place in
     let note = c.args.note.now in
-    let yields = not (is_void (shape_at c.args.program.now.modes note.mode)) in
-    let tag_first = instr place (does.Tag note.step.hops note.step.slot) ∷ [] in
+    let yields = not (is_void (shape_at c.args.program.now.of.now.modes note.mode)) in
+    let hops = made.hops_seen c.args.program.now.of.now c.args.program.now.sight note in
+    let tag_first = instr place (does.Tag hops note.step.slot) ∷ [] in
     let w0 = c.args.out.now in
     let w1 = c.emit.new.self in
     let w2 = c.operation.new.out in
     let behind_tag : Writes w1.stop w2.stop w1.list w2.list (stretches (trees_at f ids) (length w1.list) ++ instr place (does.Call c.in-Ok.count yields) ∷ []) =
     subst (λ (b : Bool). Writes w1.stop w2.stop w1.list w2.list (stretches (trees_at f ids) (length w1.list) ++ instr place (does.Call c.in-Ok.count (not b)) ∷ [])) c.is_void-gives.ensures c.operation.ensures in
-    writes-as w0.stop w2.stop w0.list w2.list _ _ (applied_list f ids place note.step.hops note.step.slot c.in-Ok.count (length w0.list) yields c.in-Ok.ensures.1)
-    (and_behind w0.stop w1.stop w2.stop w0.list w1.list w2.list tag_first (λ n. stretches (trees_at f ids) n ++ instr place (does.Call c.in-Ok.count yields) ∷ []) c.emit.ensures behind_tag)
+    let tagged : Writes w0.stop w1.stop w0.list w1.list tag_first = rw c.hops.ensures at c.emit.ensures in
+    writes-as w0.stop w2.stop w0.list w2.list _ _ (applied_list f ids place hops note.step.slot c.in-Ok.count (length w0.list) yields c.in-Ok.ensures.1)
+    (and_behind w0.stop w1.stop w2.stop w0.list w1.list w2.list tag_first (λ n. stretches (trees_at f ids) n ++ instr place (does.Call c.in-Ok.count yields) ∷ []) tagged behind_tag)
 
 pub calls::routine-returns-in-Ok : goal.calls::routine-returns-in-Ok
 calls::routine-returns-in-Ok t c =
-    let f = behind c.args.id (tree_at c.args.program.now) in
+    let f = behind c.args.id (tree_of c.args.program.now) in
     let ids = c.args.parts.now in
     let place = c.args.place in
-    let yields = not (is_void (shape_at c.args.program.now.modes c.args.note.now.mode)) in
+    let yields = not (is_void (shape_at c.args.program.now.of.now.modes c.args.note.now.mode)) in
     let w0 = c.args.out.now in
     let w1 = c.operation.new.out in
     let all : Writes w0.stop w1.stop w0.list w1.list (stretches (trees_at f ids) (length w0.list) ++ instr place (does.Call c.in-Ok.count yields) ∷ []) =
@@ -99,17 +104,17 @@ pub rows::write_part-unit-requires : goal.rows::write_part-unit-requires
 rows::write_part-unit-requires t c = let less = c.requires.0 in (omega arith, c.requires.1)
 
 pub rows::write_part-returns : goal.rows::write_part-returns
-rows::write_part-returns t c = rw (behind_is c.args.id c.args.part (tree_at c.args.program.now) c.requires.0) c.unit.ensures
+rows::write_part-returns t c = rw (behind_is c.args.id c.args.part (tree_of c.args.program.now) c.requires.0) c.unit.ensures
 
 pub rows::all-write_part-requires : goal.rows::all-write_part-requires
 rows::all-write_part-requires t c =
-    let b = between-each c.args.id (length c.args.program.now.tree.nodes) c.loop-part.part-index c.args.parts.now c.requires c.loop-part-test.true in
+    let b = between-each c.args.id (length c.args.program.now.of.now.tree.nodes) c.loop-part.part-index c.args.parts.now c.requires c.loop-part-test.true in
     let below = b.0 in
     (omega arith, b)
 
 pub rows::all-loop-part-preserved : goal.rows::all-loop-part-preserved
 rows::all-loop-part-preserved t c =
-    let f = behind c.args.id (tree_at c.args.program.now) in
+    let f = behind c.args.id (tree_of c.args.program.now) in
     let at = length c.loop-part.out.list in
     let i = c.loop-part.part-index in
     let one = get_or c.args.parts.now i 0 in
@@ -119,7 +124,7 @@ rows::all-loop-part-preserved t c =
 
 pub rows::only-write_part-requires : goal.rows::only-write_part-requires
 rows::only-write_part-requires t c =
-    let b = between-each c.args.id (length c.args.program.now.tree.nodes) 0 c.args.parts.now c.requires (omega arith) in
+    let b = between-each c.args.id (length c.args.program.now.of.now.tree.nodes) 0 c.args.parts.now c.requires (omega arith) in
     let below = b.0 in
     (omega arith, b)
 
@@ -131,11 +136,11 @@ rows::all-returns t c =
 pub rows::operation-returns : goal.rows::operation-returns
 rows::operation-returns t c =
     and_behind c.args.out.now.stop c.all.new.out.stop c.emit.new.self.stop c.args.out.now.list c.all.new.out.list c.emit.new.self.list
-    (stretches (trees_at (behind c.args.id (tree_at c.args.program.now)) c.args.parts.now) (length c.args.out.now.list)) (λ n. instr c.args.place c.args.does ∷ []) c.all.ensures c.emit.ensures
+    (stretches (trees_at (behind c.args.id (tree_of c.args.program.now)) c.args.parts.now) (length c.args.out.now.list)) (λ n. instr c.args.place c.args.does ∷ []) c.all.ensures c.emit.ensures
 
 pub rows::last-write_part-requires : goal.rows::last-write_part-requires
 rows::last-write_part-requires t c =
-    let b = between-each c.args.id (length c.args.program.now.tree.nodes) (length c.args.parts.now - 1) c.args.parts.now c.requires (omega arith) in
+    let b = between-each c.args.id (length c.args.program.now.of.now.tree.nodes) (length c.args.parts.now - 1) c.args.parts.now c.requires (omega arith) in
     let below = b.0 in
     (omega arith, b)
 
@@ -144,13 +149,13 @@ rows::last-returns-then-parts-eq0 t c = rw (nil_from_length c.args.parts.now (om
 
 pub rows::last-returns : goal.rows::last-returns
 rows::last-returns t c =
-    let f = behind c.args.id (tree_at c.args.program.now) in
+    let f = behind c.args.id (tree_of c.args.program.now) in
     subst (λ (u : Tree). Writes c.args.out.now.stop c.write_part.new.out.stop c.args.out.now.list c.write_part.new.out.list (stretch u (length c.args.out.now.list)))
     (sym (last_is f c.args.parts.now (omega arith))) c.write_part.ensures
 
 pub rows::definition-returns : goal.rows::definition-returns
 rows::definition-returns t c =
-    let u = made.last_tree (trees_at (behind c.args.id (tree_at c.args.program.now)) c.args.parts.now) in
+    let u = made.last_tree (trees_at (behind c.args.id (tree_of c.args.program.now)) c.args.parts.now) in
     let at = length c.args.out.now.list in
     writes-as c.args.out.now.stop c.emit.new.self.stop c.args.out.now.list c.emit.new.self.list _ _ (definition_whole c.args.place c.args.note.now.step.slot at u)
     (and_behind c.args.out.now.stop c.last.new.out.stop c.emit.new.self.stop c.args.out.now.list c.last.new.out.list c.emit.new.self.list (stretch u at)
@@ -158,15 +163,16 @@ rows::definition-returns t c =
 
 pub names::write_bounds-loop-bound-preserved : goal.names::write_bounds-loop-bound-preserved
 names::write_bounds-loop-bound-preserved t c =
-    let f = behind c.args.id (tree_at c.args.program.now) in
+    let f = behind c.args.id (tree_of c.args.program.now) in
+    let g = bound_of c.args.program.now in
     let at = length c.loop-bound.out.list in
     let i = c.loop-bound.bound-index in
     let bounds = c.args.bounds.now in
     let one = get_or bounds i (bound.Written 0) in
-    let step = bound-cons f c.args.place at i bounds (bound.Written 0) c.loop-bound-test.true in
+    let step = bound-cons g f c.args.place at i bounds (bound.Written 0) c.loop-bound-test.true in
     λ s end w. c.loop-bound.invariant s end (rw step
-    (and_behind c.loop-bound.out.stop c.write_bound.new.out.stop s c.loop-bound.out.list c.write_bound.new.out.list end (stretch (made.bound_tree f c.args.place one) at)
-    (λ n. stretches (made.bound_trees f c.args.place (drop (i + 1) bounds)) n) c.write_bound.ensures w))
+    (and_behind c.loop-bound.out.stop c.write_bound.new.out.stop s c.loop-bound.out.list c.write_bound.new.out.list end (stretch (made.bound_tree g f c.args.place one) at)
+    (λ n. stretches (made.bound_trees g f c.args.place (drop (i + 1) bounds)) n) c.write_bound.ensures w))
 
 pub names::write_bounds-returns : goal.names::write_bounds-returns
 names::write_bounds-returns t c =
@@ -175,29 +181,31 @@ names::write_bounds-returns t c =
 
 pub names::bounded-returns-in-Ok : goal.names::bounded-returns-in-Ok
 names::bounded-returns-in-Ok t c =
-    let f = behind c.args.id (tree_at c.args.program.now) in
+    let f = behind c.args.id (tree_of c.args.program.now) in
+    let g = bound_of c.args.program.now in
     let place = c.args.place in
     let mode = c.args.mode in
     let in_heap = c.args.in_heap in
-    let ts = made.bound_trees f place c.args.bounds.now in
+    let ts = made.bound_trees g f place c.args.bounds.now in
     let w0 = c.args.out.now in
     let w1 = c.write_bounds.new.out in
     let w2 = c.emit.new.self in
     let at = length w0.list in
-    let many : c.in-Ok.count ≡ count ts = c.in-Ok.ensures.1 ∙ sym (count_bounds f place c.args.bounds.now) in
+    let many : c.in-Ok.count ≡ count ts = c.in-Ok.ensures.1 ∙ sym (count_bounds g f place c.args.bounds.now) in
     let last : Writes w1.stop w2.stop w1.list w2.list (instr place (new_does in_heap mode c.in-Ok.count) ∷ []) = rw c.new_does.ensures at c.emit.ensures in
     writes-as w0.stop w2.stop w0.list w2.list _ _ (ap (λ (n : ℕ). stretches ts at ++ instr place (new_does in_heap mode n) ∷ []) many ∙ new_list in_heap place mode at ts)
     (and_behind w0.stop w1.stop w2.stop w0.list w1.list w2.list (stretches ts at) (λ n. instr place (new_does in_heap mode c.in-Ok.count) ∷ []) c.write_bounds.ensures last)
 
 pub names::assigned-returns : goal.names::assigned-returns
 names::assigned-returns t c =
-    let a = c.args.program.now in
-    let f = behind c.args.id (tree_at a) in
+    let v = c.args.program.now in
+    let a = v.of.now in
+    let f = behind c.args.id (tree_of v) in
     let mode = c.behind_ref-mode.result in
     let place = c.args.place in
     let slot = c.args.note.now.step.slot in
     let source = f c.args.source in
-    let named_as : ℕ → Tree = λ m. named a f c.args.in_heap place m c.args.parts.now in
+    let named_as : ℕ → Tree = λ m. named a (bound_of v) f c.args.in_heap place m c.args.parts.now in
     let new = named_as mode in
     let w0 = c.args.out.now in
     let w1 = c.new_name.new.out in
@@ -215,45 +223,48 @@ names::assigned-returns t c =
 
 pub names::begun-returns-then-parts-ne1 : goal.names::begun-returns-then-parts-ne1
 names::begun-returns-then-parts-ne1 t c =
-    let a = c.args.program.now in
-    let f = behind c.args.id (tree_at a) in
+    let v = c.args.program.now in
+    let a = v.of.now in
+    let f = behind c.args.id (tree_of v) in
     let mode = behind_ref (shape_at a.modes c.args.note.now.mode) in
-    let new = named a f c.args.in_heap c.args.place mode c.args.parts.now in
+    let new = named a (bound_of v) f c.args.in_heap c.args.place mode c.args.parts.now in
     subst (λ (u : Tree). Writes c.args.out.now.stop c.unbuilt.new._out.stop c.args.out.now.list c.unbuilt.new._out.list (stretch u (length c.args.out.now.list)))
     (begun_none f new false c.args.place mode c.args.note.now.step.slot c.args.parts.now refl (λ e. absurd (omega arith))) c.unbuilt.ensures
 
 pub names::begun-assigned-requires : goal.names::begun-assigned-requires
 names::begun-assigned-requires t c =
-    let b = between-each c.args.id (length c.args.program.now.tree.nodes) 0 c.args.parts.now c.requires (omega arith) in
+    let b = between-each c.args.id (length c.args.program.now.of.now.tree.nodes) 0 c.args.parts.now c.requires (omega arith) in
     let below = b.0 in
     (omega arith, b)
 
 pub names::begun-returns : goal.names::begun-returns
 names::begun-returns t c =
-    let a = c.args.program.now in
-    let f = behind c.args.id (tree_at a) in
+    let v = c.args.program.now in
+    let a = v.of.now in
+    let f = behind c.args.id (tree_of v) in
     let mode = behind_ref (shape_at a.modes c.args.note.now.mode) in
-    let new = named a f c.args.in_heap c.args.place mode c.args.parts.now in
+    let new = named a (bound_of v) f c.args.in_heap c.args.place mode c.args.parts.now in
     subst (λ (u : Tree). Writes c.args.out.now.stop c.assigned.new.out.stop c.args.out.now.list c.assigned.new.out.list (stretch u (length c.args.out.now.list)))
     (begun_tree f new false c.args.place mode c.args.note.now.step.slot c.args.parts.now refl (omega arith)) c.assigned.ensures
 
 pub names::declared-assigned-requires : goal.names::declared-assigned-requires
 names::declared-assigned-requires t c =
-    let b = between-each c.args.id (length c.args.program.now.tree.nodes) 1 c.args.parts.now c.requires (omega arith) in
+    let b = between-each c.args.id (length c.args.program.now.of.now.tree.nodes) 1 c.args.parts.now c.requires (omega arith) in
     let below = b.0 in
     (omega arith, b)
 
 pub names::declared-returns-then-parts-eq1 : goal.names::declared-returns-then-parts-eq1
 names::declared-returns-then-parts-eq1 t c =
-    let a = c.args.program.now in
+    let v = c.args.program.now in
+    let a = v.of.now in
     let mode = c.behind_ref-mode.result in
     let slot = c.args.note.now.step.slot in
     let w0 = c.args.out.now in
     let w1 = c.new_name.new.out in
     let w2 = c.emit.new.self in
     let place = c.args.place in
-    let f = behind c.args.id (tree_at a) in
-    let named_as : ℕ → Tree = λ m. named a f c.args.in_heap place m c.args.parts.now in
+    let f = behind c.args.id (tree_of v) in
+    let named_as : ℕ → Tree = λ m. named a (bound_of v) f c.args.in_heap place m c.args.parts.now in
     let all = writes-as w0.stop w2.stop w0.list w2.list _ _ (declared_plain f (named_as mode) true place mode slot (length w0.list) c.args.parts.now refl (omega arith))
     (and_behind w0.stop w1.stop w2.stop w0.list w1.list w2.list (stretch (named_as mode) (length w0.list)) (λ n. instr place (does.Bind slot) ∷ []) c.new_name.ensures c.emit.ensures) in
     let is : mode ≡ behind_ref (shape_at a.modes c.args.note.now.mode) = c.behind_ref-mode.ensures ∙ ap (λ (ms : List Shape). behind_ref (shape_at ms c.args.note.now.mode)) c.modes.ensures in
@@ -261,25 +272,27 @@ names::declared-returns-then-parts-eq1 t c =
 
 pub names::declared-returns-then-parts-ne2 : goal.names::declared-returns-then-parts-ne2
 names::declared-returns-then-parts-ne2 t c =
-    let a = c.args.program.now in
-    let f = behind c.args.id (tree_at a) in
+    let v = c.args.program.now in
+    let a = v.of.now in
+    let f = behind c.args.id (tree_of v) in
     let mode = behind_ref (shape_at a.modes c.args.note.now.mode) in
-    let new = named a f c.args.in_heap c.args.place mode c.args.parts.now in
+    let new = named a (bound_of v) f c.args.in_heap c.args.place mode c.args.parts.now in
     subst (λ (u : Tree). Writes c.args.out.now.stop c.unbuilt.new._out.stop c.args.out.now.list c.unbuilt.new._out.list (stretch u (length c.args.out.now.list)))
     (declared_none f new true c.args.place mode c.args.note.now.step.slot c.args.parts.now refl (λ e. absurd (omega arith)) (λ e. absurd (omega arith))) c.unbuilt.ensures
 
 pub names::declared-returns : goal.names::declared-returns
 names::declared-returns t c =
-    let a = c.args.program.now in
-    let f = behind c.args.id (tree_at a) in
+    let v = c.args.program.now in
+    let a = v.of.now in
+    let f = behind c.args.id (tree_of v) in
     let mode = behind_ref (shape_at a.modes c.args.note.now.mode) in
-    let new = named a f c.args.in_heap c.args.place mode c.args.parts.now in
+    let new = named a (bound_of v) f c.args.in_heap c.args.place mode c.args.parts.now in
     subst (λ (u : Tree). Writes c.args.out.now.stop c.assigned.new.out.stop c.args.out.now.list c.assigned.new.out.list (stretch u (length c.args.out.now.list)))
     (declared_tree f new true c.args.place mode c.args.note.now.step.slot c.args.parts.now refl (omega arith)) c.assigned.ensures
 
 pub calls::prints-returns-in-Ok : goal.calls::prints-returns-in-Ok
 calls::prints-returns-in-Ok t c =
-    let f = behind c.args.id (tree_at c.args.program.now) in
+    let f = behind c.args.id (tree_of c.args.program.now) in
     let ts = trees_at f c.args.items.now in
     let w0 = c.args.out.now in
     let w1 = c.operation.new.out in
@@ -288,7 +301,7 @@ calls::prints-returns-in-Ok t c =
 
 pub parts::structure-returns-in-Ok : goal.parts::structure-returns-in-Ok
 parts::structure-returns-in-Ok t c =
-    let f = behind c.args.id (tree_at c.args.program.now) in
+    let f = behind c.args.id (tree_of c.args.program.now) in
     let ts = trees_at f c.args.parts.now in
     let w0 = c.args.out.now in
     let w1 = c.operation.new.out in
@@ -297,7 +310,7 @@ parts::structure-returns-in-Ok t c =
 
 pub parts::row-returns-in-Ok : goal.parts::row-returns-in-Ok
 parts::row-returns-in-Ok t c =
-    let f = behind c.args.id (tree_at c.args.program.now) in
+    let f = behind c.args.id (tree_of c.args.program.now) in
     let ts = trees_at f c.args.parts.now in
     let w0 = c.args.out.now in
     let w1 = c.operation.new.out in
@@ -306,42 +319,43 @@ parts::row-returns-in-Ok t c =
 
 pub parts::collateral-returns-in-Void : goal.parts::collateral-returns-in-Void
 parts::collateral-returns-in-Void t c =
-    let ts = trees_at (behind c.args.id (tree_at c.args.program.now)) c.args.parts.now in
+    let ts = trees_at (behind c.args.id (tree_of c.args.program.now)) c.args.parts.now in
     let m = c.args.note.now.goal in
-    let is = void_collateral (shape_at c.args.program.now.modes m) c.args.place m ts (sym c.form_at.ensures ∙ c.in-Void.is) in
+    let is = void_collateral (shape_at c.args.program.now.of.now.modes m) c.args.place m ts (sym c.form_at.ensures ∙ c.in-Void.is) in
     rw is c.all.ensures
 
 pub parts::collateral-returns-in-Structure : goal.parts::collateral-returns-in-Structure
 parts::collateral-returns-in-Structure t c =
-    let ts = trees_at (behind c.args.id (tree_at c.args.program.now)) c.args.parts.now in
+    let ts = trees_at (behind c.args.id (tree_of c.args.program.now)) c.args.parts.now in
     let m = c.args.note.now.goal in
-    let is = structure_collateral (shape_at c.args.program.now.modes m) c.args.place m ts (sym c.form_at.ensures ∙ c.in-Structure.is) in
+    let is = structure_collateral (shape_at c.args.program.now.of.now.modes m) c.args.place m ts (sym c.form_at.ensures ∙ c.in-Structure.is) in
     rw is c.structure.ensures
 
 pub parts::collateral-returns-in-Row : goal.parts::collateral-returns-in-Row
 parts::collateral-returns-in-Row t c =
-    let ts = trees_at (behind c.args.id (tree_at c.args.program.now)) c.args.parts.now in
+    let ts = trees_at (behind c.args.id (tree_of c.args.program.now)) c.args.parts.now in
     let m = c.args.note.now.goal in
-    let is = row_collateral (shape_at c.args.program.now.modes m) c.args.place m ts (sym c.form_at.ensures ∙ c.in-Row.is) in
+    let is = row_collateral (shape_at c.args.program.now.of.now.modes m) c.args.place m ts (sym c.form_at.ensures ∙ c.in-Row.is) in
     rw is c.row.ensures
 
 pub parts::collateral-returns-in-Other : goal.parts::collateral-returns-in-Other
 parts::collateral-returns-in-Other t c =
-    let ts = trees_at (behind c.args.id (tree_at c.args.program.now)) c.args.parts.now in
+    let ts = trees_at (behind c.args.id (tree_of c.args.program.now)) c.args.parts.now in
     let m = c.args.note.now.goal in
-    let is = other_collateral (shape_at c.args.program.now.modes m) c.args.place m ts (sym c.form_at.ensures ∙ c.in-Other.is) in
+    let is = other_collateral (shape_at c.args.program.now.of.now.modes m) c.args.place m ts (sym c.form_at.ensures ∙ c.in-Other.is) in
     rw is c.unbuilt.ensures
 
 pub parts::write_indexes-write_index-requires : goal.parts::write_indexes-write_index-requires
 parts::write_indexes-write_index-requires t c =
-    let b = between-each c.args.id (length c.args.program.now.tree.nodes) c.loop-index.index-index c.args.indexes.now c.requires c.loop-index-test.true in
+    let b = between-each c.args.id (length c.args.program.now.of.now.tree.nodes) c.loop-index.index-index c.args.indexes.now c.requires c.loop-index-test.true in
     let below = b.0 in
     (omega arith, b)
 
 pub parts::write_indexes-loop-index-preserved : goal.parts::write_indexes-loop-index-preserved
 parts::write_indexes-loop-index-preserved t c =
-    let a = c.args.program.now in
-    let f = behind c.args.id (tree_at a) in
+    let v = c.args.program.now in
+    let a = v.of.now in
+    let f = behind c.args.id (tree_of v) in
     let at = length c.loop-index.out.list in
     let i = c.loop-index.index-index in
     let ids = c.args.indexes.now in
@@ -357,8 +371,9 @@ parts::write_indexes-returns t c =
 
 pub parts::selection-returns-in-Ok : goal.parts::selection-returns-in-Ok
 parts::selection-returns-in-Ok t c =
-    let a = c.args.program.now in
-    let u = made.last_tree (trees_at (behind c.args.id (tree_at a)) c.args.parts.now) in
+    let v = c.args.program.now in
+    let a = v.of.now in
+    let u = made.last_tree (trees_at (behind c.args.id (tree_of v)) c.args.parts.now) in
     let place = c.args.place in
     let mode = c.mode_in_front-mode.result in
     let w0 = c.args.out.now in
@@ -378,22 +393,22 @@ rows::serial-returns-then-parts-eq0 t c = rw (nil_from_length c.args.parts.now (
 pub rows::serial-returns-then-note-eq0 : goal.rows::serial-returns-then-note-eq0
 rows::serial-returns-then-note-eq0 t c =
     let some = some_parts c.args.parts.now (omega arith) in
-    let f = behind c.args.id (tree_at c.args.program.now) in
+    let f = behind c.args.id (tree_of c.args.program.now) in
     rw some (rw some at (writes-as c.args.out.now.stop c.all.new.out.stop c.args.out.now.list c.all.new.out.list _ _
-    (plain_serial c.args.place c.args.note.now.slots (length c.args.out.now.list) (not (is_void (shape_at c.args.program.now.modes c.args.note.now.goal))) (f (get_or c.args.parts.now 0 0)) (trees_at f (drop 1 c.args.parts.now)) c.if-note-eq0.true)
+    (plain_serial c.args.place c.args.note.now.slots (length c.args.out.now.list) (not (is_void (shape_at c.args.program.now.of.now.modes c.args.note.now.goal))) (f (get_or c.args.parts.now 0 0)) (trees_at f (drop 1 c.args.parts.now)) c.if-note-eq0.true)
     (rw some at c.all.ensures)))
 
 pub rows::serial-returns : goal.rows::serial-returns
 rows::serial-returns t c =
     let some = some_parts c.args.parts.now (omega arith) in
-    let f = behind c.args.id (tree_at c.args.program.now) in
+    let f = behind c.args.id (tree_of c.args.program.now) in
     let w0 = c.args.out.now in
     let w1 = c.emit.new.self in
     let w2 = c.all-2.new.out in
     let w3 = c.emit-2.new.self in
     let place = c.args.place in
     let note = c.args.note.now in
-    let yields = not (is_void (shape_at c.args.program.now.modes note.goal)) in
+    let yields = not (is_void (shape_at c.args.program.now.of.now.modes note.goal)) in
     let first = f (get_or c.args.parts.now 0 0) in
     let rest = trees_at f (drop 1 c.args.parts.now) in
     let enter = instr place (does.Enter note.slots) in
@@ -405,7 +420,7 @@ rows::serial-returns t c =
     rw some (writes-as w0.stop w3.stop w0.list w3.list _ _ (framed_serial place note.slots (length w0.list) (if yields then 1 else 0) yields first rest (λ e. absurd (omega arith)) refl) w03)
 
 pub rows::only-returns-then-parts-ne1 : goal.rows::only-returns-then-parts-ne1
-rows::only-returns-then-parts-ne1 t c = rw (← only_none (behind c.args.id (tree_at c.args.program.now)) c.args.parts.now (λ e. absurd (omega arith))) c.unbuilt.ensures
+rows::only-returns-then-parts-ne1 t c = rw (← only_none (behind c.args.id (tree_of c.args.program.now)) c.args.parts.now (λ e. absurd (omega arith))) c.unbuilt.ensures
 
 pub rows::only-returns : goal.rows::only-returns
 rows::only-returns t c = rw (one_part c.args.parts.now (omega arith)) c.write_part.ensures
@@ -416,37 +431,40 @@ choices::write_link-enquire-requires t c = let below = c.requires.enquiry in (om
 
 pub choices::write_link-returns-clause-writes : goal.choices::write_link-returns-clause-writes
 choices::write_link-returns-clause-writes t c =
-    let a = c.args.program.now in
+    let v = c.args.program.now in
+    let a = v.of.now in
     let l = c.args.link.now in
-    let e = enquiry_tree a (tree_at a) l in
+    let e = enquiry_tree a (tree_of v) l in
     let w0 = c.args.out.now in
     let w1 = c.enquire.new.out in
     let first : Writes w0.stop w1.stop w0.list w1.list (asked (while_in l.at l.slots e) (length w0.list)) =
     subst (λ (u : Tree). Writes w0.stop w1.stop w0.list w1.list (asked (while_in l.at l.slots u) (length w0.list)))
-    (enquiry_is a l.enquiry l.at c.parts-phrases.result.now c.parts-phrases.ensures.is c.parts-phrases.ensures.behind) c.enquire.ensures in
+    (enquiry_is a (tree_of v) l.enquiry l.at c.parts-phrases.result.now c.parts-phrases.ensures.is c.parts-phrases.ensures.behind) c.enquire.ensures in
     link_all w0.stop w1.stop c.emit.new.self.stop c.unit.new.out.stop c.emit-2.new.self.stop c.patch.new.self.stop
     w0.list w1.list c.emit.new.self.list c.unit.new.out.list c.emit-2.new.self.list c.patch.new.self.list
-    l.at l.slots l.place c.len-unless.result c.len-x.result e (tree_at a l.part)
+    l.at l.slots l.place c.len-unless.result c.len-x.result e (tree_of v l.part)
     first c.len-unless.ensures.long c.emit.ensures c.unit.ensures c.emit-2.ensures c.len-x.ensures.long c.patch.ensures.list c.patch.ensures.stop
 
 pub choices::write_link-returns-clause-jump : goal.choices::write_link-returns-clause-jump
 choices::write_link-returns-clause-jump t c = λ is.
-    let a = c.args.program.now in
+    let v = c.args.program.now in
+    let a = v.of.now in
     let l = c.args.link.now in
-    let e = enquiry_tree a (tree_at a) l in
+    let e = enquiry_tree a (tree_of v) l in
     let w0 = c.args.out.now in
     let w1 = c.enquire.new.out in
     let first : Writes w0.stop w1.stop w0.list w1.list (asked (while_in l.at l.slots e) (length w0.list)) =
     subst (λ (u : Tree). Writes w0.stop w1.stop w0.list w1.list (asked (while_in l.at l.slots u) (length w0.list)))
-    (enquiry_is a l.enquiry l.at c.parts-phrases.result.now c.parts-phrases.ensures.is c.parts-phrases.ensures.behind) c.enquire.ensures in
+    (enquiry_is a (tree_of v) l.enquiry l.at c.parts-phrases.result.now c.parts-phrases.ensures.is c.parts-phrases.ensures.behind) c.enquire.ensures in
     let none = had_not c.unit.new.out.stop c.emit-2.new.self.stop c.unit.new.out.list c.emit-2.new.self.list _ c.emit-2.ensures (sym c.patch.ensures.stop ∙ is) in
     link_jump w0.stop w1.stop c.emit.new.self.stop c.unit.new.out.stop w0.list w1.list c.emit.new.self.list c.unit.new.out.list
-    l.at l.slots l.place c.len-jump.result e (tree_at a l.part) first c.emit.ensures c.unit.ensures c.len-jump.ensures.long none
+    l.at l.slots l.place c.len-jump.result e (tree_of v l.part) first c.emit.ensures c.unit.ensures c.len-jump.ensures.long none
 
 pub choices::write_links-links-init : goal.choices::write_links-links-init
 choices::write_links-links-init t c =
-    let a = c.args.program.now in
-    let whole = link_tree a (tree_at a) c.args.first in
+    let v = c.args.program.now in
+    let a = v.of.now in
+    let whole = link_tree a (tree_of v) c.args.first in
     let w0 = c.args.out.now in (
       c.requires.within,
       omega arith,
@@ -455,8 +473,9 @@ choices::write_links-links-init t c =
 
 pub choices::write_links-links-preserved : goal.choices::write_links-links-preserved
 choices::write_links-links-preserved t c =
-    let a = c.args.program.now in
-    let f = tree_at a in
+    let v = c.args.program.now in
+    let a = v.of.now in
+    let f = tree_of v in
     let link = c.links.link in
     let wanted = IsWhole (link_tree a f c.args.first) c.args.out.now.stop c.args.out.now.list in
     let w1 = c.links.out in
@@ -476,8 +495,9 @@ choices::write_links-links-preserved t c =
 
 pub choices::write_links-returns-in-None-clause-chain : goal.choices::write_links-returns-in-None-clause-chain
 choices::write_links-returns-in-None-clause-chain t c =
-    let a = c.args.program.now in
-    let f = tree_at a in
+    let v = c.args.program.now in
+    let a = v.of.now in
+    let f = tree_of v in
     let link = c.links.link in
     let wanted = IsWhole (link_tree a f c.args.first) c.args.out.now.stop c.args.out.now.list in
     let w1 = c.links.out in
@@ -493,8 +513,9 @@ choices::chain-otherwise-requires t c = let behind = c.write_links-last.ensures.
 
 pub choices::chain-returns : goal.choices::chain-returns
 choices::chain-returns t c =
-    let a = c.args.program.now in
-    let whole = link_tree a (tree_at a) c.args.first in
+    let v = c.args.program.now in
+    let a = v.of.now in
+    let whole = link_tree a (tree_of v) c.args.first in
     let w0 = c.args.out.now in
     let w3 = c.otherwise.new.out in
     let last = c.write_links-last.ensures.chain w3.stop w3.list c.otherwise.ensures in
@@ -506,13 +527,14 @@ choices::conditional-chain-requires t c = let same = c.in-Some.ensures.node in (
 
 pub choices::conditional-returns-in-Some : goal.choices::conditional-returns-in-Some
 choices::conditional-returns-in-Some t c =
-    let a = c.args.program.now in
-    let tree = tree_at a in
+    let v = c.args.program.now in
+    let a = v.of.now in
+    let tree = tree_of v in
     let same = c.in-Some.ensures.tree (behind c.args.id tree) ∙ link_behind a c.args.id tree c.in-Some.first c.in-Some.ensures.within c.in-Some.ensures.node in
     subst (λ (u : Tree). Writes c.args.out.now.stop c.chain.new.out.stop c.args.out.now.list c.chain.new.out.list (stretch u (length c.args.out.now.list))) (sym same) c.chain.ensures
 
 pub choices::conditional-returns-in-None : goal.choices::conditional-returns-in-None
-choices::conditional-returns-in-None t c = rw (c.in-None.ensures.tree (behind c.args.id (tree_at c.args.program.now))) c.unbuilt.ensures
+choices::conditional-returns-in-None t c = rw (c.in-None.ensures.tree (behind c.args.id (tree_of c.args.program.now))) c.unbuilt.ensures
 
 pub choices::write_arm-returns-clause-writes : goal.choices::write_arm-returns-clause-writes
 choices::write_arm-returns-clause-writes t c =
@@ -521,7 +543,7 @@ choices::write_arm-returns-clause-writes t c =
     let w2 = c.write_part.new.out in
     let w3 = c.keep-2.new.out in
     let w4 = c.emit.new.self in
-    arm_writes w0.stop w1.stop w2.stop w3.stop w4.stop w0.list w1.list w2.list w3.list w4.list c.args.place (behind c.args.id (tree_at c.args.program.now) c.args.part)
+    arm_writes w0.stop w1.stop w2.stop w3.stop w4.stop w0.list w1.list w2.list w3.list w4.list c.args.place (behind c.args.id (tree_of c.args.program.now) c.args.part)
     c.keep.ensures.list c.keep.ensures.stop c.write_part.ensures c.keep-2.ensures.list c.keep-2.ensures.stop c.emit.ensures
 
 pub choices::write_arm-returns-clause-jumps : goal.choices::write_arm-returns-clause-jumps
@@ -531,19 +553,19 @@ choices::write_arm-returns-clause-jumps t c = λ none.
     let w2 = c.write_part.new.out in
     let w3 = c.keep-2.new.out in
     let w4 = c.emit.new.self in
-    let end = arm_end w1.stop w2.stop w3.stop w4.stop w0.list w1.list w2.list w3.list w4.list c.args.place (behind c.args.id (tree_at c.args.program.now) c.args.part)
+    let end = arm_end w1.stop w2.stop w3.stop w4.stop w0.list w1.list w2.list w3.list w4.list c.args.place (behind c.args.id (tree_of c.args.program.now) c.args.part)
     c.keep.ensures.list c.write_part.ensures c.keep-2.ensures.stop c.emit.ensures none in
     c.keep-2.ensures.kept end.0 ∙ ap (λ (k : ℕ). c.args.jumps.now.items ++ k ∷ []) (c.len-jump.ensures.long ∙ end.1)
 
 pub choices::write_arms-write_arm-requires : goal.choices::write_arms-write_arm-requires
 choices::write_arms-write_arm-requires t c =
-    let b = between-each c.args.id (length c.args.program.now.tree.nodes) c.loop-part.part-index c.args.parts.now c.requires.between c.loop-part-test.true in
+    let b = between-each c.args.id (length c.args.program.now.of.now.tree.nodes) c.loop-part.part-index c.args.parts.now c.requires.between c.loop-part-test.true in
     let below = b.0 in
     (omega arith, b)
 
 pub choices::write_arms-loop-part-preserved : goal.choices::write_arms-loop-part-preserved
 choices::write_arms-loop-part-preserved t c =
-    let f = behind c.args.id (tree_at c.args.program.now) in
+    let f = behind c.args.id (tree_of c.args.program.now) in
     let ids = c.args.parts.now in
     let i = c.loop-part.part-index in
     let rest = trees_at f (drop (i + 1) ids) in
@@ -559,7 +581,7 @@ choices::write_arms-loop-part-preserved t c =
 
 pub choices::choose-returns : goal.choices::choose-returns
 choices::choose-returns t c =
-    let f = behind c.args.id (tree_at c.args.program.now) in
+    let f = behind c.args.id (tree_of c.args.program.now) in
     let ids = c.args.parts.now in
     let w0 = c.args.out.now in
     let w1 = c.emit.new.self in
@@ -576,13 +598,14 @@ choices::choose-returns t c =
     let each : ((w5.list ≡ put_all w4.list case 0 starts) × (w5.stop ≡ w4.stop)) ⊎ (w5.stop ≡ ran_out w4.stop) =
     subst (λ (ps : List ℕ). ((w5.list ≡ put_all w4.list case 0 ps) × (w5.stop ≡ w4.stop)) ⊎ (w5.stop ≡ ran_out w4.stop)) c.deref-2.ensures.value c.patch_each.ensures in
     case_writes w0.stop w1.stop w2.stop w3.stop w4.stop w5.stop w0.list w1.list w2.list w3.list w4.list w5.list c.args.place case end c.in-Ok.items.items starts jumps (trees_at f ids)
-    (option_map_or (tree_at c.args.program.now) c.args.other (made.left_out c.args.place c.args.goal))
+    (option_map_or (tree_of c.args.program.now) c.args.other (made.left_out c.args.place c.args.goal))
     c.len-case.ensures.long many c.emit.ensures c.write_arms.ensures.writes c.write_arms.ensures.starts c.write_arms.ensures.jumps c.otherwise.ensures c.len-end.ensures.long ends
     c.patch_all.ensures.stop each
 
 pub choices::case-returns : goal.choices::case-returns
 choices::case-returns t c =
-    let a = c.args.program.now in
+    let v = c.args.program.now in
+    let a = v.of.now in
     let id = c.args.id in
     let node = c.node.result.now in
     let note = c.note.result.now in
@@ -601,21 +624,21 @@ choices::case-returns t c =
     let shut : Writes w2.stop w3.stop w2.list w3.list (shuts note.slots yields place) =
     subst (λ (b : Bool). Writes w2.stop w3.stop w2.list w3.list (shuts note.slots (not b) place)) c.is_void.ensures c.shut.ensures in
     let all = case_framed w0.stop w1.stop w2.stop w3.stop w0.list w1.list w2.list w3.list node.span.from note.slots place yields
-    (made.phrases_of node.span.from (trees_at (behind enquiry (tree_at a)) c.parts-phrases.result.now)) (trees_at (behind id (tree_at a)) units)
-    (option_map_or (tree_at a) other (made.left_out place goal_mode)) c.enquire.ensures c.choose.ensures shut in
+    (made.phrases_of node.span.from (trees_at (behind enquiry (tree_of v)) c.parts-phrases.result.now)) (trees_at (behind id (tree_of v)) units)
+    (option_map_or (tree_of v) other (made.left_out place goal_mode)) c.enquire.ensures c.choose.ensures shut in
     let rest = take (length ids - 1) (drop 1 ids) in
     let units_are : units ≡ made.before_out a rest = c.before_out-units.ensures.parts ∙ ap (λ (x : Annotated). made.before_out x rest) c.annotated.ensures in
     let other_is : other ≡ made.out_of a rest = c.out_of-other.ensures.out ∙ ap (λ (x : Annotated). made.out_of x rest) c.annotated-2.ensures in
     let other_within : IfSome other (λ p. (id < p) × (p < length a.tree.nodes)) =
     subst (λ (x : Annotated). IfSome other (λ p. (id < p) × (p < length x.tree.nodes))) c.annotated-2.ensures c.out_of-other.ensures.within in
-    let same = case_is a id place goal_mode yields enquiry (take (length ids - 1) (drop 1 ids)) c.parts-phrases.result.now units other node note c.node.ensures.is c.note.ensures c.parts-phrases.ensures.is
+    let same = case_is a (tree_of v) id place goal_mode yields enquiry (take (length ids - 1) (drop 1 ids)) c.parts-phrases.result.now units other node note c.node.ensures.is c.note.ensures c.parts-phrases.ensures.is
     c.parts-phrases.ensures.behind below units_are other_is other_within in
-    let whole = ap (λ (l : List ℕ). made.case_of a (behind id (tree_at a)) place goal_mode yields l) (sym (rest_parts ids (omega arith))) in
+    let whole = ap (λ (l : List ℕ). made.case_of a (behind id (tree_of v)) place goal_mode yields l) (sym (rest_parts ids (omega arith))) in
     subst (λ (u : Tree). Writes w0.stop w3.stop w0.list w3.list (stretch u (length w0.list))) (same ∙ whole) all
 
 pub turns::count-returns : goal.turns::count-returns
 turns::count-returns t c =
-    let f = behind c.args.id (tree_at c.args.program.now) in
+    let f = behind c.args.id (tree_of c.args.program.now) in
     let place = c.args.place in
     let l = c.args.parts.now in
     let one = constant (plain (value.Int (pos 1))) in
@@ -645,7 +668,7 @@ turns::count-returns t c =
 
 pub turns::enquire-returns : goal.turns::enquire-returns
 turns::enquire-returns t c =
-    let f = behind c.args.id (tree_at c.args.program.now) in
+    let f = behind c.args.id (tree_of c.args.program.now) in
     let place = c.args.place in
     let ts = trees_at f c.args.parts.now in
     let w0 = c.args.out.now in
@@ -657,47 +680,47 @@ turns::enquire-returns t c =
 
 pub turns::ask-enquire-requires : goal.turns::ask-enquire-requires
 turns::ask-enquire-requires t c =
-    let there : (c.args.id < c.in-Some.clause) × (c.in-Some.clause < length c.args.program.now.tree.nodes) = rw c.in-Some.is at c.requires in
-    (omega arith, between-above c.args.id c.in-Some.clause (length c.args.program.now.tree.nodes) c.parts-parts.result.now there.0 c.parts-parts.ensures.behind)
+    let there : (c.args.id < c.in-Some.clause) × (c.in-Some.clause < length c.args.program.now.of.now.tree.nodes) = rw c.in-Some.is at c.requires in
+    (omega arith, between-above c.args.id c.in-Some.clause (length c.args.program.now.of.now.tree.nodes) c.parts-parts.result.now there.0 c.parts-parts.ensures.behind)
 
 pub turns::ask-returns-in-Some : goal.turns::ask-returns-in-Some
 turns::ask-returns-in-Some t c =
-    let f = behind c.args.id (tree_at c.args.program.now) in
+    let f = behind c.args.id (tree_of c.args.program.now) in
     let node = c.node.result.now in
     let same : node.parts ≡ c.parts-parts.result.now = same_Some node.parts c.parts-parts.result.now (sym (ap (option_map (λ (n : Node). n.parts)) c.node.ensures.is) ∙ c.parts-parts.ensures.is) in
     rw (c.in-Some.is, c.node.ensures.is, c.note.ensures, same) c.enquire.ensures
 
 pub turns::test-returns-clause-writes : goal.turns::test-returns-clause-writes
 turns::test-returns-clause-writes t c =
-    let f = behind c.args.id (tree_at c.args.program.now) in
+    let f = behind c.args.id (tree_of c.args.program.now) in
     let place = c.args.place in
     let clause = made.only_id c.parts.result.now in
     let w0 = c.args.out.now in
     let w1 = c.ask.new.out in
     let w2 = c.emit.new.self in
-    let first : Writes w0.stop w1.stop w0.list w1.list (asked (made.enquiry_at c.args.program.now f clause) (length w0.list)) = rw c.only_id.ensures.only at c.ask.ensures in
-    let here = test_is c.args.program.now f c.args.test c.in-Some.part c.parts.result.now c.in-Some.is c.parts.ensures.is in
-    writes-as w0.stop w2.stop w0.list w2.list _ _ (asked_whole c.args.program.now f place (length w0.list) clause ∙ ap (λ (u : Test). test_stretch place 0 u (length w0.list)) (sym here))
-    (and_behind w0.stop w1.stop w2.stop w0.list w1.list w2.list (asked (made.enquiry_at c.args.program.now f clause) (length w0.list)) (λ n. instr place (does.Unless 0) ∷ []) first c.emit.ensures)
+    let first : Writes w0.stop w1.stop w0.list w1.list (asked (made.enquiry_at c.args.program.now.of.now f clause) (length w0.list)) = rw c.only_id.ensures.only at c.ask.ensures in
+    let here = test_is c.args.program.now.of.now f c.args.test c.in-Some.part c.parts.result.now c.in-Some.is c.parts.ensures.is in
+    writes-as w0.stop w2.stop w0.list w2.list _ _ (asked_whole c.args.program.now.of.now f place (length w0.list) clause ∙ ap (λ (u : Test). test_stretch place 0 u (length w0.list)) (sym here))
+    (and_behind w0.stop w1.stop w2.stop w0.list w1.list w2.list (asked (made.enquiry_at c.args.program.now.of.now f clause) (length w0.list)) (λ n. instr place (does.Unless 0) ∷ []) first c.emit.ensures)
 
 pub turns::test-returns-clause-unless : goal.turns::test-returns-clause-unless
 turns::test-returns-clause-unless t c = λ none.
-    let f = behind c.args.id (tree_at c.args.program.now) in
+    let f = behind c.args.id (tree_of c.args.program.now) in
     let clause = made.only_id c.parts.result.now in
     let w0 = c.args.out.now in
     let w1 = c.ask.new.out in
     let at = length w0.list in
     let w2 = c.emit.new.self in
-    let what = asked (made.enquiry_at c.args.program.now f clause) at in
+    let what = asked (made.enquiry_at c.args.program.now.of.now f clause) at in
     let first : Writes w0.stop w1.stop w0.list w1.list what = rw c.only_id.ensures.only at c.ask.ensures in
-    let here = test_is c.args.program.now f c.args.test c.in-Some.part c.parts.result.now c.in-Some.is c.parts.ensures.is in
+    let here = test_is c.args.program.now.of.now f c.args.test c.in-Some.part c.parts.result.now c.in-Some.is c.parts.ensures.is in
     let list = is_written w0.stop w1.stop w0.list w1.list what first (had_not w1.stop w2.stop w1.list w2.list _ c.emit.ensures none) in
     let long : c.len-unless.result ≡ at + length what = c.len-unless.ensures.long ∙ ap (λ (l : List Instr). length l) list ∙ length-append w0.list what in
-    ap (λ n. Some n) long ∙ unless_stands c.args.program.now f at clause ∙ ap (λ (u : Test). unless_at u at) (sym here)
+    ap (λ n. Some n) long ∙ unless_stands c.args.program.now.of.now f at clause ∙ ap (λ (u : Test). unless_at u at) (sym here)
 
 pub turns::repeat-returns : goal.turns::repeat-returns
 turns::repeat-returns t c =
-    let f = behind c.args.id (tree_at c.args.program.now) in
+    let f = behind c.args.id (tree_of c.args.program.now) in
     let l = c.loop_parts-parts.result in
     let w0 = c.args.out.now in
     let w1 = c.count.new.out in
@@ -713,12 +736,12 @@ turns::repeat-returns t c =
     let w11 = c.emit-3.new.self in
     let all = loop_all w0.stop w1.stop w2.stop w3.stop w4.stop w5.stop w6.stop w7.stop w8.stop w9.stop w10.stop w11.stop
     w0.list w1.list w2.list w3.list w4.list w5.list w6.list w7.list w8.list w9.list w10.list w11.list
-    f c.args.place l.from l.by l.to l.counts (made.test_of c.args.program.now f l.test) (option_map_or f l.body unbuilt)
+    f c.args.place l.from l.by l.to l.counts (made.test_of c.args.program.now.of.now f l.test) (option_map_or f l.body unbuilt)
     c.len-step.result (c.len-quit.result + 2) (c.len-quit.result + 2 + c.depth-frames.result) c.depth-frames.result c.test-unless.result
     c.count.ensures c.len-step.ensures.long c.turn.ensures c.test-unless.ensures.writes c.test-unless.ensures.unless c.body.ensures (c.depth-frames.ensures.frames f) c.leave_frames.ensures
     (ap (λ n. n + 2) c.len-quit.ensures.long) refl c.patch.ensures.list c.patch.ensures.stop c.patch_some.ensures.list c.patch_some.ensures.stop
     c.emit.ensures c.emit-2.ensures c.leave_frames-2.ensures c.emit-3.ensures in
-    let is : made.loop_of c.args.program.now f c.args.place c.args.parts.now ≡ made.loop_by c.args.program.now f c.args.place l.counts l.from l.by l.to l.test l.body =
+    let is : made.loop_of c.args.program.now.of.now f c.args.place c.args.parts.now ≡ made.loop_by c.args.program.now.of.now f c.args.place l.counts l.from l.by l.to l.test l.body =
     subst (λ (x : Annotated). made.loop_of x f c.args.place c.args.parts.now ≡ made.loop_by x f c.args.place l.counts l.from l.by l.to l.test l.body) c.annotated.ensures
     (c.loop_parts-parts.ensures.is f c.args.place) in
     subst (λ (u : Tree). Writes w0.stop w11.stop w0.list w11.list (stretch u (length w0.list))) (sym is) all
@@ -728,14 +751,15 @@ parts::slice-returns-then-parts-eq0 t c = rw (nil_from_length c.args.parts.now (
 
 pub parts::slice-write_part-requires : goal.parts::slice-write_part-requires
 parts::slice-write_part-requires t c =
-    let b = between-each c.args.id (length c.args.program.now.tree.nodes) 0 c.args.parts.now c.requires (omega arith) in
+    let b = between-each c.args.id (length c.args.program.now.of.now.tree.nodes) 0 c.args.parts.now c.requires (omega arith) in
     let below = b.0 in
     (omega arith, b)
 
 pub parts::slice-returns : goal.parts::slice-returns
 parts::slice-returns t c =
-    let a = c.args.program.now in
-    let f = behind c.args.id (tree_at a) in
+    let v = c.args.program.now in
+    let a = v.of.now in
+    let f = behind c.args.id (tree_of v) in
     let ids = c.args.parts.now in
     let place = c.args.place in
     let w0 = c.args.out.now in
@@ -755,26 +779,28 @@ parts::slice-returns t c =
 
 pub names::new_name-returns : goal.names::new_name-returns
 names::new_name-returns t c =
-    let a = c.args.program.now in
-    let f = behind c.args.id (tree_at a) in
+    let v = c.args.program.now in
+    let a = v.of.now in
+    let f = behind c.args.id (tree_of v) in
+    let g = bound_of v in
     let place = c.args.place in
     let w0 = c.args.out.now in
     let w1 = c.bounded.new.out in
     let is = c.deref.ensures.value ∙ c.in-Ok.ensures ∙ ap (λ (x : Annotated). made.first_bounds x c.args.parts.now) c.annotated.ensures in
-    subst (λ (bs : List Bound). Writes w0.stop w1.stop w0.list w1.list (stretch (made.new_name c.args.in_heap place c.args.mode (made.bound_trees f place bs)) (length w0.list))) is c.bounded.ensures
+    subst (λ (bs : List Bound). Writes w0.stop w1.stop w0.list w1.list (stretch (made.new_name c.args.in_heap place c.args.mode (made.bound_trees g f place bs)) (length w0.list))) is c.bounded.ensures
 
 pub parts::write_index-all-requires : goal.parts::write_index-all-requires
 parts::write_index-all-requires t c =
-    (omega arith, between-above c.args.id c.args.index (length c.args.program.now.tree.nodes) c.parts.result.now c.requires.0 c.parts.ensures.behind)
+    (omega arith, between-above c.args.id c.args.index (length c.args.program.now.of.now.tree.nodes) c.parts.result.now c.requires.0 c.parts.ensures.behind)
 
 pub names::write_written-write_part-requires : goal.names::write_written-write_part-requires
 names::write_written-write_part-requires t c =
-    let s = stands-behind c.args.id c.args.bound (length c.args.program.now.tree.nodes) (sym c.stands_behind.ensures ∙ c.if-stands_behind.true) in
+    let s = stands-behind c.args.id c.args.bound (length c.args.program.now.of.now.tree.nodes) (sym c.stands_behind.ensures ∙ c.if-stands_behind.true) in
     (omega arith, s)
 
 pub names::write_written-returns-else-stands_behind : goal.names::write_written-returns-else-stands_behind
 names::write_written-returns-else-stands_behind t c =
-    rw (none-behind c.args.program.now c.args.id c.args.bound (sym c.stands_behind.ensures ∙ c.if-stands_behind.false)) c.unbuilt.ensures
+    rw (none-behind c.args.program.now.of.now c.args.program.now.sight c.args.id c.args.bound (sym c.stands_behind.ensures ∙ c.if-stands_behind.false)) c.unbuilt.ensures
 
 kept_of : (b : Bool) (n : ℕ) → n ≡ bool_byte b → n ≡ (if b then 1 else 0)
 kept_of true n e = e
@@ -782,7 +808,7 @@ kept_of false n e = e
 
 pub conformity::write_specified-returns-then-not-tagged : goal.conformity::write_specified-returns-then-not-tagged
 conformity::write_specified-returns-then-not-tagged t c =
-    let part = behind c.args.id (tree_at c.args.program.now) c.args.part in
+    let part = behind c.args.id (tree_of c.args.program.now) c.args.part in
     let w0 = c.args.out.now in
     let w1 = c.emit.new.self in
     let w2 = c.write_part.new.out in
@@ -790,7 +816,7 @@ conformity::write_specified-returns-then-not-tagged t c =
 
 pub conformity::write_specified-returns : goal.conformity::write_specified-returns
 conformity::write_specified-returns t c =
-    let part = behind c.args.id (tree_at c.args.program.now) c.args.part in
+    let part = behind c.args.id (tree_of c.args.program.now) c.args.part in
     let w0 = c.args.out.now in
     let w1 = c.emit-2.new.self in
     let w2 = c.emit-3.new.self in
@@ -807,7 +833,7 @@ conformity::write_spec-returns-clause-writes t c =
     let w2 = c.write_specified.new.out in
     let w3 = c.keep-2.new.out in
     let w4 = c.emit.new.self in
-    spec_writes w0.stop w1.stop w2.stop w3.stop w4.stop w0.list w1.list w2.list w3.list w4.list c.args.place c.args.yields c.args.tagged (behind c.args.id (tree_at c.args.program.now) c.args.part)
+    spec_writes w0.stop w1.stop w2.stop w3.stop w4.stop w0.list w1.list w2.list w3.list w4.list c.args.place c.args.yields c.args.tagged (behind c.args.id (tree_of c.args.program.now) c.args.part)
     c.keep.ensures.list c.keep.ensures.stop c.write_specified.ensures c.keep-2.ensures.list c.keep-2.ensures.stop c.emit.ensures
 
 pub conformity::write_spec-returns-clause-jumps : goal.conformity::write_spec-returns-clause-jumps
@@ -817,18 +843,18 @@ conformity::write_spec-returns-clause-jumps t c = λ none.
     let w2 = c.write_specified.new.out in
     let w3 = c.keep-2.new.out in
     let w4 = c.emit.new.self in
-    let end = spec_ends w1.stop w2.stop w3.stop w4.stop w0.list w1.list w2.list w3.list w4.list c.args.place c.args.yields c.args.tagged (behind c.args.id (tree_at c.args.program.now) c.args.part)
+    let end = spec_ends w1.stop w2.stop w3.stop w4.stop w0.list w1.list w2.list w3.list w4.list c.args.place c.args.yields c.args.tagged (behind c.args.id (tree_of c.args.program.now) c.args.part)
     c.keep.ensures.list c.write_specified.ensures c.keep-2.ensures.stop c.emit.ensures none in
     c.keep-2.ensures.kept end.0 ∙ ap (λ (k : ℕ). c.args.jumps.now.items ++ k ∷ []) (c.len-jump.ensures.long ∙ end.1)
 
 pub conformity::write_specs-write_spec-requires : goal.conformity::write_specs-write_spec-requires
 conformity::write_specs-write_spec-requires t c =
-    let b = between-each c.args.id (length c.args.program.now.tree.nodes) (c.loop-at.at + 1) c.args.specs.now c.requires.between (omega arith) in
+    let b = between-each c.args.id (length c.args.program.now.of.now.tree.nodes) (c.loop-at.at + 1) c.args.specs.now c.requires.between (omega arith) in
     let below = b.0 in
     (omega arith, b)
 
 pub conformity::write_specs-has_tag-tagged-requires : goal.conformity::write_specs-has_tag-tagged-requires
-conformity::write_specs-has_tag-tagged-requires t c = (between-each c.args.id (length c.args.program.now.tree.nodes) c.loop-at.at c.args.specs.now c.requires.between (omega arith)).1
+conformity::write_specs-has_tag-tagged-requires t c = (between-each c.args.id (length c.args.program.now.of.now.tree.nodes) c.loop-at.at c.args.specs.now c.requires.between (omega arith)).1
 
 -- no specification is left
 all_ahead : (a : Annotated) (f : ℕ → Tree) (ids : List ℕ) (at place : ℕ) (yields : Bool) (starts jumps : List ℕ) (s0 s1 : Option Stop) (l0 l1 : List Instr) → (at + 1 < length ids → ⊥)
@@ -840,7 +866,7 @@ pub conformity::write_specs-returns-clause-writes : goal.conformity::write_specs
 conformity::write_specs-returns-clause-writes t c =
     let w1 = c.loop-at.out in
     let none : c.loop-at.at + 1 < length c.args.specs.now → ⊥ = λ less. absurd (omega arith) in
-    (all_ahead c.args.program.now (behind c.args.id (tree_at c.args.program.now)) c.args.specs.now c.loop-at.at c.args.place c.args.yields c.loop-at.starts.items c.loop-at.jumps.items
+    (all_ahead c.args.program.now.of.now (behind c.args.id (tree_of c.args.program.now)) c.args.specs.now c.loop-at.at c.args.place c.args.yields c.loop-at.starts.items c.loop-at.jumps.items
     c.args.out.now.stop w1.stop c.args.out.now.list w1.list none c.loop-at.invariant.1).writes w1.stop w1.list (nothing-written w1.stop w1.list)
 
 pub conformity::write_specs-returns-clause-starts : goal.conformity::write_specs-returns-clause-starts
@@ -848,7 +874,7 @@ conformity::write_specs-returns-clause-starts t c = λ is.
     let w1 = c.loop-at.out in
     let none : c.loop-at.at + 1 < length c.args.specs.now → ⊥ = λ less. absurd (omega arith) in
     sym (append-nil c.loop-at.starts.items)
-    ∙ (all_ahead c.args.program.now (behind c.args.id (tree_at c.args.program.now)) c.args.specs.now c.loop-at.at c.args.place c.args.yields c.loop-at.starts.items c.loop-at.jumps.items
+    ∙ (all_ahead c.args.program.now.of.now (behind c.args.id (tree_of c.args.program.now)) c.args.specs.now c.loop-at.at c.args.place c.args.yields c.loop-at.starts.items c.loop-at.jumps.items
     c.args.out.now.stop w1.stop c.args.out.now.list w1.list none c.loop-at.invariant.1).starts_are is
 
 pub conformity::write_specs-returns-clause-jumps : goal.conformity::write_specs-returns-clause-jumps
@@ -856,13 +882,14 @@ conformity::write_specs-returns-clause-jumps t c = λ is.
     let w1 = c.loop-at.out in
     let none : c.loop-at.at + 1 < length c.args.specs.now → ⊥ = λ less. absurd (omega arith) in
     sym (append-nil c.loop-at.jumps.items)
-    ∙ (all_ahead c.args.program.now (behind c.args.id (tree_at c.args.program.now)) c.args.specs.now c.loop-at.at c.args.place c.args.yields c.loop-at.starts.items c.loop-at.jumps.items
+    ∙ (all_ahead c.args.program.now.of.now (behind c.args.id (tree_of c.args.program.now)) c.args.specs.now c.loop-at.at c.args.place c.args.yields c.loop-at.starts.items c.loop-at.jumps.items
     c.args.out.now.stop w1.stop c.args.out.now.list w1.list none c.loop-at.invariant.1).jumps_are is
 
 pub conformity::write_specs-loop-at-preserved : goal.conformity::write_specs-loop-at-preserved
 conformity::write_specs-loop-at-preserved t c =
-    let a = c.args.program.now in
-    let f = behind c.args.id (tree_at a) in
+    let v = c.args.program.now in
+    let a = v.of.now in
+    let f = behind c.args.id (tree_of v) in
     let ids = c.args.specs.now in
     let i = c.loop-at.at in
     let s = get_or ids i 0 in
@@ -886,8 +913,9 @@ conformity::write_specs-loop-at-preserved t c =
 
 pub conformity::conform-returns : goal.conformity::conform-returns
 conformity::conform-returns t c =
-    let a = c.args.program.now in
-    let f = behind c.args.id (tree_at a) in
+    let v = c.args.program.now in
+    let a = v.of.now in
+    let f = behind c.args.id (tree_of v) in
     let specs = specs_of a f c.args.specs.now in
     let union = c.args.union in
     let w0 = c.args.out.now in
@@ -908,17 +936,18 @@ conformity::conform-returns t c =
     let each : ((w5.list ≡ put_all w4.list member 0 (member_places found specs starts none)) × (w5.stop ≡ w4.stop)) ⊎ (w5.stop ≡ ran_out w4.stop) =
     subst (λ (ps : List ℕ). ((w5.list ≡ put_all w4.list member 0 (member_places found specs ps none)) × (w5.stop ≡ w4.stop)) ⊎ (w5.stop ≡ ran_out w4.stop)) c.deref-2.ensures.value c.aim_member.ensures in
     let all = conform_writes w0.stop w1.stop w2.stop w3.stop w4.stop w5.stop w0.list w1.list w2.list w3.list w4.list w5.list c.args.place union member end none found starts jumps (not yields) specs
-    (option_map_or (tree_at a) c.args.other (made.left_out c.args.place c.args.goal)) c.in-Ok.does
+    (option_map_or (tree_of v) c.args.other (made.left_out c.args.place c.args.goal)) c.in-Ok.does
     c.len-member.ensures.long c.in-Ok.ensures c.emit.ensures c.write_specs.ensures.writes c.write_specs.ensures.starts c.write_specs.ensures.jumps c.len-none.ensures.long c.otherwise.ensures c.len-end.ensures.long
     ends c.patch_all.ensures.stop each in
     let by_members = subst (λ (ms : List ℕ). Writes w0.stop w5.stop w0.list w5.list
-    (conform_list c.args.place union ms (not yields) specs (option_map_or (tree_at a) c.args.other (made.left_out c.args.place c.args.goal)) (length w0.list))) members_are all in
+    (conform_list c.args.place union ms (not yields) specs (option_map_or (tree_of v) c.args.other (made.left_out c.args.place c.args.goal)) (length w0.list))) members_are all in
     subst (λ (b : Bool). Writes w0.stop w5.stop w0.list w5.list
-    (conform_list c.args.place union (members_of (shape_at a.modes union)) (not b) specs (option_map_or (tree_at a) c.args.other (made.left_out c.args.place c.args.goal)) (length w0.list))) c.is_void-yields.ensures by_members
+    (conform_list c.args.place union (members_of (shape_at a.modes union)) (not b) specs (option_map_or (tree_of v) c.args.other (made.left_out c.args.place c.args.goal)) (length w0.list))) c.is_void-yields.ensures by_members
 
 pub conformity::conformity-returns : goal.conformity::conformity-returns
 conformity::conformity-returns t c =
-    let a = c.args.program.now in
+    let v = c.args.program.now in
+    let a = v.of.now in
     let id = c.args.id in
     let node = c.node.result.now in
     let note = c.note.result.now in
@@ -927,7 +956,7 @@ conformity::conformity-returns t c =
     let yields = not (is_void (shape_at a.modes goal_mode)) in
     let ids = c.args.parts.now in
     let enquiry = get_or ids 0 0 in
-    let f = behind id (tree_at a) in
+    let f = behind id (tree_of v) in
     let units = c.before_out-specs.result.now in
     let other = c.out_of-other.result in
     let union = c.goal_at-union.result in
@@ -938,8 +967,8 @@ conformity::conformity-returns t c =
     let w3 = c.shut.new.out in
     let shut : Writes w2.stop w3.stop w2.list w3.list (shuts note.slots yields place) =
     subst (λ (b : Bool). Writes w2.stop w3.stop w2.list w3.list (shuts note.slots (not b) place)) c.is_void.ensures c.shut.ensures in
-    let phrases = made.phrases_of node.span.from (trees_at (behind enquiry (tree_at a)) c.parts-phrases.result.now) in
-    let out = option_map_or (tree_at a) other (made.left_out place goal_mode) in
+    let phrases = made.phrases_of node.span.from (trees_at (behind enquiry (tree_of v)) c.parts-phrases.result.now) in
+    let out = option_map_or (tree_of v) other (made.left_out place goal_mode) in
     let chosen : Writes w1.stop w2.stop w1.list w2.list
     (conform_list place (made.goal_at a enquiry) (members_of (shape_at a.modes (made.goal_at a enquiry))) yields (specs_of a f units) out (length w1.list)) =
     subst (λ (u : ℕ). Writes w1.stop w2.stop w1.list w2.list (conform_list place u (members_of (shape_at a.modes u)) yields (specs_of a f units) out (length w1.list))) c.goal_at-union.ensures c.conform.ensures in
@@ -950,7 +979,22 @@ conformity::conformity-returns t c =
     let other_is : other ≡ made.out_of a rest = c.out_of-other.ensures.out ∙ ap (λ (x : Annotated). made.out_of x rest) c.annotated-2.ensures in
     let other_within : IfSome other (λ p. (id < p) × (p < length a.tree.nodes)) =
     subst (λ (x : Annotated). IfSome other (λ p. (id < p) × (p < length x.tree.nodes))) c.annotated-2.ensures c.out_of-other.ensures.within in
-    let same = conform_is a id place goal_mode yields enquiry rest c.parts-phrases.result.now units other node note c.node.ensures.is c.note.ensures c.parts-phrases.ensures.is
+    let same = conform_is a (tree_of v) id place goal_mode yields enquiry rest c.parts-phrases.result.now units other node note c.node.ensures.is c.note.ensures c.parts-phrases.ensures.is
     c.parts-phrases.ensures.behind below units_are other_is other_within in
     let whole = ap (λ (l : List ℕ). made.conformity_of a f place goal_mode yields l) (sym (rest_parts ids (omega arith))) in
     subst (λ (u : Tree). Writes w0.stop w3.stop w0.list w3.list (stretch u (length w0.list))) (same ∙ whole) all
+
+pub names::write_outside-returns : goal.names::write_outside-returns
+names::write_outside-returns t c =
+    let a = c.args.program.now in
+    let bytes_are : made.bytes_of a c.args.bound ≡ c.node.result.now.span = ap (λ (o : Option Node). option_map_or (λ (n : Node). n.span) o (record { from = 0; to = 0 })) c.node.ensures.is in
+    let same : made.defined_bound a sight.Here c.args.frames c.args.bound ≡ made.tree_in a (sight.Within c.args.frames c.node.result.now.span) c.args.bound =
+    defined_is a c.args.frames c.args.bound ∙ ap (λ (bytes : Span). made.tree_in a (sight.Within c.args.frames bytes) c.args.bound) bytes_are in
+    rw same c.unit.ensures
+
+pub names::write_outside-returns-then-bound-len : goal.names::write_outside-returns-then-bound-len
+names::write_outside-returns-then-bound-len t c =
+    let a = c.args.program.now in
+    let none : made.defined_bound a sight.Here c.args.frames c.args.bound ≡ unbuilt =
+    defined_is a c.args.frames c.args.bound ∙ none-past a (sight.Within c.args.frames (made.bytes_of a c.args.bound)) c.args.bound (omega arith) in
+    rw none c.unbuilt.ensures

@@ -8,7 +8,7 @@ use Rattle.a68_gen.proofs.conformity.place_for.Given as goal
 abbrev pub invariant-loop-at : goal.invariant-loop-at
 invariant-loop-at l =
     (l.at ≤ length l.specs)
-    × ((f : ℕ → Tree) → place_for l.member (specs_of l.program f (drop l.at l.specs)) (drop l.which l.starts) l.none ≡ place_for l.member (specs_of l.program f l.specs) l.starts l.none)
+    × ((f : ℕ → Tree) → place_for l.member (specs_of l.program.of.now f (drop l.at l.specs)) (drop l.which l.starts) l.none ≡ place_for l.member (specs_of l.program.of.now f l.specs) l.starts l.none)
 
 abbrev pub decreases-loop-at : goal.decreases-loop-at
 decreases-loop-at l = length l.specs - l.at

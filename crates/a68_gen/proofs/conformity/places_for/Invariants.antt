@@ -1,10 +1,11 @@
 use Rattle.std.proofs.Common.{◌≡◌, ◌++◌, drop}
-use Rattle.a68_elab.specs.Made.{behind, specs_of, tree_at}
+use Rattle.a68_elab.specs.Made.{behind, specs_of}
 use Rattle.a68_gen.specs.Stretches.{member_places}
+use Rattle.a68_gen.specs.Views.{tree_of}
 use Rattle.a68_gen.proofs.conformity.places_for.Given as goal
 
 -- with the places of the other members, those of all are there
 abbrev pub invariant-loop-member : goal.invariant-loop-member
 invariant-loop-member l =
-    l.places.items ++ member_places (drop l.member-index l.members) (specs_of l.program (behind l.id (tree_at l.program)) l.specs) l.starts l.none
-    ≡ member_places l.members (specs_of l.program (behind l.id (tree_at l.program)) l.specs) l.starts l.none
+    l.places.items ++ member_places (drop l.member-index l.members) (specs_of l.program.of.now (behind l.id (tree_of l.program)) l.specs) l.starts l.none
+    ≡ member_places l.members (specs_of l.program.of.now (behind l.id (tree_of l.program)) l.specs) l.starts l.none

@@ -6,7 +6,7 @@ use Rattle.a68_gen.proofs.conformity.whole_for.Given as goal
 
 -- the specifications before this one do not take it
 abbrev pub invariant-loop-at : goal.invariant-loop-at
-invariant-loop-at l = (l.at ≤ length l.specs) × ((f : ℕ → Tree) → whole_for l.member (specs_of l.program f (drop l.at l.specs)) ≡ whole_for l.member (specs_of l.program f l.specs))
+invariant-loop-at l = (l.at ≤ length l.specs) × ((f : ℕ → Tree) → whole_for l.member (specs_of l.program.of.now f (drop l.at l.specs)) ≡ whole_for l.member (specs_of l.program.of.now f l.specs))
 
 abbrev pub decreases-loop-at : goal.decreases-loop-at
 decreases-loop-at l = length l.specs - l.at

@@ -1,9 +1,10 @@
 use Rattle.std.proofs.Common.{◌≡◌, ◌++◌, drop}
-use Rattle.a68_elab.specs.Made.{behind, specs_of, tree_at}
+use Rattle.a68_elab.specs.Made.{behind, specs_of}
 use Rattle.a68_gen.specs.Stretches.{wholes_of}
+use Rattle.a68_gen.specs.Views.{tree_of}
 use Rattle.a68_gen.proofs.conformity.wholes_for.Given as goal
 
 abbrev pub invariant-loop-member : goal.invariant-loop-member
 invariant-loop-member l =
-    l.wholes.items ++ wholes_of (drop l.member-index l.members) (specs_of l.program (behind l.id (tree_at l.program)) l.specs)
-    ≡ wholes_of l.members (specs_of l.program (behind l.id (tree_at l.program)) l.specs)
+    l.wholes.items ++ wholes_of (drop l.member-index l.members) (specs_of l.program.of.now (behind l.id (tree_of l.program)) l.specs)
+    ≡ wholes_of l.members (specs_of l.program.of.now (behind l.id (tree_of l.program)) l.specs)

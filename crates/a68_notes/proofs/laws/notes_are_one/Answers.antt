@@ -14,4 +14,4 @@ laws c = record {
 }
 
 pub returns : goal.returns
-returns c = λ of a x y is p q. one_notes (laws c) of a is x y p q
+returns c = λ of a x y once is p q. one_notes (laws c) of a once is x y p q

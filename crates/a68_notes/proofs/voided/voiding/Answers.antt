@@ -1,4 +1,4 @@
-use Rattle.std.proofs.Common.{◌≡◌, ◌++◌, ◌-◌, ◌∙◌, [], ◌∷◌, true, false, Some, length, sym, ap, subst, ℕ}
+use Rattle.std.proofs.Common.{◌≡◌, ◌++◌, ◌∙◌, [], ◌∷◌, true, false, Some, sym, ap, ℕ}
 use Rattle.a68_notes.proofs.Calling.{voided_end, voided_on}
 use Rattle.a68_notes.specs.Voiding.{is_proc_behind, next_of, voiding}
 use Rattle.a68_modes.specs.Nodes.{shape_at}

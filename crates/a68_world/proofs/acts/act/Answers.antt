@@ -17,3 +17,9 @@ returns-in-Fetch c = rw c.in-Fetch.is c.fetch.ensures
 
 pub returns-in-Assign : goal.returns-in-Assign
 returns-in-Assign c = rw c.in-Assign.is c.assign.ensures
+
+pub returns-in-Up : goal.returns-in-Up
+returns-in-Up c = rw c.in-Up.is c.up.ensures
+
+pub returns-in-Down : goal.returns-in-Down
+returns-in-Down c = rw c.in-Down.is c.down.ensures

@@ -1,4 +1,5 @@
 use Rattle.std.proofs.Common.{◌∙◌, ap}
+use Rattle.a68_strand.specs.declared.ask.Ask.{Ask}
 use Rattle.a68_world.specs.Inside.{end_shown}
 use Rattle.a68_world.proofs.Standing.{made-sound, made-is}
 use Rattle.a68_world.proofs.world.World.start.Goals as goal
@@ -10,7 +11,7 @@ invariant_of-result c =
       room = c.in-Ok.ensures.room;
       store_is = c.in-Ok.ensures.store;
       settled = c.in-Ok.ensures.strand;
-      end_is = c.end_shown-end.ensures ∙ ap end_shown c.ask.ensures;
+      end_is = c.end_shown-end.ensures ∙ ap (λ (a : Ask). end_shown a c.in-Ok.store) c.ask.ensures;
     }) c.requires.valid c.requires.short c.requires.some_fuel c.requires.little_fuel
 
 pub returns-in-Ok : goal.returns-in-Ok
@@ -20,5 +21,5 @@ returns-in-Ok c =
       room = c.in-Ok.ensures.room;
       store_is = c.in-Ok.ensures.store;
       settled = c.in-Ok.ensures.strand;
-      end_is = c.end_shown-end.ensures ∙ ap end_shown c.ask.ensures;
+      end_is = c.end_shown-end.ensures ∙ ap (λ (a : Ask). end_shown a c.in-Ok.store) c.ask.ensures;
     })
