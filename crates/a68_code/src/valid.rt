@@ -67,7 +67,7 @@ fn all_agree(heights: &[Option<usize>], others: &[Option<usize>], further: &[Opt
 impl Code {
     /// Whether the machine runs the code (own): it never leaves the list, finds on the stack what an instruction takes,
     /// goes back only at the end of a loop, to a Step with a Turn behind it, and ends the program at End and a routine at
-    /// Return, with a value just where its entrance says so; and names refer to plain values alone yet. Takes time in
+    /// Return, with a value just where its entrance says so. Takes time in
     /// proportion to the list.
     pub fn valid(&self, alloc: Global) -> Result<bool, NoMemory>
         ensures { IfOk result (λ valid. IsTrue valid ↔ IsValid self.now) }
