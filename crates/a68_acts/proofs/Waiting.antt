@@ -4,7 +4,7 @@ use Rattle.std.specs.Option.{option_map_or}
 use Rattle.std.specs.Prelude.{None, Some, pos, ◌+ℤ◌, ◌-ℤ◌, slice_get, nat_lt, int_lt, if◌then◌else◌}
 use Rattle.std.specs.declared.option.Option.{Option}
 use Rattle.a68_acts.specs.Does.{Outcome, did, waits, bound, looked, is_closed, count_in, with_count, raised, lowered, does}
-use Rattle.a68_acts.specs.Store.{Store, Frame, counted, slot_weight, most_counted, most_printed}
+use Rattle.a68_acts.specs.Store.{Store, Frame, counted, slot_weight, most_counted, most_printed, most_strands}
 use Rattle.a68_acts.specs.declared.want.Reply.TheVariants as reply
 use Rattle.a68_acts.specs.declared.want.Want.{Want}
 use Rattle.a68_acts.specs.declared.want.Want.TheVariants as want
@@ -61,6 +61,7 @@ does-answers (want.Assign c held) s = option-answers _ _ (slice_get s.cells c) _
 does-answers (want.Up c) s = option-answers _ (raised s c) (count_in s c) _ (λ i e. raised-answers _ s c i) tt
 does-answers (want.Down c) s = option-answers _ (lowered s c) (count_in s c) _ (λ i e. lowered-answers s c i e) tt
 does-answers (want.Print text) s = if-answers _ (nat_lt most_printed (length s.text + length text)) _ _ tt tt
+does-answers (want.Fork entrances) s = if-answers _ (nat_lt most_strands (s.strands + length entrances)) _ _ tt tt
 does-answers _ s = tt
 
 -- no act has to wait but a Down of a semaphore whose count is below 1

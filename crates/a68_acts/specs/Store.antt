@@ -1,7 +1,7 @@
 -- The store: what the strands of a run share.
 use Rattle.std.specs.Prelude.{ℕ, zero, suc, ◌+◌, List, [], ◌∷◌, length, sum_by, None, Some, slice_get, nat_eq, if◌then◌else◌}
 use Rattle.std.specs.declared.option.Option.{Option}
-use Rattle.a68_base.specs.declared.limits.TheConstants.{MOST_COUNTED, MOST_PRINTED}
+use Rattle.a68_base.specs.declared.limits.TheConstants.{MOST_COUNTED, MOST_PRINTED, MOST_STRANDS}
 use Rattle.a68_values.specs.Content.{Content, Contents, void, plain, layout, structure, row, united, no_parts, ◌and_part◌}
 use Rattle.a68_values.specs.declared.chain.Environ.{Environ}
 use Rattle.a68_values.specs.declared.held.Held.{Held}
@@ -12,18 +12,21 @@ pub record Frame : Type 0 where
   pub scope : ℕ
   pub slots : List (Option Content)
 
--- the cells, the frames and the printed text; cells and frames are named by their numbers
+-- the cells, the frames, the printed text, and how many strands have been made; cells, frames and strands are named by their
+-- numbers
 pub record Store : Type 0 where
   pub cells : List Held
   pub frames : List Frame
   pub text : List ℕ
+  pub strands : ℕ
 
 -- the frame of the standard environ, which has no slots
 abbrev pub standard_frame : Frame
 standard_frame = record { outer = 0; scope = 0; slots = [] }
 
+-- the store of a run that is yet to begin: the program is strand 0
 abbrev pub opening_store : Store
-opening_store = record { cells = []; frames = standard_frame ∷ []; text = [] }
+opening_store = record { cells = []; frames = standard_frame ∷ []; text = []; strands = 1 }
 
 -- a frame, and what stands about it; nothing stands about that of the standard environ
 abbrev pub chain_step : ℕ → Option Frame → (ℕ → List Environ) → List Environ
@@ -65,9 +68,12 @@ frame_weight frame = sum_by slot_weight frame.slots
 abbrev pub counted : Store → ℕ
 counted store = length store.cells + sum_by frame_weight store.frames
 
--- the most that a store may count, and the most bytes that a run may print
+-- the most that a store may count, the most bytes that a run may print, and the most strands that it may have
 abbrev pub most_counted : ℕ
 most_counted = MOST_COUNTED
 
 abbrev pub most_printed : ℕ
 most_printed = MOST_PRINTED
+
+abbrev pub most_strands : ℕ
+most_strands = MOST_STRANDS

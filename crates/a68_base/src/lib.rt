@@ -11,7 +11,7 @@ mod text;
 
 pub use limits::{
     MOST_BYTES, MOST_COUNTED, MOST_FUEL, MOST_INSTRUCTIONS, MOST_MODES, MOST_PRINTED, MOST_READ,
-    MOST_SYMBOLS, USUAL_FUEL,
+    MOST_STRANDS, MOST_SYMBOLS, USUAL_FUEL,
 };
 pub use memory::NoMemory;
 pub use refusal::{Refusal, Rule, Span, Stop};

@@ -21,6 +21,9 @@ pub const MOST_COUNTED: u32 = 4_194_304;
 /// The most bytes that a run prints.
 pub const MOST_PRINTED: usize = 16_777_216;
 
+/// The most strands of a run, strand 0 among them.
+pub const MOST_STRANDS: u32 = 65_536;
+
 /// The events of a run whose words name no fuel.
 pub const USUAL_FUEL: u32 = 4_000_000;
 

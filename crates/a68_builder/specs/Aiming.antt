@@ -3,7 +3,7 @@ use Rattle.std.specs.Prelude.{ℕ, List, length, slice_get, slice_set}
 use Rattle.std.specs.Option.{option_map_or}
 use Rattle.a68_code.specs.declared.code.Instr.{Instr}
 use Rattle.a68_code.specs.declared.does.Does.{Does}
-use Rattle.a68_code.specs.declared.does.Does.TheVariants.{Jump, Unless, Case, Member, Step, Advance}
+use Rattle.a68_code.specs.declared.does.Does.TheVariants.{Jump, Unless, Case, Member, Step, Advance, Fork}
 
 -- how many places an instruction names
 abbrev pub names : Does → ℕ
@@ -13,6 +13,7 @@ names (Case places) = length places
 names (Member mode places whole) = length places
 names (Step to) = 1
 names (Advance to) = 1
+names (Fork entrances) = length entrances
 names _ = 0
 
 -- the instruction with another place where it names one, by its number among them
@@ -23,6 +24,7 @@ aimed (Case places) which to = Case (slice_set places which to)
 aimed (Member mode places whole) which to = Member mode (slice_set places which to) whole
 aimed (Step place) which to = Step to
 aimed (Advance place) which to = Advance to
+aimed (Fork entrances) which to = Fork (slice_set entrances which to)
 aimed does which to = does
 
 abbrev pub names_at : List Instr → (at : ℕ) → ℕ

@@ -1,2 +1,3 @@
 pub mod Aiming
+pub mod Linking
 pub mod Stopping

@@ -1,11 +1,12 @@
 //! The builder of a code.
-ghost use Rattle.std.specs.Prelude.{◌≡◌, ◌<◌, ◌≤◌, ◌++◌, ◌∷◌, [], length, slice_index, IfOk, OnErr, MatchResult};
+ghost use Rattle.std.specs.Prelude.{◌≡◌, ◌<◌, ◌≤◌, ◌++◌, ◌∷◌, [], length, map, slice_index, slice_index_or, IfOk, OnErr, MatchResult};
 ghost use Rattle.a68_base.specs.declared.limits.TheConstants.{MOST_INSTRUCTIONS};
 ghost use Rattle.a68_builder.specs.Aiming.{aimed, aimed_at, names, names_at};
+ghost use Rattle.a68_builder.specs.Linking.{entrances_in, linked, linked_does};
 ghost use Rattle.a68_builder.specs.Stopping.{Stops};
 
 use a68_base::{MOST_INSTRUCTIONS, NoMemory};
-use a68_code::{Code, Does, Instr, Instrs, Routines};
+use a68_code::{Code, Does, Instr, Instrs, Places, Routines};
 use a68_modes::Modes;
 use std::alloc::Global;
 use std::marker::Model;
@@ -48,6 +49,7 @@ fn names(does: &Does) -> usize
     match does {
         Does::Jump(_) | Does::Unless(_) | Does::Step(_) | Does::Advance(_) => 1,
         Does::Case(places) => places.items.len(),
+        Does::Fork(entrances) => entrances.items.len(),
         Does::Member { places, .. } => places.items.len(),
         _ => 0,
     }
@@ -64,8 +66,43 @@ fn aim(does: &mut Does, which: usize, to: u32)
         Does::Step(place) => *place = to,
         Does::Advance(place) => *place = to,
         Does::Case(places) => places.items[which] = to,
+        Does::Fork(entrances) => entrances.items[which] = to,
         Does::Member { places, .. } => places.items[which] = to,
         _ => {}
+    }
+}
+
+// The entrance of the unit of this number.
+fn entrance(units: &[u32], number: u32) -> u32
+    ensures { result ≡ slice_index_or units.now number 0 }
+{
+    units.get(number as usize).copied().unwrap_or(0)
+}
+
+// Puts the entrances of units in the place of their numbers.
+fn enter_units(numbers: &mut [u32], units: &[u32])
+    ensures { numbers.new ≡ entrances_in units.now numbers.old }
+{
+    for i in 0..numbers.len() {
+        numbers[i] = entrance(units, numbers[i]);
+    }
+}
+
+// Does so in an instruction, where it is a Fork.
+fn link(does: &mut Does, units: &[u32])
+    ensures { does.new ≡ linked_does units.now does.old }
+{
+    if let Does::Fork(numbers) = does {
+        enter_units(&mut numbers.items, units);
+    }
+}
+
+// Does so in all instructions.
+fn link_all(list: &mut [Instr], units: &[u32])
+    ensures { list.new ≡ map (linked units.now) list.old }
+{
+    for i in 0..list.len() {
+        link(&mut list[i].does, units);
     }
 }
 
@@ -124,15 +161,18 @@ impl Builder {
         aim(&mut instr.does, which as usize, to);
     }
 
-    /// The code of the instructions, with these entrances of routine texts and these modes.
-    pub fn finish(self, texts: Routines, modes: Modes) -> Result<Code, NoMemory>
-        ensures { MatchResult result (λ code. code ≡ record { list = self; texts = texts; modes = modes }) (λ _. ⊥) }
+    /// The code of the instructions, with these entrances of routine texts and of units, and these modes. Each Fork, which
+    /// named units by their numbers, names their entrances. It takes no memory.
+    pub fn finish(self, texts: Routines, units: Places, modes: Modes) -> Code
+        ensures { result ≡ record { list = map (linked units) self; texts = texts; units = units; modes = modes } }
     {
-        let Builder { list } = self;
-        Ok(Code {
+        let Builder { mut list } = self;
+        link_all(&mut list, &units.items);
+        Code {
             list: Instrs { items: list },
             texts,
+            units,
             modes,
-        })
+        }
     }
 }

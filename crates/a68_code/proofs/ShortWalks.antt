@@ -13,7 +13,7 @@ use Rattle.a68_code.specs.Valid.{IsValid}
 use Rattle.a68_code.specs.declared.code.Code.{Code}
 use Rattle.a68_code.specs.declared.code.Instr.{Instr}
 use Rattle.a68_code.specs.declared.does.Does.{Does}
-use Rattle.a68_code.specs.declared.does.Does.TheVariants.{Jump, Unless, Case, Member, Step, Turn, Advance, Return, End}
+use Rattle.a68_code.specs.declared.does.Does.TheVariants.{Jump, Unless, Case, Member, Step, Turn, Advance, Return, Close, End}
 
 -- a way leads from one place over so many instructions, none of which is a Turn, to another
 pub data Walks (list : List Instr) : ℕ → ℕ → ℕ → Type 0 where
@@ -133,6 +133,7 @@ landing_cases at to (Advance x) i = ⊎_elim (λ e. inl (sym e)) (λ e. inr (inr
 landing_cases at to (Case places) i = inr (inr (inr (inr (inr (inl (places, refl, i))))))
 landing_cases at to (Member mode places whole) i = inr (inr (inr (inr (inr (inr (mode, places, whole, refl, i))))))
 landing_cases at to Return i = absurd (let h = i.1 in omega arith)
+landing_cases at to Close i = absurd (let h = i.1 in omega arith)
 landing_cases at to End i = absurd (let h = i.1 in omega arith)
 landing_cases at to _ i = inl (sym (only (at + 1) to i))
 

@@ -209,29 +209,32 @@ no_entrance code whose places same (to, height, i, inr (other, knows, differs)) 
 -- ---- all owners
 
 -- tables of the heights that the ways of all owners come to
-pub record AllHeights (code : Code) (program yielding others : Heights) : Type 0 where
+pub record AllHeights (code : Code) (program yielding others units : Heights) : Type 0 where
   pub of_program : AreHeights code owner.Program program
   pub of_yielding : AreHeights code (owner.Texts true) yielding
   pub of_others : AreHeights code (owner.Texts false) others
+  pub of_units : AreHeights code owner.Units units
 
-table_of : (program yielding others : Heights) → Owner → Heights
-table_of program yielding others owner.Program = program
-table_of program yielding others (owner.Texts true) = yielding
-table_of program yielding others (owner.Texts false) = others
+table_of : (program yielding others units : Heights) → Owner → Heights
+table_of program yielding others units owner.Program = program
+table_of program yielding others units (owner.Texts true) = yielding
+table_of program yielding others units (owner.Texts false) = others
+table_of program yielding others units owner.Units = units
 
-known_in : (code : Code) (program yielding others : Heights) → AllHeights code program yielding others → (whose : Owner) → AreHeights code whose (table_of program yielding others whose)
+known_in : (code : Code) (program yielding others units : Heights) → AllHeights code program yielding others units → (whose : Owner) → AreHeights code whose (table_of program yielding others units whose)
 unfolding table_of
-known_in code program yielding others all owner.Program = all.of_program
-known_in code program yielding others all (owner.Texts true) = all.of_yielding
-known_in code program yielding others all (owner.Texts false) = all.of_others
+known_in code program yielding others units all owner.Program = all.of_program
+known_in code program yielding others units all (owner.Texts true) = all.of_yielding
+known_in code program yielding others units all (owner.Texts false) = all.of_others
+known_in code program yielding others units all owner.Units = all.of_units
 
 agrees_with_itself : (heights : Heights) → Agree heights heights
 agrees_with_itself heights at one other k l = same_Some one other (sym k ∙ l)
 
-pub valid_from : (code : Code) (program yielding others : Heights) → 0 < length code.list → ((at : ℕ) → FitsAt code at) → AllHeights code program yielding others
-    → AllAgree program yielding others → IsValid code
+pub valid_from : (code : Code) (program yielding others units : Heights) → 0 < length code.list → ((at : ℕ) → FitsAt code at) → AllHeights code program yielding others units
+    → AllAgree program yielding others units → IsValid code
 unfolding table_of
-valid_from code program yielding others first fits all (py, po, yo) = record {
+valid_from code program yielding others units first fits all (py, po, pu, yo, yu, ou) = record {
   begins = λ e. let n : length code.list ≡ 0 = ap length e in omega arith;
   well_made = λ at does is. (fits at does is).0;
   in_order = λ at does is. (fits at does is).1;
@@ -242,21 +245,28 @@ valid_from code program yielding others first fits all (py, po, yo) = record {
 }
   where
     table : Owner → Heights
-    table = table_of program yielding others
+    table = table_of program yielding others units
 
-    known : (whose : Owner) → AreHeights code whose (table_of program yielding others whose)
-    known = known_in code program yielding others all
+    known : (whose : Owner) → AreHeights code whose (table_of program yielding others units whose)
+    known = known_in code program yielding others units all
 
-    agree : (whose whom : Owner) → Agree (table_of program yielding others whose) (table_of program yielding others whom)
+    agree : (whose whom : Owner) → Agree (table_of program yielding others units whose) (table_of program yielding others units whom)
     agree owner.Program owner.Program = agrees_with_itself program
     agree owner.Program (owner.Texts true) = py
     agree owner.Program (owner.Texts false) = po
+    agree owner.Program owner.Units = pu
     agree (owner.Texts true) owner.Program = λ at one other k l. sym (py at other one l k)
     agree (owner.Texts true) (owner.Texts true) = agrees_with_itself yielding
     agree (owner.Texts true) (owner.Texts false) = yo
+    agree (owner.Texts true) owner.Units = yu
     agree (owner.Texts false) owner.Program = λ at one other k l. sym (po at other one l k)
     agree (owner.Texts false) (owner.Texts true) = λ at one other k l. sym (yo at other one l k)
     agree (owner.Texts false) (owner.Texts false) = agrees_with_itself others
+    agree (owner.Texts false) owner.Units = ou
+    agree owner.Units owner.Program = λ at one other k l. sym (pu at other one l k)
+    agree owner.Units (owner.Texts true) = λ at one other k l. sym (yu at other one l k)
+    agree owner.Units (owner.Texts false) = λ at one other k l. sym (ou at other one l k)
+    agree owner.Units owner.Units = agrees_with_itself units
 
 pub agree_where_valid : (code : Code) (whose whom : Owner) (heights others : Heights) → AreHeights code whose heights → AreHeights code whom others → IsValid code → Agree heights others
 agree_where_valid code whose whom heights others h o valid at one other k l = valid.agreed whose whom at one other (h.sound at one k) (o.sound at other l)

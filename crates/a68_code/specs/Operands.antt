@@ -4,10 +4,10 @@ use Rattle.std.specs.Prelude.{ℕ, Bool, true, length, ◌&&◌, nat_lt, nat_le,
 use Rattle.std.specs.List.{list_all}
 use Rattle.a68_modes.specs.declared.shape.Shape.{Shape}
 use Rattle.a68_code.specs.declared.does.Does.{Does}
-use Rattle.a68_code.specs.declared.does.Does.TheVariants.{Skip, Routine, Leave, Make, Heap, Same, Slice, Display, Vacuum, Compose, Select, RowUp, RowUpName, Deref, Store, Apply, Jump, Unless, Case, Member, Step, Advance}
+use Rattle.a68_code.specs.declared.does.Does.TheVariants.{Skip, Routine, Leave, Make, Heap, Same, Slice, Display, Vacuum, Compose, Select, RowUp, RowUpName, Deref, Store, Apply, Jump, Unless, Case, Member, Step, Advance, Fork}
 
 -- The operands are such as an instruction may have, among so many instructions: a place is that of an instruction, a
--- list of places or of forms has one at least, the row of an Apply is one of the table of operators, a routine text is one
+-- list of places or of forms has one at least, that of a Fork has two, the row of an Apply is one of the table of operators, a routine text is one
 -- of so many, a structure has a field at least, and a mode is there.
 abbrev pub is_well_made : List Shape → (texts count : ℕ) → Does → Bool
 is_well_made modes texts count (Skip mode) = nat_lt mode (length modes)
@@ -33,4 +33,5 @@ is_well_made modes texts count (Member mode places whole) =
     nat_lt mode (length modes) && (nat_lt 0 (length places) && list_all (λ to. nat_lt to count) places)
 is_well_made modes texts count (Step to) = nat_lt to count
 is_well_made modes texts count (Advance to) = nat_lt to count
+is_well_made modes texts count (Fork entrances) = nat_le 2 (length entrances) && list_all (λ to. nat_lt to count) entrances
 is_well_made modes texts count _ = true

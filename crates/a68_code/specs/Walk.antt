@@ -91,5 +91,6 @@ pub record AreHeights (code : Code) (whose : Owner) (heights : Heights) : Type 0
 abbrev pub Agree : (heights others : Heights) → Type 0
 Agree heights others = (at one other : ℕ) → Knows heights at one → Knows others at other → one ≡ other
 
-abbrev pub AllAgree : (heights others further : Heights) → Type 0
-AllAgree heights others further = Agree heights others × Agree heights further × Agree others further
+abbrev pub AllAgree : (heights others further last : Heights) → Type 0
+AllAgree heights others further last =
+    Agree heights others × Agree heights further × Agree heights last × Agree others further × Agree others last × Agree further last

@@ -1,7 +1,7 @@
-//! Code: a list of instructions, the entrances of routine texts, and the modes that the instructions name.
+//! Code: a list of instructions, the entrances of routine texts and of units, and the modes that the instructions name.
 ghost use Rattle.std.specs.Prelude.{◌≡◌, IfOk};
 
-use crate::Does;
+use crate::{Does, Places};
 use a68_base::NoMemory;
 use a68_modes::Modes;
 use std::alloc::Global;
@@ -95,10 +95,12 @@ impl Routines {
     }
 }
 
-/// The code of a program. The program begins at the first instruction.
+/// The code of a program. The program begins at the first instruction. The texts are the entrances of routine texts, and the
+/// units those of the units of parallel clauses, each in order of text.
 pub struct Code {
     pub list: Instrs,
     pub texts: Routines,
+    pub units: Places,
     pub modes: Modes,
 }
 
@@ -107,6 +109,7 @@ impl Drop for Code {
         let Code {
             list: _,
             texts: _,
+            units: _,
             modes: _,
         } = self;
     }
@@ -120,6 +123,7 @@ impl Code {
         Ok(Code {
             list: self.list.copy(alloc)?,
             texts: self.texts.copy(alloc)?,
+            units: self.units.copy(alloc)?,
             modes: self.modes.copy(alloc)?,
         })
     }

@@ -51,6 +51,8 @@ use std::alloc::Global;
 /// | Turn | | | | Turn | |
 /// | Advance | place | counter | counter | | adds BY and goes there; goes on where the sum is no INT |
 /// | Forget | | counter | | | |
+/// | Fork | places | | | Fork | strands for the units of a parallel clause, which begin at these places; goes on when all of them have come to their Close |
+/// | Close | | | | Close | the end of a unit of a parallel clause |
 /// | End | | | | | the program has come to its end |
 ///
 /// A place is the number of an instruction in the list, from 0.
@@ -118,6 +120,8 @@ pub enum Does {
     Turn,
     Advance(u32),
     Forget,
+    Fork(Places),
+    Close,
     End,
 }
 
@@ -169,6 +173,8 @@ impl Drop for Does {
             | Does::Turn
             | Does::Advance(_)
             | Does::Forget
+            | Does::Fork(_)
+            | Does::Close
             | Does::End => {}
         }
     }
@@ -258,6 +264,8 @@ impl Does {
             Does::Turn => Does::Turn,
             Does::Advance(to) => Does::Advance(*to),
             Does::Forget => Does::Forget,
+            Does::Fork(entrances) => Does::Fork(entrances.copy(alloc)?),
+            Does::Close => Does::Close,
             Does::End => Does::End,
         };
         Ok(does)

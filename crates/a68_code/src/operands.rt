@@ -68,6 +68,7 @@ impl Does {
                 < count,
             Does::Case(places) => places.are_inside(count),
             Does::Member { mode, places, .. } => { *mode < modes.len() && places.are_inside(count) }
+            Does::Fork(entrances) => entrances.are_units(count),
             _ => true,
         }
     }
@@ -116,7 +117,7 @@ impl Does {
             Does::Apply(row) => u32::from(*row != 35 && *row != 36),
             Does::Enter(_) | Does::Bind(_) | Does::Drop | Does::Print(_) | Does::Jump(_) => 0,
             Does::Unless(_) | Does::Case(_) | Does::Turn | Does::Forget => 0,
-            Does::Return | Does::End => 0,
+            Does::Return | Does::Fork(_) | Does::Close | Does::End => 0,
             _ => 1,
         }
     }

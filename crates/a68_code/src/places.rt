@@ -1,5 +1,5 @@
 //! Lists of places.
-ghost use Rattle.std.specs.Prelude.{◌≡◌, ◌&&◌, IfOk, length, nat_lt};
+ghost use Rattle.std.specs.Prelude.{◌≡◌, ◌&&◌, IfOk, length, nat_le, nat_lt};
 ghost use Rattle.std.specs.List.{list_all};
 ghost use Rattle.a68_code.specs.Flow.{last_place};
 
@@ -58,6 +58,14 @@ impl Places {
     {
         let are_some = 0 < self.items.len();
         are_some && are_below(&self.items, count)
+    }
+
+    /// Whether there are two at least, and all are places in a list of so many instructions.
+    pub(crate) fn are_units(&self, count: usize) -> bool
+        ensures { result ≡ (nat_le 2 (length self.now) && list_all (λ to. nat_lt to count) self.now) }
+    {
+        let are_many = 2 <= self.items.len();
+        are_many && are_below(&self.items, count)
     }
 
     /// Whether all are behind a place.

@@ -7,7 +7,7 @@ ghost use Rattle.a68_code.specs.Walk.{Agree, AllAgree, AreHeights, FitsAt};
 use crate::order::is_in_order;
 use crate::owner::Owner;
 use crate::walk::Walk;
-use crate::{Code, RoutineEntrance};
+use crate::{Code, Does, Instr, RoutineEntrance};
 use a68_base::NoMemory;
 use std::alloc::Global;
 
@@ -40,6 +40,37 @@ fn entrances_in(
     Ok(places)
 }
 
+// Adds the places where the units of parallel clauses begin that an instruction forks.
+fn add_forked(places: &mut Vec<usize>, does: &Does) -> Result<(), NoMemory>
+    ensures { OnOk result (places.new.items ≡ places.old.items ++ flow.forked_by does.now) }
+{
+    match does {
+        Does::Fork(entrances) => add_all(places, &entrances.items),
+        _ => Ok(()),
+    }
+}
+
+// Adds places.
+fn add_all(places: &mut Vec<usize>, more: &[u32]) -> Result<(), NoMemory>
+    ensures { OnOk result (places.new.items ≡ places.old.items ++ more.now) }
+{
+    for place in more {
+        places.push(*place as usize)?;
+    }
+    Ok(())
+}
+
+// The entrances of the units of parallel clauses.
+fn entrances_of_units(alloc: Global, list: &[Instr]) -> Result<Vec<usize>, NoMemory>
+    ensures { IfOk result (λ places. places.items ≡ flow.entrances_of_units list.now) }
+{
+    let mut places = Vec::new(alloc);
+    for instr in list {
+        add_forked(&mut places, &instr.does)?;
+    }
+    Ok(places)
+}
+
 // Whether two tables have no two heights at one place.
 fn agree(heights: &[Option<usize>], others: &[Option<usize>]) -> bool
     requires { length heights.now ≡ length others.now }
@@ -55,20 +86,31 @@ fn agree(heights: &[Option<usize>], others: &[Option<usize>]) -> bool
     true
 }
 
-// Whether no two of three tables have two heights at one place.
-fn all_agree(heights: &[Option<usize>], others: &[Option<usize>], further: &[Option<usize>]) -> bool
+// Whether no two of four tables have two heights at one place.
+fn all_agree(
+    heights: &[Option<usize>],
+    others: &[Option<usize>],
+    further: &[Option<usize>],
+    last: &[Option<usize>],
+) -> bool
     requires one { length heights.now ≡ length others.now }
     requires two { length heights.now ≡ length further.now }
-    ensures { IsTrue result ↔ AllAgree heights.now others.now further.now }
+    requires three { length heights.now ≡ length last.now }
+    ensures { IsTrue result ↔ AllAgree heights.now others.now further.now last.now }
 {
-    agree(heights, others) && agree(heights, further) && agree(others, further)
+    agree(heights, others)
+        && agree(heights, further)
+        && agree(heights, last)
+        && agree(others, further)
+        && agree(others, last)
+        && agree(further, last)
 }
 
 impl Code {
     /// Whether the machine runs the code (own): it never leaves the list, finds on the stack what an instruction takes,
-    /// goes back only at the end of a loop, to a Step with a Turn behind it, and ends the program at End and a routine at
-    /// Return, with a value just where its entrance says so. Takes time in
-    /// proportion to the list.
+    /// goes back only at the end of a loop, to a Step with a Turn behind it, and ends the program at End, a routine at
+    /// Return, with a value just where its entrance says so, and a unit of a parallel clause at Close, with nothing on its
+    /// stack. Takes time in proportion to the list and the places that it names.
     pub fn valid(&self, alloc: Global) -> Result<bool, NoMemory>
         ensures { IfOk result (λ valid. IsTrue valid ↔ IsValid self.now) }
     {
@@ -116,7 +158,10 @@ impl Code {
         let Some(others) = self.heights(alloc, Owner::Texts { yields: false })? else {
             return Ok(false);
         };
-        Ok(all_agree(&program, &yielding, &others))
+        let Some(units) = self.heights(alloc, Owner::Units)? else {
+            return Ok(false);
+        };
+        Ok(all_agree(&program, &yielding, &others, &units))
     }
 
     /// Where the ways of an owner begin.
@@ -130,6 +175,7 @@ impl Code {
                 Ok(places)
             }
             Owner::Texts { yields } => entrances_in(alloc, yields, &self.texts.items),
+            Owner::Units => entrances_of_units(alloc, &self.list.items),
         }
     }
 

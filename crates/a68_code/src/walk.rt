@@ -22,8 +22,13 @@ fn may_meet(whose: Owner, does: &Does, height: usize) -> bool
 {
     match (whose, does) {
         (Owner::Program, Does::Return) => false,
+        (Owner::Program, Does::Close) => false,
         (Owner::Texts { .. }, Does::End) => false,
+        (Owner::Texts { .. }, Does::Close) => false,
         (Owner::Texts { yields }, Does::Return) => height == usize::from(yields),
+        (Owner::Units, Does::End) => false,
+        (Owner::Units, Does::Return) => false,
+        (Owner::Units, Does::Close) => height == 0,
         _ => true,
     }
 }
@@ -141,7 +146,7 @@ impl Walk {
     {
         let height = below + does.leaves(modes) as usize;
         match does {
-            Does::Return | Does::End => self.note_all(&[], height),
+            Does::Return | Does::Close | Does::End => self.note_all(&[], height),
             Does::Jump(to) => self.note_all(&[*to as usize], height),
             Does::Case(places) => self.note_places(&places.items, height),
             Does::Member { places, .. } => self.note_members(&places.items, below),

@@ -1,20 +1,20 @@
 -- The constructs of a program begin where its nodes do.
 use Rattle.std.proofs.Common.{◌≡◌, ℕ, zero, suc, ◌≤◌, Bool, true, false, List, [], ◌∷◌, Some, None, slice_get, refl, arith, nat_eq}
 use Rattle.std.specs.Option.{is_some, option_map_or, option_and_then}
-use Rattle.std.specs.Prelude.{if◌then◌else◌, map, not}
+use Rattle.std.specs.Prelude.{if◌then◌else◌, map, not, ◌++◌}
 use Rattle.std.specs.declared.option.Option.{Option}
 use Rattle.a68_annot.specs.declared.annotated.Annotated.{Annotated}
 use Rattle.a68_annot.specs.declared.note.Note.{Note}
 use Rattle.a68_elab.specs.Constants.{value_in}
 use Rattle.a68_elab.specs.Made as made
-use Rattle.a68_elab.specs.Made.{body_of, bytes_of, defined_bound, no_bound, seen, tree_in, last_id, parts_at, texts_in, program_of, tree_at, tree_from, trees_at, unit, coerced, behind_proc, behind_ref, all_but_last, last_tree, spelling_of, is_one_of, called, printers, wholes, items_at, begins_with, is_heap, is_declarer, behind_heap, first_bounds, new_name}
-use Rattle.a68_elab.specs.Places.{BeginsBy, AllBeginBy, SpecsBeginBy, TestBeginsBy, TextsBeginBy, ProgramBeginsBy}
+use Rattle.a68_elab.specs.Made.{body_of, bytes_of, defined_bound, no_bound, seen, tree_in, last_id, parallel_unit_of, parts_at, program_of, tree_at, tree_from, trees_at, unit, coerced, behind_proc, behind_ref, all_but_last, last_tree, spelling_of, is_one_of, called, printers, wholes, items_at, begins_with, is_heap, is_declarer, behind_heap, first_bounds, new_name}
+use Rattle.a68_elab.specs.Places.{BeginsBy, AllBeginBy, SpecsBeginBy, TestBeginsBy, ApartBeginBy, ProgramBeginsBy}
 use Rattle.a68_elab.specs.declared.bound.Bound.{Bound}
 use Rattle.a68_elab.specs.declared.bound.Bound.TheVariants as bound
 use Rattle.a68_elab.specs.declared.sight.Sight.{Sight}
 use Rattle.a68_elab.specs.declared.sight.Sight.TheVariants as sight
 use Rattle.a68_base.specs.declared.refusal.Span.{Span}
-use Rattle.a68_elab.specs.Trees.{Tree, Trees, no_trees, ◌and_tree◌, Specs, unbuilt}
+use Rattle.a68_elab.specs.Trees.{Tree, Trees, no_trees, ◌and_tree◌, Specs, unbuilt, Apart, routine_text, parallel_unit}
 use Rattle.a68_modes.specs.Nodes.{shape_at, is_void}
 use Rattle.a68_modes.specs.declared.coercion.Coercion.{Coercion}
 use Rattle.a68_modes.specs.declared.coercion.Coercion.TheVariants as coercion
@@ -241,6 +241,7 @@ module _ (end : ℕ) where
   construct_begins a g f node note kind.Conformity p w h all =
       conformity_begins a f node.span.from note.goal (not (is_void (shape_at a.modes note.goal))) node.parts p all h
   construct_begins a g f node note kind.Loop p w h all = loop_begins a f node.span.from (is_some (made.if_first made.is_for a node.parts)) _ _ _ _ _ p all h
+  construct_begins a g f node note kind.Parallel p w h all = p
   construct_begins a g f node note _ p w h all = tt
 
   node_begins : (a : Annotated) (sight : Sight) (g : (frames id : ℕ) → Tree) (base : ℕ) (nodes : List Node) (notes : List Note) → ((frames id : ℕ) → BeginsBy end (g frames id))
@@ -271,10 +272,46 @@ module _ (end : ℕ) where
   tree_at_begins program h id =
       node_begins program sight.Here (defined_bound program sight.Here) 0 program.tree.nodes program.notes (λ frames k. within_begins program frames (bytes_of program k) h k) h h id
 
-  texts_begin : (a : Annotated) (ids : List ℕ) → ((id : ℕ) (n : Node) → slice_get a.tree.nodes id ≡ Some n → n.span.from ≤ end) → TextsBeginBy end (map (body_of a) ids)
+  joined_begin : (xs ys : List Apart) → ApartBeginBy end xs → ApartBeginBy end ys → ApartBeginBy end (xs ++ ys)
+  joined_begin [] ys p q = q
+  joined_begin (routine_text body ∷ xs) ys p q = (p.0, joined_begin xs ys p.1 q)
+  joined_begin (parallel_unit unit ∷ xs) ys p q = (p.0, joined_begin xs ys p.1 q)
+
+  texts_begin : (a : Annotated) (ids : List ℕ) → ((id : ℕ) (n : Node) → slice_get a.tree.nodes id ≡ Some n → n.span.from ≤ end)
+      → ApartBeginBy end (map (λ id. routine_text (body_of a id)) ids)
   texts_begin a [] h = tt
   texts_begin a (id ∷ ids) h = ((first_begins (slice_get a.tree.nodes id) (λ n e. h id n e), tree_at_begins a h (last_id (parts_at a id))), texts_begin a ids h)
 
+  -- the units that nodes have which begin by that byte
+  placed_begin : (a : Annotated) (place : ℕ) (ids : List ℕ) → place ≤ end → ((id : ℕ) (n : Node) → slice_get a.tree.nodes id ≡ Some n → n.span.from ≤ end)
+      → ApartBeginBy end (map (λ u. parallel_unit (parallel_unit_of a u)) (map (λ id. (place, id)) ids))
+  placed_begin a place [] p h = tt
+  placed_begin a place (id ∷ ids) p h = ((p, tree_at_begins a h id), placed_begin a place ids p h)
+
+  unit_begins : (a : Annotated) (byte : ℕ) (n : Node) (b : Bool) → n.span.from ≤ end → ((id : ℕ) (m : Node) → slice_get a.tree.nodes id ≡ Some m → m.span.from ≤ end)
+      → ApartBeginBy end (map (λ u. parallel_unit (parallel_unit_of a u)) (if b then map (λ id. (n.span.from, id)) (made.beginning_at a byte n.parts) else []))
+  unit_begins a byte n true p h = placed_begin a n.span.from (made.beginning_at a byte n.parts) p h
+  unit_begins a byte n false p h = tt
+
+  either_of : (a : Annotated) (xs ys : List (ℕ × ℕ)) → ApartBeginBy end (map (λ u. parallel_unit (parallel_unit_of a u)) xs)
+      → ApartBeginBy end (map (λ u. parallel_unit (parallel_unit_of a u)) ys) → ApartBeginBy end (map (λ u. parallel_unit (parallel_unit_of a u)) (made.or_other xs ys))
+  either_of a [] ys p q = q
+  either_of a (x ∷ xs) ys p q = p
+
+  units_begin : (a : Annotated) (byte : ℕ) (nodes : List Node) → ((k : ℕ) (n : Node) → slice_get nodes k ≡ Some n → n.span.from ≤ end)
+      → ((id : ℕ) (n : Node) → slice_get a.tree.nodes id ≡ Some n → n.span.from ≤ end) → ApartBeginBy end (map (λ u. parallel_unit (parallel_unit_of a u)) (made.unit_among a byte nodes))
+  units_begin a byte [] all h = tt
+  units_begin a byte (n ∷ ns) all h =
+      either_of a (made.unit_in a byte n) (made.unit_among a byte ns) (unit_begins a byte n (made.is_parallel n.kind) (all 0 n refl) h)
+      (units_begin a byte ns (λ k m e. all (suc k) m e) h)
+
+  apart_begins : (a : Annotated) (byte : ℕ) → ((id : ℕ) (n : Node) → slice_get a.tree.nodes id ≡ Some n → n.span.from ≤ end) → ApartBeginBy end (made.apart_before a byte)
+  apart_begins a zero h = tt
+  apart_begins a (suc byte) h =
+      joined_begin (made.apart_before a byte) (made.apart_at a byte) (apart_begins a byte h)
+      (joined_begin (map (λ u. parallel_unit (parallel_unit_of a u)) (made.unit_among a byte a.tree.nodes)) (map (λ id. routine_text (body_of a id)) (made.text_among byte 0 a.tree.nodes))
+      (units_begin a byte a.tree.nodes h h) (texts_begin a (made.text_among byte 0 a.tree.nodes) h))
+
 -- where all nodes begin by a byte, the constructs do
 pub program_begins : (program : Annotated) (end : ℕ) → ((id : ℕ) (n : Node) → slice_get program.tree.nodes id ≡ Some n → n.span.from ≤ end) → ProgramBeginsBy end (program_of program)
-program_begins program end h = record { place = first_begins end (slice_get program.tree.nodes 0) (λ n e. h 0 n e); tree = tree_at_begins end program h 0; texts = texts_begin end program (texts_in program) h }
+program_begins program end h = record { place = first_begins end (slice_get program.tree.nodes 0) (λ n e. h 0 n e); tree = tree_at_begins end program h 0; apart = apart_begins end program (made.behind_all program.tree.nodes) h }

@@ -15,7 +15,7 @@ use Rattle.a68_elab.specs.declared.bound.Bound.{Bound}
 use Rattle.a68_elab.specs.declared.bound.Bound.TheVariants as bound
 use Rattle.a68_elab.specs.declared.sight.Sight.{Sight}
 use Rattle.a68_elab.specs.declared.sight.Sight.TheVariants as sight
-use Rattle.a68_elab.specs.Trees.{collateral, serial, Tree, Trees, operation, together, phrases, range, choice, cases, conformity, loop, call, unbuilt, Specs, no_specs, spec, Test, no_test, while_in, no_trees, ◌and_tree◌, count, Body, Program}
+use Rattle.a68_elab.specs.Trees.{collateral, serial, Tree, Trees, operation, together, phrases, range, choice, cases, conformity, loop, call, parallel, unbuilt, Specs, no_specs, spec, Test, no_test, while_in, no_trees, ◌and_tree◌, count, Body, ParallelUnit, Apart, routine_text, parallel_unit, Program}
 use Rattle.a68_layout.specs.Rooms.{bounds_needed}
 use Rattle.a68_layout.specs.declared.types.Form.{Form}
 use Rattle.a68_layout.specs.declared.types.Form.TheVariants as form
@@ -632,6 +632,48 @@ behind_all (n ∷ ns) = max (suc n.span.from) (behind_all ns)
 abbrev pub texts_in : Annotated → List ℕ
 texts_in a = texts_before a (behind_all a.tree.nodes)
 
+-- ---- units of parallel clauses (Report, 3.3)
+
+-- the first of these nodes that begins at a byte
+abbrev pub beginning_at : Annotated → (byte : ℕ) → List ℕ → List ℕ
+beginning_at a byte [] = []
+beginning_at a byte (id ∷ ids) = if nat_eq (bytes_of a id).from byte then id ∷ [] else beginning_at a byte ids
+
+abbrev pub is_parallel : NodeKind → Bool
+is_parallel kind.Parallel = true
+is_parallel _ = false
+
+-- the unit of a parallel clause that begins at a byte, where this node is such a clause: where the clause begins, and the unit
+abbrev pub unit_in : Annotated → (byte : ℕ) → Node → List (ℕ × ℕ)
+unit_in a byte n = if is_parallel n.kind then map (λ id. (n.span.from, id)) (beginning_at a byte n.parts) else []
+
+-- the one list, or the other where it is empty
+abbrev pub or_other : List (ℕ × ℕ) → List (ℕ × ℕ) → List (ℕ × ℕ)
+or_other [] other = other
+or_other (x ∷ xs) other = x ∷ xs
+
+-- the first unit among the parts of these nodes that begins at a byte
+abbrev pub unit_among : Annotated → (byte : ℕ) → List Node → List (ℕ × ℕ)
+unit_among a byte [] = []
+unit_among a byte (n ∷ ns) = or_other (unit_in a byte n) (unit_among a byte ns)
+
+-- the units that begin before a byte, in order of text
+abbrev pub units_before : Annotated → (byte : ℕ) → List (ℕ × ℕ)
+units_before a zero = []
+units_before a (suc byte) = units_before a byte ++ unit_among a byte a.tree.nodes
+
+-- the number of the unit that begins at a byte: how many begin before it
+abbrev pub unit_number : Annotated → (byte : ℕ) → ℕ
+unit_number a byte = length (units_before a byte)
+
+-- all units, in order of text
+abbrev pub units_in : Annotated → List (ℕ × ℕ)
+units_in a = units_before a (behind_all a.tree.nodes)
+
+-- the numbers of these units
+abbrev pub numbers_of : Annotated → List ℕ → List ℕ
+numbers_of a ids = map (λ id. unit_number a (bytes_of a id).from) ids
+
 -- The construct that a node stands for: `f` gives the trees of the nodes behind it, and `g` those of the bounds that stand in
 -- definitions of mode words, so many frames further out. One row for each kind of node; the others are not built yet.
 abbrev pub made : Annotated → (g : (frames id : ℕ) → Tree) (f : ℕ → Tree) → Node → Note → NodeKind → Tree
@@ -672,6 +714,7 @@ made a g f node note kind.Conditional = choice_of a f node.span.from note.goal (
 made a g f node note kind.Case = case_of a f node.span.from note.goal (not (is_void (shape_at a.modes note.goal))) node.parts
 made a g f node note kind.Conformity = conformity_of a f node.span.from note.goal (not (is_void (shape_at a.modes note.goal))) node.parts
 made a g f node note kind.Loop = loop_of a f node.span.from node.parts
+made a g f node note kind.Parallel = parallel node.span.from (numbers_of a node.parts)
 made a g f node note _ = unbuilt
 
 abbrev pub unit : Annotated → (g : (frames id : ℕ) → Tree) (f : ℕ → Tree) → Node → Note → Tree
@@ -718,11 +761,25 @@ body_of a id = record {
   tree = tree_at a (last_id (parts_at a id));
 }
 
+-- a unit of a parallel clause that begins there
+abbrev pub parallel_unit_of : Annotated → (ℕ × ℕ) → ParallelUnit
+parallel_unit_of a u = record { place = u.0; tree = tree_at a u.1 }
+
+-- what stands apart and begins at a byte: the unit of a parallel clause before the routine text that it is (own)
+abbrev pub apart_at : Annotated → (byte : ℕ) → List Apart
+apart_at a byte =
+    map (λ u. parallel_unit (parallel_unit_of a u)) (unit_among a byte a.tree.nodes) ++ map (λ id. routine_text (body_of a id)) (text_among byte 0 a.tree.nodes)
+
+-- what stands apart and begins before a byte, in order of text
+abbrev pub apart_before : Annotated → (byte : ℕ) → List Apart
+apart_before a zero = []
+apart_before a (suc byte) = apart_before a byte ++ apart_at a byte
+
 -- the program of an annotated tree, whose first node is that of the whole text
 abbrev pub program_of : Annotated → Program
 program_of a = record {
   place = place_of a 0;
   tree = tree_at a 0;
-  texts = map (body_of a) (texts_in a);
+  apart = apart_before a (behind_all a.tree.nodes);
   modes = a.modes;
 }

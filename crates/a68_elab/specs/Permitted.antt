@@ -1,17 +1,18 @@
 -- What the rules of the language permit a run to have done.
-use Rattle.std.specs.Prelude.{◌≡◌, ◌≢◌, ◌≤◌, ℕ, [], ◌∷◌, length}
+use Rattle.std.specs.Prelude.{◌≡◌, ◌≢◌, ◌≤◌, ℕ, List, [], ◌∷◌, length, None}
 use Rattle.a68_acts.specs.Does.{did, refuses, waits, does}
 use Rattle.a68_acts.specs.Keeping.{IsKept}
 use Rattle.a68_acts.specs.Store.{Store, opening_store}
 use Rattle.a68_acts.specs.declared.want.Reply.{Reply}
 use Rattle.a68_elab.specs.Elaborations.{Elaborates}
-use Rattle.a68_elab.specs.Positions.{HasOpen}
+use Rattle.a68_elab.specs.Positions.{Opens, HasOpen}
 use Rattle.a68_elab.specs.Rows.{Then, goes, acts, meets}
-use Rattle.a68_elab.specs.Terms.{Term, todo, yielded}
+use Rattle.a68_elab.specs.Terms.{Term, Terms, todo, part, yielded, unit_of, joining, no_terms, ◌and_term◌, values}
 use Rattle.a68_elab.specs.Trees.{Program}
 use Rattle.a68_values.specs.Content.{Content}
 use Rattle.a68_values.specs.declared.act.Act.{Act}
 use Rattle.a68_values.specs.declared.act.FaultKind.{FaultKind}
+use Rattle.a68_values.specs.declared.chain.Environ.{Environ}
 use Rattle.a68_values.specs.declared.kept.End.{End}
 use Rattle.a68_values.specs.declared.kept.End.TheVariants as ends
 use Rattle.a68_values.specs.declared.kept.Kept.{Kept}
@@ -27,24 +28,37 @@ abbrev pub CanAct : Store → Then Term → Type 0
 CanAct store (acts place want next) = (act : Act) × (reply : Reply) × (after : Store) × (does want store ≡ did act reply after)
 CanAct store _ = ⊥
 
--- what comes next is an act that has to wait
+-- what comes next is an act that has to wait: a DOWN of zero
 abbrev pub IsHalted : Store → Then Term → Type 0
 IsHalted store (acts place want next) = does want store ≡ waits
 IsHalted store _ = ⊥
+
+-- t, which is of the strand `own`, has come to a DOWN of zero; or it waits for the units of a parallel clause, some of
+-- which have not ended, and each of these is halted (Report, 10.2.4; own)
+mutual
+  pub data Halted (program : Program) (store : Store) : (own : ℕ) → Term → Type 0 where
+    at_down : {own : ℕ} {t : Term} (what : Then Term) → HasOpen program own t own what → IsHalted store what → Halted program store own t
+    waits_for : {own : ℕ} {t : Term} {chain : List Environ} {ts : Terms} → Opens (part joining chain ts) (part joining chain ts) own own t t
+        → values ts ≡ None → AllHalted program store ts → Halted program store own t
+
+  pub data AllHalted (program : Program) (store : Store) : Terms → Type 0 where
+    no_units : AllHalted program store no_terms
+    ended : {strand : ℕ} {v : Content} {ts : Terms} → AllHalted program store ts → AllHalted program store (unit_of strand (yielded v) and_term ts)
+    halted : {strand : ℕ} {t : Term} {ts : Terms} → Halted program store strand t → AllHalted program store ts
+        → AllHalted program store (unit_of strand t and_term ts)
 
 -- strand 0 has not ended: the program has not yielded
 abbrev pub IsUnended : Term → Type 0
 IsUnended t = (v : Content) → t ≢ yielded v
 
 -- An elaboration that has come to this term and store by so many entries has this end. Done: the program has yielded.
--- A fault: it has not, and an open position of the strand meets it. All halted: strand 0, which is the only one, has to
--- wait. Spent: there are as many entries as there was fuel, and possibly after silent steps the program has not yielded
--- and an act can be done (own).
+-- A fault: it has not, and an open position of the strand meets it. All halted: the program is halted. Spent: there are as
+-- many entries as there was fuel, and possibly after silent steps the program has not yielded and an act can be done (own).
 pub data EndsWith (program : Program) (fuel entries : ℕ) (t : Term) (store : Store) : End → Type 0 where
   done : (v : Content) → t ≡ yielded v → EndsWith program fuel entries t store ends.Done
   fault : {kind : FaultKind} {place strand : ℕ} (what : Then Term) → IsUnended t → HasOpen program 0 t strand what → Faults store what kind place
       → EndsWith program fuel entries t store (ends.Fault kind place strand)
-  all_halted : (what : Then Term) → HasOpen program 0 t 0 what → IsHalted store what → EndsWith program fuel entries t store ends.AllHalted
+  all_halted : Halted program store 0 t → EndsWith program fuel entries t store ends.AllHalted
   spent : (t2 : Term) (x : ℕ) (what : Then Term) → entries ≡ fuel → Elaborates program t store [] t2 store → IsUnended t2 → HasOpen program 0 t2 x what
       → CanAct store what → EndsWith program fuel entries t store ends.Spent
 

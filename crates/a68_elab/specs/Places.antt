@@ -1,7 +1,7 @@
 -- Inner: the headline does not rest on this file.
 -- Where the constructs of a program begin.
 use Rattle.std.specs.Prelude.{ℕ, ◌≤◌, List, [], ◌∷◌}
-use Rattle.a68_elab.specs.Trees.{Tree, Trees, operation, together, phrases, range, choice, cases, conformity, loop, call, unbuilt, Specs, no_specs, spec, Test, no_test, while_in, no_trees, ◌and_tree◌, Body, Program}
+use Rattle.a68_elab.specs.Trees.{Tree, Trees, operation, together, phrases, range, choice, cases, conformity, loop, call, parallel, unbuilt, Specs, no_specs, spec, Test, no_test, while_in, no_trees, ◌and_tree◌, Body, ParallelUnit, Apart, routine_text, parallel_unit, Program}
 
 -- each construct of the tree begins at this byte or before it
 abbrev mutual
@@ -15,6 +15,7 @@ abbrev mutual
   BeginsBy end (conformity place union members yields enquiry specs out) = (place ≤ end) × BeginsBy end enquiry × SpecsBeginBy end specs × BeginsBy end out
   BeginsBy end (loop place controls limited counts test body) = (place ≤ end) × AllBeginBy end controls × TestBeginsBy end test × BeginsBy end body
   BeginsBy end (call place yields parts) = (place ≤ end) × AllBeginBy end parts
+  BeginsBy end (parallel place numbers) = place ≤ end
   BeginsBy end unbuilt = Unit {0}
 
   pub AllBeginBy : (end : ℕ) → Trees → Type 0
@@ -29,13 +30,14 @@ abbrev mutual
   TestBeginsBy end no_test = Unit {0}
   TestBeginsBy end (while_in at slots test) = (at ≤ end) × BeginsBy end test
 
--- so do routine texts and the constructs in them
-abbrev pub TextsBeginBy : (end : ℕ) → List Body → Type 0
-TextsBeginBy end [] = Unit {0}
-TextsBeginBy end (body ∷ bodies) = ((body.place ≤ end) × BeginsBy end body.tree) × TextsBeginBy end bodies
+-- so do routine texts, units of parallel clauses, and the constructs in them
+abbrev pub ApartBeginBy : (end : ℕ) → List Apart → Type 0
+ApartBeginBy end [] = Unit {0}
+ApartBeginBy end (routine_text body ∷ more) = ((body.place ≤ end) × BeginsBy end body.tree) × ApartBeginBy end more
+ApartBeginBy end (parallel_unit unit ∷ more) = ((unit.place ≤ end) × BeginsBy end unit.tree) × ApartBeginBy end more
 
 -- the program and each construct in it begin there or before
 pub record ProgramBeginsBy (end : ℕ) (program : Program) : Type 0 where
   pub place : program.place ≤ end
   pub tree : BeginsBy end program.tree
-  pub texts : TextsBeginBy end program.texts
+  pub apart : ApartBeginBy end program.apart

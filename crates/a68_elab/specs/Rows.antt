@@ -11,8 +11,8 @@ use Rattle.a68_acts.specs.declared.want.Reply.{Reply}
 use Rattle.a68_acts.specs.declared.want.Reply.TheVariants as reply
 use Rattle.a68_acts.specs.declared.want.Want.{Want}
 use Rattle.a68_acts.specs.declared.want.Want.TheVariants as want
-use Rattle.a68_elab.specs.Terms.{Job, operating, resuming, gathering, preceding, ending, ranged, choosing, casing, conforming, specifying, tagging, passing, chosen, limiting, counting, stepping, turning, opening, naming, indexing, ranging, testing, running, advancing, quitting, leaving, calling, entering, binding, inside, Term, todo, part, yielded, no_terms, ◌and_term◌, only, todos, values, last_of}
-use Rattle.a68_elab.specs.Trees.{Tree, operation, together, phrases, range, choice, cases, conformity, loop, call, unbuilt, Trees, no_trees, ◌and_tree◌, count, Specs, no_specs, spec, Test, no_test, while_in, Turns, depth, Body, Program}
+use Rattle.a68_elab.specs.Terms.{Job, operating, resuming, gathering, preceding, ending, ranged, choosing, casing, conforming, specifying, tagging, passing, chosen, limiting, counting, stepping, turning, opening, naming, indexing, ranging, testing, running, advancing, quitting, leaving, calling, entering, binding, inside, forking, joining, closing, Term, todo, part, yielded, unit_of, no_terms, ◌and_term◌, only, todos, unit_terms, values, last_of}
+use Rattle.a68_elab.specs.Trees.{Tree, operation, together, phrases, range, choice, cases, conformity, loop, call, parallel, unbuilt, Trees, no_trees, ◌and_tree◌, count, Specs, no_specs, spec, Test, no_test, while_in, Turns, depth, Body, ParallelUnit, Program, texts_of, units_of}
 use Rattle.a68_acts.specs.Members.{member_of}
 use Rattle.a68_modes.specs.Nodes.{shape_at}
 use Rattle.a68_modes.specs.declared.shape.Shape.{Shape}
@@ -184,6 +184,17 @@ returned place false from v = goes (yielded v)
 returned place true [] v = meets fault.Kind place
 returned place true (e ∷ outer) v = if nat_lt e.scope (scope_of v) then meets fault.Scope place else goes (yielded v)
 
+-- ---- parallel clauses (Report, 3.3.2)
+
+-- the units, as the strands from the first new one on
+abbrev pub joins : List ParallelUnit → (place : ℕ) → List Environ → (numbers : List ℕ) → Reply → Term
+joins units place chain numbers (reply.Base first) = part joining chain (unit_terms units first numbers chain)
+joins units place chain numbers _ = misled place chain
+
+-- each unit has a strand of its own; where it begins in a code is no matter of the elaboration, which names its number
+abbrev pub forks : List ParallelUnit → (place : ℕ) → List Environ → (numbers : List ℕ) → Then Term
+forks units place chain numbers = acts place (want.Fork numbers) (joins units place chain numbers)
+
 -- ---- the rules
 
 -- what a construct does first that is to be elaborated
@@ -209,6 +220,8 @@ begin (loop place controls false counts test body) chain =
     goes (part (counting (record { place = place; counts = counts; test = test; body = body })) chain (todos controls chain))
 -- a call: the routine and its parameters (Report, 5.4.3.2)
 begin (call place yields parts) chain = goes (part (calling place yields) chain (todos parts chain))
+-- a parallel clause: its strands (Report, 3.3.2)
+begin (parallel place numbers) chain = goes (part (forking place numbers) chain no_terms)
 -- what is not built has no rule; no program that fits comes here (own)
 begin unbuilt chain = meets fault.Kind 0
 
@@ -258,13 +271,18 @@ finish program (quitting zero place c) chain vs = goes (part (leaving c) chain n
 finish program (quitting (suc n) place c) chain vs = goes_out place chain (λ out. part (quitting n place c) out no_terms)
 finish program (leaving c) chain vs = goes (yielded void)
 -- A call: a turn, the frame, the parameters in order, the body, and the check of its yield (Report, 5.4.3.2)
-finish program (calling place yields) chain vs = calls program.texts place yields chain vs
+finish program (calling place yields) chain vs = calls (texts_of program) place yields chain vs
 finish program (entering place r ps) chain vs = enters_body place r ps chain
-finish program (binding place r from slot left) chain vs = binds_next program.texts place r from slot left chain
+finish program (binding place r from slot left) chain vs = binds_next (texts_of program) place r from slot left chain
 finish program (inside place yields from) chain vs = returned place yields from (last_of vs)
+-- A parallel clause: its strands, and nothing behind the end of its units. A unit ends by an act of its own (Report, 3.3.2).
+finish program (forking place numbers) chain vs = forks (units_of program) place chain numbers
+finish program joining chain vs = goes (yielded void)
+finish program (closing place) chain vs = acts place want.Close (turned place chain (yielded void))
 
--- what comes next for a term itself; none while its parts have not yielded, and for a yield
+-- what comes next for a term itself; none while its parts have not yielded, for a yield, and for a unit as a whole
 abbrev pub row : Program → Term → Option (Then Term)
 row program (todo tree chain) = Some (begin tree chain)
 row program (part job chain parts) = option_map (finish program job chain) (values parts)
 row program (yielded v) = None
+row program (unit_of strand t) = None

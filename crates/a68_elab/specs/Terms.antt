@@ -1,11 +1,11 @@
 -- Terms: how far the elaboration of a program has come.
-use Rattle.std.specs.Prelude.{ℕ, Bool, List, [], ◌∷◌, None, Some}
+use Rattle.std.specs.Prelude.{ℕ, suc, Bool, List, [], ◌∷◌, None, Some, slice_get}
 use Rattle.std.specs.Option.{option_map}
 use Rattle.std.specs.declared.option.Option.{Option}
 use Rattle.a68_acts.specs.Operations.{Operation}
 use Rattle.a68_acts.specs.declared.operation.Counter.{Counter}
 use Rattle.a68_acts.specs.declared.operation.Doing.{Doing}
-use Rattle.a68_elab.specs.Trees.{Order, collateral, serial, Tree, Trees, Specs, Turns, no_trees, ◌and_tree◌}
+use Rattle.a68_elab.specs.Trees.{Order, collateral, serial, Tree, Trees, Specs, Turns, unbuilt, no_trees, ◌and_tree◌, ParallelUnit}
 use Rattle.a68_values.specs.Content.{Content, void}
 use Rattle.a68_values.specs.declared.chain.Environ.{Environ}
 use Rattle.a68_values.specs.declared.plain.Routine.{Routine}
@@ -70,14 +70,22 @@ pub data Job : Type 0 where
   binding : (place : ℕ) (r : Routine) (from : List Environ) (slot : ℕ) (left : List Content) → Job
   -- the yield of its body
   inside : (place : ℕ) (yields : Bool) (from : List Environ) → Job
+  -- the strands of a parallel clause, for its units by their numbers
+  forking : (place : ℕ) (numbers : List ℕ) → Job
+  -- the end of all units
+  joining : Job
+  -- the end of a unit
+  closing : (place : ℕ) → Job
 
--- A construct that is to be elaborated, one that is being elaborated, with its parts at hand, or the yield of one. A
--- construct stands in a chain of frames, the innermost first: an environ of the Report (2.1.1.1.c).
+-- A construct that is to be elaborated, one that is being elaborated, with its parts at hand, the yield of one, or a unit of
+-- a parallel clause, which has a strand of its own. A construct stands in a chain of frames, the innermost first: an environ
+-- of the Report (2.1.1.1.c).
 mutual
   pub data Term : Type 0 where
     todo : (tree : Tree) (chain : List Environ) → Term
     part : (job : Job) (chain : List Environ) (parts : Terms) → Term
     yielded : (v : Content) → Term
+    unit_of : (strand : ℕ) (inner : Term) → Term
 
   pub data Terms : Type 0 where
     no_terms : Terms
@@ -91,20 +99,33 @@ abbrev pub todos : Trees → List Environ → Terms
 todos no_trees chain = no_terms
 todos (tree and_tree trees) chain = todo tree chain and_term todos trees chain
 
--- how the parts at hand are elaborated: those of an operation as the tree says, those of a collateral clause, of a call and
--- FROM, BY and TO at any time, and all others one after another (Report, 2.1.4.2, 3.3.2, 3.5.2 and 5.4.3.2)
+-- a unit, with its end behind it; one that is not built where there is none (own)
+abbrev pub unit_term : List Environ → Option ParallelUnit → Term
+unit_term chain None = todo unbuilt chain
+unit_term chain (Some unit) = part (closing unit.place) chain (only (todo unit.tree chain))
+
+-- the units of these numbers, as the strands from one on
+abbrev pub unit_terms : List ParallelUnit → (strand : ℕ) → (numbers : List ℕ) → List Environ → Terms
+unit_terms units n [] chain = no_terms
+unit_terms units n (k ∷ ks) chain = unit_of n (unit_term chain (slice_get units k)) and_term unit_terms units (suc n) ks chain
+
+-- how the parts at hand are elaborated: those of an operation as the tree says, those of a collateral and of a parallel
+-- clause, of a call and FROM, BY and TO at any time, and all others one after another (Report, 2.1.4.2, 3.3.2, 3.5.2 and
+-- 5.4.3.2)
 abbrev pub order_of : Job → Order
 order_of (operating place op order) = order
 order_of gathering = collateral
 order_of (limiting l) = collateral
 order_of (counting l) = collateral
 order_of (calling place yields) = collateral
+order_of joining = collateral
 order_of _ = serial
 
--- the values of parts that have all yielded
+-- the values of parts that have all yielded; a unit has once it has ended
 abbrev pub values : Terms → Option (List Content)
 values no_terms = Some []
 values (yielded v and_term ts) = option_map (λ vs. v ∷ vs) (values ts)
+values (unit_of strand (yielded v) and_term ts) = option_map (λ vs. v ∷ vs) (values ts)
 values (_ and_term ts) = None
 
 -- the last one; nothing where there is none

@@ -1,6 +1,6 @@
 -- The tree of a program as elaboration and translation see it: one form for each way in which the rules let a construct
 -- go on, and one for all constructs that do something with the values of their parts.
-use Rattle.std.specs.Prelude.{ℕ, zero, suc, Bool, List, if◌then◌else◌}
+use Rattle.std.specs.Prelude.{ℕ, zero, suc, Bool, List, [], ◌∷◌, if◌then◌else◌}
 use Rattle.a68_acts.specs.Operations.{Operation}
 use Rattle.a68_modes.specs.declared.shape.Shape.{Shape}
 
@@ -35,6 +35,8 @@ mutual
     loop : (place : ℕ) (controls : Trees) (limited counts : Bool) (test : Test) (body : Tree) → Tree
     -- a call: the routine, and its parameters; `yields` tells whether a value comes back (Report, 5.4.3)
     call : (place : ℕ) (yields : Bool) (parts : Trees) → Tree
+    -- a parallel clause: its units, by their numbers (Report, 3.3)
+    parallel : (place : ℕ) (units : List ℕ) → Tree
     -- a construct that is not built yet: no program that fits has one, and no code is its translation (own)
     unbuilt : Tree
 
@@ -89,9 +91,38 @@ pub record Body : Type 0 where
   pub yields : Bool
   pub tree : Tree
 
--- a program: where it begins, its tree, its routine texts by their numbers, and the modes that its operations name
+-- a unit of a parallel clause: where the clause begins, and the unit (Report, 3.3)
+pub record ParallelUnit : Type 0 where
+  pub place : ℕ
+  pub tree : Tree
+
+-- what stands apart from the tree of a program
+pub data Apart : Type 0 where
+  routine_text : (body : Body) → Apart
+  parallel_unit : (unit : ParallelUnit) → Apart
+
+-- the routine texts and the units among these
+abbrev pub bodies : List Apart → List Body
+bodies [] = []
+bodies (routine_text body ∷ more) = body ∷ bodies more
+bodies (parallel_unit unit ∷ more) = bodies more
+
+abbrev pub units : List Apart → List ParallelUnit
+units [] = []
+units (routine_text body ∷ more) = units more
+units (parallel_unit unit ∷ more) = unit ∷ units more
+
+-- a program: where it begins, its tree, its routine texts and the units of its parallel clauses in order of text, and the
+-- modes that its operations name
 pub record Program : Type 0 where
   pub place : ℕ
   pub tree : Tree
-  pub texts : List Body
+  pub apart : List Apart
   pub modes : List Shape
+
+-- a routine text and a unit are each known by their number among their like
+abbrev pub texts_of : Program → List Body
+texts_of program = bodies program.apart
+
+abbrev pub units_of : Program → List ParallelUnit
+units_of program = units program.apart

@@ -98,34 +98,34 @@ module _ (ms : List Shape) where
 -- ---- trees that fit
 
 -- the tree fits in both ways
-pub record IsFit (modes : List Shape) (texts : ℕ) (gives : Bool) (t : Tree) : Type 0 where
-  pub fits : Fits modes gives t
+pub record IsFit (modes : List Shape) (texts units : ℕ) (gives : Bool) (t : Tree) : Type 0 where
+  pub fits : Fits modes units gives t
   pub operands : FitsModes modes texts t
 
-pub record AreFit (modes : List Shape) (texts : ℕ) (gives : Bool) (ts : Trees) : Type 0 where
-  pub fits : AllFit modes gives ts
+pub record AreFit (modes : List Shape) (texts units : ℕ) (gives : Bool) (ts : Trees) : Type 0 where
+  pub fits : AllFit modes units gives ts
   pub operands : FitAll modes texts ts
 
-pub record SpecsAreFit (modes : List Shape) (texts : ℕ) (gives : Bool) (specs : Specs) : Type 0 where
-  pub fits : SpecsFit modes gives specs
+pub record SpecsAreFit (modes : List Shape) (texts units : ℕ) (gives : Bool) (specs : Specs) : Type 0 where
+  pub fits : SpecsFit modes units gives specs
   pub operands : SpecsFitModes modes texts specs
 
-module _ (ms : List Shape) (texts : ℕ) where
+module _ (ms : List Shape) (texts units : ℕ) where
   pub fit-none : (gives : Bool) (place : ℕ) (op : Operation) (order : Order) → gives ≡ leaves ms op → takes (does_of op 0) ≡ 0 → IsTrue (is_well_made ms texts 0 (does_of op 0))
-      → IsFit ms texts gives (operation place op order no_trees)
+      → IsFit ms texts units gives (operation place op order no_trees)
   fit-none gives place op order l t w = record { fits = (l, t, tt); operands = (w, tt) }
 
   pub fit-one : (gives : Bool) (place : ℕ) (op : Operation) (order : Order) (x : Tree) → gives ≡ leaves ms op → takes (does_of op 1) ≡ 1 → IsTrue (is_well_made ms texts 0 (does_of op 1))
-      → IsFit ms texts true x → IsFit ms texts gives (operation place op order (only x))
+      → IsFit ms texts units true x → IsFit ms texts units gives (operation place op order (only x))
   fit-one gives place op order x l t w a = record { fits = (l, t, (a.fits, tt)); operands = (w, (a.operands, tt)) }
 
   pub fit-two : (gives : Bool) (place : ℕ) (op : Operation) (order : Order) (x y : Tree) → gives ≡ leaves ms op → takes (does_of op 2) ≡ 2 → IsTrue (is_well_made ms texts 0 (does_of op 2))
-      → IsFit ms texts true x → IsFit ms texts true y → IsFit ms texts gives (operation place op order (x and_tree (y and_tree no_trees)))
+      → IsFit ms texts units true x → IsFit ms texts units true y → IsFit ms texts units gives (operation place op order (x and_tree (y and_tree no_trees)))
   fit-two gives place op order x y l t w a b = record { fits = (l, t, (a.fits, (b.fits, tt))); operands = (w, (a.operands, (b.operands, tt))) }
 
   -- an operation on so many values
   pub fit-all : (n : ℕ) (gives : Bool) (place : ℕ) (op : Operation) (order : Order) (ts : Trees) → count ts ≡ n → gives ≡ leaves ms op → takes (does_of op n) ≡ n
-      → IsTrue (is_well_made ms texts 0 (does_of op n)) → AreFit ms texts true ts → IsFit ms texts gives (operation place op order ts)
+      → IsTrue (is_well_made ms texts 0 (does_of op n)) → AreFit ms texts units true ts → IsFit ms texts units gives (operation place op order ts)
   fit-all n gives place op order ts e l t w a =
       record {
         fits = (l, subst (λ k. takes (does_of op k) ≡ k) (sym e) t, a.fits);
@@ -136,13 +136,13 @@ module _ (ms : List Shape) (texts : ℕ) where
 
   -- a rowing to a mode that is there
   pub rowed-fits : (wanted : Bool) (o : Option ℕ) (left : ℕ → Option Bool) (go : ℕ → Tree) → option_and_then (λ m. if is_there ms m then left m else None) o ≡ Some wanted
-      → ((m : ℕ) → IsTrue (is_there ms m) → left m ≡ Some wanted → IsFit ms texts wanted (go m)) → IsFit ms texts wanted (option_map_or go o unbuilt)
+      → ((m : ℕ) → IsTrue (is_there ms m) → left m ≡ Some wanted → IsFit ms texts units wanted (go m)) → IsFit ms texts units wanted (option_map_or go o unbuilt)
   rowed-fits wanted None left go e each = absurd (cc)
   rowed-fits wanted (Some m) left go e each = let p = where-so (is_there ms m) (left m) wanted e in each m p.0 p.1
 
-  pub coerced-fits : (place goal mode : ℕ) (left wanted : Bool) (path : List Coercion) (t : Tree) → path_leaves ms goal mode left path ≡ Some wanted → IsFit ms texts left t
-      → IsFit ms texts wanted (coerced ms place goal mode path t)
-  coerced-fits place goal mode left wanted [] t e a = subst (λ b. IsFit ms texts b t) (same_Some left wanted e) a
+  pub coerced-fits : (place goal mode : ℕ) (left wanted : Bool) (path : List Coercion) (t : Tree) → path_leaves ms goal mode left path ≡ Some wanted → IsFit ms texts units left t
+      → IsFit ms texts units wanted (coerced ms place goal mode path t)
+  coerced-fits place goal mode left wanted [] t e a = subst (λ b. IsFit ms texts units b t) (same_Some left wanted e) a
   coerced-fits place goal mode true wanted (coercion.Deref ∷ path) t e a =
       let m = behind_ref (shape_at ms mode) in
       let p = where-so (is_there ms m) (path_leaves ms goal m true path) wanted e in
@@ -167,19 +167,19 @@ module _ (ms : List Shape) (texts : ℕ) where
 
   -- ---- rows without parts
 
-  pub denoted-fits : (place : ℕ) (o : Option Content) → IsTrue (is_some o) → IsFit ms texts true (made.denoted place o)
+  pub denoted-fits : (place : ℕ) (o : Option Content) → IsTrue (is_some o) → IsFit ms texts units true (made.denoted place o)
   denoted-fits place None e = absurd (false≢true e)
   denoted-fits place (Some v) e = fit-none true place (constant v) serial refl refl refl
 
-  pub tag-fits : (place : ℕ) (standard : Option Content) (hops slot : ℕ) → IsFit ms texts true (leaf place (tag_of standard hops slot))
+  pub tag-fits : (place : ℕ) (standard : Option Content) (hops slot : ℕ) → IsFit ms texts units true (leaf place (tag_of standard hops slot))
   tag-fits place (Some v) hops slot = fit-none true place (constant v) serial refl refl refl
   tag-fits place None hops slot = fit-none true place (tag hops slot) serial refl refl refl
 
-  pub new-fits : (in_heap : Bool) (place mode : ℕ) (bounds : Trees) → IsTrue (nat_lt mode (length ms)) → AreFit ms texts true bounds → IsFit ms texts true (new_name in_heap place mode bounds)
+  pub new-fits : (in_heap : Bool) (place mode : ℕ) (bounds : Trees) → IsTrue (nat_lt mode (length ms)) → AreFit ms texts units true bounds → IsFit ms texts units true (new_name in_heap place mode bounds)
   new-fits true place mode bounds p a = record { fits = (refl, refl, a.fits); operands = (p, a.operands) }
   new-fits false place mode bounds p a = record { fits = (refl, refl, a.fits); operands = (p, a.operands) }
 
-  pub routine-fits : (place text : ℕ) (need : Option ℕ) → text < texts → IsFit ms texts true (leaf place (routine text need))
+  pub routine-fits : (place text : ℕ) (need : Option ℕ) → text < texts → IsFit ms texts units true (leaf place (routine text need))
   routine-fits place text need less = fit-none true place (routine text need) serial refl refl (lt-ltb text texts less)
 
   -- the instruction of an identity relation is well made
@@ -187,6 +187,6 @@ module _ (ms : List Shape) (texts : ℕ) where
   negated-fits true = refl
   negated-fits false = refl
 
-  pub framed-fits : (place out slots : ℕ) (gives : Bool) (t : Tree) → IsFit ms texts gives t → IsFit ms texts gives (made.framed place out slots gives t)
+  pub framed-fits : (place out slots : ℕ) (gives : Bool) (t : Tree) → IsFit ms texts units gives t → IsFit ms texts units gives (made.framed place out slots gives t)
   framed-fits place out zero gives t a = a
   framed-fits place out (suc n) gives t a = record { fits = (refl, a.fits); operands = a.operands }

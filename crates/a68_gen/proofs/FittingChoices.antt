@@ -32,7 +32,7 @@ use Rattle.a68_tree.specs.declared.node.Node.{Node}
 use Rattle.a68_values.specs.Content.{plain}
 use Rattle.a68_values.specs.declared.plain.Plain.TheVariants as value
 use Rattle.a68_gen.proofs.Fitted.{IsFit, both, first, fit-none, framed-fits, second}
-use Rattle.a68_gen.proofs.FittingParts.{AreBehind, Given, all-fit, before-fits, out-fits, phrases-fit, texts_of, before-between, specs-fit}
+use Rattle.a68_gen.proofs.FittingParts.{all_units, AreBehind, Given, all-fit, before-fits, out-fits, phrases-fit, texts_of, before-between, specs-fit}
 
 -- ---- loops
 
@@ -180,30 +180,30 @@ int-there nodes h = go nodes h.standard
     go (x ∷ (y ∷ l)) e = lt-ltb 1 (length (x ∷ (y ∷ l))) (omega arith)
 
 -- WHILE, if any, fits in both ways
-pub record IsTestFit (modes : List Shape) (texts : ℕ) (t : Test) : Type 0 where
-  pub fits : TestFits modes t
+pub record IsTestFit (modes : List Shape) (texts units : ℕ) (t : Test) : Type 0 where
+  pub fits : TestFits modes units t
   pub operands : TestFitsModes modes texts t
 
 module _ (a : Annotated) (there : AreThere a (length a.tree.nodes)) (nodes : HoldsNodes a.modes) (id : ℕ) (f : ℕ → Tree) (given : Given a id f) where
-  pub control-fits : (part : Option ℕ) (left_out : Tree) → IsBehind id part → IsTrue (control_runs a part) → IsFit a.modes (texts_of a) true left_out → IsFit a.modes (texts_of a) true (option_map_or f part left_out)
+  pub control-fits : (part : Option ℕ) (left_out : Tree) → IsBehind id part → IsTrue (control_runs a part) → IsFit a.modes (texts_of a) (all_units a) true left_out → IsFit a.modes (texts_of a) (all_units a) true (option_map_or f part left_out)
   control-fits None left_out b e n = n
   control-fits (Some p) left_out b e n = given p true b e
 
-  pub body-fits : (part : Option ℕ) → IsBehind id part → IsTrue (body_runs a part) → IsFit a.modes (texts_of a) false (option_map_or f part unbuilt)
+  pub body-fits : (part : Option ℕ) → IsBehind id part → IsTrue (body_runs a part) → IsFit a.modes (texts_of a) (all_units a) false (option_map_or f part unbuilt)
   body-fits None b e = absurd (false≢true e)
   body-fits (Some p) b e = given p false b e
 
   -- the enquiry of WHILE, by its node
   pub enquiry-at : (q : ℕ) (o : Option Node) → id < q → slice_get a.tree.nodes q ≡ o → IsTrue (are_phrases a true (option_map_or (λ (n : Node). n.parts) o []))
-      → IsTestFit a.modes (texts_of a) (made.enquiry_of f o (slice_get a.notes q))
+      → IsTestFit a.modes (texts_of a) (all_units a) (made.enquiry_of f o (slice_get a.notes q))
   enquiry-at q None below is e = absurd (false≢true e)
   enquiry-at q (Some n) below is e =
       let t = there q (slice_get_within a.tree.nodes q n is) in
       let parts : AllBetween q (length a.tree.nodes) n.parts = subst (λ (m : Node). AllBetween q (length a.tree.nodes) m.parts) (same_Some t.node n (sym t.is ∙ is)) t.behind in
       let x = phrases-fit a id (length a.tree.nodes) f given true n.span.from n.parts (between-above id q (length a.tree.nodes) n.parts below parts) e in
-      subst (λ (m : Option Note). IsTestFit a.modes (texts_of a) (made.enquiry_of f (Some n) m)) (sym t.noted) (record { fits = x.fits; operands = x.operands })
+      subst (λ (m : Option Note). IsTestFit a.modes (texts_of a) (all_units a) (made.enquiry_of f (Some n) m)) (sym t.noted) (record { fits = x.fits; operands = x.operands })
 
-  pub enquiry-fits : (clause : Option ℕ) → IsBehind id clause → IsTrue (enquiry_runs a clause) → IsTestFit a.modes (texts_of a) (made.enquiry_at a f clause)
+  pub enquiry-fits : (clause : Option ℕ) → IsBehind id clause → IsTrue (enquiry_runs a clause) → IsTestFit a.modes (texts_of a) (all_units a) (made.enquiry_at a f clause)
   enquiry-fits None b e = absurd (false≢true e)
   enquiry-fits (Some q) b e = enquiry-at q (slice_get a.tree.nodes q) b refl e
 
@@ -211,23 +211,23 @@ module _ (a : Annotated) (there : AreThere a (length a.tree.nodes)) (nodes : Hol
   above w None less b = tt
   above w (Some q) less b = omega (arith, less, b)
 
-  pub test-fits : (test : Option ℕ) → IsBehind id test → IsTrue (test_runs a test) → IsTestFit a.modes (texts_of a) (made.test_of a f test)
+  pub test-fits : (test : Option ℕ) → IsBehind id test → IsTrue (test_runs a test) → IsTestFit a.modes (texts_of a) (all_units a) (made.test_of a f test)
   test-fits None b e = record { fits = tt; operands = tt }
   test-fits (Some w) b e =
       enquiry-fits (only_id (parts_at a w)) (above w (only_id (parts_at a w)) b (only-behind w (length a.tree.nodes) (parts_at a w) (parts-behind a there w))) e
 
-  pub skip-int-fits : (place : ℕ) → IsFit a.modes (texts_of a) true (leaf place (skip 1))
+  pub skip-int-fits : (place : ℕ) → IsFit a.modes (texts_of a) (all_units a) true (leaf place (skip 1))
   skip-int-fits place =
       let is = int-is a.modes nodes in
-      fit-none a.modes (texts_of a) true place (skip 1) serial (sym (ap (λ (s : Shape). not (is_void s)) is)) refl (int-there a.modes nodes)
+      fit-none a.modes (texts_of a) (all_units a) true place (skip 1) serial (sym (ap (λ (s : Shape). not (is_void s)) is)) refl (int-there a.modes nodes)
 
   pub loop-by-fits : (place : ℕ) (counts : Bool) (from by to test body : Option ℕ) → IsBehind id from → IsBehind id by → IsBehind id to → IsBehind id test → IsBehind id body
-      → IsTrue (loop_by_runs a from by to test body) → IsFit a.modes (texts_of a) false (made.loop_by a f place counts from by to test body)
+      → IsTrue (loop_by_runs a from by to test body) → IsFit a.modes (texts_of a) (all_units a) false (made.loop_by a f place counts from by to test body)
   loop-by-fits place counts from by to test body bf bb bt bw bo e =
       let e1 = second (control_runs a from) (control_runs a by && (control_runs a to && (test_runs a test && body_runs a body))) e in
       let e2 = second (control_runs a by) (control_runs a to && (test_runs a test && body_runs a body)) e1 in
       let e3 = second (control_runs a to) (test_runs a test && body_runs a body) e2 in
-      let one : IsFit a.modes (texts_of a) true (leaf place (constant (plain (value.Int (pos 1))))) = fit-none a.modes (texts_of a) true place (constant (plain (value.Int (pos 1)))) serial refl refl refl in
+      let one : IsFit a.modes (texts_of a) (all_units a) true (leaf place (constant (plain (value.Int (pos 1))))) = fit-none a.modes (texts_of a) (all_units a) true place (constant (plain (value.Int (pos 1)))) serial refl refl refl in
       let x = control-fits from _ bf (first (control_runs a from) (control_runs a by && (control_runs a to && (test_runs a test && body_runs a body))) e) one in
       let y = control-fits by _ bb (first (control_runs a by) (control_runs a to && (test_runs a test && body_runs a body)) e1) one in
       let z = control-fits to _ bt (first (control_runs a to) (test_runs a test && body_runs a body) e2) (skip-int-fits place) in
@@ -235,7 +235,7 @@ module _ (a : Annotated) (there : AreThere a (length a.tree.nodes)) (nodes : Hol
       let o = body-fits body bo (second (test_runs a test) (body_runs a body) e3) in
       record { fits = (refl, refl, (x.fits, (y.fits, (z.fits, tt))), w.fits, o.fits); operands = ((x.operands, (y.operands, (z.operands, tt))), w.operands, o.operands) }
 
-  pub loop-fits : (place : ℕ) (ids : List ℕ) → AllBetween id (length a.tree.nodes) ids → IsTrue (loop_runs a ids) → IsFit a.modes (texts_of a) false (made.loop_of a f place ids)
+  pub loop-fits : (place : ℕ) (ids : List ℕ) → AllBetween id (length a.tree.nodes) ids → IsTrue (loop_runs a ids) → IsFit a.modes (texts_of a) (all_units a) false (made.loop_of a f place ids)
   loop-fits place ids b e =
       let n = length a.tree.nodes in
       let tag = if_first is_for a ids in
@@ -255,28 +255,28 @@ module _ (a : Annotated) (there : AreThere a (length a.tree.nodes)) (nodes : Hol
       loop-by-fits place (is_some tag) from by to test (only_id bodies) (first-behind is_from a id n froms b1) (first-behind is_by a id n bys b2)
       (first-behind is_to a id n tos b3) (first-behind is_while a id n tests b4) (only-behind id n bodies (past-between id n test tests b4)) e
 
-  pub nothing-fits : (left : Bool) → Some false ≡ Some left → IsFit a.modes (texts_of a) left (together no_trees)
-  nothing-fits left e = subst (λ g. IsFit a.modes (texts_of a) g (together no_trees)) (same_Some false left e) (record { fits = (refl, tt); operands = tt })
+  pub nothing-fits : (left : Bool) → Some false ≡ Some left → IsFit a.modes (texts_of a) (all_units a) left (together no_trees)
+  nothing-fits left e = subst (λ g. IsFit a.modes (texts_of a) (all_units a) g (together no_trees)) (same_Some false left e) (record { fits = (refl, tt); operands = tt })
 
   -- ---- choices
 
   -- what an enquiry begins fits, where it does for each enquiry that fits
   pub begun-by : (q out : ℕ) (wanted : Bool) (o : Option Node) (go : Tree → Tree) → id < q → slice_get a.tree.nodes q ≡ o → IsTrue (are_phrases a true (option_map_or (λ (n : Node). n.parts) o []))
-      → ((t : Tree) → IsFit a.modes (texts_of a) true t → IsFit a.modes (texts_of a) wanted (go t)) → IsFit a.modes (texts_of a) wanted (made.begun_by f out wanted o (slice_get a.notes q) go)
+      → ((t : Tree) → IsFit a.modes (texts_of a) (all_units a) true t → IsFit a.modes (texts_of a) (all_units a) wanted (go t)) → IsFit a.modes (texts_of a) (all_units a) wanted (made.begun_by f out wanted o (slice_get a.notes q) go)
   begun-by q out wanted None go below is e fit = absurd (false≢true e)
   begun-by q out wanted (Some n) go below is e fit =
       let t = there q (slice_get_within a.tree.nodes q n is) in
       let parts : AllBetween q (length a.tree.nodes) n.parts = subst (λ (m : Node). AllBetween q (length a.tree.nodes) m.parts) (same_Some t.node n (sym t.is ∙ is)) t.behind in
       let x = phrases-fit a id (length a.tree.nodes) f given true n.span.from n.parts (between-above id q (length a.tree.nodes) n.parts below parts) e in
-      subst (λ (m : Option Note). IsFit a.modes (texts_of a) wanted (made.begun_by f out wanted (Some n) m go)) (sym t.noted)
-      (framed-fits a.modes (texts_of a) n.span.from out t.note.slots wanted (go (made.phrases_of n.span.from (trees_at f n.parts))) (fit _ x))
+      subst (λ (m : Option Note). IsFit a.modes (texts_of a) (all_units a) wanted (made.begun_by f out wanted (Some n) m go)) (sym t.noted)
+      (framed-fits a.modes (texts_of a) (all_units a) n.span.from out t.note.slots wanted (go (made.phrases_of n.span.from (trees_at f n.parts))) (fit _ x))
 
-  pub with-enquiry-fits : (q out : ℕ) (wanted : Bool) (go : Tree → Tree) → id < q → IsTrue (asks a q) → ((t : Tree) → IsFit a.modes (texts_of a) true t → IsFit a.modes (texts_of a) wanted (go t))
-      → IsFit a.modes (texts_of a) wanted (made.with_enquiry a f out wanted q go)
+  pub with-enquiry-fits : (q out : ℕ) (wanted : Bool) (go : Tree → Tree) → id < q → IsTrue (asks a q) → ((t : Tree) → IsFit a.modes (texts_of a) (all_units a) true t → IsFit a.modes (texts_of a) (all_units a) wanted (go t))
+      → IsFit a.modes (texts_of a) (all_units a) wanted (made.with_enquiry a f out wanted q go)
   with-enquiry-fits q out wanted go below e fit = begun-by q out wanted (slice_get a.tree.nodes q) go below refl e fit
 
   pub choice-fits : (place goal : ℕ) (ids : List ℕ) → AllBetween id (length a.tree.nodes) ids → IsTrue (choice_runs a goal (not (is_void (shape_at a.modes goal))) ids)
-      → IsFit a.modes (texts_of a) (not (is_void (shape_at a.modes goal))) (made.choice_of a f place goal (not (is_void (shape_at a.modes goal))) ids)
+      → IsFit a.modes (texts_of a) (all_units a) (not (is_void (shape_at a.modes goal))) (made.choice_of a f place goal (not (is_void (shape_at a.modes goal))) ids)
   choice-fits place goal [] b e = absurd (false≢true e)
   choice-fits place goal (q ∷ []) b e = absurd (false≢true e)
   choice-fits place goal (q ∷ (t ∷ [])) b e =
@@ -284,7 +284,7 @@ module _ (a : Annotated) (there : AreThere a (length a.tree.nodes)) (nodes : Hol
       let skipped = first (is_there a.modes goal) (asks a q && is_outcome wanted (outcome a t)) e in
       let rest = second (is_there a.modes goal) (asks a q && is_outcome wanted (outcome a t)) e in
       let y = given t wanted b.2.0 (second (asks a q) (is_outcome wanted (outcome a t)) rest) in
-      let z = fit-none a.modes (texts_of a) wanted place (skip goal) serial refl refl skipped in
+      let z = fit-none a.modes (texts_of a) (all_units a) wanted place (skip goal) serial refl refl skipped in
       with-enquiry-fits q place wanted _ b.0 (first (asks a q) (is_outcome wanted (outcome a t)) rest)
       (λ u x. record { fits = (x.fits, y.fits, z.fits); operands = (x.operands, y.operands, z.operands) })
   choice-fits place goal (q ∷ (t ∷ (o ∷ []))) b e =
@@ -297,7 +297,7 @@ module _ (a : Annotated) (there : AreThere a (length a.tree.nodes)) (nodes : Hol
   choice-fits place goal (q ∷ (t ∷ (u ∷ (v ∷ ids)))) b e = absurd (false≢true e)
 
   pub case-fits : (place goal : ℕ) (ids : List ℕ) → AllBetween id (length a.tree.nodes) ids → IsTrue (case_runs a goal (not (is_void (shape_at a.modes goal))) ids)
-      → IsFit a.modes (texts_of a) (not (is_void (shape_at a.modes goal))) (made.case_of a f place goal (not (is_void (shape_at a.modes goal))) ids)
+      → IsFit a.modes (texts_of a) (all_units a) (not (is_void (shape_at a.modes goal))) (made.case_of a f place goal (not (is_void (shape_at a.modes goal))) ids)
   case-fits place goal [] b e = absurd (false≢true e)
   case-fits place goal (q ∷ ids) b e =
       let wanted = not (is_void (shape_at a.modes goal)) in
@@ -310,7 +310,7 @@ module _ (a : Annotated) (there : AreThere a (length a.tree.nodes)) (nodes : Hol
       (λ u x. record { fits = (x.fits, y.fits, z.fits); operands = (x.operands, y.operands, z.operands) })
 
   pub conformity-fits : (place goal : ℕ) (ids : List ℕ) → AllBetween id (length a.tree.nodes) ids → IsTrue (conformity_runs a goal (not (is_void (shape_at a.modes goal))) ids)
-      → IsFit a.modes (texts_of a) (not (is_void (shape_at a.modes goal))) (made.conformity_of a f place goal (not (is_void (shape_at a.modes goal))) ids)
+      → IsFit a.modes (texts_of a) (all_units a) (not (is_void (shape_at a.modes goal))) (made.conformity_of a f place goal (not (is_void (shape_at a.modes goal))) ids)
   conformity-fits place goal [] b e = absurd (false≢true e)
   conformity-fits place goal (q ∷ ids) b e =
       let wanted = not (is_void (shape_at a.modes goal)) in
@@ -353,7 +353,7 @@ module _ (a : Annotated) (there : AreThere a (length a.tree.nodes)) (nodes : Hol
   forms-long [] = refl
   forms-long (x ∷ ids) = ap (λ n. suc n) (forms-long ids)
 
-  pub slice-fits : (place : ℕ) (ids : List ℕ) → AllBetween id (length a.tree.nodes) ids → IsTrue (slice_runs a ids) → IsFit a.modes (texts_of a) true (made.slice_of a f place ids)
+  pub slice-fits : (place : ℕ) (ids : List ℕ) → AllBetween id (length a.tree.nodes) ids → IsTrue (slice_runs a ids) → IsFit a.modes (texts_of a) (all_units a) true (made.slice_of a f place ids)
   slice-fits place [] b e = absurd (false≢true e)
   slice-fits place (x ∷ ids) b e =
       let indexed = nat_lt 0 (length ids) && list_all (is_index a) ids in

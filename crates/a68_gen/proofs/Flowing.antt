@@ -1,7 +1,8 @@
 -- Each instruction of a stretch finds what it takes, and goes on where the heights say so.
-use Rattle.std.proofs.Common.{◌≡◌, ◌≢◌, ◌<◌, ◌≤◌, ◌⊎◌, ◌+◌, ℕ, zero, suc, arith, Bool, true, false, IsTrue, List, [], ◌∷◌, length, Some, refl, sym, ap, ◌∙◌, subst, inl, inr, ⊎_elim, nat_lt, nat_eq}
-use Rattle.std.proofs.lemmas.Bool.{lt-ltb, eqb-true, eqb-false}
-use Rattle.std.proofs.lemmas.List.Elements.{All-cons, All-contains, All-from_recursion, Contains-push_cases}
+use Rattle.std.proofs.Common.{◌≡◌, ◌≢◌, ◌<◌, ◌≤◌, ◌⊎◌, ◌+◌, ℕ, zero, suc, arith, Bool, true, false, IsTrue, List, [], ◌∷◌, length, get_or, Some, refl, sym, ap, ◌∙◌, subst, inl, inr, ⊎_elim, nat_lt, nat_eq}
+use Rattle.std.proofs.lemmas.Bool.{le-leb, lt-ltb, eqb-true, eqb-false}
+use Rattle.std.proofs.lemmas.Option.{slice_get_read}
+use Rattle.std.proofs.lemmas.List.Elements.{All-cons, All-contains, All-from_get_or, All-from_recursion, Contains-get_or, Contains-push_cases}
 use Rattle.std.proofs.lemmas.List.Sums.{list_all-from_AllPass}
 use Rattle.std.specs.List.{All, Contains}
 use Rattle.std.specs.Option.{option_map}
@@ -21,8 +22,9 @@ use Rattle.a68_code.specs.declared.does.Does.TheVariants as does
 use Rattle.a68_code.specs.declared.owner.Owner.{Owner}
 use Rattle.a68_code.specs.declared.owner.Owner.TheVariants as owner
 use Rattle.a68_elab.specs.Rows.{is_among}
-use Rattle.a68_elab.specs.Trees.{Tree, Trees, operation, together, phrases, range, choice, cases, conformity, loop, call, unbuilt, no_trees, ◌and_tree◌, count, Specs, no_specs, spec, Test, no_test, while_in, depth_of}
+use Rattle.a68_elab.specs.Trees.{Tree, Trees, operation, together, phrases, range, choice, cases, conformity, loop, call, parallel, unbuilt, no_trees, ◌and_tree◌, count, Specs, no_specs, spec, Test, no_test, while_in, depth_of}
 use Rattle.a68_gen.proofs.Forward.{forward, forward_index, forward_leaves, forward_arms, forward_specs, forward_test}
+use Rattle.a68_gen.proofs.Entering.{IsUnit, each_is_unit, entrances_many}
 use Rattle.a68_gen.proofs.Members.{last_is, some_member, taken_or, members_all}
 use Rattle.a68_gen.proofs.Heights.{bit, after, after_true, after_false, At, LimitHeights, IndexHeights, OpenHeights, LeaveHeights, HeightsOf, AllHeights, ArmHeights, SpecHeights, TestHeights, nothing_more, starts, starts_all, starts_limit, starts_index, starts_leave, starts_test}
 use Rattle.a68_gen.specs.Operands.{FitsModes, FitAll, SpecsFitModes, TestFitsModes}
@@ -46,46 +48,47 @@ one_way x to i = ⊎_elim (λ j. absurd (no_way to j)) (λ e. sym e) (Contains-p
 either : (x y to : ℕ × ℕ) → Contains {X = ℕ × ℕ} (x ∷ (y ∷ [])) to → (to ≡ x) ⊎ (to ≡ y)
 either x y to i = ⊎_elim (λ j. inl (one_way x to j)) (λ e. inr (sym e)) (Contains-push_cases (x ∷ []) y to i)
 
--- the instruction of an operation goes on with the next one, and names no place
+-- the instruction of an operation goes on with the next one, names no place and forks no unit
 pub record Straight (list : List Instr) (modes : List Shape) (texts count k : ℕ) (op : Operation) (d : Does) : Type 0 where
   pub lands : (below : ℕ) → ways modes k d below ≡ (k + 1, below + flow.leaves modes d) ∷ []
   pub ordered : IsInOrder list k d
   pub made : is_well_made modes texts count d ≡ is_well_made modes texts 0 d
   pub left : flow.leaves modes d ≡ bit (leaves modes op)
+  pub alone : flow.forked_by d ≡ []
 
 straight : (list : List Instr) (modes : List Shape) (texts c k : ℕ) (op : Operation) (n : ℕ) → Straight list modes texts c k op (does_of op n)
-straight list modes texts c k (constant v) n = record { lands = λ below. refl; ordered = tt; made = refl; left = refl }
-straight list modes texts c k (skip m) n = record { lands = λ below. refl; ordered = tt; made = refl; left = by_void (is_void (shape_at modes m)) }
+straight list modes texts c k (constant v) n = record { lands = λ below. refl; ordered = tt; made = refl; left = refl; alone = refl }
+straight list modes texts c k (skip m) n = record { lands = λ below. refl; ordered = tt; made = refl; left = by_void (is_void (shape_at modes m)); alone = refl }
   where
     by_void : (x : Bool) → (if x then 0 else 1) ≡ bit (not x)
     by_void true = refl
     by_void false = refl
-straight list modes texts c k (routine text distance) n = record { lands = λ below. refl; ordered = tt; made = refl; left = refl }
-straight list modes texts c k nil n = record { lands = λ below. refl; ordered = tt; made = refl; left = refl }
-straight list modes texts c k (tag hops slot) n = record { lands = λ below. refl; ordered = tt; made = refl; left = refl }
-straight list modes texts c k (make m bounds) n = record { lands = λ below. refl; ordered = tt; made = refl; left = refl }
-straight list modes texts c k (heap m bounds) n = record { lands = λ below. refl; ordered = tt; made = refl; left = refl }
-straight list modes texts c k (bind slot) n = record { lands = λ below. refl; ordered = tt; made = refl; left = refl }
-straight list modes texts c k (deref m) n = record { lands = λ below. refl; ordered = tt; made = refl; left = refl }
-straight list modes texts c k (store m) n = record { lands = λ below. refl; ordered = tt; made = refl; left = refl }
-straight list modes texts c k (apply r) n = record { lands = λ below. refl; ordered = tt; made = refl; left = by_row (nat_eq r 35 || nat_eq r 36) }
+straight list modes texts c k (routine text distance) n = record { lands = λ below. refl; ordered = tt; made = refl; left = refl; alone = refl }
+straight list modes texts c k nil n = record { lands = λ below. refl; ordered = tt; made = refl; left = refl; alone = refl }
+straight list modes texts c k (tag hops slot) n = record { lands = λ below. refl; ordered = tt; made = refl; left = refl; alone = refl }
+straight list modes texts c k (make m bounds) n = record { lands = λ below. refl; ordered = tt; made = refl; left = refl; alone = refl }
+straight list modes texts c k (heap m bounds) n = record { lands = λ below. refl; ordered = tt; made = refl; left = refl; alone = refl }
+straight list modes texts c k (bind slot) n = record { lands = λ below. refl; ordered = tt; made = refl; left = refl; alone = refl }
+straight list modes texts c k (deref m) n = record { lands = λ below. refl; ordered = tt; made = refl; left = refl; alone = refl }
+straight list modes texts c k (store m) n = record { lands = λ below. refl; ordered = tt; made = refl; left = refl; alone = refl }
+straight list modes texts c k (apply r) n = record { lands = λ below. refl; ordered = tt; made = refl; left = by_row (nat_eq r 35 || nat_eq r 36); alone = refl }
   where
     by_row : (x : Bool) → (if x then 0 else 1) ≡ bit (not x)
     by_row true = refl
     by_row false = refl
-straight list modes texts c k (same negated) n = record { lands = λ below. refl; ordered = tt; made = refl; left = refl }
-straight list modes texts c k (slice forms) n = record { lands = λ below. refl; ordered = tt; made = refl; left = refl }
-straight list modes texts c k (display many mode) n = record { lands = λ below. refl; ordered = tt; made = refl; left = refl }
-straight list modes texts c k (vacuum mode) n = record { lands = λ below. refl; ordered = tt; made = refl; left = refl }
-straight list modes texts c k (compose fields) n = record { lands = λ below. refl; ordered = tt; made = refl; left = refl }
-straight list modes texts c k (select m field) n = record { lands = λ below. refl; ordered = tt; made = refl; left = refl }
-straight list modes texts c k (unite m) n = record { lands = λ below. refl; ordered = tt; made = refl; left = refl }
-straight list modes texts c k (row_up mode) n = record { lands = λ below. refl; ordered = tt; made = refl; left = refl }
-straight list modes texts c k (row_up_name mode) n = record { lands = λ below. refl; ordered = tt; made = refl; left = refl }
-straight list modes texts c k widen n = record { lands = λ below. refl; ordered = tt; made = refl; left = refl }
-straight list modes texts c k drop n = record { lands = λ below. refl; ordered = tt; made = refl; left = refl }
-straight list modes texts c k print n = record { lands = λ below. refl; ordered = tt; made = refl; left = refl }
-straight list modes texts c k whole n = record { lands = λ below. refl; ordered = tt; made = refl; left = refl }
+straight list modes texts c k (same negated) n = record { lands = λ below. refl; ordered = tt; made = refl; left = refl; alone = refl }
+straight list modes texts c k (slice forms) n = record { lands = λ below. refl; ordered = tt; made = refl; left = refl; alone = refl }
+straight list modes texts c k (display many mode) n = record { lands = λ below. refl; ordered = tt; made = refl; left = refl; alone = refl }
+straight list modes texts c k (vacuum mode) n = record { lands = λ below. refl; ordered = tt; made = refl; left = refl; alone = refl }
+straight list modes texts c k (compose fields) n = record { lands = λ below. refl; ordered = tt; made = refl; left = refl; alone = refl }
+straight list modes texts c k (select m field) n = record { lands = λ below. refl; ordered = tt; made = refl; left = refl; alone = refl }
+straight list modes texts c k (unite m) n = record { lands = λ below. refl; ordered = tt; made = refl; left = refl; alone = refl }
+straight list modes texts c k (row_up mode) n = record { lands = λ below. refl; ordered = tt; made = refl; left = refl; alone = refl }
+straight list modes texts c k (row_up_name mode) n = record { lands = λ below. refl; ordered = tt; made = refl; left = refl; alone = refl }
+straight list modes texts c k widen n = record { lands = λ below. refl; ordered = tt; made = refl; left = refl; alone = refl }
+straight list modes texts c k drop n = record { lands = λ below. refl; ordered = tt; made = refl; left = refl; alone = refl }
+straight list modes texts c k print n = record { lands = λ below. refl; ordered = tt; made = refl; left = refl; alone = refl }
+straight list modes texts c k whole n = record { lands = λ below. refl; ordered = tt; made = refl; left = refl; alone = refl }
 
 nil-cons : {l : ℕ × ℕ} {ls : List (ℕ × ℕ)} → ◌≡◌ {A = List (ℕ × ℕ)} (l ∷ ls) [] → ⊥
 nil-cons e = let n = ap (λ (x : List (ℕ × ℕ)). length x) e in absurd (omega arith)
@@ -93,23 +96,30 @@ nil-cons e = let n = ap (λ (x : List (ℕ × ℕ)). length x) e in absurd (omeg
 -- a way may meet what goes on
 may_meet : (whose : Owner) (modes : List Shape) (d : Does) (h k below : ℕ) (l : ℕ × ℕ) (ls : List (ℕ × ℕ)) → ways modes k d below ≡ l ∷ ls → MayMeet whose d h
 may_meet owner.Program modes does.Return h k below l ls e = absurd (nil-cons (sym e))
+may_meet owner.Program modes does.Close h k below l ls e = absurd (nil-cons (sym e))
 may_meet (owner.Texts yields) modes does.End h k below l ls e = absurd (nil-cons (sym e))
 may_meet (owner.Texts yields) modes does.Return h k below l ls e = absurd (nil-cons (sym e))
+may_meet (owner.Texts yields) modes does.Close h k below l ls e = absurd (nil-cons (sym e))
+may_meet owner.Units modes does.End h k below l ls e = absurd (nil-cons (sym e))
+may_meet owner.Units modes does.Return h k below l ls e = absurd (nil-cons (sym e))
+may_meet owner.Units modes does.Close h k below l ls e = absurd (nil-cons (sym e))
 may_meet whose modes d h k below l ls e = tt
 
 case_meets : (whose : Owner) (places : List ℕ) (h : ℕ) → MayMeet whose (does.Case places) h
 case_meets owner.Program places h = tt
 case_meets (owner.Texts yields) places h = tt
+case_meets owner.Units places h = tt
 
 member_meets : (whose : Owner) (mode : ℕ) (places wholes : List ℕ) (h : ℕ) → MayMeet whose (does.Member mode places wholes) h
 member_meets owner.Program mode places wholes h = tt
 member_meets (owner.Texts yields) mode places wholes h = tt
+member_meets owner.Units mode places wholes h = tt
 
 pub bit_is : (b : Bool) → bit b ≡ one_if b
 bit_is true = refl
 bit_is false = refl
 
--- The instruction at k finds so many values, ways of the owner may meet it, and W has the height of each place where it goes on
+-- The instruction at k finds so many values and forks no strand but for units, ways of the owner may meet it, and W has the height of each place where it goes on
 pub record Flows (code : Code) (whose : Owner) (W : ℕ → ℕ → Type 0) (k h : ℕ) : Type 0 where
   pub does : Does
   pub is : does_at code.list k ≡ Some does
@@ -119,8 +129,13 @@ pub record Flows (code : Code) (whose : Owner) (W : ℕ → ℕ → Type 0) (k h
   pub meets : MayMeet whose does h
   pub made : IsTrue (is_well_made code.modes (length code.texts) (length code.list) does)
   pub ordered : IsInOrder code.list k does
+  pub forks : (to : ℕ) → Contains (flow.forked_by does) to → IsUnit code.units to
 
-module _ (code : Code) (whose : Owner) (W : ℕ → ℕ → Type 0) (is_inside : (k h : ℕ) → W k h → k < length code.list) where
+-- what forks nothing forks nothing else
+pub no_fork : (code : Code) (d : Does) → flow.forked_by d ≡ [] → (to : ℕ) → Contains (flow.forked_by d) to → IsUnit code.units to
+no_fork code d alone to i = absurd (none to (subst (λ (l : List ℕ). Contains l to) alone i))
+
+module _ (code : Code) (whose : Owner) (W : ℕ → ℕ → Type 0) (is_inside : (k h : ℕ) → W k h → k < length code.list) (unit_inside : (to : ℕ) → IsUnit code.units to → to < length code.list) where
   does_is : (k b p : ℕ) (d : Does) → Has code p d k b → does_at code.list k ≡ Some d
   does_is k b p d h = ap (λ (o : Option Instr). option_map (λ instr. instr.does) o) h.0
 
@@ -139,9 +154,9 @@ module _ (code : Code) (whose : Owner) (W : ℕ → ℕ → Type 0) (is_inside :
   at_way to h way e w = subst (λ (x : ℕ × ℕ). W x.0 x.1) (sym e) w
 
   -- an instruction that goes on with the next one
-  next : (k b p : ℕ) (d : Does) (below c : ℕ) → Has code p d k b → ways code.modes k d below ≡ (k + 1, below + flow.leaves code.modes d) ∷ [] → below + takes d ≡ c → W b (below + flow.leaves code.modes d)
-      → IsTrue (is_well_made code.modes (length code.texts) (length code.list) d) → IsInOrder code.list k d → Flows code whose W k c
-  next k b p d below c has lands finds w made ordered = record {
+  next_by : (k b p : ℕ) (d : Does) (below c : ℕ) → Has code p d k b → ways code.modes k d below ≡ (k + 1, below + flow.leaves code.modes d) ∷ [] → below + takes d ≡ c → W b (below + flow.leaves code.modes d)
+      → IsTrue (is_well_made code.modes (length code.texts) (length code.list) d) → IsInOrder code.list k d → ((to : ℕ) → Contains (flow.forked_by d) to → IsUnit code.units to) → Flows code whose W k c
+  next_by k b p d below c has lands finds w made ordered forks = record {
     does = d;
     is = does_is k b p d has;
     below = below;
@@ -152,13 +167,19 @@ module _ (code : Code) (whose : Owner) (W : ℕ → ℕ → Type 0) (is_inside :
     meets = may_meet whose code.modes d c k below (k + 1, below + flow.leaves code.modes d) [] lands;
     made = made;
     ordered = ordered;
+    forks = forks;
   }
+
+  -- and that forks nothing
+  next : (k b p : ℕ) (d : Does) (below c : ℕ) → Has code p d k b → ways code.modes k d below ≡ (k + 1, below + flow.leaves code.modes d) ∷ [] → below + takes d ≡ c → W b (below + flow.leaves code.modes d)
+      → IsTrue (is_well_made code.modes (length code.texts) (length code.list) d) → IsInOrder code.list k d → flow.forked_by d ≡ [] → Flows code whose W k c
+  next k b p d below c has lands finds w made ordered alone = next_by k b p d below c has lands finds w made ordered (no_fork code d alone)
 
   -- an instruction that goes on with the next one or jumps
   branch : (k b p : ℕ) (d : Does) (below c to : ℕ) → Has code p d k b
       → ways code.modes k d below ≡ (k + 1, below + flow.leaves code.modes d) ∷ ((to, below + flow.leaves code.modes d) ∷ []) → below + takes d ≡ c → W b (below + flow.leaves code.modes d)
-      → W to (below + flow.leaves code.modes d) → IsTrue (is_well_made code.modes (length code.texts) (length code.list) d) → IsInOrder code.list k d → Flows code whose W k c
-  branch k b p d below c x has lands finds w w' made ordered = record {
+      → W to (below + flow.leaves code.modes d) → IsTrue (is_well_made code.modes (length code.texts) (length code.list) d) → IsInOrder code.list k d → flow.forked_by d ≡ [] → Flows code whose W k c
+  branch k b p d below c x has lands finds w w' made ordered alone = record {
     does = d;
     is = does_is k b p d has;
     below = below;
@@ -170,6 +191,7 @@ module _ (code : Code) (whose : Owner) (W : ℕ → ℕ → Type 0) (is_inside :
     meets = may_meet whose code.modes d c k below (k + 1, below + flow.leaves code.modes d) ((x, below + flow.leaves code.modes d) ∷ []) lands;
     made = made;
     ordered = ordered;
+    forks = no_fork code d alone;
   }
 
   jump : (k b p to h : ℕ) → Has code p (does.Jump to) k b → k < to → W to h → Flows code whose W k h
@@ -182,6 +204,7 @@ module _ (code : Code) (whose : Owner) (W : ℕ → ℕ → Type 0) (is_inside :
     meets = may_meet whose code.modes (does.Jump x) h k h (x, h + 0) [] refl;
     made = is_place x h w;
     ordered = less;
+    forks = no_fork code (does.Jump x) refl;
   }
 
   leave_made : (g : Bool) → IsTrue (is_well_made code.modes (length code.texts) (length code.list) (leave g))
@@ -201,7 +224,7 @@ module _ (code : Code) (whose : Owner) (W : ℕ → ℕ → Type 0) (is_inside :
   limit_flows false p a b s base out k h x = absurd x
   limit_flows true p a b s base out k h x =
       at_flows a (base + 3)
-      (next a b p (does.Apply 26) (base + 2) (base + 3) s refl (omega arith) (at_place b b (base + 3) (base + 2 + 1) refl (omega arith) out) refl tt) k h x
+      (next a b p (does.Apply 26) (base + 2) (base + 3) s refl (omega arith) (at_place b b (base + 3) (base + 2 + 1) refl (omega arith) out) refl tt refl) k h x
 
   -- the frame of FOR
   index_flows : (counts : Bool) (p a b : ℕ) (s : Indexes code counts p a b) (base : ℕ) → ((k h : ℕ) → IndexHeights code counts p a b s base k h → W k h) → W b (base + 1)
@@ -209,25 +232,25 @@ module _ (code : Code) (whose : Owner) (W : ℕ → ℕ → Type 0) (is_inside :
   index_flows false p a b s base into out k h x = absurd x
   index_flows true p a b s base into out k h (inl x) =
       at_flows a (base + 1)
-      (next a s.0 p (does.Enter 1) (base + 1) (base + 1) s.2 refl (omega arith) (at_place s.0 s.0 (base + 1) (base + 1 + 0) refl (omega arith) (into s.0 (base + 1) (inr (inl (refl, refl))))) refl tt) k h x
+      (next a s.0 p (does.Enter 1) (base + 1) (base + 1) s.2 refl (omega arith) (at_place s.0 s.0 (base + 1) (base + 1 + 0) refl (omega arith) (into s.0 (base + 1) (inr (inl (refl, refl))))) refl tt refl) k h x
   index_flows true p a b s base into out k h (inr (inl x)) =
-      at_flows s.0 (base + 1) (next s.0 s.1 p does.Index base (base + 1) s.3 refl refl (into s.1 (base + 2) (inr (inr (refl, refl)))) refl tt) k h x
+      at_flows s.0 (base + 1) (next s.0 s.1 p does.Index base (base + 1) s.3 refl refl (into s.1 (base + 2) (inr (inr (refl, refl)))) refl tt refl) k h x
   index_flows true p a b s base into out k h (inr (inr x)) =
       at_flows s.1 (base + 2)
-      (next s.1 b p (does.Bind 0) (base + 1) (base + 2) s.4 refl (omega arith) (at_place b b (base + 1) (base + 1 + 0) refl (omega arith) out) refl tt) k h x
+      (next s.1 b p (does.Bind 0) (base + 1) (base + 2) s.4 refl (omega arith) (at_place b b (base + 1) (base + 1 + 0) refl (omega arith) out) refl tt refl) k h x
 
   -- a frame that is made
   open_flows : (n p a b : ℕ) (s : Opens code n p a b) (base : ℕ) → W b base → (k h : ℕ) → OpenHeights code n p a b s base k h → Flows code whose W k h
   open_flows zero p a b s base out k h x = absurd x
   open_flows (suc n) p a b s base out k h x =
-      at_flows a base (next a b p (does.Enter (suc n)) base base s refl (omega arith) (at_place b b base (base + 0) refl (omega arith) out) refl tt) k h x
+      at_flows a base (next a b p (does.Enter (suc n)) base base s refl (omega arith) (at_place b b base (base + 0) refl (omega arith) out) refl tt refl) k h x
 
   -- frames that are left
   leave_flows : (p n a b : ℕ) (s : Leaves code p n a b) (base : ℕ) → ((k h : ℕ) → LeaveHeights code p n a b s base k h → W k h) → W b base
       → (k h : ℕ) → LeaveHeights code p n a b s base k h → Flows code whose W k h
   leave_flows p zero a b s base into out k h x = absurd x
   leave_flows p (suc n) a b s base into out k h (inl x) =
-      at_flows a base (next a s.0 p (does.Leave 0) base base s.1 refl (omega arith) (at_place s.0 s.0 base (base + 0) refl (omega arith) first) refl tt) k h x
+      at_flows a base (next a s.0 p (does.Leave 0) base base s.1 refl (omega arith) (at_place s.0 s.0 base (base + 0) refl (omega arith) first) refl tt refl) k h x
     where
       first : W s.0 base
       first = ⊎_elim (λ y. into s.0 base (inr y)) (λ e. subst (λ (y : ℕ). W y base) (sym e) out) (starts_leave code p n s.0 b s.2 base)
@@ -350,7 +373,7 @@ module _ (code : Code) (whose : Owner) (W : ℕ → ℕ → Type 0) (is_inside :
         here =
             next s.0 b p (does_of op n) base _ s.4 (straightly.lands base) (ap (λ (x : ℕ). base + x) s.2 ∙ sym (after_true parts base))
             (subst (W b) (ap (λ (x : ℕ). base + x) (ap bit s.1 ∙ sym straightly.left)) out)
-            (subst IsTrue (sym straightly.made) fit.0) straightly.ordered
+            (subst IsTrue (sym straightly.made) fit.0) straightly.ordered straightly.alone
     flows g (together parts) a b s base fit into out k h x =
         flows_all false parts a b s.1 base fit into (subst (W b) (sym (nothing_more base g s.0) ∙ sym (after_false parts base)) out) k h x
     flows g (phrases p before final) a b s base fit into out k h (inl x) =
@@ -360,13 +383,13 @@ module _ (code : Code) (whose : Owner) (W : ℕ → ℕ → Type 0) (is_inside :
     flows g (range p left n yields within) a b s base fit into out k h (inl x) =
         at_flows a base
         (next a s.0 p (does.Enter n) base base s.3 refl (omega arith)
-        (at_place s.0 s.0 base (base + 0) refl (omega arith) (begun g within s.0 s.1 s.4 base (λ k h y. into k h (inr (inl y))) (into s.1 (base + bit g) (inr (inr (refl, refl)))))) refl tt) k h x
+        (at_place s.0 s.0 base (base + 0) refl (omega arith) (begun g within s.0 s.1 s.4 base (λ k h y. into k h (inr (inl y))) (into s.1 (base + bit g) (inr (inr (refl, refl)))))) refl tt refl) k h x
     flows g (range p left n yields within) a b s base fit into out k h (inr (inl x)) =
         flows g within s.0 s.1 s.4 base fit (λ k h y. into k h (inr (inl y))) (into s.1 (base + bit g) (inr (inr (refl, refl)))) k h x
     flows g (range p left n yields within) a b s base fit into out k h (inr (inr x)) =
         at_flows s.1 (base + bit g)
         (next s.1 b left (leave g) base (base + bit g) s.5 refl (ap (λ (x : ℕ). base + x) (leave_takes g))
-        (subst (W b) (ap (λ (x : ℕ). base + x) (sym (leave_leaves g))) out) (leave_made g) tt) k h x
+        (subst (W b) (ap (λ (x : ℕ). base + x) (sym (leave_leaves g))) out) (leave_made g) tt refl) k h x
     flows g (choice p enquiry if_true if_false) a b s base fit into out k h (inl x) =
         flows true enquiry a s.0 s.4 base fit.0 (λ k h y. into k h (inl y)) (into s.0 (base + 1) (inr (inl (refl, refl)))) k h x
     flows g (choice p enquiry if_true if_false) a b s base fit into out k h (inr (inl x)) = at_flows s.0 (base + 1) here k h x
@@ -381,7 +404,7 @@ module _ (code : Code) (whose : Owner) (W : ℕ → ℕ → Type 0) (is_inside :
         here =
             branch s.0 s.1 p (does.Unless s.3) base (base + 1) s.3 s.5 refl refl (at_place s.1 s.1 base (base + 0) refl (omega arith) yes)
             (at_place s.3 s.3 base (base + 0) refl (omega arith) no) (is_place s.3 base no)
-            (let x = forward code g if_true s.1 s.2 s.6 in let y = s.5.1 in let z = s.7.1 in omega arith)
+            (let x = forward code g if_true s.1 s.2 s.6 in let y = s.5.1 in let z = s.7.1 in omega arith) refl
     flows g (choice p enquiry if_true if_false) a b s base fit into out k h (inr (inr (inl x))) =
         flows g if_true s.1 s.2 s.6 base fit.1 (λ k h y. into k h (inr (inr (inl y)))) (into s.2 (base + bit g) (inr (inr (inr (inl (refl, refl)))))) k h x
     flows g (choice p enquiry if_true if_false) a b s base fit into out k h (inr (inr (inr (inl x)))) =
@@ -425,6 +448,7 @@ module _ (code : Code) (whose : Owner) (W : ℕ → ℕ → Type 0) (is_inside :
           meets = case_meets whose places (base + 1);
           made = both_true (some_last s.3 s.2) (list_all-from_AllPass (λ to. nat_lt to (length code.list)) places inside);
           ordered = list_all-from_AllPass (λ to. nat_lt s.0 to) places onward;
+          forks = no_fork code (does.Case places) refl;
         }
     flows g (cases p enquiry arms final) a b s base fit into out k h (inr (inr (inl x))) =
         arms_flow g p b arms s.3 s.1 s.2 s.6 base fit.1 (λ k h y. into k h (inr (inr (inl y)))) out
@@ -476,6 +500,7 @@ module _ (code : Code) (whose : Owner) (W : ℕ → ℕ → Type 0) (is_inside :
           meets = member_meets whose union places (wholes_of members specs) (base + 1);
           made = both_true fit.0 (both_true (some_member members specs s.3 s.2) (list_all-from_AllPass (λ to. nat_lt to (length code.list)) places inside));
           ordered = list_all-from_AllPass (λ to. nat_lt s.0 to) places onward;
+          forks = no_fork code (does.Member union places (wholes_of members specs)) refl;
         }
     flows g (conformity p union members yields enquiry specs final) a b s base fit into out k h (inr (inr (inl x))) =
         specs_flow g p b specs s.3 s.1 s.2 s.8 base fit.2 (λ k h y. into k h (inr (inr (inl y)))) out
@@ -490,14 +515,14 @@ module _ (code : Code) (whose : Owner) (W : ℕ → ℕ → Type 0) (is_inside :
         limit_flows limited p s.0 s.1 s.15 base l.at_c' k h x
     flows g (loop p controls limited counts test body) a b s base fit into out k h (inr (inr (inl x))) =
         let l = loop_heights g p controls limited counts test body a b s base into in
-        at_flows s.1 (base + 3) (next s.1 s.2 p does.Counter base (base + 3) s.16 refl refl l.at_t refl tt) k h x
+        at_flows s.1 (base + 3) (next s.1 s.2 p does.Counter base (base + 3) s.16 refl refl l.at_t refl tt refl) k h x
     flows g (loop p controls limited counts test body) a b s base fit into out k h (inr (inr (inr (inl x)))) =
         let l = loop_heights g p controls limited counts test body a b s base into in
         at_flows s.2 (base + 1)
-        (branch s.2 s.3 p (does.Step s.11) base (base + 1) s.11 s.17 refl refl l.at_t' l.at_e (is_place s.11 (base + 1) l.at_e) (in_loop g p controls limited counts test body a b s).0) k h x
+        (branch s.2 s.3 p (does.Step s.11) base (base + 1) s.11 s.17 refl refl l.at_t' l.at_e (is_place s.11 (base + 1) l.at_e) (in_loop g p controls limited counts test body a b s).0 refl) k h x
     flows g (loop p controls limited counts test body) a b s base fit into out k h (inr (inr (inr (inr (inl x))))) =
         let l = loop_heights g p controls limited counts test body a b s base into in
-        at_flows s.3 (base + 1) (next s.3 s.4 p does.Turn (base + 1) (base + 1) s.18 refl (omega arith) (at_place s.4 s.4 (base + 1) (base + 1 + 0) refl (omega arith) l.at_u) refl tt) k h x
+        at_flows s.3 (base + 1) (next s.3 s.4 p does.Turn (base + 1) (base + 1) s.18 refl (omega arith) (at_place s.4 s.4 (base + 1) (base + 1 + 0) refl (omega arith) l.at_u) refl tt refl) k h x
     flows g (loop p controls limited counts test body) a b s base fit into out k h (inr (inr (inr (inr (inr (inl x)))))) =
         let l = loop_heights g p controls limited counts test body a b s base into in
         index_flows counts p s.4 s.5 s.19 base (λ k h y. into k h (inr (inr (inr (inr (inr (inl y))))))) l.at_w k h x
@@ -520,7 +545,7 @@ module _ (code : Code) (whose : Owner) (W : ℕ → ℕ → Type 0) (is_inside :
           step = does_is s.2 s.3 p (does.Step s.11) s.17;
           turn = ap (does_at code.list) s.17.1 ∙ does_is s.3 s.4 p does.Turn s.18;
           leaves_loop = (in_loop g p controls limited counts test body a b s).3;
-        })) k h x
+        }) refl) k h x
     flows g (loop p controls limited counts test body) a b s base fit into out k h (inr (inr (inr (inr (inr (inr (inr (inr (inr (inr (inl x))))))))))) =
         let l = loop_heights g p controls limited counts test body a b s base into in
         at_flows s.9 (base + 1) (jump s.9 s.10 p s.11 (base + 1) s.24 (in_loop g p controls limited counts test body a b s).4 l.at_e) k h x
@@ -528,14 +553,31 @@ module _ (code : Code) (whose : Owner) (W : ℕ → ℕ → Type 0) (is_inside :
         let l = loop_heights g p controls limited counts test body a b s base into in
         leave_flows p (depth_of counts test) s.10 s.11 s.25 (base + 1) (λ k h y. into k h (inr (inr (inr (inr (inr (inr (inr (inr (inr (inr (inr (inl y))))))))))))) l.at_e k h x
     flows g (loop p controls limited counts test body) a b s base fit into out k h (inr (inr (inr (inr (inr (inr (inr (inr (inr (inr (inr (inr x)))))))))))) =
-        at_flows s.11 (base + 1) (next s.11 b p does.Forget base (base + 1) s.26 refl refl (subst (λ (y : Bool). W b (base + bit y)) s.12 out) refl tt) k h x
+        at_flows s.11 (base + 1) (next s.11 b p does.Forget base (base + 1) s.26 refl refl (subst (λ (y : Bool). W b (base + bit y)) s.12 out) refl tt refl) k h x
     flows g (call p yields no_trees) a b s base fit into out k h x = absurd s
     flows g (call p yields (primary and_tree parts)) a b s base fit into out k h (inl x) =
         flows_all true (primary and_tree parts) a s.0 s.2 base fit (λ k h y. into k h (inl y)) (into s.0 (after true (primary and_tree parts) base) (inr (refl, refl))) k h x
     flows g (call p yields (primary and_tree parts)) a b s base fit into out k h (inr x) =
         at_flows s.0 (after true (primary and_tree parts) base)
         (next s.0 b p (does.Call (count parts) yields) base _ s.3 refl (sym (after_true (primary and_tree parts) base))
-        (subst (W b) (ap (λ (y : ℕ). base + y) (ap bit s.1 ∙ bit_is yields)) out) refl tt) k h x
+        (subst (W b) (ap (λ (y : ℕ). base + y) (ap bit s.1 ∙ bit_is yields)) out) refl tt refl) k h x
+    flows g (parallel p numbers) a b s base fit into out k h x = at_flows a base here k h x
+      where
+        many : 2 ≤ length s.0
+        many = let e = entrances_many code.units numbers s.0 s.3 in let m = s.2 in omega arith
+
+        unit : (to : ℕ) → Contains s.0 to → IsUnit code.units to
+        unit to i = each_is_unit code.units numbers s.0 s.3 i.0 to (slice_get_read s.0 (length s.0) i.0 to refl i.1 (sym i.2))
+
+        inside : All (λ to. nat_lt to (length code.list) ≡ true) s.0
+        inside =
+            All-from_get_or (λ to. nat_lt to (length code.list) ≡ true) s.0 0
+            (λ i less. let to = get_or s.0 i 0 in lt-ltb to (length code.list) (unit_inside to (unit to (Contains-get_or s.0 i 0 less))))
+
+        here : Flows code whose W a base
+        here =
+            next_by a b p (does.Fork s.0) base base s.4 refl (omega arith) (at_place b b base (base + 0) refl (omega arith) (subst (W b) (sym (nothing_more base g s.1)) out))
+            (both_true (le-leb 2 (length s.0) many) (list_all-from_AllPass (λ to. nat_lt to (length code.list)) s.0 inside)) tt unit
     flows g unbuilt a b s base fit into out k h x = absurd s
 
     pub flows_all : (g : Bool) (ts : Trees) (a b : ℕ) (s : StandAll code g ts a b) (base : ℕ) → FitAll code.modes (length code.texts) ts → ((k h : ℕ) → AllHeights code g ts a b s base k h → W k h)
@@ -572,18 +614,18 @@ module _ (code : Code) (whose : Owner) (W : ℕ → ℕ → Type 0) (is_inside :
     specs_flow g p e (spec takes false united t behind) [] a b s base fit into quit le k h x = absurd s
     specs_flow g p e (spec takes true united t behind) (q ∷ ps) a b s base fit into quit le k h (inl x) =
         at_flows a (base + 1)
-        (next a s.0 p (does.Enter 1) (base + 1) (base + 1) s.6 refl (omega arith) (at_place s.0 s.0 (base + 1) (base + 1 + 0) refl (omega arith) (into s.0 (base + 1) (inr (inl (refl, refl))))) refl tt) k h x
+        (next a s.0 p (does.Enter 1) (base + 1) (base + 1) s.6 refl (omega arith) (at_place s.0 s.0 (base + 1) (base + 1 + 0) refl (omega arith) (into s.0 (base + 1) (inr (inl (refl, refl))))) refl tt refl) k h x
     specs_flow g p e (spec takes true united t behind) (q ∷ ps) a b s base fit into quit le k h (inr (inl x)) =
         at_flows s.0 (base + 1)
         (next s.0 s.1 p (does.Bind 0) base (base + 1) s.7 refl refl
         (at_place s.1 s.1 base (base + 0) refl (omega arith)
-        (begun g t s.1 s.2 s.8 base (λ k h y. into k h (inr (inr (inl y)))) (into s.2 (base + bit g) (inr (inr (inr (inl (refl, refl)))))))) refl tt) k h x
+        (begun g t s.1 s.2 s.8 base (λ k h y. into k h (inr (inr (inl y)))) (into s.2 (base + bit g) (inr (inr (inr (inl (refl, refl)))))))) refl tt refl) k h x
     specs_flow g p e (spec takes true united t behind) (q ∷ ps) a b s base fit into quit le k h (inr (inr (inl x))) =
         flows g t s.1 s.2 s.8 base fit.0 (λ k h y. into k h (inr (inr (inl y)))) (into s.2 (base + bit g) (inr (inr (inr (inl (refl, refl)))))) k h x
     specs_flow g p e (spec takes true united t behind) (q ∷ ps) a b s base fit into quit le k h (inr (inr (inr (inl x)))) =
         at_flows s.2 (base + bit g)
         (next s.2 s.3 p (leave g) base (base + bit g) s.9 refl (ap (λ (x : ℕ). base + x) (leave_takes g))
-        (subst (W s.3) (ap (λ (x : ℕ). base + x) (sym (leave_leaves g))) (into s.3 (base + bit g) (inr (inr (inr (inr (inl (refl, refl)))))))) (leave_made g) tt) k h x
+        (subst (W s.3) (ap (λ (x : ℕ). base + x) (sym (leave_leaves g))) (into s.3 (base + bit g) (inr (inr (inr (inr (inl (refl, refl)))))))) (leave_made g) tt refl) k h x
     specs_flow g p e (spec takes true united t behind) (q ∷ ps) a b s base fit into quit le k h (inr (inr (inr (inr (inl x))))) =
         at_flows s.3 (base + bit g) (jump s.3 s.4 p e (base + bit g) s.10 (let y = forward_specs code g p e behind ps s.4 b s.11 in let z = s.10.1 in omega arith) quit) k h x
     specs_flow g p e (spec takes true united t behind) (q ∷ ps) a b s base fit into quit le k h (inr (inr (inr (inr (inr x))))) =
@@ -592,7 +634,7 @@ module _ (code : Code) (whose : Owner) (W : ℕ → ℕ → Type 0) (is_inside :
         at_flows a (base + 1)
         (next a s.0 p does.Drop base (base + 1) s.4 refl refl
         (at_place s.0 s.0 base (base + 0) refl (omega arith)
-        (begun g t s.0 s.1 s.5 base (λ k h y. into k h (inr (inl y))) (into s.1 (base + bit g) (inr (inr (inl (refl, refl))))))) refl tt) k h x
+        (begun g t s.0 s.1 s.5 base (λ k h y. into k h (inr (inl y))) (into s.1 (base + bit g) (inr (inr (inl (refl, refl))))))) refl tt refl) k h x
     specs_flow g p e (spec takes false united t behind) (q ∷ ps) a b s base fit into quit le k h (inr (inl x)) =
         flows g t s.0 s.1 s.5 base fit.0 (λ k h y. into k h (inr (inl y))) (into s.1 (base + bit g) (inr (inr (inl (refl, refl))))) k h x
     specs_flow g p e (spec takes false united t behind) (q ∷ ps) a b s base fit into quit le k h (inr (inr (inl x))) =
@@ -611,4 +653,4 @@ module _ (code : Code) (whose : Owner) (W : ℕ → ℕ → Type 0) (is_inside :
     test_flows (while_in at slots t) p f a b s base fit into out quit le k h (inr (inr x)) =
         at_flows s.1 (base + 1)
         (branch s.1 b p (does.Unless f) base (base + 1) f s.4 refl refl (at_place b b base (base + 0) refl (omega arith) out)
-        (at_place f f base (base + 0) refl (omega arith) quit) (is_place f base quit) (let y = s.4.1 in omega arith)) k h x
+        (at_place f f base (base + 0) refl (omega arith) quit) (is_place f base quit) (let y = s.4.1 in omega arith) refl) k h x

@@ -1,6 +1,7 @@
 pub mod Chaining
 pub mod Conforming
 pub mod Constructs
+pub mod Entering
 pub mod Fitted
 pub mod Fitting
 pub mod FittingChoices

@@ -3,21 +3,24 @@ use Rattle.std.proofs.Common.{◌≡◌, ℕ, zero, suc, ◌+◌, ◌≤◌, Boo
 use Rattle.std.proofs.lemmas.List.{length-map, drop_all}
 use Rattle.std.proofs.lemmas.Option.{same_Some, slice_get_within}
 use Rattle.a68_base.specs.declared.refusal.Refusal.{Refusal}
+use Rattle.std.specs.Prelude.{map}
+use Rattle.a68_builder.specs.Linking.{linked}
 use Rattle.a68_code.specs.declared.code.Code.{Code}
 use Rattle.a68_code.specs.declared.code.Instr.{Instr}
 use Rattle.a68_code.specs.declared.code.RoutineEntrance.{RoutineEntrance}
 use Rattle.a68_code.specs.declared.does.Does.{Does}
 use Rattle.a68_code.specs.declared.does.Does.TheVariants as does
-use Rattle.a68_elab.specs.Trees.{Tree, Trees, operation, together, phrases, range, choice, cases, conformity, loop, call, unbuilt, no_trees, ◌and_tree◌, count, Specs, no_specs, spec, Test, no_test, while_in, depth_of, Body, Program}
-use Rattle.a68_gen.specs.Listing.{instr, limits, indexes, opens, leaves, size, sizes, spec_sizes, test_size, arm_places, spec_places, stretch, stretches, arm_stretches, spec_stretches, test_stretch, text_size, text_stretches, entrances, listing, entrances_of}
+use Rattle.a68_elab.specs.Trees.{Tree, Trees, operation, together, phrases, range, choice, cases, conformity, loop, call, parallel, unbuilt, no_trees, ◌and_tree◌, count, Specs, no_specs, spec, Test, no_test, while_in, depth_of, Apart, routine_text, parallel_unit, Program}
+use Rattle.a68_gen.specs.Listing.{instr, limits, indexes, opens, leaves, size, sizes, spec_sizes, test_size, arm_places, spec_places, stretch, stretches, arm_stretches, spec_stretches, test_stretch, apart_stretches, text_entrances, unit_entrances, written, listing, texts_entered, units_entered}
+use Rattle.a68_gen.proofs.Entering.{entrances_are, map-behind, unlinked}
 use Rattle.a68_gen.proofs.Sizes.{size_leaves, size_stretch, size_stretches, size_arms, size_specs, size_test}
-use Rattle.a68_gen.specs.Stretches.{does_of, leave, Limits, Indexes, Opens, Leaves, Stands, StandAll, StandArms, StandSpecs, Tests, StandTexts, member_places, wholes_of, with_last, Translates}
+use Rattle.a68_gen.specs.Stretches.{does_of, leave, Limits, Indexes, Opens, Leaves, Stands, StandAll, StandArms, StandSpecs, Tests, StandApart, member_places, wholes_of, with_last, Translates}
 use Rattle.a68_gen.specs.Writing.{IsTooLong, most, places}
 use Rattle.a68_modes.specs.declared.shape.Shape.{Shape}
 
--- these instructions stand in the list from a up to b
-pub record Part (list : List Instr) (a : ℕ) (xs : List Instr) (b : ℕ) : Type 0 where
-  pub upto : drop a list ≡ xs ++ drop b list
+-- these instructions stand in the code from a up to b, with the entrances of units in the place of their numbers
+pub record Part (code : Code) (a : ℕ) (xs : List Instr) (b : ℕ) : Type 0 where
+  pub upto : drop a code.list ≡ map (linked code.units) xs ++ drop b code.list
   pub ends : b ≡ a + length xs
 
 drop-get : {X : Type 0} (xs : List X) (k : ℕ) (x : X) → slice_get xs k ≡ Some x → drop k xs ≡ x ∷ drop (suc k) xs
@@ -25,63 +28,66 @@ drop-get [] k x p = absurd (cc)
 drop-get (y ∷ xs) zero x p = ap (λ z. z ∷ xs) (same_Some y x p)
 drop-get (y ∷ xs) (suc k) x p = drop-get xs k x p
 
-none : (list : List Instr) (a b : ℕ) → a ≡ b → Part list a [] b
-none list a b e = record { upto = ap (λ k. drop k list) e; ends = omega arith }
+none : (code : Code) (a b : ℕ) → a ≡ b → Part code a [] b
+none code a b e = record { upto = ap (λ k. drop k code.list) e; ends = omega arith }
 
-behind : (list : List Instr) (a m b : ℕ) (xs ys : List Instr) → Part list a xs m → Part list m ys b → Part list a (xs ++ ys) b
-behind list a m b xs ys p q = record {
-  upto = p.upto ∙ ap (λ l. xs ++ l) q.upto ∙ sym (append_assoc xs ys (drop b list));
+behind : (code : Code) (a m b : ℕ) (xs ys : List Instr) → Part code a xs m → Part code m ys b → Part code a (xs ++ ys) b
+behind code a m b xs ys p q = record {
+  upto =
+      p.upto ∙ ap (λ (l : List Instr). map (linked code.units) xs ++ l) q.upto
+      ∙ sym (append_assoc (map (linked code.units) xs) (map (linked code.units) ys) (drop b code.list))
+      ∙ ap (λ (l : List Instr). l ++ drop b code.list) (sym (map-behind (linked code.units) xs ys));
   ends = (let e = p.ends in let f = q.ends in omega (arith, length-append xs ys));
 }
 
-one : (list : List Instr) (a m b : ℕ) (x : Instr) (xs : List Instr) → slice_get list a ≡ Some x → a + 1 ≡ m → Part list m xs b → Part list a (x ∷ xs) b
-one list a m b x xs g e p = record {
-  upto = (let s : suc a ≡ m = omega arith in drop-get list a x g ∙ ap (λ k. x ∷ drop k list) s ∙ ap (λ l. x ∷ l) p.upto);
+one : (code : Code) (a m b : ℕ) (x : Instr) (xs : List Instr) → slice_get code.list a ≡ Some (linked code.units x) → a + 1 ≡ m → Part code m xs b → Part code a (x ∷ xs) b
+one code a m b x xs g e p = record {
+  upto = (let s : suc a ≡ m = omega arith in drop-get code.list a (linked code.units x) g ∙ ap (λ k. linked code.units x ∷ drop k code.list) s ∙ ap (λ l. linked code.units x ∷ l) p.upto);
   ends = (let f = p.ends in omega arith);
 }
 
-last : (list : List Instr) (a b : ℕ) (x : Instr) → slice_get list a ≡ Some x → a + 1 ≡ b → Part list a (x ∷ []) b
-last list a b x g e = one list a b b x [] g e (none list b b refl)
+last : (code : Code) (a b : ℕ) (x : Instr) → slice_get code.list a ≡ Some (linked code.units x) → a + 1 ≡ b → Part code a (x ∷ []) b
+last code a b x g e = one code a b b x [] g e (none code b b refl)
 
 -- ---- the forms of trees, where the lists of their parts depend on their places
 
-both_part : (list : List Instr) (a m b n : ℕ) (first : List Instr) (f : ℕ → List Instr) → length first ≡ n → Part list a first m → Part list m (f m) b → Part list a (first ++ f (a + n)) b
-both_part list a m b n first f e p q = subst (λ (z : ℕ). Part list a (first ++ f z) b) (p.ends ∙ ap (λ k. a + k) e) (behind list a m b first (f m) p q)
+both_part : (code : Code) (a m b n : ℕ) (first : List Instr) (f : ℕ → List Instr) → length first ≡ n → Part code a first m → Part code m (f m) b → Part code a (first ++ f (a + n)) b
+both_part code a m b n first f e p q = subst (λ (z : ℕ). Part code a (first ++ f z) b) (p.ends ∙ ap (λ k. a + k) e) (behind code a m b first (f m) p q)
 
-range_part : (list : List Instr) (a a' b' b : ℕ) (enter left : Instr) (f : ℕ → List Instr) → slice_get list a ≡ Some enter → a + 1 ≡ a' → Part list a' (f a') b'
-    → slice_get list b' ≡ Some left → b' + 1 ≡ b → Part list a (enter ∷ (f (a + 1) ++ left ∷ [])) b
-range_part list a a' b' b enter left f e1 n1 p e2 n2 =
-    subst (λ (z : ℕ). Part list a (enter ∷ (f z ++ left ∷ [])) b) (sym n1)
-    (one list a a' b enter (f a' ++ left ∷ []) e1 n1 (behind list a' b' b (f a') (left ∷ []) p (last list b' b left e2 n2)))
+range_part : (code : Code) (a a' b' b : ℕ) (enter left : Instr) (f : ℕ → List Instr) → slice_get code.list a ≡ Some (linked code.units enter) → a + 1 ≡ a' → Part code a' (f a') b'
+    → slice_get code.list b' ≡ Some (linked code.units left) → b' + 1 ≡ b → Part code a (enter ∷ (f (a + 1) ++ left ∷ [])) b
+range_part code a a' b' b enter left f e1 n1 p e2 n2 =
+    subst (λ (z : ℕ). Part code a (enter ∷ (f z ++ left ∷ [])) b) (sym n1)
+    (one code a a' b enter (f a' ++ left ∷ []) e1 n1 (behind code a' b' b (f a') (left ∷ []) p (last code b' b left e2 n2)))
 
 -- TO's own step, the frame of FOR, a frame that is made, and frames that are left
-limit_part : (code : Code) (limited : Bool) (place a b : ℕ) → Limits code limited place a b → Part code.list a (limits limited place) b
-limit_part code false place a b s = none code.list a b s
-limit_part code true place a b s = last code.list a b (instr place (does.Apply 26)) s.0 s.1
+limit_part : (code : Code) (limited : Bool) (place a b : ℕ) → Limits code limited place a b → Part code a (limits limited place) b
+limit_part code false place a b s = none code a b s
+limit_part code true place a b s = last code a b (instr place (does.Apply 26)) s.0 s.1
 
-index_part : (code : Code) (counts : Bool) (place a b : ℕ) → Indexes code counts place a b → Part code.list a (indexes counts place) b
-index_part code false place a b s = none code.list a b s
+index_part : (code : Code) (counts : Bool) (place a b : ℕ) → Indexes code counts place a b → Part code a (indexes counts place) b
+index_part code false place a b s = none code a b s
 index_part code true place a b s =
-    one code.list a s.0 b (instr place (does.Enter 1)) (instr place does.Index ∷ instr place (does.Bind 0) ∷ []) s.2.0 s.2.1
-    (one code.list s.0 s.1 b (instr place does.Index) (instr place (does.Bind 0) ∷ []) s.3.0 s.3.1 (last code.list s.1 b (instr place (does.Bind 0)) s.4.0 s.4.1))
+    one code a s.0 b (instr place (does.Enter 1)) (instr place does.Index ∷ instr place (does.Bind 0) ∷ []) s.2.0 s.2.1
+    (one code s.0 s.1 b (instr place does.Index) (instr place (does.Bind 0) ∷ []) s.3.0 s.3.1 (last code s.1 b (instr place (does.Bind 0)) s.4.0 s.4.1))
 
-open_part : (code : Code) (slots place a b : ℕ) → Opens code slots place a b → Part code.list a (opens slots place) b
-open_part code zero place a b s = none code.list a b s
-open_part code (suc n) place a b s = last code.list a b (instr place (does.Enter (suc n))) s.0 s.1
+open_part : (code : Code) (slots place a b : ℕ) → Opens code slots place a b → Part code a (opens slots place) b
+open_part code zero place a b s = none code a b s
+open_part code (suc n) place a b s = last code a b (instr place (does.Enter (suc n))) s.0 s.1
 
-leave_part : (code : Code) (place n a b : ℕ) → Leaves code place n a b → Part code.list a (leaves place n) b
-leave_part code place zero a b s = none code.list a b s
-leave_part code place (suc n) a b s = one code.list a s.0 b (instr place (does.Leave 0)) (leaves place n) s.1.0 s.1.1 (leave_part code place n s.0 b s.2)
+leave_part : (code : Code) (place n a b : ℕ) → Leaves code place n a b → Part code a (leaves place n) b
+leave_part code place zero a b s = none code a b s
+leave_part code place (suc n) a b s = one code a s.0 b (instr place (does.Leave 0)) (leaves place n) s.1.0 s.1.1 (leave_part code place n s.0 b s.2)
 
 -- a choice, with these places
 abbrev choice_form : (place : ℕ) (first : List Instr) (f g : ℕ → List Instr) (m x e : ℕ) → List Instr
 choice_form place first f g m x e = first ++ (instr place (does.Unless x) ∷ (f m ++ (instr place (does.Jump e) ∷ g x)))
 
-choice_part : (list : List Instr) (place a m m' n x b n1 n2 n3 : ℕ) (first : List Instr) (f g : ℕ → List Instr) → length first ≡ n1 → ((z : ℕ) → length (f z) ≡ n2) → ((z : ℕ) → length (g z) ≡ n3)
-    → Part list a first m → slice_get list m ≡ Some (instr place (does.Unless x)) → m + 1 ≡ m'
-    → Part list m' (f m') n → slice_get list n ≡ Some (instr place (does.Jump b)) → n + 1 ≡ x → Part list x (g x) b
-    → Part list a (choice_form place first f g (a + n1 + 1) (a + n1 + 1 + n2 + 1) (a + n1 + 1 + n2 + 1 + n3)) b
-choice_part list place a m m' n x b n1 n2 n3 first f g l1 l2 l3 p u nu q j nj r =
+choice_part : (code : Code) (place a m m' n x b n1 n2 n3 : ℕ) (first : List Instr) (f g : ℕ → List Instr) → length first ≡ n1 → ((z : ℕ) → length (f z) ≡ n2) → ((z : ℕ) → length (g z) ≡ n3)
+    → Part code a first m → slice_get code.list m ≡ Some (instr place (does.Unless x)) → m + 1 ≡ m'
+    → Part code m' (f m') n → slice_get code.list n ≡ Some (instr place (does.Jump b)) → n + 1 ≡ x → Part code x (g x) b
+    → Part code a (choice_form place first f g (a + n1 + 1) (a + n1 + 1 + n2 + 1) (a + n1 + 1 + n2 + 1 + n3)) b
+choice_part code place a m m' n x b n1 n2 n3 first f g l1 l2 l3 p u nu q j nj r =
     let M = a + n1 + 1 in
     let e1 : m' ≡ M = (let e = p.ends in omega arith) in
     let X = M + n2 + 1 in
@@ -89,58 +95,58 @@ choice_part list place a m m' n x b n1 n2 n3 first f g l1 l2 l3 p u nu q j nj r 
     let e3 : b ≡ X + n3 = (let e = r.ends in omega (arith, l3 x)) in
     let unless = instr place (does.Unless x) in
     let jump = instr place (does.Jump b) in
-    let w = behind list a m b first (unless ∷ (f m' ++ (jump ∷ g x))) p (one list m m' b unless (f m' ++ (jump ∷ g x)) u nu (behind list m' n b (f m') (jump ∷ g x) q (one list n x b jump (g x) j nj r))) in
-    let w1 = subst (λ (z : ℕ). Part list a (choice_form place first f g z x b) b) e1 w in
-    let w2 = subst (λ (z : ℕ). Part list a (choice_form place first f g M z b) b) e2 w1 in
-    subst (λ (z : ℕ). Part list a (choice_form place first f g M X z) b) e3 w2
+    let w = behind code a m b first (unless ∷ (f m' ++ (jump ∷ g x))) p (one code m m' b unless (f m' ++ (jump ∷ g x)) u nu (behind code m' n b (f m') (jump ∷ g x) q (one code n x b jump (g x) j nj r))) in
+    let w1 = subst (λ (z : ℕ). Part code a (choice_form place first f g z x b) b) e1 w in
+    let w2 = subst (λ (z : ℕ). Part code a (choice_form place first f g M z b) b) e2 w1 in
+    subst (λ (z : ℕ). Part code a (choice_form place first f g M X z) b) e3 w2
 
 -- a choice among several parts, with these places
 abbrev cases_form : (place : ℕ) (first : List Instr) (f : ℕ → ℕ → List Instr) (g : ℕ → List Instr) (ps : List ℕ) (m x e : ℕ) → List Instr
 cases_form place first f g ps m x e = first ++ (instr place (does.Case (with_last ps x)) ∷ (f e m ++ g x))
 
-cases_part : (list : List Instr) (place a m m' x b n1 n2 n3 n4 : ℕ) (ps : List ℕ) (all : ℕ → List ℕ) (first : List Instr) (f : ℕ → ℕ → List Instr) (g : ℕ → List Instr) → length first ≡ n1
-    → ((y z : ℕ) → length (f y z) ≡ n2 + n3) → ((z : ℕ) → length (g z) ≡ n4) → ps ≡ all m' → Part list a first m → slice_get list m ≡ Some (instr place (does.Case (with_last ps x))) → m + 1 ≡ m'
-    → Part list m' (f b m') x → Part list x (g x) b
-    → Part list a (
+cases_part : (code : Code) (place a m m' x b n1 n2 n3 n4 : ℕ) (ps : List ℕ) (all : ℕ → List ℕ) (first : List Instr) (f : ℕ → ℕ → List Instr) (g : ℕ → List Instr) → length first ≡ n1
+    → ((y z : ℕ) → length (f y z) ≡ n2 + n3) → ((z : ℕ) → length (g z) ≡ n4) → ps ≡ all m' → Part code a first m → slice_get code.list m ≡ Some (instr place (does.Case (with_last ps x))) → m + 1 ≡ m'
+    → Part code m' (f b m') x → Part code x (g x) b
+    → Part code a (
     let M = a + n1 + 1 in
     let X = M + n2 + n3 in
     cases_form place first f g (all M) M X (X + n4)) b
-cases_part list place a m m' x b n1 n2 n3 n4 ps all first f g l1 l2 l3 same p i n q r =
+cases_part code place a m m' x b n1 n2 n3 n4 ps all first f g l1 l2 l3 same p i n q r =
     let M = a + n1 + 1 in
     let e1 : m' ≡ M = (let e = p.ends in omega arith) in
     let X = M + n2 + n3 in
     let e2 : x ≡ X = (let e = q.ends in omega (arith, l2 b m')) in
     let e3 : b ≡ X + n4 = (let e = r.ends in omega (arith, l3 x)) in
     let case = instr place (does.Case (with_last ps x)) in
-    let w = behind list a m b first (case ∷ (f b m' ++ g x)) p (one list m m' b case (f b m' ++ g x) i n (behind list m' x b (f b m') (g x) q r)) in
-    let w0 = subst (λ (z : List ℕ). Part list a (cases_form place first f g z m' x b) b) same w in
-    let w1 = subst (λ (z : ℕ). Part list a (cases_form place first f g (all z) z x b) b) e1 w0 in
-    let w2 = subst (λ (z : ℕ). Part list a (cases_form place first f g (all M) M z b) b) e2 w1 in
-    subst (λ (z : ℕ). Part list a (cases_form place first f g (all M) M X z) b) e3 w2
+    let w = behind code a m b first (case ∷ (f b m' ++ g x)) p (one code m m' b case (f b m' ++ g x) i n (behind code m' x b (f b m') (g x) q r)) in
+    let w0 = subst (λ (z : List ℕ). Part code a (cases_form place first f g z m' x b) b) same w in
+    let w1 = subst (λ (z : ℕ). Part code a (cases_form place first f g (all z) z x b) b) e1 w0 in
+    let w2 = subst (λ (z : ℕ). Part code a (cases_form place first f g (all M) M z b) b) e2 w1 in
+    subst (λ (z : ℕ). Part code a (cases_form place first f g (all M) M X z) b) e3 w2
 
 -- a choice among specifications, with these places
 abbrev specs_form : (place : ℕ) (first : List Instr) (d : List ℕ → ℕ → Does) (f : ℕ → ℕ → List Instr) (g : ℕ → List Instr) (ps : List ℕ) (m x e : ℕ) → List Instr
 specs_form place first d f g ps m x e = first ++ (instr place (d ps x) ∷ (f e m ++ g x))
 
-specs_whole : (list : List Instr) (place a m m' x b n1 n2 n3 : ℕ) (ps : List ℕ) (all : ℕ → List ℕ) (first : List Instr) (d : List ℕ → ℕ → Does) (f : ℕ → ℕ → List Instr) (g : ℕ → List Instr)
-    → length first ≡ n1 → ((y z : ℕ) → length (f y z) ≡ n2) → ((z : ℕ) → length (g z) ≡ n3) → ps ≡ all m' → Part list a first m → slice_get list m ≡ Some (instr place (d ps x)) → m + 1 ≡ m'
-    → Part list m' (f b m') x → Part list x (g x) b
-    → Part list a (
+specs_whole : (code : Code) (place a m m' x b n1 n2 n3 : ℕ) (ps : List ℕ) (all : ℕ → List ℕ) (first : List Instr) (d : List ℕ → ℕ → Does) (f : ℕ → ℕ → List Instr) (g : ℕ → List Instr)
+    → length first ≡ n1 → ((y z : ℕ) → length (f y z) ≡ n2) → ((z : ℕ) → length (g z) ≡ n3) → ps ≡ all m' → Part code a first m → slice_get code.list m ≡ Some (linked code.units (instr place (d ps x))) → m + 1 ≡ m'
+    → Part code m' (f b m') x → Part code x (g x) b
+    → Part code a (
     let M = a + n1 + 1 in
     let X = M + n2 in
     specs_form place first d f g (all M) M X (X + n3)) b
-specs_whole list place a m m' x b n1 n2 n3 ps all first d f g l1 l2 l3 same p i n q r =
+specs_whole code place a m m' x b n1 n2 n3 ps all first d f g l1 l2 l3 same p i n q r =
     let M = a + n1 + 1 in
     let e1 : m' ≡ M = (let e = p.ends in omega arith) in
     let X = M + n2 in
     let e2 : x ≡ X = (let e = q.ends in omega (arith, l2 b m')) in
     let e3 : b ≡ X + n3 = (let e = r.ends in omega (arith, l3 x)) in
     let member = instr place (d ps x) in
-    let w = behind list a m b first (member ∷ (f b m' ++ g x)) p (one list m m' b member (f b m' ++ g x) i n (behind list m' x b (f b m') (g x) q r)) in
-    let w0 = subst (λ (z : List ℕ). Part list a (specs_form place first d f g z m' x b) b) same w in
-    let w1 = subst (λ (z : ℕ). Part list a (specs_form place first d f g (all z) z x b) b) e1 w0 in
-    let w2 = subst (λ (z : ℕ). Part list a (specs_form place first d f g (all M) M z b) b) e2 w1 in
-    subst (λ (z : ℕ). Part list a (specs_form place first d f g (all M) M X z) b) e3 w2
+    let w = behind code a m b first (member ∷ (f b m' ++ g x)) p (one code m m' b member (f b m' ++ g x) i n (behind code m' x b (f b m') (g x) q r)) in
+    let w0 = subst (λ (z : List ℕ). Part code a (specs_form place first d f g z m' x b) b) same w in
+    let w1 = subst (λ (z : ℕ). Part code a (specs_form place first d f g (all z) z x b) b) e1 w0 in
+    let w2 = subst (λ (z : ℕ). Part code a (specs_form place first d f g (all M) M z b) b) e2 w1 in
+    subst (λ (z : ℕ). Part code a (specs_form place first d f g (all M) M X z) b) e3 w2
 
 -- a loop, with these places
 abbrev loop_form : (place : ℕ) (first lim idx out : List Instr) (f : ℕ → ℕ → List Instr) (g : ℕ → List Instr) (t w x q e : ℕ) → List Instr
@@ -148,19 +154,19 @@ loop_form place first lim idx out f g t w x q e =
     first ++ (lim ++ (instr place does.Counter ∷ instr place (does.Step e) ∷ instr place does.Turn ∷ (idx
     ++ (f q w ++ (g x ++ (out ++ instr place (does.Advance t) ∷ instr place (does.Jump e) ∷ (out ++ instr place does.Forget ∷ [])))))))
 
-loop_part : (list : List Instr) (place a c c' t t' u w x n n' v q e b nc nt nb k : ℕ) (first lim idx out : List Instr) (f : ℕ → ℕ → List Instr) (g : ℕ → List Instr)
+loop_part : (code : Code) (place a c c' t t' u w x n n' v q e b nc nt nb k : ℕ) (first lim idx out : List Instr) (f : ℕ → ℕ → List Instr) (g : ℕ → List Instr)
     → length first ≡ nc → ((y z : ℕ) → length (f y z) ≡ nt) → ((z : ℕ) → length (g z) ≡ nb) → length out ≡ k
-    → Part list a first c → Part list c lim c' → slice_get list c' ≡ Some (instr place does.Counter) → c' + 1 ≡ t → slice_get list t ≡ Some (instr place (does.Step e)) → t + 1 ≡ t'
-    → slice_get list t' ≡ Some (instr place does.Turn) → t' + 1 ≡ u → Part list u idx w → Part list w (f q w) x
-    → Part list x (g x) n → Part list n out n' → slice_get list n' ≡ Some (instr place (does.Advance t)) → n' + 1 ≡ v → slice_get list v ≡ Some (instr place (does.Jump e)) → v + 1 ≡ q
-    → Part list q out e → slice_get list e ≡ Some (instr place does.Forget) → e + 1 ≡ b
-    → Part list a (
+    → Part code a first c → Part code c lim c' → slice_get code.list c' ≡ Some (instr place does.Counter) → c' + 1 ≡ t → slice_get code.list t ≡ Some (instr place (does.Step e)) → t + 1 ≡ t'
+    → slice_get code.list t' ≡ Some (instr place does.Turn) → t' + 1 ≡ u → Part code u idx w → Part code w (f q w) x
+    → Part code x (g x) n → Part code n out n' → slice_get code.list n' ≡ Some (instr place (does.Advance t)) → n' + 1 ≡ v → slice_get code.list v ≡ Some (instr place (does.Jump e)) → v + 1 ≡ q
+    → Part code q out e → slice_get code.list e ≡ Some (instr place does.Forget) → e + 1 ≡ b
+    → Part code a (
     let s = a + nc + length lim + 1 in
     let y = s + 2 + length idx in
     let z = y + nt in
     let r = z + nb + k + 2 in
     loop_form place first lim idx out f g s y z r (r + k)) b
-loop_part list place a c c' t t' u w x n n' v q e b nc nt nb k first lim idx out f g l1 l2 l3 l4 p pl i1 n1 i2 n2 i3 n3 pi pt pb po i5 n5 i6 n6 pq i7 n7 =
+loop_part code place a c c' t t' u w x n n' v q e b nc nt nb k first lim idx out f g l1 l2 l3 l4 p pl i1 n1 i2 n2 i3 n3 pi pt pb po i5 n5 i6 n6 pq i7 n7 =
     let S = a + nc + length lim + 1 in
     let e1 : t ≡ S = (let y = p.ends in let z = pl.ends in omega arith) in
     let Y = S + 2 + length idx in
@@ -177,53 +183,53 @@ loop_part list place a c c' t t' u w x n n' v q e b nc nt nb k first lim idx out
     let jump = instr place (does.Jump e) in
     let forget = instr place does.Forget in
     let r5 = out ++ forget ∷ [] in
-    let w5 = behind list q e b out (forget ∷ []) pq (last list e b forget i7 n7) in
+    let w5 = behind code q e b out (forget ∷ []) pq (last code e b forget i7 n7) in
     let r4 = out ++ advance ∷ jump ∷ r5 in
-    let w4 = behind list n n' b out (advance ∷ jump ∷ r5) po (one list n' v b advance (jump ∷ r5) i5 n5 (one list v q b jump r5 i6 n6 w5)) in
+    let w4 = behind code n n' b out (advance ∷ jump ∷ r5) po (one code n' v b advance (jump ∷ r5) i5 n5 (one code v q b jump r5 i6 n6 w5)) in
     let r3 = g x ++ r4 in
-    let w3 = behind list x n b (g x) r4 pb w4 in
+    let w3 = behind code x n b (g x) r4 pb w4 in
     let r2 = f q w ++ r3 in
-    let w2 = behind list w x b (f q w) r3 pt w3 in
+    let w2 = behind code w x b (f q w) r3 pt w3 in
     let r1 = idx ++ r2 in
-    let w1 = behind list u w b idx r2 pi w2 in
+    let w1 = behind code u w b idx r2 pi w2 in
     let head = counter ∷ step ∷ turn ∷ r1 in
-    let w0 = behind list c c' b lim head pl (one list c' t b counter (step ∷ turn ∷ r1) i1 n1 (one list t t' b step (turn ∷ r1) i2 n2 (one list t' u b turn r1 i3 n3 w1))) in
-    let all = behind list a c b first (lim ++ head) p w0 in
-    let v1 = subst (λ (z : ℕ). Part list a (loop_form place first lim idx out f g z w x q e) b) e1 all in
-    let v2 = subst (λ (z : ℕ). Part list a (loop_form place first lim idx out f g S z x q e) b) e2 v1 in
-    let v3 = subst (λ (z : ℕ). Part list a (loop_form place first lim idx out f g S Y z q e) b) e3 v2 in
-    let v4 = subst (λ (z : ℕ). Part list a (loop_form place first lim idx out f g S Y Z z e) b) e4 v3 in
-    subst (λ (z : ℕ). Part list a (loop_form place first lim idx out f g S Y Z R z) b) e5 v4
+    let w0 = behind code c c' b lim head pl (one code c' t b counter (step ∷ turn ∷ r1) i1 n1 (one code t t' b step (turn ∷ r1) i2 n2 (one code t' u b turn r1 i3 n3 w1))) in
+    let all = behind code a c b first (lim ++ head) p w0 in
+    let v1 = subst (λ (z : ℕ). Part code a (loop_form place first lim idx out f g z w x q e) b) e1 all in
+    let v2 = subst (λ (z : ℕ). Part code a (loop_form place first lim idx out f g S z x q e) b) e2 v1 in
+    let v3 = subst (λ (z : ℕ). Part code a (loop_form place first lim idx out f g S Y z q e) b) e3 v2 in
+    let v4 = subst (λ (z : ℕ). Part code a (loop_form place first lim idx out f g S Y Z z e) b) e4 v3 in
+    subst (λ (z : ℕ). Part code a (loop_form place first lim idx out f g S Y Z R z) b) e5 v4
 
 -- ---- trees
 
 mutual
-  part : (code : Code) (gives : Bool) (tree : Tree) (a b : ℕ) → Stands code gives tree a b → Part code.list a (stretch tree a) b
+  part : (code : Code) (gives : Bool) (tree : Tree) (a b : ℕ) → Stands code gives tree a b → Part code a (stretch tree a) b
   part code gives (operation place op order parts) a b s =
       let i = instr place (does_of op (count parts)) in
-      behind code.list a s.0 b (stretches parts a) (i ∷ []) (all_part code true parts a s.0 s.3) (last code.list s.0 b i s.4.0 s.4.1)
+      behind code a s.0 b (stretches parts a) (i ∷ []) (all_part code true parts a s.0 s.3) (last code s.0 b i (s.4.0 ∙ ap (λ (d : Does). Some (instr place d)) (sym (unlinked code.units op (count parts)))) s.4.1)
   part code gives (together parts) a b s = all_part code false parts a b s.1
   part code gives (phrases place before final) a b s =
-      both_part code.list a s.0 b (sizes before) (stretches before a) (λ z. stretch final z) (size_stretches before a) (all_part code false before a s.0 s.1) (part code gives final s.0 b s.2)
+      both_part code a s.0 b (sizes before) (stretches before a) (λ z. stretch final z) (size_stretches before a) (all_part code false before a s.0 s.1) (part code gives final s.0 b s.2)
   part code gives (range place out slots yields within) a b s =
-      range_part code.list a s.0 s.1 b (instr place (does.Enter slots)) (instr out (leave yields)) (λ z. stretch within z) s.3.0 s.3.1 (part code gives within s.0 s.1 s.4)
+      range_part code a s.0 s.1 b (instr place (does.Enter slots)) (instr out (leave yields)) (λ z. stretch within z) s.3.0 s.3.1 (part code gives within s.0 s.1 s.4)
       (s.5.0 ∙ ap (λ (x : Bool). Some (instr out (leave x))) s.2) s.5.1
   part code gives (choice place enquiry if_true if_false) a b s =
-      choice_part code.list place a s.0 s.1 s.2 s.3 b (size enquiry) (size if_true) (size if_false) (stretch enquiry a) (λ z. stretch if_true z) (λ z. stretch if_false z)
+      choice_part code place a s.0 s.1 s.2 s.3 b (size enquiry) (size if_true) (size if_false) (stretch enquiry a) (λ z. stretch if_true z) (λ z. stretch if_false z)
       (size_stretch enquiry a) (λ z. size_stretch if_true z) (λ z. size_stretch if_false z) (part code true enquiry a s.0 s.4) s.5.0 s.5.1
       (part code gives if_true s.1 s.2 s.6) s.7.0 s.7.1 (part code gives if_false s.3 b s.8)
   part code gives (cases place enquiry arms out) a b s =
-      cases_part code.list place a s.0 s.1 s.2 b (size enquiry) (sizes arms) (count arms) (size out) s.3 (arm_places arms) (stretch enquiry a) (λ y z. arm_stretches place y arms z) (λ z. stretch out z)
+      cases_part code place a s.0 s.1 s.2 b (size enquiry) (sizes arms) (count arms) (size out) s.3 (arm_places arms) (stretch enquiry a) (λ y z. arm_stretches place y arms z) (λ z. stretch out z)
       (size_stretch enquiry a) (λ y z. size_arms place y arms z) (λ z. size_stretch out z) (arms_places code gives place b arms s.3 s.1 s.2 s.6)
       (part code true enquiry a s.0 s.4) s.5.0 s.5.1 (arms_part code gives place b arms s.3 s.1 s.2 s.6) (part code gives out s.2 b s.7)
   part code gives (conformity place union members yields enquiry specs out) a b s =
-      specs_whole code.list place a s.0 s.1 s.2 b (size enquiry) (spec_sizes specs) (size out) s.3 (spec_places specs) (stretch enquiry a)
+      specs_whole code place a s.0 s.1 s.2 b (size enquiry) (spec_sizes specs) (size out) s.3 (spec_places specs) (stretch enquiry a)
       (λ ps x. does.Member union (member_places members specs ps x) (wholes_of members specs)) (λ y z. spec_stretches place y yields specs z) (λ z. stretch out z)
       (size_stretch enquiry a) (λ y z. size_specs place y yields specs z) (λ z. size_stretch out z) (specs_places code gives place b specs s.3 s.1 s.2 s.8)
       (part code true enquiry a s.0 s.6) s.7.0 s.7.1 (specs_part code gives yields place b specs s.3 s.1 s.2 s.4 s.8) (part code gives out s.2 b s.9)
   part code gives (loop place controls limited counts test body) a b s =
       let k = depth_of counts test in
-      loop_part code.list place a s.0 s.1 s.2 s.3 s.4 s.5 s.6 s.7 s.8 s.9 s.10 s.11 b (sizes controls) (test_size test) (size body) k
+      loop_part code place a s.0 s.1 s.2 s.3 s.4 s.5 s.6 s.7 s.8 s.9 s.10 s.11 b (sizes controls) (test_size test) (size body) k
       (stretches controls a) (limits limited place) (indexes counts place) (leaves place k) (λ y z. test_stretch place y test z) (λ z. stretch body z)
       (size_stretches controls a) (λ y z. size_test place y test z) (λ z. size_stretch body z) (size_leaves place k)
       (all_part code true controls a s.0 s.14) (limit_part code limited place s.0 s.1 s.15) s.16.0 s.16.1 s.17.0 s.17.1 s.18.0 s.18.1 (index_part code counts place s.4 s.5 s.19)
@@ -232,24 +238,27 @@ mutual
   part code gives (call place yields no_trees) a b s = absurd s
   part code gives (call place yields (primary and_tree parts)) a b s =
       let i = instr place (does.Call (count parts) yields) in
-      behind code.list a s.0 b (stretches (primary and_tree parts) a) (i ∷ []) (all_part code true (primary and_tree parts) a s.0 s.2) (last code.list s.0 b i s.3.0 s.3.1)
+      behind code a s.0 b (stretches (primary and_tree parts) a) (i ∷ []) (all_part code true (primary and_tree parts) a s.0 s.2) (last code s.0 b i s.3.0 s.3.1)
+  part code gives (parallel place numbers) a b s =
+      let fork = instr place (does.Fork numbers) in
+      last code a b fork (s.4.0 ∙ ap (λ (es : List ℕ). Some (instr place (does.Fork es))) (entrances_are code.units numbers s.0 s.3)) s.4.1
   part code gives unbuilt a b s = absurd s
 
-  all_part : (code : Code) (gives : Bool) (trees : Trees) (a b : ℕ) → StandAll code gives trees a b → Part code.list a (stretches trees a) b
-  all_part code gives no_trees a b s = none code.list a b s
+  all_part : (code : Code) (gives : Bool) (trees : Trees) (a b : ℕ) → StandAll code gives trees a b → Part code a (stretches trees a) b
+  all_part code gives no_trees a b s = none code a b s
   all_part code gives (tree and_tree trees) a b s =
-      both_part code.list a s.0 b (size tree) (stretch tree a) (λ z. stretches trees z) (size_stretch tree a) (part code gives tree a s.0 s.1) (all_part code gives trees s.0 b s.2)
+      both_part code a s.0 b (size tree) (stretch tree a) (λ z. stretches trees z) (size_stretch tree a) (part code gives tree a s.0 s.1) (all_part code gives trees s.0 b s.2)
 
-  arms_part : (code : Code) (gives : Bool) (place e : ℕ) (trees : Trees) (ps : List ℕ) (a b : ℕ) → StandArms code gives place e trees ps a b → Part code.list a (arm_stretches place e trees a) b
-  arms_part code gives place e no_trees [] a b s = none code.list a b s
+  arms_part : (code : Code) (gives : Bool) (place e : ℕ) (trees : Trees) (ps : List ℕ) (a b : ℕ) → StandArms code gives place e trees ps a b → Part code a (arm_stretches place e trees a) b
+  arms_part code gives place e no_trees [] a b s = none code a b s
   arms_part code gives place e no_trees (p ∷ ps) a b s = absurd s
   arms_part code gives place e (tree and_tree trees) [] a b s = absurd s
   arms_part code gives place e (tree and_tree trees) (p ∷ ps) a b s =
       let jump = instr place (does.Jump e) in
-      let rest : Part code.list s.1 (arm_stretches place e trees (s.0 + 1)) b =
-      subst (λ (z : ℕ). Part code.list s.1 (arm_stretches place e trees z) b) (sym s.4.1) (arms_part code gives place e trees ps s.1 b s.5) in
-      both_part code.list a s.0 b (size tree) (stretch tree a) (λ z. jump ∷ arm_stretches place e trees (z + 1)) (size_stretch tree a) (part code gives tree a s.0 s.3)
-      (one code.list s.0 s.1 b jump (arm_stretches place e trees (s.0 + 1)) s.4.0 s.4.1 rest)
+      let rest : Part code s.1 (arm_stretches place e trees (s.0 + 1)) b =
+      subst (λ (z : ℕ). Part code s.1 (arm_stretches place e trees z) b) (sym s.4.1) (arms_part code gives place e trees ps s.1 b s.5) in
+      both_part code a s.0 b (size tree) (stretch tree a) (λ z. jump ∷ arm_stretches place e trees (z + 1)) (size_stretch tree a) (part code gives tree a s.0 s.3)
+      (one code s.0 s.1 b jump (arm_stretches place e trees (s.0 + 1)) s.4.0 s.4.1 rest)
 
   arms_places : (code : Code) (gives : Bool) (place e : ℕ) (trees : Trees) (ps : List ℕ) (a b : ℕ) → StandArms code gives place e trees ps a b → ps ≡ arm_places trees a
   arms_places code gives place e no_trees [] a b s = refl
@@ -263,8 +272,8 @@ mutual
       ap (λ (x : ℕ). x ∷ ps) s.2 ∙ ap (λ (l : List ℕ). a ∷ l) (arms_places code gives place e trees ps s.1 b s.5) ∙ ap (λ (z : ℕ). a ∷ arm_places trees z) same
 
   specs_part : (code : Code) (gives yields : Bool) (place e : ℕ) (specs : Specs) (ps : List ℕ) (a b : ℕ) → gives ≡ yields → StandSpecs code gives place e specs ps a b
-      → Part code.list a (spec_stretches place e yields specs a) b
-  specs_part code gives yields place e no_specs [] a b eg s = none code.list a b s
+      → Part code a (spec_stretches place e yields specs a) b
+  specs_part code gives yields place e no_specs [] a b eg s = none code a b s
   specs_part code gives yields place e no_specs (p ∷ ps) a b eg s = absurd s
   specs_part code gives yields place e (spec takes true united tree others) [] a b eg s = absurd s
   specs_part code gives yields place e (spec takes false united tree others) [] a b eg s = absurd s
@@ -274,25 +283,25 @@ mutual
       let n : s.1 ≡ a + 2 = (let x = s.6.1 in let y = s.7.1 in omega arith) in
       let body = part code gives tree s.1 s.2 s.8 in
       let next : s.4 ≡ a + (3 + size tree + 1) = (let x = body.ends in let k = size_stretch tree s.1 in let y = s.9.1 in let z = s.10.1 in omega arith) in
-      let rest : Part code.list s.4 (spec_stretches place e yields others (a + (3 + size tree + 1))) b =
-      subst (λ (z : ℕ). Part code.list s.4 (spec_stretches place e yields others z) b) next (specs_part code gives yields place e others ps s.4 b eg s.11) in
+      let rest : Part code s.4 (spec_stretches place e yields others (a + (3 + size tree + 1))) b =
+      subst (λ (z : ℕ). Part code s.4 (spec_stretches place e yields others z) b) next (specs_part code gives yields place e others ps s.4 b eg s.11) in
       let behind_part = spec_stretches place e yields others (a + (3 + size tree + 1)) in
       let left : slice_get code.list s.2 ≡ Some l = s.9.0 ∙ ap (λ (x : Bool). Some (instr place (leave x))) eg in
-      let tail = behind code.list s.1 s.2 b (stretch tree s.1) (l ∷ jump ∷ behind_part) body (one code.list s.2 s.3 b l (jump ∷ behind_part) left s.9.1 (one code.list s.3 s.4 b jump behind_part s.10.0 s.10.1 rest)) in
-      let placed = subst (λ (z : ℕ). Part code.list s.1 (stretch tree z ++ (l ∷ jump ∷ behind_part)) b) n tail in
-      one code.list a s.0 b (instr place (does.Enter 1)) (instr place (does.Bind 0) ∷ (stretch tree (a + 2) ++ (l ∷ jump ∷ behind_part))) s.6.0 s.6.1
-      (one code.list s.0 s.1 b (instr place (does.Bind 0)) (stretch tree (a + 2) ++ (l ∷ jump ∷ behind_part)) s.7.0 s.7.1 placed)
+      let tail = behind code s.1 s.2 b (stretch tree s.1) (l ∷ jump ∷ behind_part) body (one code s.2 s.3 b l (jump ∷ behind_part) left s.9.1 (one code s.3 s.4 b jump behind_part s.10.0 s.10.1 rest)) in
+      let placed = subst (λ (z : ℕ). Part code s.1 (stretch tree z ++ (l ∷ jump ∷ behind_part)) b) n tail in
+      one code a s.0 b (instr place (does.Enter 1)) (instr place (does.Bind 0) ∷ (stretch tree (a + 2) ++ (l ∷ jump ∷ behind_part))) s.6.0 s.6.1
+      (one code s.0 s.1 b (instr place (does.Bind 0)) (stretch tree (a + 2) ++ (l ∷ jump ∷ behind_part)) s.7.0 s.7.1 placed)
   specs_part code gives yields place e (spec takes false united tree others) (p ∷ ps) a b eg s =
       let jump = instr place (does.Jump e) in
       let n : s.0 ≡ a + 1 = (let x = s.4.1 in omega arith) in
       let body = part code gives tree s.0 s.1 s.5 in
       let next : s.2 ≡ a + (1 + size tree + 1) = (let x = body.ends in let k = size_stretch tree s.0 in let z = s.6.1 in omega arith) in
       let behind_part = spec_stretches place e yields others (a + (1 + size tree + 1)) in
-      let rest : Part code.list s.2 behind_part b =
-      subst (λ (z : ℕ). Part code.list s.2 (spec_stretches place e yields others z) b) next (specs_part code gives yields place e others ps s.2 b eg s.7) in
-      let tail = behind code.list s.0 s.1 b (stretch tree s.0) (jump ∷ behind_part) body (one code.list s.1 s.2 b jump behind_part s.6.0 s.6.1 rest) in
-      let placed = subst (λ (z : ℕ). Part code.list s.0 (stretch tree z ++ (jump ∷ behind_part)) b) n tail in
-      one code.list a s.0 b (instr place does.Drop) (stretch tree (a + 1) ++ (jump ∷ behind_part)) s.4.0 s.4.1 placed
+      let rest : Part code s.2 behind_part b =
+      subst (λ (z : ℕ). Part code s.2 (spec_stretches place e yields others z) b) next (specs_part code gives yields place e others ps s.2 b eg s.7) in
+      let tail = behind code s.0 s.1 b (stretch tree s.0) (jump ∷ behind_part) body (one code s.1 s.2 b jump behind_part s.6.0 s.6.1 rest) in
+      let placed = subst (λ (z : ℕ). Part code s.0 (stretch tree z ++ (jump ∷ behind_part)) b) n tail in
+      one code a s.0 b (instr place does.Drop) (stretch tree (a + 1) ++ (jump ∷ behind_part)) s.4.0 s.4.1 placed
 
   specs_places : (code : Code) (gives : Bool) (place e : ℕ) (specs : Specs) (ps : List ℕ) (a b : ℕ) → StandSpecs code gives place e specs ps a b → ps ≡ spec_places specs a
   specs_places code gives place e no_specs [] a b s = refl
@@ -312,41 +321,64 @@ mutual
       let same : s.2 ≡ a + (1 + size tree + 1) = omega arith in
       ap (λ (x : ℕ). x ∷ ps) s.3 ∙ ap (λ (l : List ℕ). a ∷ l) (specs_places code gives place e others ps s.2 b s.7) ∙ ap (λ (z : ℕ). a ∷ spec_places others z) same
 
-  test_part : (code : Code) (test : Test) (place f a b : ℕ) → Tests code test place f a b → Part code.list a (test_stretch place f test a) b
-  test_part code no_test place f a b s = none code.list a b s
+  test_part : (code : Code) (test : Test) (place f a b : ℕ) → Tests code test place f a b → Part code a (test_stretch place f test a) b
+  test_part code no_test place f a b s = none code a b s
   test_part code (while_in begin slots test) place f a b s =
       let unless = instr place (does.Unless f) in
-      both_part code.list a s.0 b (length (opens slots begin)) (opens slots begin) (λ z. stretch test z ++ unless ∷ []) refl (open_part code slots begin a s.0 s.2)
-      (behind code.list s.0 s.1 b (stretch test s.0) (unless ∷ []) (part code true test s.0 s.1 s.3) (last code.list s.1 b unless s.4.0 s.4.1))
+      both_part code a s.0 b (length (opens slots begin)) (opens slots begin) (λ z. stretch test z ++ unless ∷ []) refl (open_part code slots begin a s.0 s.2)
+      (behind code s.0 s.1 b (stretch test s.0) (unless ∷ []) (part code true test s.0 s.1 s.3) (last code s.1 b unless s.4.0 s.4.1))
 
--- ---- routine texts
+-- ---- what stands apart
 
--- where the text behind one begins
-next_text : (code : Code) (body : Body) (a m n : ℕ) → Stands code body.yields body.tree a m → m + 1 ≡ n → n ≡ a + text_size body
-next_text code body a m n s e =
-    let ends = (part code body.yields body.tree a m s).ends in
-    let long = size_stretch body.tree a in
+-- where the stretch behind one begins
+next_one : (code : Code) (gives : Bool) (tree : Tree) (a m n : ℕ) → Stands code gives tree a m → m + 1 ≡ n → n ≡ a + (size tree + 1)
+next_one code gives tree a m n s e =
+    let ends = (part code gives tree a m s).ends in
+    let long = size_stretch tree a in
     omega arith
 
-texts_part : (code : Code) (bodies : List Body) (es : List RoutineEntrance) (a b : ℕ) → StandTexts code bodies es a b → Part code.list a (text_stretches bodies a) b
-texts_part code [] [] a b s = none code.list a b s
-texts_part code [] (e ∷ es) a b s = absurd s
-texts_part code (body ∷ bodies) [] a b s = absurd s
-texts_part code (body ∷ bodies) (e ∷ es) a b s =
-    let return = instr body.place does.Return in
-    let rest : Part code.list s.1 (text_stretches bodies (a + text_size body)) b =
-    subst (λ (z : ℕ). Part code.list s.1 (text_stretches bodies z) b) (next_text code body a s.0 s.1 s.3 s.4.1) (texts_part code bodies es s.1 b s.5) in
-    behind code.list a s.0 b (stretch body.tree a) (return ∷ text_stretches bodies (a + text_size body)) (part code body.yields body.tree a s.0 s.3)
-    (one code.list s.0 s.1 b return (text_stretches bodies (a + text_size body)) s.4.0 s.4.1 rest)
+-- a stretch and its end
+one_part : (code : Code) (gives : Bool) (tree : Tree) (x : Instr) (a m n b : ℕ) (f : ℕ → List Instr) → Stands code gives tree a m → slice_get code.list m ≡ Some (linked code.units x)
+    → m + 1 ≡ n → Part code n (f n) b → Part code a ((stretch tree a ++ x ∷ []) ++ f (a + (size tree + 1))) b
+one_part code gives tree x a m n b f s g e p =
+    behind code a n b (stretch tree a ++ x ∷ []) (f (a + (size tree + 1))) (behind code a m n (stretch tree a) (x ∷ []) (part code gives tree a m s) (last code m n x g e))
+    (subst (λ (z : ℕ). Part code n (f z) b) (next_one code gives tree a m n s e) p)
 
-texts_entrances : (code : Code) (bodies : List Body) (es : List RoutineEntrance) (a b : ℕ) → StandTexts code bodies es a b → es ≡ entrances bodies a
-texts_entrances code [] [] a b s = refl
-texts_entrances code [] (e ∷ es) a b s = absurd s
-texts_entrances code (body ∷ bodies) [] a b s = absurd s
-texts_entrances code (body ∷ bodies) (e ∷ es) a b s =
+apart_part : (code : Code) (xs : List Apart) (es : List RoutineEntrance) (us : List ℕ) (a b : ℕ) → StandApart code xs es us a b → Part code a (apart_stretches xs a) b
+apart_part code [] [] [] a b s = none code a b s
+apart_part code [] [] (u ∷ us) a b s = absurd s
+apart_part code [] (e ∷ es) us a b s = absurd s
+apart_part code (routine_text body ∷ more) [] us a b s = absurd s
+apart_part code (routine_text body ∷ more) (e ∷ es) us a b s =
+    one_part code body.yields body.tree (instr body.place does.Return) a s.0 s.1 b (λ z. apart_stretches more z) s.3 s.4.0 s.4.1 (apart_part code more es us s.1 b s.5)
+apart_part code (parallel_unit unit ∷ more) es [] a b s = absurd s
+apart_part code (parallel_unit unit ∷ more) es (u ∷ us) a b s =
+    one_part code false unit.tree (instr unit.place does.Close) a s.0 s.1 b (λ z. apart_stretches more z) s.3 s.4.0 s.4.1 (apart_part code more es us s.1 b s.5)
+
+apart_texts : (code : Code) (xs : List Apart) (es : List RoutineEntrance) (us : List ℕ) (a b : ℕ) → StandApart code xs es us a b → es ≡ text_entrances xs a
+apart_texts code [] [] [] a b s = refl
+apart_texts code [] [] (u ∷ us) a b s = absurd s
+apart_texts code [] (e ∷ es) us a b s = absurd s
+apart_texts code (routine_text body ∷ more) [] us a b s = absurd s
+apart_texts code (routine_text body ∷ more) (e ∷ es) us a b s =
     let first : RoutineEntrance = record { at = a; yields = body.yields } in
-    ap (λ (x : RoutineEntrance). x ∷ es) s.2 ∙ ap (λ (l : List RoutineEntrance). first ∷ l) (texts_entrances code bodies es s.1 b s.5)
-    ∙ ap (λ (z : ℕ). first ∷ entrances bodies z) (next_text code body a s.0 s.1 s.3 s.4.1)
+    ap (λ (x : RoutineEntrance). x ∷ es) s.2 ∙ ap (λ (l : List RoutineEntrance). first ∷ l) (apart_texts code more es us s.1 b s.5)
+    ∙ ap (λ (z : ℕ). first ∷ text_entrances more z) (next_one code body.yields body.tree a s.0 s.1 s.3 s.4.1)
+apart_texts code (parallel_unit unit ∷ more) es [] a b s = absurd s
+apart_texts code (parallel_unit unit ∷ more) es (u ∷ us) a b s =
+    apart_texts code more es us s.1 b s.5 ∙ ap (λ (z : ℕ). text_entrances more z) (next_one code false unit.tree a s.0 s.1 s.3 s.4.1)
+
+apart_units : (code : Code) (xs : List Apart) (es : List RoutineEntrance) (us : List ℕ) (a b : ℕ) → StandApart code xs es us a b → us ≡ unit_entrances xs a
+apart_units code [] [] [] a b s = refl
+apart_units code [] [] (u ∷ us) a b s = absurd s
+apart_units code [] (e ∷ es) us a b s = absurd s
+apart_units code (routine_text body ∷ more) [] us a b s = absurd s
+apart_units code (routine_text body ∷ more) (e ∷ es) us a b s =
+    apart_units code more es us s.1 b s.5 ∙ ap (λ (z : ℕ). unit_entrances more z) (next_one code body.yields body.tree a s.0 s.1 s.3 s.4.1)
+apart_units code (parallel_unit unit ∷ more) es [] a b s = absurd s
+apart_units code (parallel_unit unit ∷ more) es (u ∷ us) a b s =
+    ap (λ (x : ℕ). x ∷ us) s.2 ∙ ap (λ (l : List ℕ). a ∷ l) (apart_units code more es us s.1 b s.5)
+    ∙ ap (λ (z : ℕ). a ∷ unit_entrances more z) (next_one code false unit.tree a s.0 s.1 s.3 s.4.1)
 
 -- End is behind the program
 at_end : (program : Program) (code : Code) (t : Translates program code) → t.end ≡ size program.tree
@@ -355,33 +387,40 @@ at_end program code t =
     let long = size_stretch program.tree 0 in
     omega arith
 
--- the code of a program is its listing
+-- the entrances of a program are those that are listed
+pub texts_listed : (program : Program) (code : Code) → Translates program code → code.texts ≡ texts_entered program
+texts_listed program code t =
+    apart_texts code program.apart code.texts code.units (t.end + 1) t.last t.apart ∙ ap (λ (z : ℕ). text_entrances program.apart (z + 1)) (at_end program code t)
+
+pub units_listed : (program : Program) (code : Code) → Translates program code → code.units ≡ units_entered program
+units_listed program code t =
+    apart_units code program.apart code.texts code.units (t.end + 1) t.last t.apart ∙ ap (λ (z : ℕ). unit_entrances program.apart (z + 1)) (at_end program code t)
+
+-- and its code is its listing
 pub listed : (program : Program) (code : Code) → Translates program code → code.list ≡ listing program
 listed program code t =
     let end = instr program.place does.End in
-    let rest = text_stretches program.texts (size program.tree + 1) in
-    let texts : Part code.list (t.end + 1) rest t.last =
-    subst (λ (z : ℕ). Part code.list (t.end + 1) (text_stretches program.texts (z + 1)) t.last) (at_end program code t)
-    (texts_part code program.texts code.texts (t.end + 1) t.last t.texts) in
-    let p = behind code.list 0 t.end t.last (stretch program.tree 0) (end ∷ rest) (part code false program.tree 0 t.end t.stands)
-    (one code.list t.end (t.end + 1) t.last end rest t.ends.0 refl texts) in
+    let rest = apart_stretches program.apart (size program.tree + 1) in
+    let apart : Part code (t.end + 1) rest t.last =
+    subst (λ (z : ℕ). Part code (t.end + 1) (apart_stretches program.apart (z + 1)) t.last) (at_end program code t)
+    (apart_part code program.apart code.texts code.units (t.end + 1) t.last t.apart) in
+    let p = behind code 0 t.end t.last (stretch program.tree 0) (end ∷ rest) (part code false program.tree 0 t.end t.stands)
+    (one code t.end (t.end + 1) t.last end rest t.ends.0 refl apart) in
     let nothing : drop t.last code.list ≡ [] = (let n = t.no_more in drop_all t.last code.list (omega arith)) in
-    p.upto ∙ ap (λ l. listing program ++ l) nothing ∙ append-nil (listing program)
-
--- and its entrances are those that are listed
-pub texts_listed : (program : Program) (code : Code) → Translates program code → code.texts ≡ entrances_of program
-texts_listed program code t =
-    texts_entrances code program.texts code.texts (t.end + 1) t.last t.texts ∙ ap (λ (z : ℕ). entrances program.texts (z + 1)) (at_end program code t)
+    p.upto ∙ ap (λ (l : List Instr). map (linked code.units) (written program) ++ l) nothing ∙ append-nil (map (linked code.units) (written program))
+    ∙ ap (λ (us : List ℕ). map (linked us) (written program)) (units_listed program code t)
 
 -- a program has one code
 pub one_code : (program : Program) (code other : Code) → Translates program code → Translates program other → other ≡ code
 one_code program code other t u =
     let list : other.list ≡ code.list = listed program other u ∙ sym (listed program code t) in
     let texts : other.texts ≡ code.texts = texts_listed program other u ∙ sym (texts_listed program code t) in
+    let units : other.units ≡ code.units = units_listed program other u ∙ sym (units_listed program code t) in
     let modes : other.modes ≡ code.modes = u.modes ∙ sym t.modes in
-    ap {A = List Instr} {B = Code} (λ x. record { list = x; texts = other.texts; modes = other.modes }) list
-    ∙ ap {A = List RoutineEntrance} {B = Code} (λ x. record { list = code.list; texts = x; modes = other.modes }) texts
-    ∙ ap {A = List Shape} {B = Code} (λ x. record { list = code.list; texts = code.texts; modes = x }) modes
+    ap {A = List Instr} {B = Code} (λ x. record { list = x; texts = other.texts; units = other.units; modes = other.modes }) list
+    ∙ ap {A = List RoutineEntrance} {B = Code} (λ x. record { list = code.list; texts = x; units = other.units; modes = other.modes }) texts
+    ∙ ap {A = List ℕ} {B = Code} (λ x. record { list = code.list; texts = code.texts; units = x; modes = other.modes }) units
+    ∙ ap {A = List Shape} {B = Code} (λ x. record { list = code.list; texts = code.texts; units = code.units; modes = x }) modes
 
 -- a list that is too long has more instructions than a program may have
 pub not_short : (list : List Instr) (refusal : Refusal) → IsTooLong list refusal → length list ≤ most → ⊥

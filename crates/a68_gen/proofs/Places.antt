@@ -2,12 +2,14 @@
 use Rattle.std.proofs.Common.{◌≡◌, ℕ, zero, suc, ◌+◌, ◌≤◌, Bool, true, false, List, [], ◌∷◌, ◌++◌, length, Some, slice_get, sym, ap, ◌∙◌, subst}
 use Rattle.std.proofs.lemmas.Option.{same_Some}
 use Rattle.a68_base.specs.declared.refusal.Refusal.{Refusal}
+use Rattle.std.specs.Prelude.{map}
+use Rattle.a68_builder.specs.Linking.{linked}
 use Rattle.a68_code.specs.declared.code.Code.{Code}
 use Rattle.a68_code.specs.declared.code.Instr.{Instr}
 use Rattle.a68_code.specs.declared.does.Does.TheVariants as does
-use Rattle.a68_elab.specs.Places.{BeginsBy, AllBeginBy, SpecsBeginBy, TestBeginsBy, TextsBeginBy, ProgramBeginsBy}
-use Rattle.a68_elab.specs.Trees.{Tree, Trees, operation, together, phrases, range, choice, cases, conformity, loop, call, unbuilt, no_trees, ◌and_tree◌, count, Specs, no_specs, spec, Test, no_test, while_in, depth_of, Body, Program}
-use Rattle.a68_gen.specs.Listing.{instr, limits, indexes, opens, leaves, size, sizes, spec_sizes, test_size, arm_places, spec_places, stretch, stretches, arm_stretches, spec_stretches, test_stretch, text_size, text_stretches, listing}
+use Rattle.a68_elab.specs.Places.{BeginsBy, AllBeginBy, SpecsBeginBy, TestBeginsBy, ApartBeginBy, ProgramBeginsBy}
+use Rattle.a68_elab.specs.Trees.{Tree, Trees, operation, together, phrases, range, choice, cases, conformity, loop, call, parallel, unbuilt, no_trees, ◌and_tree◌, count, Specs, no_specs, spec, Test, no_test, while_in, depth_of, Apart, routine_text, parallel_unit, Program}
+use Rattle.a68_gen.specs.Listing.{instr, limits, indexes, opens, leaves, size, sizes, spec_sizes, test_size, arm_places, spec_places, stretch, stretches, arm_stretches, spec_stretches, test_stretch, apart_stretch, apart_stretches, listing, units_entered, written}
 use Rattle.a68_gen.proofs.Listed.{listed}
 use Rattle.a68_gen.specs.Stretches.{does_of, leave, member_places, wholes_of, with_last, Translates}
 use Rattle.a68_gen.specs.Writing.{IsTooLong, most, places}
@@ -99,6 +101,7 @@ module _ (end : ℕ) where
     lies (call place yields no_trees) at b = tt
     lies (call place yields (primary and_tree parts)) at b =
         lie-append (stretches (primary and_tree parts) at) (instr place (does.Call (count parts) yields) ∷ []) (all_lie (primary and_tree parts) at b.1) (b.0, tt)
+    lies (parallel place numbers) at b = (b, tt)
     lies unbuilt at b = tt
 
     all_lie : (trees : Trees) (at : ℕ) → AllBeginBy end trees → LieBy end (stretches trees at)
@@ -134,16 +137,27 @@ module _ (end : ℕ) where
         lie-append (opens slots begin) (stretch test m ++ instr place (does.Unless f) ∷ []) (open_lies slots begin b.0)
         (lie-append (stretch test m) (instr place (does.Unless f) ∷ []) (lies test m b.1) (p, tt))
 
-  texts_lie : (bodies : List Body) (at : ℕ) → TextsBeginBy end bodies → LieBy end (text_stretches bodies at)
-  texts_lie [] at b = tt
-  texts_lie (body ∷ bodies) at b =
-      let m = at + text_size body in
-      lie-append (stretch body.tree at) (instr body.place does.Return ∷ text_stretches bodies m) (lies body.tree at b.0.1) (b.0.0, texts_lie bodies m b.1)
+  apart_lie : (xs : List Apart) (at : ℕ) → ApartBeginBy end xs → LieBy end (apart_stretches xs at)
+  apart_lie [] at b = tt
+  apart_lie (routine_text body ∷ more) at b =
+      let m = at + (size body.tree + 1) in
+      let last = instr body.place does.Return ∷ [] in
+      lie-append (apart_stretch (routine_text body) at) (apart_stretches more m) (lie-append (stretch body.tree at) last (lies body.tree at b.0.1) (b.0.0, tt)) (apart_lie more m b.1)
+  apart_lie (parallel_unit unit ∷ more) at b =
+      let m = at + (size unit.tree + 1) in
+      let last = instr unit.place does.Close ∷ [] in
+      lie-append (apart_stretch (parallel_unit unit) at) (apart_stretches more m) (lie-append (stretch unit.tree at) last (lies unit.tree at b.0.1) (b.0.0, tt)) (apart_lie more m b.1)
+
+  -- entrances of units in the place of their numbers change no place of the text
+  lie-linked : (units : List ℕ) (list : List Instr) → LieBy end list → LieBy end (map (linked units) list)
+  lie-linked units [] b = tt
+  lie-linked units (i ∷ list) b = (b.0, lie-linked units list b.1)
 
   program_lies : (program : Program) → ProgramBeginsBy end program → LieBy end (listing program)
   program_lies program b =
       let m = size program.tree + 1 in
-      lie-append (stretch program.tree 0) (instr program.place does.End ∷ text_stretches program.texts m) (lies program.tree 0 b.tree) (b.place, texts_lie program.texts m b.texts)
+      lie-linked (units_entered program) (written program)
+      (lie-append (stretch program.tree 0) (instr program.place does.End ∷ apart_stretches program.apart m) (lies program.tree 0 b.tree) (b.place, apart_lie program.apart m b.apart))
 
 -- a program that is too long is refused at one of its constructs
 pub refused_by : (program : Program) (end : ℕ) (refusal : Refusal) → ProgramBeginsBy end program → IsTooLong (listing program) refusal → refusal.place ≤ end

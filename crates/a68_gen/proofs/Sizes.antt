@@ -1,8 +1,8 @@
 -- How long a stretch is.
-use Rattle.std.proofs.Common.{◌≡◌, ℕ, zero, suc, ◌+◌, Bool, true, false, [], ◌∷◌, ◌++◌, length, refl, ap, arith, length-append}
+use Rattle.std.proofs.Common.{◌≡◌, ℕ, zero, suc, ◌+◌, Bool, true, false, List, [], ◌∷◌, ◌++◌, length, refl, ap, arith, length-append}
 use Rattle.a68_code.specs.declared.does.Does.TheVariants as does
-use Rattle.a68_elab.specs.Trees.{Tree, Trees, operation, together, phrases, range, choice, cases, conformity, loop, call, unbuilt, no_trees, ◌and_tree◌, count, Specs, no_specs, spec, Test, no_test, while_in, depth_of}
-use Rattle.a68_gen.specs.Listing.{instr, limits, indexes, opens, leaves, size, sizes, spec_sizes, test_size, arm_places, spec_places, stretch, stretches, arm_stretches, spec_stretches, test_stretch}
+use Rattle.a68_elab.specs.Trees.{Tree, Trees, operation, together, phrases, range, choice, cases, conformity, loop, call, parallel, unbuilt, no_trees, ◌and_tree◌, count, Specs, no_specs, spec, Test, no_test, while_in, depth_of, Apart, routine_text, parallel_unit}
+use Rattle.a68_gen.specs.Listing.{instr, limits, indexes, opens, leaves, size, sizes, spec_sizes, test_size, arm_places, spec_places, stretch, stretches, arm_stretches, spec_stretches, test_stretch, apart_size, apart_stretch, apart_stretches}
 use Rattle.a68_gen.specs.Stretches.{does_of, leave, member_places, wholes_of, with_last}
 
 pub size_leaves : (place n : ℕ) → length (leaves place n) ≡ n
@@ -79,6 +79,7 @@ mutual
   size_stretch (call place yields (primary and_tree parts)) at =
       let s = size_stretches (primary and_tree parts) at in
       omega (arith, length-append (stretches (primary and_tree parts) at) (instr place (does.Call (count parts) yields) ∷ []))
+  size_stretch (parallel place numbers) at = refl
   size_stretch unbuilt at = refl
 
   pub size_stretches : (trees : Trees) (at : ℕ) → length (stretches trees at) ≡ sizes trees
@@ -112,3 +113,20 @@ mutual
       let unless = instr place (does.Unless f) ∷ [] in
       let s = size_stretch test m in
       omega (arith, length-append (opens slots begin) (stretch test m ++ unless), length-append (stretch test m) unless)
+
+-- ---- what stands apart
+
+pub size_one : (x : Apart) (at : ℕ) → length (apart_stretch x at) ≡ apart_size x
+size_one (routine_text body) at = let s = size_stretch body.tree at in omega (arith, length-append (stretch body.tree at) (instr body.place does.Return ∷ []))
+size_one (parallel_unit unit) at = let s = size_stretch unit.tree at in omega (arith, length-append (stretch unit.tree at) (instr unit.place does.Close ∷ []))
+
+-- how many instructions all of it becomes
+abbrev pub apart_sizes : List Apart → ℕ
+apart_sizes [] = 0
+apart_sizes (x ∷ xs) = apart_size x + apart_sizes xs
+
+pub size_apart : (xs : List Apart) (at : ℕ) → length (apart_stretches xs at) ≡ apart_sizes xs
+size_apart [] at = refl
+size_apart (x ∷ xs) at =
+    let m = at + apart_size x in
+    let s = size_one x at in let t = size_apart xs m in omega (arith, length-append (apart_stretch x at) (apart_stretches xs m))

@@ -1,19 +1,22 @@
 -- A tree's instructions stand where they were listed.
 use Rattle.std.proofs.Common.{◌≡◌, ℕ, zero, suc, ◌+◌, Bool, true, false, List, [], ◌∷◌, ◌++◌, length, refl, sym, ◌∙◌, ap, subst, arith, length-append, Some, slice_get}
+use Rattle.std.specs.Prelude.{map}
+use Rattle.a68_builder.specs.Linking.{entrances_in, linked, linked_does}
 use Rattle.a68_code.specs.declared.code.Code.{Code}
 use Rattle.a68_code.specs.declared.code.Instr.{Instr}
 use Rattle.a68_code.specs.declared.code.RoutineEntrance.{RoutineEntrance}
 use Rattle.a68_code.specs.declared.does.Does.{Does}
 use Rattle.a68_code.specs.declared.does.Does.TheVariants as does
-use Rattle.a68_elab.specs.Trees.{Tree, Trees, operation, together, phrases, range, choice, cases, conformity, loop, call, unbuilt, no_trees, ◌and_tree◌, count, Specs, no_specs, spec, Test, no_test, while_in, depth_of, Body, Program}
-use Rattle.a68_gen.specs.Listing.{instr, limits, indexes, opens, leaves, size, sizes, spec_sizes, test_size, arm_places, spec_places, stretch, stretches, arm_stretches, spec_stretches, test_stretch, text_size, text_stretches, entrances, listing, entrances_of}
-use Rattle.a68_gen.specs.Fits.{Fits, AllFit, SpecsFit, TestFits, TextsFit}
-use Rattle.a68_gen.specs.Stretches.{does_of, leave, Has, Limits, Indexes, Opens, Leaves, Stands, StandAll, StandArms, StandSpecs, Tests, StandTexts, member_places, wholes_of, with_last, Translates}
-use Rattle.a68_gen.proofs.Sizes.{size_leaves, size_stretch, size_stretches, size_arms, size_specs, size_test}
+use Rattle.a68_elab.specs.Trees.{Tree, Trees, operation, together, phrases, range, choice, cases, conformity, loop, call, parallel, unbuilt, no_trees, ◌and_tree◌, count, Specs, no_specs, spec, Test, no_test, while_in, depth_of, Apart, routine_text, parallel_unit, Program}
+use Rattle.a68_gen.specs.Listing.{instr, limits, indexes, opens, leaves, size, sizes, spec_sizes, test_size, arm_places, spec_places, stretch, stretches, arm_stretches, spec_stretches, test_stretch, apart_stretch, apart_stretches, text_entrances, unit_entrances, written, texts_entered, units_entered}
+use Rattle.a68_gen.specs.Fits.{Fits, AllFit, SpecsFit, TestFits, ApartFits}
+use Rattle.a68_gen.specs.Stretches.{does_of, leave, Has, Limits, Indexes, Opens, Leaves, Stands, StandAll, StandArms, StandSpecs, Tests, StandApart, member_places, wholes_of, with_last, Translates}
+use Rattle.a68_gen.proofs.Entering.{are_entrances, get-map, map-long, unlinked}
+use Rattle.a68_gen.proofs.Sizes.{apart_sizes, size_apart, size_leaves, size_one, size_stretch, size_stretches, size_arms, size_specs, size_test}
 
--- the instructions stand in the code from a place on
+-- the instructions stand in the code from a place on, with the entrances of units in the place of their numbers
 pub record Holds (code : Code) (at : ℕ) (list : List Instr) : Type 0 where
-  pub each : (k : ℕ) (i : Instr) → slice_get list k ≡ Some i → slice_get code.list (at + k) ≡ Some i
+  pub each : (k : ℕ) (i : Instr) → slice_get list k ≡ Some i → slice_get code.list (at + k) ≡ Some (linked code.units i)
 
 pub get-front : {X : Type 0} (xs ys : List X) (k : ℕ) (x : X) → slice_get xs k ≡ Some x → slice_get (xs ++ ys) k ≡ Some x
 get-front [] ys k x p = absurd (cc)
@@ -39,7 +42,7 @@ holds-on {code = code} {at = at} n xs ys e h = subst (λ (k : ℕ). Holds code (
 pub holds-tail : {code : Code} {at : ℕ} (x : Instr) (xs : List Instr) → Holds code at (x ∷ xs) → Holds code (at + 1) xs
 holds-tail {code = code} {at = at} x xs h = record { each = λ k i p. let e : at + 1 + k ≡ at + suc k = omega arith in rw e (h.each (suc k) i p) }
 
-pub holds-head : {code : Code} {at : ℕ} (x : Instr) (xs : List Instr) → Holds code at (x ∷ xs) → slice_get code.list at ≡ Some x
+pub holds-head : {code : Code} {at : ℕ} (x : Instr) (xs : List Instr) → Holds code at (x ∷ xs) → slice_get code.list at ≡ Some (linked code.units x)
 holds-head {code = code} {at = at} x xs h = let e : at + 0 ≡ at = omega arith in rw e at (h.each 0 x refl)
 
 -- a stretch that ends at one place ends at an equal one
@@ -50,7 +53,7 @@ all_to_end : (code : Code) (gives : Bool) (trees : Trees) (a : ℕ) {b c : ℕ} 
 all_to_end code gives trees a e s = subst (λ z. StandAll code gives trees a z) e s
 
 -- one instruction at the front of what stands
-has : (code : Code) (place : ℕ) (d : Does) (at : ℕ) (xs : List Instr) → Holds code at (instr place d ∷ xs) → Has code place d at (at + 1)
+has : (code : Code) (place : ℕ) (d : Does) (at : ℕ) (xs : List Instr) → Holds code at (instr place d ∷ xs) → Has code place (linked_does code.units d) at (at + 1)
 has code place d at xs h = (holds-head (instr place d) xs h, refl)
 
 -- TO's own step
@@ -85,12 +88,21 @@ leave_stands code place (suc n) at h =
     (at + 1, has code place (does.Leave 0) at (leaves place n) h, subst (λ z. Leaves code place n (at + 1) z) e (leave_stands code place n (at + 1) (holds-tail {at = at} i (leaves place n) h)))
 
 mutual
-  pub stands : (code : Code) (gives : Bool) (tree : Tree) (at : ℕ) → Fits code.modes gives tree → Holds code at (stretch tree at) → Stands code gives tree at (at + size tree)
+  pub stands : (code : Code) (gives : Bool) (tree : Tree) (at : ℕ) → Fits code.modes (length code.units) gives tree → Holds code at (stretch tree at) → Stands code gives tree at (at + size tree)
   stands code gives (operation place op order parts) at f h =
       let ps = stretches parts at in
       let i = instr place (does_of op (count parts)) in
-      let e : at + sizes parts + 1 ≡ at + (sizes parts + 1) = omega arith in
-      (at + sizes parts, f.0, f.1, all_stand code true parts at f.2 (holds-front ps (i ∷ []) h), (holds-head i [] (holds-on (sizes parts) ps (i ∷ []) (size_stretches parts at) h), e))
+      let e : at + sizes parts + 1 ≡ at + (sizes parts + 1) = omega arith in (
+        at + sizes parts,
+        f.0,
+        f.1,
+        all_stand code true parts at f.2 (holds-front ps (i ∷ []) h),
+        (
+          holds-head i [] (holds-on (sizes parts) ps (i ∷ []) (size_stretches parts at) h)
+              ∙ ap (λ (d : Does). Some (instr place d)) (unlinked code.units op (count parts)),
+          e,
+        ),
+      )
   stands code gives (together parts) at f h = (f.0, all_stand code false parts at f.1 h)
   stands code gives (phrases place before final) at f h =
       let m = at + sizes before in
@@ -276,9 +288,11 @@ mutual
         all_stand code true (primary and_tree parts) at f.1 (holds-front ps (i ∷ []) h),
         (holds-head i [] (holds-on n ps (i ∷ []) (size_stretches (primary and_tree parts) at) h), e),
       )
+  stands code gives (parallel place numbers) at f h =
+      (entrances_in code.units numbers, f.0, f.1, are_entrances code.units numbers f.2, (holds-head (instr place (does.Fork numbers)) [] h, refl))
   stands code gives unbuilt at f h = absurd f
 
-  pub all_stand : (code : Code) (gives : Bool) (trees : Trees) (at : ℕ) → AllFit code.modes gives trees → Holds code at (stretches trees at) → StandAll code gives trees at (at + sizes trees)
+  pub all_stand : (code : Code) (gives : Bool) (trees : Trees) (at : ℕ) → AllFit code.modes (length code.units) gives trees → Holds code at (stretches trees at) → StandAll code gives trees at (at + sizes trees)
   all_stand code gives no_trees at f h = omega arith
   all_stand code gives (tree and_tree trees) at f h =
       let m = at + size tree in
@@ -289,7 +303,7 @@ mutual
         all_to_end code gives trees m e (all_stand code gives trees m f.1 (holds-on (size tree) first (stretches trees m) (size_stretch tree at) h)),
       )
 
-  arms_stand : (code : Code) (gives : Bool) (place e : ℕ) (trees : Trees) (at : ℕ) → AllFit code.modes gives trees → Holds code at (arm_stretches place e trees at)
+  arms_stand : (code : Code) (gives : Bool) (place e : ℕ) (trees : Trees) (at : ℕ) → AllFit code.modes (length code.units) gives trees → Holds code at (arm_stretches place e trees at)
       → StandArms code gives place e trees (arm_places trees at) at (at + sizes trees + count trees)
   arms_stand code gives place e no_trees at f h = omega arith
   arms_stand code gives place e (tree and_tree trees) at f h =
@@ -308,7 +322,7 @@ mutual
         subst (λ z. StandArms code gives place e trees (arm_places trees (m + 1)) (m + 1) z) end each,
       )
 
-  specs_stand : (code : Code) (gives yields : Bool) (place e : ℕ) (specs : Specs) (at : ℕ) → gives ≡ yields → SpecsFit code.modes gives specs
+  specs_stand : (code : Code) (gives yields : Bool) (place e : ℕ) (specs : Specs) (at : ℕ) → gives ≡ yields → SpecsFit code.modes (length code.units) gives specs
       → Holds code at (spec_stretches place e yields specs at) → StandSpecs code gives place e specs (spec_places specs at) at (at + spec_sizes specs)
   specs_stand code gives yields place e no_specs at eg f h = omega arith
   specs_stand code gives yields place e (spec takes true united part behind) at eg f h =
@@ -367,7 +381,7 @@ mutual
         subst (λ z. StandSpecs code gives place e behind (spec_places behind s) s z) end each,
       )
 
-  test_stands : (code : Code) (place f : ℕ) (test : Test) (at : ℕ) → TestFits code.modes test → Holds code at (test_stretch place f test at) → Tests code test place f at (at + test_size test)
+  test_stands : (code : Code) (place f : ℕ) (test : Test) (at : ℕ) → TestFits code.modes (length code.units) test → Holds code at (test_stretch place f test at) → Tests code test place f at (at + test_size test)
   test_stands code place f no_test at fit h = omega arith
   test_stands code place f (while_in begin slots test) at fit h =
       let open_ = opens slots begin in
@@ -385,66 +399,73 @@ mutual
       )
 
 -- a list that is all of the code stands from its first place on
-holds-all : (code : Code) (list : List Instr) → code.list ≡ list → Holds code 0 list
-holds-all code list e = record { each = λ k i p. let z : 0 + k ≡ k = omega arith in rw (z, e) p }
+holds-all : (code : Code) (list : List Instr) → code.list ≡ map (linked code.units) list → Holds code 0 list
+holds-all code list e = record { each = λ k i p. let z : 0 + k ≡ k = omega arith in rw (z, e) (get-map (linked code.units) list k i p) }
 
--- how many instructions routine texts become
-abbrev text_sizes : List Body → ℕ
-text_sizes [] = 0
-text_sizes (body ∷ bodies) = text_size body + text_sizes bodies
-
-size_texts : (bodies : List Body) (at : ℕ) → length (text_stretches bodies at) ≡ text_sizes bodies
-size_texts [] at = refl
-size_texts (body ∷ bodies) at =
+-- what stands apart stands behind one another
+apart_stands : (code : Code) (xs : List Apart) (at : ℕ) → ApartFits code.modes (length code.units) xs → Holds code at (apart_stretches xs at)
+    → StandApart code xs (text_entrances xs at) (unit_entrances xs at) at (at + apart_sizes xs)
+apart_stands code [] at f h = omega arith
+apart_stands code (routine_text body ∷ more) at f h =
+    let k = size body.tree in
+    let n = at + (k + 1) in
+    let x = routine_text body in
     let first = stretch body.tree at in
-    let behind = text_stretches bodies (at + text_size body) in
-    let s = size_stretch body.tree at in
-    let rest = size_texts bodies (at + text_size body) in
-    omega (arith, length-append first (instr body.place does.Return ∷ behind))
-
--- the routine texts stand behind one another
-texts_stand : (code : Code) (bodies : List Body) (at : ℕ) → TextsFit code.modes bodies → Holds code at (text_stretches bodies at) → StandTexts code bodies (entrances bodies at) at (at + text_sizes bodies)
-texts_stand code [] at f h = omega arith
-texts_stand code (body ∷ bodies) at f h =
-    let m = at + size body.tree in
-    let n = at + text_size body in
-    let first = stretch body.tree at in
-    let return = instr body.place does.Return in
-    let rest = text_stretches bodies n in
-    let h1 = holds-on {at = at} (size body.tree) first (return ∷ rest) (size_stretch body.tree at) h in
-    let e : m + 1 ≡ n = omega arith in
-    let h2 : Holds code n rest = subst (λ (z : ℕ). Holds code z rest) e (holds-tail {at = m} return rest h1) in
-    let end : n + text_sizes bodies ≡ at + (text_size body + text_sizes bodies) = omega arith in (
-      m,
+    let last = instr body.place does.Return in
+    let rest = apart_stretches more n in
+    let h1 = holds-front (apart_stretch x at) rest h in
+    let h2 = holds-on {at = at} (k + 1) (apart_stretch x at) rest (size_one x at) h in
+    let e : at + k + 1 ≡ n = omega arith in
+    let end : n + apart_sizes more ≡ at + (k + 1 + apart_sizes more) = omega arith in (
+      at + k,
       n,
       refl,
-      stands code body.yields body.tree at f.0 (holds-front first (return ∷ rest) h),
-      (holds-head {at = m} return rest h1, e),
-      subst (λ (z : ℕ). StandTexts code bodies (entrances bodies n) n z) end (texts_stand code bodies n f.1 h2),
+      stands code body.yields body.tree at f.0 (holds-front first (last ∷ []) h1),
+      (holds-head last [] (holds-on k first (last ∷ []) (size_stretch body.tree at) h1), e),
+      subst (λ (z : ℕ). StandApart code more (text_entrances more n) (unit_entrances more n) n z) end (apart_stands code more n f.1 h2),
+    )
+apart_stands code (parallel_unit unit ∷ more) at f h =
+    let k = size unit.tree in
+    let n = at + (k + 1) in
+    let x = parallel_unit unit in
+    let first = stretch unit.tree at in
+    let last = instr unit.place does.Close in
+    let rest = apart_stretches more n in
+    let h1 = holds-front (apart_stretch x at) rest h in
+    let h2 = holds-on {at = at} (k + 1) (apart_stretch x at) rest (size_one x at) h in
+    let e : at + k + 1 ≡ n = omega arith in
+    let end : n + apart_sizes more ≡ at + (k + 1 + apart_sizes more) = omega arith in (
+      at + k,
+      n,
+      refl,
+      stands code false unit.tree at f.0 (holds-front first (last ∷ []) h1),
+      (holds-head last [] (holds-on k first (last ∷ []) (size_stretch unit.tree at) h1), e),
+      subst (λ (z : ℕ). StandApart code more (text_entrances more n) (unit_entrances more n) n z) end (apart_stands code more n f.1 h2),
     )
 
 -- code that is the listing of a program whose parts fit translates it
-pub translated : (program : Program) (code : Code) → code.list ≡ listing program → code.texts ≡ entrances_of program → code.modes ≡ program.modes
-    → Fits program.modes false program.tree → TextsFit program.modes program.texts → Translates program code
-translated program code listed texts modes fits all_fit =
+pub translated : (program : Program) (code : Code) → code.list ≡ map (linked code.units) (written program) → code.texts ≡ texts_entered program → code.units ≡ units_entered program
+    → code.modes ≡ program.modes → Fits code.modes (length code.units) false program.tree → ApartFits code.modes (length code.units) program.apart → Translates program code
+translated program code listed texts units modes fits all_fit =
     let list = stretch program.tree 0 in
     let i = instr program.place does.End in
     let n = size program.tree in
-    let rest = text_stretches program.texts (n + 1) in
+    let rest = apart_stretches program.apart (n + 1) in
     let h = holds-all code (list ++ i ∷ rest) listed in
     let zero_end : 0 + n ≡ n = omega arith in
     let h1 : Holds code n (i ∷ rest) = subst (λ (z : ℕ). Holds code z (i ∷ rest)) zero_end (holds-on n list (i ∷ rest) (size_stretch program.tree 0) h) in
-    let fit : Fits code.modes false program.tree = subst (λ m. Fits m false program.tree) (sym modes) fits in
-    let texts_fit : TextsFit code.modes program.texts = subst (λ m. TextsFit m program.texts) (sym modes) all_fit in
     let long = size_stretch program.tree 0 in
-    let long_texts = size_texts program.texts (n + 1) in
+    let long_apart = size_apart program.apart (n + 1) in
     let front = length-append list (i ∷ rest) in
+    let end = n + 1 + apart_sizes program.apart in
+    let stand = apart_stands code program.apart (n + 1) all_fit (holds-tail {at = n} i rest h1) in
+    let by_texts = subst (λ (es : List RoutineEntrance). StandApart code program.apart es (units_entered program) (n + 1) end) (sym texts) stand in
     record {
       end = n;
-      last = n + 1 + text_sizes program.texts;
-      stands = to_end code false program.tree 0 zero_end (stands code false program.tree 0 fit (holds-front list (i ∷ rest) h));
+      last = end;
+      stands = to_end code false program.tree 0 zero_end (stands code false program.tree 0 fits (holds-front list (i ∷ rest) h));
       ends = (holds-head {at = n} i rest h1, refl);
-      texts = subst (λ (es : List RoutineEntrance). StandTexts code program.texts es (n + 1) (n + 1 + text_sizes program.texts)) (sym texts) (texts_stand code program.texts (n + 1) texts_fit (holds-tail {at = n} i rest h1));
-      no_more = ap (λ (l : List Instr). length l) listed ∙ omega (arith, front, long, long_texts);
+      apart = subst (λ (us : List ℕ). StandApart code program.apart code.texts us (n + 1) end) (sym units) by_texts;
+      no_more = ap (λ (l : List Instr). length l) listed ∙ map-long (linked code.units) (list ++ i ∷ rest) ∙ omega (arith, front, long, long_apart);
       modes = modes;
     }

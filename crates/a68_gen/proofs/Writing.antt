@@ -113,6 +113,8 @@ names_none (does.Case []) which to e = refl
 names_none (does.Case (p ∷ ps)) which to e = absurd (omega arith)
 names_none (does.Member mode [] whole) which to e = refl
 names_none (does.Member mode (p ∷ ps) whole) which to e = absurd (omega arith)
+names_none (does.Fork []) which to e = refl
+names_none (does.Fork (p ∷ ps)) which to e = absurd (omega arith)
 names_none _ which to e = refl
 
 -- an instruction that names no place stays as it is

@@ -1,10 +1,11 @@
 -- The code of a program: the instructions of each construct, in order.
-use Rattle.std.specs.Prelude.{ℕ, zero, suc, Bool, true, false, ◌+◌, List, [], ◌∷◌, ◌++◌, length, if◌then◌else◌}
+use Rattle.std.specs.Prelude.{ℕ, zero, suc, Bool, true, false, ◌+◌, List, [], ◌∷◌, ◌++◌, length, map, if◌then◌else◌}
+use Rattle.a68_builder.specs.Linking.{linked}
 use Rattle.a68_code.specs.declared.code.Instr.{Instr}
 use Rattle.a68_code.specs.declared.code.RoutineEntrance.{RoutineEntrance}
 use Rattle.a68_code.specs.declared.does.Does.{Does}
 use Rattle.a68_code.specs.declared.does.Does.TheVariants as does
-use Rattle.a68_elab.specs.Trees.{Tree, Trees, operation, together, phrases, range, choice, cases, conformity, loop, call, unbuilt, no_trees, ◌and_tree◌, count, Specs, no_specs, spec, Test, no_test, while_in, depth_of, Body, Program}
+use Rattle.a68_elab.specs.Trees.{Tree, Trees, operation, together, phrases, range, choice, cases, conformity, loop, call, parallel, unbuilt, no_trees, ◌and_tree◌, count, Specs, no_specs, spec, Test, no_test, while_in, depth_of, Apart, routine_text, parallel_unit, Program}
 use Rattle.a68_gen.specs.Stretches.{does_of, leave, member_places, wholes_of, with_last}
 
 -- an instruction keeps the place of its construct
@@ -45,6 +46,7 @@ abbrev mutual
       sizes controls + length (limits limited place) + 3 + length (indexes counts place) + test_size test + size body + depth_of counts test + 2 + depth_of counts test + 1
   size (call place yields no_trees) = 0
   size (call place yields (primary and_tree parts)) = sizes (primary and_tree parts) + 1
+  size (parallel place numbers) = 1
   size unbuilt = 0
 
   pub sizes : Trees → ℕ
@@ -70,7 +72,8 @@ abbrev pub spec_places : Specs → (at : ℕ) → List ℕ
 spec_places no_specs at = []
 spec_places (spec takes tagged united part behind) at = at ∷ spec_places behind (at + ((if tagged then 3 else 1) + size part + 1))
 
--- the instructions of a tree, where the first of them is number `at`
+-- The instructions of a tree, where the first of them is number `at`. Units of parallel clauses are named by their numbers,
+-- since it is not known yet where they begin.
 abbrev mutual
   pub stretch : Tree → (at : ℕ) → List Instr
   -- the parts, and then the instruction of the operation, which takes their values
@@ -111,6 +114,8 @@ abbrev mutual
   -- the routine, its parameters, and Call
   stretch (call place yields no_trees) at = []
   stretch (call place yields (primary and_tree parts)) at = stretches (primary and_tree parts) at ++ instr place (does.Call (count parts) yields) ∷ []
+  -- Fork, which names the units by their numbers
+  stretch (parallel place numbers) at = instr place (does.Fork numbers) ∷ []
   -- what is not built has none
   stretch unbuilt at = []
 
@@ -138,26 +143,47 @@ abbrev mutual
   test_stretch place f no_test at = []
   test_stretch place f (while_in begin slots test) at = opens slots begin ++ (stretch test (at + length (opens slots begin)) ++ instr place (does.Unless f) ∷ [])
 
--- ---- routine texts
+-- ---- what stands apart
 
--- how many instructions a routine text becomes: its body, and Return
-abbrev pub text_size : Body → ℕ
-text_size body = size body.tree + 1
+-- how many instructions it becomes: a routine text its body and Return, a unit itself and Close
+abbrev pub apart_size : Apart → ℕ
+apart_size (routine_text body) = size body.tree + 1
+apart_size (parallel_unit unit) = size unit.tree + 1
 
--- those of routine texts, one behind the other
-abbrev pub text_stretches : List Body → (at : ℕ) → List Instr
-text_stretches [] at = []
-text_stretches (body ∷ bodies) at = stretch body.tree at ++ (instr body.place does.Return ∷ text_stretches bodies (at + text_size body))
+-- the instructions of one
+abbrev pub apart_stretch : Apart → (at : ℕ) → List Instr
+apart_stretch (routine_text body) at = stretch body.tree at ++ instr body.place does.Return ∷ []
+apart_stretch (parallel_unit unit) at = stretch unit.tree at ++ instr unit.place does.Close ∷ []
 
--- and where each begins
-abbrev pub entrances : List Body → (at : ℕ) → List RoutineEntrance
-entrances [] at = []
-entrances (body ∷ bodies) at = record { at = at; yields = body.yields } ∷ entrances bodies (at + text_size body)
+-- those of all, one behind the other
+abbrev pub apart_stretches : List Apart → (at : ℕ) → List Instr
+apart_stretches [] at = []
+apart_stretches (x ∷ xs) at = apart_stretch x at ++ apart_stretches xs (at + apart_size x)
 
--- the instructions of a program, which yields nothing, End behind them, and those of its routine texts
+-- and where each routine text and each unit begins
+abbrev pub text_entrances : List Apart → (at : ℕ) → List RoutineEntrance
+text_entrances [] at = []
+text_entrances (routine_text body ∷ more) at = record { at = at; yields = body.yields } ∷ text_entrances more (at + (size body.tree + 1))
+text_entrances (parallel_unit unit ∷ more) at = text_entrances more (at + (size unit.tree + 1))
+
+abbrev pub unit_entrances : List Apart → (at : ℕ) → List ℕ
+unit_entrances [] at = []
+unit_entrances (routine_text body ∷ more) at = unit_entrances more (at + (size body.tree + 1))
+unit_entrances (parallel_unit unit ∷ more) at = at ∷ unit_entrances more (at + (size unit.tree + 1))
+
+-- ---- programs
+
+-- the instructions of a program, which yields nothing, End behind them, and those of what stands apart
+abbrev pub written : Program → List Instr
+written program = stretch program.tree 0 ++ (instr program.place does.End ∷ apart_stretches program.apart (size program.tree + 1))
+
+-- the entrances of its routine texts, and of its units
+abbrev pub texts_entered : Program → List RoutineEntrance
+texts_entered program = text_entrances program.apart (size program.tree + 1)
+
+abbrev pub units_entered : Program → List ℕ
+units_entered program = unit_entrances program.apart (size program.tree + 1)
+
+-- the instructions with the entrances of units in the place of their numbers
 abbrev pub listing : Program → List Instr
-listing program = stretch program.tree 0 ++ (instr program.place does.End ∷ text_stretches program.texts (size program.tree + 1))
-
--- the entrances of its routine texts
-abbrev pub entrances_of : Program → List RoutineEntrance
-entrances_of program = entrances program.texts (size program.tree + 1)
+listing program = map (linked (units_entered program)) (written program)

@@ -2,12 +2,12 @@
 -- Trees whose operations have operands that the instructions may have.
 use Rattle.std.specs.Prelude.{⊤, ℕ, IsTrue, List, [], ◌∷◌, length, nat_lt}
 use Rattle.a68_code.specs.Operands.{is_well_made}
-use Rattle.a68_elab.specs.Trees.{Tree, Trees, operation, together, phrases, range, choice, cases, conformity, loop, call, unbuilt, Specs, no_specs, spec, Test, no_test, while_in, no_trees, ◌and_tree◌, count, Body}
+use Rattle.a68_elab.specs.Trees.{Tree, Trees, operation, together, phrases, range, choice, cases, conformity, loop, call, parallel, unbuilt, Specs, no_specs, spec, Test, no_test, while_in, no_trees, ◌and_tree◌, count, Apart, routine_text, parallel_unit}
 use Rattle.a68_gen.specs.Stretches.{does_of}
 use Rattle.a68_modes.specs.declared.shape.Shape.{Shape}
 
--- The instruction of each operation in the tree is well made. No such instruction names a place, so it does not matter
--- how many instructions there are.
+-- The instruction of each operation in the tree is well made. No such instruction names a place, so it does not matter how
+-- many instructions there are.
 abbrev mutual
   pub FitsModes : List Shape → (texts : ℕ) → Tree → Type 0
   FitsModes modes texts (operation place op order parts) = IsTrue (is_well_made modes texts 0 (does_of op (count parts))) × FitAll modes texts parts
@@ -20,6 +20,7 @@ abbrev mutual
       IsTrue (nat_lt union (length modes)) × FitsModes modes texts enquiry × SpecsFitModes modes texts specs × FitsModes modes texts out
   FitsModes modes texts (loop place controls limited counts test body) = FitAll modes texts controls × TestFitsModes modes texts test × FitsModes modes texts body
   FitsModes modes texts (call place yields parts) = FitAll modes texts parts
+  FitsModes modes texts (parallel place numbers) = ⊤
   FitsModes modes texts unbuilt = ⊥
 
   pub FitAll : List Shape → (texts : ℕ) → Trees → Type 0
@@ -34,7 +35,8 @@ abbrev mutual
   TestFitsModes modes texts no_test = ⊤
   TestFitsModes modes texts (while_in at slots test) = FitsModes modes texts test
 
--- and so have those in the bodies of routine texts
-abbrev pub TextsFitModes : List Shape → (texts : ℕ) → List Body → Type 0
-TextsFitModes modes texts [] = ⊤
-TextsFitModes modes texts (body ∷ bodies) = FitsModes modes texts body.tree × TextsFitModes modes texts bodies
+-- and so have those in the bodies of routine texts, and in units
+abbrev pub ApartFitsModes : List Shape → (texts : ℕ) → List Apart → Type 0
+ApartFitsModes modes texts [] = ⊤
+ApartFitsModes modes texts (routine_text body ∷ more) = FitsModes modes texts body.tree × ApartFitsModes modes texts more
+ApartFitsModes modes texts (parallel_unit unit ∷ more) = FitsModes modes texts unit.tree × ApartFitsModes modes texts more

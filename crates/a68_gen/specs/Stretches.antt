@@ -1,5 +1,5 @@
 -- Translation: which instructions a construct becomes, and where they stand.
-use Rattle.std.specs.Prelude.{◌≡◌, ℕ, zero, suc, ◌+◌, Bool, true, false, List, [], ◌∷◌, length, Some, slice_get, if◌then◌else◌}
+use Rattle.std.specs.Prelude.{◌≡◌, ◌≤◌, ℕ, zero, suc, ◌+◌, Bool, true, false, List, [], ◌∷◌, length, map, Some, slice_get, if◌then◌else◌}
 use Rattle.a68_acts.specs.Operations.{Operation, constant, skip, nil, routine, tag, make, heap, bind, deref, store, apply, same, slice, display, vacuum, compose, select, unite, row_up, row_up_name, widen, drop, print, whole, leaves}
 use Rattle.a68_acts.specs.Members.{members_of}
 use Rattle.a68_code.specs.Flow.{takes, one_if}
@@ -9,7 +9,7 @@ use Rattle.a68_code.specs.declared.does.Does.{Does}
 use Rattle.a68_code.specs.declared.does.Does.TheVariants as does
 use Rattle.a68_elab.specs.Rows.{is_among}
 use Rattle.a68_modes.specs.Nodes.{shape_at}
-use Rattle.a68_elab.specs.Trees.{Tree, Trees, operation, together, phrases, range, choice, cases, conformity, loop, call, unbuilt, no_trees, ◌and_tree◌, count, Specs, no_specs, spec, Test, no_test, while_in, depth_of, Body, Program}
+use Rattle.a68_elab.specs.Trees.{Tree, Trees, operation, together, phrases, range, choice, cases, conformity, loop, call, parallel, unbuilt, no_trees, ◌and_tree◌, count, Specs, no_specs, spec, Test, no_test, while_in, depth_of, Apart, routine_text, parallel_unit, Program}
 
 -- the instruction of an operation on so many values
 abbrev pub does_of : Operation → ℕ → Does
@@ -90,6 +90,10 @@ abbrev pub wholes_of : List ℕ → Specs → List ℕ
 wholes_of [] specs = []
 wholes_of (m ∷ ms) specs = whole_for m specs ∷ wholes_of ms specs
 
+-- these are the entrances of the units of these numbers
+abbrev pub AreEntrances : (units numbers entrances : List ℕ) → Type 0
+AreEntrances units numbers entrances = map (λ n. slice_get units n) numbers ≡ map (λ e. Some e) entrances
+
 -- The stretch of a tree stands from a up to b. It leaves a value or none, as `gives` says.
 abbrev mutual
   pub Stands : Code → (gives : Bool) → Tree → (a b : ℕ) → Type 0
@@ -129,6 +133,9 @@ abbrev mutual
   Stands code gives (call place yields no_trees) a b = ⊥
   Stands code gives (call place yields (primary and_tree parts)) a b =
       (m : ℕ) × (gives ≡ yields) × StandAll code true (primary and_tree parts) a m × Has code place (does.Call (count parts) yields) m b
+  -- Fork, which names the entrances of the units; these stand apart
+  Stands code gives (parallel place numbers) a b =
+      (entrances : List ℕ) × (gives ≡ false) × (2 ≤ length numbers) × AreEntrances code.units numbers entrances × Has code place (does.Fork entrances) a b
   -- what is not built stands nowhere
   Stands code gives unbuilt a b = ⊥
 
@@ -160,20 +167,24 @@ abbrev mutual
   Tests code no_test place f a b = a ≡ b
   Tests code (while_in at slots test) place f a b = (m n : ℕ) × Opens code slots at a m × Stands code true test m n × Has code place (does.Unless f) n b
 
--- the routine texts one behind the other, each at its entrance, with Return behind its body
-abbrev pub StandTexts : Code → List Body → List RoutineEntrance → (a b : ℕ) → Type 0
-StandTexts code [] [] a b = a ≡ b
-StandTexts code (body ∷ bodies) (e ∷ es) a b =
-    (m n : ℕ) × (e ≡ record { at = a; yields = body.yields }) × Stands code body.yields body.tree a m × Has code body.place does.Return m n × StandTexts code bodies es n b
-StandTexts code _ _ a b = ⊥
+-- What stands apart, one stretch behind the other: a routine text at its entrance, with Return behind its body, and a unit
+-- of a parallel clause, which yields nothing, at its entrance, with Close behind it.
+abbrev pub StandApart : Code → List Apart → (texts : List RoutineEntrance) → (units : List ℕ) → (a b : ℕ) → Type 0
+StandApart code [] [] [] a b = a ≡ b
+StandApart code (routine_text body ∷ more) (e ∷ es) us a b =
+    (m n : ℕ) × (e ≡ record { at = a; yields = body.yields }) × Stands code body.yields body.tree a m × Has code body.place does.Return m n
+    × StandApart code more es us n b
+StandApart code (parallel_unit unit ∷ more) es (u ∷ us) a b =
+    (m n : ℕ) × (u ≡ a) × Stands code false unit.tree a m × Has code unit.place does.Close m n × StandApart code more es us n b
+StandApart code _ _ _ a b = ⊥
 
--- The code is the stretch of the program, which yields nothing, End behind it, the routine texts behind that, and no more;
+-- The code is the stretch of the program, which yields nothing, End behind it, what stands apart behind that, and no more;
 -- its modes are those of the program.
 pub record Translates (program : Program) (code : Code) : Type 0 where
   pub end : ℕ
   pub last : ℕ
   pub stands : Stands code false program.tree 0 end
   pub ends : Has code program.place does.End end (end + 1)
-  pub texts : StandTexts code program.texts code.texts (end + 1) last
+  pub apart : StandApart code program.apart code.texts code.units (end + 1) last
   pub no_more : length code.list ≡ last
   pub modes : code.modes ≡ program.modes

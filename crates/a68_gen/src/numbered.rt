@@ -1,11 +1,13 @@
-//! The numbers of routine texts.
+//! The numbers of routine texts and of units of parallel clauses.
 ghost use Rattle.std.specs.Option.{option_map};
-ghost use Rattle.std.specs.Prelude.{◌≡◌, ◌<◌, ◌≤◌, [], suc, max, length, slice_get, Some, IfOk};
+ghost use Rattle.std.specs.Prelude.{◌≡◌, ◌<◌, ◌≤◌, ◌++◌, ◌+◌, [], suc, max, map, length, slice_get, Some, IfOk, OnOk};
 ghost use Rattle.a68_elab.specs.Made as made;
-ghost use Rattle.a68_gen.specs.Texts.{AreFirsts, AreNumbered};
+ghost use Rattle.a68_gen.specs.Texts as texts;
+ghost use Rattle.a68_gen.specs.Texts.{AreFirsts, AreFirstUnits, AreInside, AreNumbered};
 ghost use Rattle.a68_modes.specs.Nodes.{shape_at, is_void};
 ghost use Rattle.a68_tree.specs.Trees.{AllBetween};
 
+use crate::entered::{Entered, UnitNode};
 use a68_annot::{Annotated, Note};
 use a68_base::NoMemory;
 use a68_modes::{ModeId, Modes};
@@ -13,13 +15,14 @@ use a68_tree::{Node, NodeId, NodeKind};
 use std::alloc::Global;
 use std::marker::Model;
 
-/// An annotated tree whose routine texts are numbered in order of text. The numbers are kept by the bytes at which
-/// routine texts begin, so that each is found at once.
+/// An annotated tree whose routine texts and units of parallel clauses are numbered in order of text. The numbers are
+/// kept by the bytes at which these begin, so that each is found at once.
 #[derive(Drop)]
 pub struct Numbered<'a> {
     program: &'a Annotated,
-    texts: Vec<NodeId>,
-    numbers: Vec<u32>,
+    apart: Vec<Entered>,
+    texts: Vec<u32>,
+    units: Vec<u32>,
 }
 
 impl<'a> Model for Numbered<'a> {
@@ -33,7 +36,7 @@ impl<'a> Model for Numbered<'a> {
 
     ghost view = { λ numbered. numbered.program.now };
 
-    ghost invariant = { λ numbered. AreNumbered numbered.program.now numbered.texts.items numbered.numbers.items };
+    ghost invariant = { λ numbered. AreNumbered numbered.program.now numbered.apart.items numbered.texts.items numbered.units.items };
 }
 
 // The byte behind that at which a node begins, or one that is behind it already.
@@ -67,6 +70,13 @@ fn is_routine_text(node: &Node) -> bool
     matches!(node.kind, NodeKind::RoutineText)
 }
 
+// Is it a parallel clause?
+fn is_parallel(node: &Node) -> bool
+    ensures { result ≡ made.is_parallel node.now.kind }
+{
+    matches!(node.kind, NodeKind::Parallel)
+}
+
 // The first routine text that begins at each byte: of several the one with the least number, which is the outermost.
 fn first_texts(alloc: Global, program: &Annotated) -> Result<Vec<Option<NodeId>>, NoMemory>
     ensures firsts { IfOk result (λ table. AreFirsts program.now 0 table.items) }
@@ -84,41 +94,137 @@ fn first_texts(alloc: Global, program: &Annotated) -> Result<Vec<Option<NodeId>>
     Ok(table)
 }
 
-// Goes over all bytes, and keeps the routine texts, and how many of them begin before each byte.
-fn number_texts(
+// Notes these units of a parallel clause in front of those of the nodes behind it, each where it begins.
+fn note_all(
     program: &Annotated,
-    firsts: &[Option<NodeId>],
-    texts: &mut Vec<NodeId>,
-    numbers: &mut Vec<u32>,
-) -> Result<(), NoMemory>
-    requires firsts { AreFirsts program.now 0 firsts.now }
-    requires few { length firsts.now ≤ 4294967296 }
-    requires no_texts { texts.old.items ≡ [] }
-    requires no_numbers { numbers.old.items ≡ [] }
-    ensures { IfOk result (λ _. AreNumbered program.now texts.new.items numbers.new.items) }
+    id: NodeId,
+    place: u32,
+    parts: &[NodeId],
+    table: &mut [Option<UnitNode>],
+)
+    requires between { AllBetween id (length program.now.tree.nodes) parts.now }
+    requires behind { AreFirstUnits program.now 0 [] (id + 1) table.old }
+    ensures { AreFirstUnits program.now place parts.now (id + 1) table.new }
 {
-    for first in firsts {
-        numbers.push(texts.len() as u32)?;
-        if let Some(id) = first {
-            texts.push(*id)?;
-        }
+    let mut left = parts.len();
+    while left > 0 {
+        left -= 1;
+        let part = parts[left];
+        let from = program.tree.node(part).span.from;
+        table[from as usize] = Some(UnitNode { place, id: part });
+    }
+}
+
+// Notes the units of a node, where it is a parallel clause, in front of those of the nodes behind it.
+fn note_units(program: &Annotated, id: NodeId, table: &mut [Option<UnitNode>])
+    requires there { id < length program.now.tree.nodes }
+    requires behind { AreFirstUnits program.now 0 [] (id + 1) table.old }
+    ensures { AreFirstUnits program.now 0 [] id table.new }
+{
+    let node = program.tree.node(id);
+    if is_parallel(node) {
+        note_all(program, id, node.span.from, program.tree.parts(id), table);
+    }
+}
+
+// The first unit of a parallel clause that begins at each byte.
+fn first_units(alloc: Global, program: &Annotated) -> Result<Vec<Option<UnitNode>>, NoMemory>
+    ensures { IfOk result (λ table. AreFirstUnits program.now 0 [] 0 table.items) }
+{
+    let mut table = vec![in alloc; None; behind_all(program)]?;
+    let mut left = program.tree.len();
+    while left > 0 {
+        left -= 1;
+        note_units(program, left, &mut table);
+    }
+    Ok(table)
+}
+
+// Keeps a routine text, if there is one, and counts it.
+fn keep_text(
+    apart: &mut Vec<Entered>,
+    count: usize,
+    first: Option<NodeId>,
+) -> Result<usize, NoMemory>
+    requires { count < 4294967296 }
+    ensures count { IfOk result (λ next. next ≡ count + length (texts.listed first)) }
+    ensures kept { OnOk result (apart.new.items ≡ apart.old.items ++ texts.entered_text first) }
+{
+    let Some(id) = first else {
+        return Ok(count);
+    };
+    apart.push(Entered::Text(id))?;
+    Ok(count + 1)
+}
+
+// Keeps a unit of a parallel clause, if there is one, and counts it.
+fn keep_unit(
+    apart: &mut Vec<Entered>,
+    count: usize,
+    first: Option<UnitNode>,
+) -> Result<usize, NoMemory>
+    requires { count < 4294967296 }
+    ensures count { IfOk result (λ next. next ≡ count + length (texts.listed_unit first)) }
+    ensures kept { OnOk result (apart.new.items ≡ apart.old.items ++ texts.entered_unit first) }
+{
+    let Some(unit) = first else {
+        return Ok(count);
+    };
+    apart.push(Entered::Unit(unit))?;
+    Ok(count + 1)
+}
+
+// Goes over all bytes, and keeps what stands apart, and how many routine texts and units begin before each byte.
+fn number_apart(
+    program: &Annotated,
+    first_texts: &[Option<NodeId>],
+    first_units: &[Option<UnitNode>],
+    apart: &mut Vec<Entered>,
+    texts: &mut Vec<u32>,
+    units: &mut Vec<u32>,
+) -> Result<(), NoMemory>
+    requires first_texts { AreFirsts program.now 0 first_texts.now }
+    requires first_units { AreFirstUnits program.now 0 [] 0 first_units.now }
+    requires few { length first_texts.now ≤ 4294967296 }
+    requires none { apart.old.items ≡ [] }
+    requires no_texts { texts.old.items ≡ [] }
+    requires no_units { units.old.items ≡ [] }
+    ensures { OnOk result (AreNumbered program.now apart.new.items texts.new.items units.new.items) }
+{
+    let mut text_count = 0;
+    let mut unit_count = 0;
+    for byte in 0..first_texts.len() {
+        texts.push(text_count as u32)?;
+        units.push(unit_count as u32)?;
+        unit_count = keep_unit(apart, unit_count, first_units[byte])?;
+        text_count = keep_text(apart, text_count, first_texts[byte])?;
     }
     Ok(())
 }
 
 impl<'a> Numbered<'a> {
-    /// An annotated tree with its routine texts numbered.
+    /// An annotated tree with its routine texts and units numbered.
     pub fn new(alloc: Global, program: &'a Annotated) -> Result<Numbered<'a>, NoMemory>
         ensures { IfOk result (λ numbered. numbered ≡ program.now) }
     {
-        let firsts = first_texts(alloc, program)?;
+        let first_texts = first_texts(alloc, program)?;
+        let first_units = first_units(alloc, program)?;
+        let mut apart = Vec::new(alloc);
         let mut texts = Vec::new(alloc);
-        let mut numbers = Vec::new(alloc);
-        number_texts(program, &firsts, &mut texts, &mut numbers)?;
+        let mut units = Vec::new(alloc);
+        number_apart(
+            program,
+            &first_texts,
+            &first_units,
+            &mut apart,
+            &mut texts,
+            &mut units,
+        )?;
         Ok(Numbered {
             program,
+            apart,
             texts,
-            numbers,
+            units,
         })
     }
 
@@ -185,11 +291,12 @@ impl<'a> Numbered<'a> {
         self.program.modes.is_void(mode)
     }
 
-    /// All routine texts, in order of text.
-    pub fn texts(&self) -> &[NodeId]
-        ensures { result.now ≡ made.texts_in self.now }
+    /// All routine texts and all units of parallel clauses, in order of text.
+    pub fn apart(&self) -> &[Entered]
+        ensures are { map (texts.apart_of self.now) result.now ≡ (made.program_of self.now).apart }
+        ensures inside { AreInside (length self.now.tree.nodes) result.now }
     {
-        &self.texts
+        &self.apart
     }
 
     /// The number of the routine text that begins at a byte: how many begin before it.
@@ -197,6 +304,14 @@ impl<'a> Numbered<'a> {
         requires { byte < made.behind_all self.now.tree.nodes }
         ensures { result ≡ made.text_number self.now byte }
     {
-        self.numbers[byte as usize]
+        self.texts[byte as usize]
+    }
+
+    /// The number of the unit that begins at a byte: how many begin before it.
+    pub fn unit_number(&self, byte: u32) -> u32
+        requires { byte < made.behind_all self.now.tree.nodes }
+        ensures { result ≡ made.unit_number self.now byte }
+    {
+        self.units[byte as usize]
     }
 }

@@ -15,6 +15,7 @@ use crate::choices::{case, conditional};
 use crate::coerce::{are_built, coerce};
 use crate::conformity::conformity;
 use crate::names::{generator, variable};
+use crate::parallel::parallel;
 use crate::parts::{collateral, selection, slice};
 use crate::single::{denotation, leave, nothing, same, store, tag, unbuilt};
 use crate::turns::repeat;
@@ -114,6 +115,7 @@ fn construct(alloc: Global, program: &View, id: NodeId, node: &Node, note: &Note
         NodeKind::Case => case(alloc, program, id, parts, place, note.goal, out),
         NodeKind::Conformity => conformity(alloc, program, id, parts, place, note.goal, out),
         NodeKind::Loop => repeat(alloc, program, id, parts, place, out),
+        NodeKind::Parallel => parallel(alloc, program, id, parts, place, out),
         _ => unbuilt(out),
     }
 }

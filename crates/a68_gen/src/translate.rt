@@ -7,14 +7,15 @@ ghost use Rattle.a68_base.specs.declared.refusal.Stop.TheVariants.{Refused};
 ghost use Rattle.a68_code.specs.declared.code.Code.{Code};
 ghost use Rattle.a68_code.specs.declared.code.Instr.{Instr};
 ghost use Rattle.a68_code.specs.Valid.{IsValid};
-ghost use Rattle.a68_elab.specs.Made.{body_of, last_id, parts_at, program_of, texts_in};
+ghost use Rattle.a68_elab.specs.Made.{body_of, last_id, parallel_unit_of, parts_at, program_of, texts_in, units_in};
 ghost use Rattle.a68_elab.specs.Places.{ProgramBeginsBy};
-ghost use Rattle.a68_elab.specs.Trees.{Program};
-ghost use Rattle.a68_gen.specs.Fits.{Fits, TextsFit};
-ghost use Rattle.a68_gen.specs.Listing.{entrances, entrances_of, instr, listing, stretch, text_stretches};
-ghost use Rattle.a68_gen.specs.Operands.{FitsModes, TextsFitModes};
+ghost use Rattle.a68_elab.specs.Trees.{Program, routine_text, parallel_unit};
+ghost use Rattle.a68_gen.specs.Fits.{Fits, ApartFits};
+ghost use Rattle.a68_gen.specs.Listing.{apart_stretch, apart_stretches, instr, listing, stretch, text_entrances, texts_entered, unit_entrances, units_entered, written};
+ghost use Rattle.a68_gen.specs.Operands.{FitsModes, ApartFitsModes};
 ghost use Rattle.a68_gen.specs.Runs.{IsNotGenerated};
 ghost use Rattle.a68_gen.specs.Stretches.{Translates};
+ghost use Rattle.a68_gen.specs.Texts.{apart_of, node_of, pair_of};
 ghost use Rattle.a68_gen.specs.Writers.{Wrote};
 ghost use Rattle.a68_gen.specs.Writing.{IsTooLong, Stops, most, ran_out};
 ghost use Rattle.a68_ranges.specs.Nodes.{place_at};
@@ -22,13 +23,14 @@ ghost use Rattle.a68_ranges.specs.Twice.{StopsBy};
 ghost use Rattle.a68_runs.specs.Runs.{AllRun};
 ghost use Rattle.a68_tree.specs.declared.node.Node.{Node};
 
+use crate::entered::{Entered, UnitNode};
 use crate::numbered::Numbered;
 use crate::rows::unit;
 use crate::view::View;
 use crate::writer::Writer;
 use a68_annot::Annotated;
 use a68_base::{Refusal, Rule, Stop};
-use a68_code::{Code, Does, RoutineEntrance, Routines};
+use a68_code::{Code, Does, Places, RoutineEntrance, Routines};
 use a68_elab::Sight;
 use a68_runs::{behind_proc, first_unready};
 use a68_tree::NodeId;
@@ -69,13 +71,31 @@ fn body(program: &Numbered, id: NodeId) -> NodeId
     }
 }
 
+// Where routine texts and units of parallel clauses begin, each by their numbers.
+#[derive(Drop)]
+struct Entrances {
+    texts: Vec<RoutineEntrance>,
+    units: Vec<u32>,
+}
+
 // Keeps where a routine text begins.
-fn enter(texts: &mut Vec<RoutineEntrance>, at: u32, yields: bool, out: &mut Writer)
+fn enter_text(texts: &mut Vec<RoutineEntrance>, at: u32, yields: bool, out: &mut Writer)
     ensures list { out.new.list ≡ out.old.list }
     ensures stop { (out.new.stop ≡ out.old.stop) ⊎ (out.new.stop ≡ ran_out out.old.stop) }
     ensures kept { out.new.stop ≡ None → texts.new.items ≡ texts.old.items ++ (record { at = at; yields = yields }) ∷ [] }
 {
     if texts.push(RoutineEntrance { at, yields }).is_err() {
+        out.run_out();
+    }
+}
+
+// Keeps where a unit begins.
+fn enter_unit(units: &mut Vec<u32>, at: u32, out: &mut Writer)
+    ensures list { out.new.list ≡ out.old.list }
+    ensures stop { (out.new.stop ≡ out.old.stop) ⊎ (out.new.stop ≡ ran_out out.old.stop) }
+    ensures kept { out.new.stop ≡ None → units.new.items ≡ units.old.items ++ at ∷ [] }
+{
+    if units.push(at).is_err() {
         out.run_out();
     }
 }
@@ -103,12 +123,12 @@ fn write_text(
     out: &mut Writer,
 )
     requires { id < length program.now.tree.nodes }
-    ensures writes { Wrote out.old out.new (stretch (body_of program.now id).tree (length out.old.list) ++ instr (body_of program.now id).place Does.Return ∷ []) }
+    ensures writes { Wrote out.old out.new (apart_stretch (routine_text (body_of program.now id)) (length out.old.list)) }
     ensures entered { out.new.stop ≡ None → texts.new.items ≡ texts.old.items ++ (record { at = length out.old.list; yields = (body_of program.now id).yields }) ∷ [] }
 {
     let place = program.node(id).span.from;
     let start = out.len();
-    enter(texts, start, yields(program, id), out);
+    enter_text(texts, start, yields(program, id), out);
     let view = View {
         of: program,
         sight: Sight::Here,
@@ -117,63 +137,106 @@ fn write_text(
     out.emit(place, Does::Return);
 }
 
-// All routine texts, one behind the other.
-fn write_texts(
+// [unit] Close: and keeps where a unit of a parallel clause begins.
+fn write_unit(
     alloc: Global,
     program: &Numbered,
-    texts: &mut Vec<RoutineEntrance>,
+    node: UnitNode,
+    units: &mut Vec<u32>,
     out: &mut Writer,
 )
-    requires { texts.old.items ≡ [] }
-    ensures writes { Wrote out.old out.new (text_stretches (program_of program.now).texts (length out.old.list)) }
-    ensures entered { out.new.stop ≡ None → texts.new.items ≡ entrances (program_of program.now).texts (length out.old.list) }
+    requires { node.id < length program.now.tree.nodes }
+    ensures writes { Wrote out.old out.new (apart_stretch (parallel_unit (parallel_unit_of program.now (pair_of node))) (length out.old.list)) }
+    ensures entered { out.new.stop ≡ None → units.new.items ≡ units.old.items ++ length out.old.list ∷ [] }
 {
-    let ids = program.texts();
-    for id in ids {
-        write_text(alloc, program, *id, texts, out);
+    let start = out.len();
+    enter_unit(units, start, out);
+    let view = View {
+        of: program,
+        sight: Sight::Here,
+    };
+    unit(alloc, &view, node.id, out);
+    out.emit(node.place, Does::Close);
+}
+
+// A routine text or a unit of a parallel clause.
+fn write_entered(
+    alloc: Global,
+    program: &Numbered,
+    entered: Entered,
+    entrances: &mut Entrances,
+    out: &mut Writer,
+)
+    requires { node_of entered < length program.now.tree.nodes }
+    ensures writes { Wrote out.old out.new (apart_stretch (apart_of program.now entered) (length out.old.list)) }
+    ensures texts { out.new.stop ≡ None → entrances.new.texts.items ≡ entrances.old.texts.items ++ text_entrances (apart_of program.now entered ∷ []) (length out.old.list) }
+    ensures units { out.new.stop ≡ None → entrances.new.units.items ≡ entrances.old.units.items ++ unit_entrances (apart_of program.now entered ∷ []) (length out.old.list) }
+{
+    match entered {
+        Entered::Text(id) => write_text(alloc, program, id, &mut entrances.texts, out),
+        Entered::Unit(node) => write_unit(alloc, program, node, &mut entrances.units, out),
     }
 }
 
-// The program, and its routine texts behind it.
-fn write_all(alloc: Global, program: &Numbered, texts: &mut Vec<RoutineEntrance>, out: &mut Writer)
+// All routine texts and units, one behind the other.
+fn write_apart(alloc: Global, program: &Numbered, entrances: &mut Entrances, out: &mut Writer)
+    requires no_texts { entrances.old.texts.items ≡ [] }
+    requires no_units { entrances.old.units.items ≡ [] }
+    ensures writes { Wrote out.old out.new (apart_stretches (program_of program.now).apart (length out.old.list)) }
+    ensures texts { out.new.stop ≡ None → entrances.new.texts.items ≡ text_entrances (program_of program.now).apart (length out.old.list) }
+    ensures units { out.new.stop ≡ None → entrances.new.units.items ≡ unit_entrances (program_of program.now).apart (length out.old.list) }
+{
+    let all = program.apart();
+    for entered in all {
+        write_entered(alloc, program, *entered, entrances, out);
+    }
+}
+
+// The program, and its routine texts and units behind it.
+fn write_all(alloc: Global, program: &Numbered, entrances: &mut Entrances, out: &mut Writer)
     requires empty { out.old.list ≡ [] }
-    requires no_texts { texts.old.items ≡ [] }
-    ensures writes { Wrote out.old out.new (listing (program_of program.now)) }
-    ensures entered { out.new.stop ≡ None → texts.new.items ≡ entrances_of (program_of program.now) }
+    requires no_texts { entrances.old.texts.items ≡ [] }
+    requires no_units { entrances.old.units.items ≡ [] }
+    ensures writes { Wrote out.old out.new (written (program_of program.now)) }
+    ensures texts { out.new.stop ≡ None → entrances.new.texts.items ≡ texts_entered (program_of program.now) }
+    ensures units { out.new.stop ≡ None → entrances.new.units.items ≡ units_entered (program_of program.now) }
 {
     write_program(alloc, program, out);
-    write_texts(alloc, program, texts, out);
+    write_apart(alloc, program, entrances, out);
 }
 
 // The code of a program whose nodes all run: that of each construct, in order, End behind it, and that of each routine
-// text in order.
+// text and of each unit of a parallel clause in order.
 fn code_of(alloc: Global, program: &Annotated) -> Result<Code, Stop>
-    requires fits { Fits program.now.modes false (program_of program.now).tree }
-    requires texts { TextsFit program.now.modes (program_of program.now).texts }
+    requires fits { Fits program.now.modes (length (units_in program.now)) false (program_of program.now).tree }
+    requires apart { ApartFits program.now.modes (length (units_in program.now)) (program_of program.now).apart }
     requires modes { FitsModes program.now.modes (length (texts_in program.now)) (program_of program.now).tree }
-    requires text_modes { TextsFitModes program.now.modes (length (texts_in program.now)) (program_of program.now).texts }
+    requires apart_modes { ApartFitsModes program.now.modes (length (texts_in program.now)) (program_of program.now).apart }
     ensures translates { IfOk result (λ code. Translates (program_of program.now) code) }
     ensures valid { IfOk result (λ code. IsValid code) }
     ensures short { IfOk result (λ code. length code.list ≤ most) }
     ensures too_long { IfErr result (λ stop. Stops stop (listing (program_of program.now))) }
 {
     let numbered = Numbered::new(alloc, program)?;
-    let mut items = Vec::new(alloc);
+    let mut entrances = Entrances {
+        texts: Vec::new(alloc),
+        units: Vec::new(alloc),
+    };
     let mut out = Writer::new(alloc)?;
-    write_all(alloc, &numbered, &mut items, &mut out);
+    write_all(alloc, &numbered, &mut entrances, &mut out);
     let Writer { list, stop } = out;
     if let Some(stop) = stop {
         return Err(stop);
     }
-    let texts = Routines { items };
     let modes = program.modes.copy(alloc)?;
-    let code = list.finish(texts, modes)?;
+    let Entrances { texts, units } = entrances;
+    let code = list.finish(Routines { items: texts }, Places { items: units }, modes);
     Ok(code)
 }
 
-/// The code of a program: that of each construct, in order, End behind it, and that of each routine text in order. It is
-/// refused where a node of it does not run yet, at the first such node in the text; and where it has more than 1,048,576
-/// instructions, at the construct that needs the next.
+/// The code of a program: that of each construct, in order, End behind it, and that of each routine text and of each unit
+/// of a parallel clause in order. It is refused where a node of it does not run yet, at the first such node in the text;
+/// and where it has more than 1,048,576 instructions, at the construct that needs the next.
 pub fn generate(alloc: Global, program: &Annotated) -> Result<Code, Stop>
     ensures translates { IfOk result (λ code. Translates (program_of program.now) code) }
     ensures valid { IfOk result (λ code. IsValid code) }
@@ -189,13 +252,14 @@ pub fn generate(alloc: Global, program: &Annotated) -> Result<Code, Stop>
     }
 }
 
-/// A law: the instructions of a program and the entrances of its routine texts are those that are listed, and a program
-/// has one code; what is refused for its length has more instructions than a program may have, and is refused at a
+/// A law: the instructions of a program and the entrances of its routine texts and of its units are those that are listed,
+/// and a program has one code; what is refused for its length has more instructions than a program may have, and is refused at a
 /// construct of the program. A program that is refused is refused by one rule at one place, within the program, and has
 /// no code.
 pub fn translations_are_listings()
     ensures list { (program : Program) (code : Code) → Translates program code → code.list ≡ listing program }
-    ensures texts { (program : Program) (code : Code) → Translates program code → code.texts ≡ entrances_of program }
+    ensures texts { (program : Program) (code : Code) → Translates program code → code.texts ≡ texts_entered program }
+    ensures units { (program : Program) (code : Code) → Translates program code → code.units ≡ units_entered program }
     ensures code { (program : Program) (code other : Code) → Translates program code → Translates program other → other ≡ code }
     ensures limit { (list : List Instr) (refusal : Refusal) → IsTooLong list refusal → length list ≤ most → ⊥ }
     ensures place { (program : Program) (end : ℕ) (refusal : Refusal) → ProgramBeginsBy end program → IsTooLong (listing program) refusal

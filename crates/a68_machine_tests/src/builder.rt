@@ -37,9 +37,10 @@ const PATCHES: &[(&str, u32, u32, u32, &str)] = &[
         0,
         "Step 0, Turn, Advance 0, End",
     ),
+    ("Fork 0 0, End, Close", 0, 1, 2, "Fork 0 2, End, Close"),
 ];
 
-// A place that an instruction names, of a Case the second one; 0 where it names none.
+// A place that an instruction names, of a Case or a Fork the second one; 0 where it names none.
 fn first_place(does: &Does) -> u32 {
     match does {
         Does::Jump(to) => *to,
@@ -47,6 +48,7 @@ fn first_place(does: &Does) -> u32 {
         Does::Step(to) => *to,
         Does::Advance(to) => *to,
         Does::Case(places) => places.items.get(1).copied().unwrap_or(0),
+        Does::Fork(entrances) => entrances.items.get(1).copied().unwrap_or(0),
         _ => 0,
     }
 }

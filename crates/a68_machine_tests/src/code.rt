@@ -128,6 +128,28 @@ const CASES: &str = "\
 - a body that takes from its caller | Text 5 0, Push 5, Routine 0 -, Call 0 0, Drop, End, Drop, Return
 - two texts of one body, one of which yields | Text 2 0, Text 2 1, Skip 0, End, Return
 + two texts of one body | Text 2 0, Text 2 0, Skip 0, End, Return
++ two units | Fork 2 4, End, Skip 0, Close, Skip 0, Close
++ two units of one place | Fork 2 2, End, Close
+- one unit | Fork 2, End, Close
+- a unit outside | Fork 2 9, End, Close
+- a unit at the Fork itself | Fork 0 2, End, Close
++ a unit before its Fork | Jump 2, Close, Fork 1 4, End, Close
++ the same behind | Jump 2, Close, Fork 4 4, End, Close
+- a way of a unit meets End | Fork 2 3, End, End, Close
+- a way of a unit meets Return | Fork 2 3, End, Return, Close
+- a way of a unit passes the end | Fork 2 3, End, Close, Skip 0
+- a unit leaves a value | Fork 2 4, End, Push, Close, Close
++ a unit drops its value | Fork 2 5, End, Push, Drop, Close, Close
+- a unit takes from its clause | Push, Fork 4 5, Drop, End, Drop, Close
++ a value below a parallel clause | Push, Fork 4 5, Drop, End, Close, Close
+- a parallel clause leaves no value | Fork 3 4, Drop, End, Close, Close
+- the program meets Close | Close
+- the program goes on into a unit | Fork 1 2, Skip 0, Close
+- a way of a routine text meets Close | Text 3 0, Routine 0 -, Call 0 0, End, Close
++ a parallel clause in a unit | Fork 2 3, End, Close, Fork 5 6, Close, Close, Close
++ a parallel clause in a routine text | Text 3 0, Routine 0 -, Call 0 0, End, Fork 5 6, Return, Close, Close
+- a unit of a Fork that is not reached meets End | End, Fork 2 3, End, Close
++ a loop in a unit | Fork 2 11, End, Push, Push, Push, Counter, Step 9, Turn, Advance 6, Forget, Close, Close
 ";
 
 // The sign of the code of these instructions: + where a copy of it is valid.

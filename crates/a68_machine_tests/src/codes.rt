@@ -1,4 +1,4 @@
-//! Codes by their instructions in words: a name and at most two numbers each, with commas between. A Case has any
+//! Codes by their instructions in words: a name and at most two numbers each, with commas between. A Case and a Fork have any
 //! number of them, a Member its mode and then its places, and a Routine of scope 0 has - for its second number. A Member
 //! that leaves the united values is called United. Text is no instruction but the entrance of a routine
 //! text, with 1 where its body leaves a value.
@@ -46,6 +46,7 @@ enum Form {
     Whole,
     Call,
     Return,
+    Close,
     End,
 }
 
@@ -79,6 +80,7 @@ const FORMS: &[(&str, Form)] = &[
     ("Whole", Form::Whole),
     ("Call", Form::Call),
     ("Return", Form::Return),
+    ("Close", Form::Close),
     ("End", Form::End),
 ];
 
@@ -128,6 +130,7 @@ fn instruction(form: Form, one: u32, two: u32) -> Does {
             gives: two == 1,
         },
         Form::Return => Does::Return,
+        Form::Close => Does::Close,
         Form::End => Does::End,
     }
 }
@@ -166,6 +169,9 @@ fn does(rt: &impl Abort, alloc: Global, op: &str) -> Does {
     let (name, numbers) = apart(op);
     if name == "Case" {
         return Does::Case(places(rt, alloc, numbers));
+    }
+    if name == "Fork" {
+        return Does::Fork(places(rt, alloc, numbers));
     }
     if name == "Member" || name == "United" {
         return member(rt, alloc, numbers, u32::from(name == "United"));

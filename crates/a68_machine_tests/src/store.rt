@@ -1,16 +1,16 @@
 //! Each act of a store, by hand.
 #![tactic(auto, unfolding(a68_acts::specs::Does::does))]
 
-ghost use Rattle.std.specs.Prelude.{◌≡◌, ◌∷◌, [], false};
+ghost use Rattle.std.specs.Prelude.{◌≡◌, ◌∷◌, [], false, length};
 ghost use Rattle.a68_acts.specs.Store.{opening_store, standard_frame};
-ghost use Rattle.a68_machine_tests.specs.Stores.{entered, bound};
+ghost use Rattle.a68_machine_tests.specs.Stores.{entered, bound, forked};
 
 use crate::table::holds;
 use a68_acts::Want;
 use a68_layout::Plan;
 use a68_rules_tests::{plain, plain_in};
 use a68_store::{Store, StoreStop};
-use a68_values::{Cells, Chain, Environ, FaultKind, Held, Plain, Value};
+use a68_values::{Cells, Chain, Entrances, Environ, FaultKind, Held, Plain, Value};
 use std::alloc::Global;
 use std::panic::Expect;
 use std::process::Abort;
@@ -22,6 +22,8 @@ const FULL: StoreStop = StoreStop::Fault(FaultKind::Cells);
 const KIND: StoreStop = StoreStop::Fault(FaultKind::Kind);
 
 const OVERFLOW: StoreStop = StoreStop::Fault(FaultKind::Overflow);
+
+const STRANDS: StoreStop = StoreStop::Fault(FaultKind::Strands);
 
 const FRAMES: [Environ; 2] = [
     Environ { frame: 1, scope: 1 },
@@ -266,4 +268,55 @@ fn semaphores_are_lowered(rt: HostRuntime) {
         holds(&rt, store.plain_in(0) == Some(*new), "its count");
         drop(store);
     }
+}
+
+// The units of a parallel clause, all of which begin at 7.
+fn units(rt: &impl Abort, alloc: Global, count: usize) -> Entrances
+    ensures { length result ≡ count }
+{
+    Entrances {
+        items: vec![in alloc; 7; count].expect(rt, "memory"),
+    }
+}
+
+// The two units of a parallel clause get strands.
+fn forks(rt: &impl Abort, alloc: Global, store: &mut Store)
+    requires { store.old ≡ opening_store }
+    ensures { store.new ≡ forked }
+{
+    let both = units(rt, alloc, 2);
+    let first = store.fork(&both).ok().expect(rt, "strands");
+    holds(rt, first == 1, "the program is strand 0");
+    drop(both);
+}
+
+/// The units of the further parallel clauses of a run, and what comes of each: the run has 65,536 strands at most.
+const FORKED: &[(usize, Result<u32, StoreStop>, Option<FaultKind>)] = &[
+    (3, Ok(3), None),
+    (65_531, Err(STRANDS), Some(FaultKind::Strands)),
+    (65_530, Ok(6), None),
+    (2, Err(STRANDS), Some(FaultKind::Strands)),
+];
+
+#[test]
+fn strands(rt: HostRuntime) {
+    let alloc = rt.alloc();
+    let mut store = Store::new(alloc).expect(&rt, "memory");
+    forks(&rt, alloc, &mut store);
+    for (count, answer, fault) in FORKED {
+        let want = Want::Fork(units(&rt, alloc, *count));
+        holds(
+            &rt,
+            store.fault_of(&want) == *fault,
+            "whether there is room",
+        );
+        holds(&rt, !store.waits(&want), "no Fork has to wait");
+        drop(want);
+        let entrances = units(&rt, alloc, *count);
+        holds(&rt, store.fork(&entrances) == *answer, "the first of them");
+        drop(entrances);
+    }
+    holds(&rt, store.fault_of(&Want::Close).is_none(), "a unit closes");
+    holds(&rt, !store.waits(&Want::Close), "no Close has to wait");
+    drop(store);
 }

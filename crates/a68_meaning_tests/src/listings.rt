@@ -173,6 +173,35 @@ const LISTINGS: &[(&str, &str)] = &[
     ),
 ];
 
+/// Parallel clauses: each Fork names the places where its units begin, which stand behind the program in order of text.
+const PARALLEL_LISTINGS: &[(&str, &str)] = &[
+    // Each unit ends in the Close of its clause.
+    (
+        "( PAR (print(1), print(2)) )",
+        "2 Fork 2 6;0 End;13 Push 1;13 Unite 1;7 Print 1;2 Close;23 Push 2;23 Unite 1;17 Print 1;2 Close",
+    ),
+    // Units apply what is declared about the clause, and drop what they yield.
+    (
+        "( INT x := 1; PAR (x := 2, print(x)) )",
+        "2 Enter 1;6 Make 1;11 Push 1;6 Store 1;6 Bind;14 Fork 8 13;2 Leave;0 End;19 Tag;24 Push 2;19 Store 1;19 Drop;14 Close;33 Tag;33 Deref 1;33 Unite 1;27 Print 1;14 Close",
+    ),
+    // A clause in a routine text, whose body stands before the units in it.
+    (
+        "( PROC p = VOID: PAR (SKIP, SKIP); p )",
+        "2 Enter 1;11 Routine;7 Bind;35 Tag;35 Call;2 Leave;0 End;17 Fork 9 11;11 Return;22 Skip;17 Close;28 Skip;17 Close",
+    ),
+    // A clause that is a unit of another one: its own units stand between those of the outer one.
+    (
+        "( PAR (PAR (SKIP, SKIP), SKIP) )",
+        "2 Fork 2 8;0 End;7 Fork 4 6;2 Close;12 Skip;7 Close;18 Skip;7 Close;25 Skip;2 Close",
+    ),
+    // A unit that is a routine text, which is called since VOID is asked of it, stands before the body of that.
+    (
+        "( PAR (VOID: SKIP, SKIP) )",
+        "2 Fork 2 7;0 End;7 Routine;7 Call;2 Close;13 Skip;7 Return;19 Skip;2 Close",
+    ),
+];
+
 /// The tree of a text.
 pub fn tree_of(rt: &impl Abort, alloc: Global, text: &str) -> Tree {
     let found = symbols(alloc, text.as_bytes()).expect(rt, "symbols");
@@ -209,6 +238,7 @@ fn told(does: &Does) -> (&'static str, u32, u32) {
         Does::Push(value) => constant(value),
         Does::Skip(mode) => ("Skip", *mode, 0),
         Does::Nil => ("Nil", 0, 0),
+        Does::Routine { text, .. } => ("Routine", *text, 0),
         Does::Tag { hops, slot } => ("Tag", *hops, *slot),
         Does::Enter(slots) => ("Enter", *slots, 0),
         Does::Leave(kept) => ("Leave", *kept, 0),
@@ -231,6 +261,8 @@ fn told(does: &Does) -> (&'static str, u32, u32) {
         Does::Drop => ("Drop", 0, 0),
         Does::Print(count) => ("Print", *count, 0),
         Does::Whole => ("Whole", 0, 0),
+        Does::Call { count, gives } => ("Call", *count, u32::from(*gives)),
+        Does::Return => ("Return", 0, 0),
         Does::Jump(to) => ("Jump", *to, 0),
         Does::Unless(to) => ("Unless", *to, 0),
         Does::Counter => ("Counter", 0, 0),
@@ -239,6 +271,7 @@ fn told(does: &Does) -> (&'static str, u32, u32) {
         Does::Turn => ("Turn", 0, 0),
         Does::Advance(to) => ("Advance", *to, 0),
         Does::Forget => ("Forget", 0, 0),
+        Does::Close => ("Close", 0, 0),
         Does::End => ("End", 0, 0),
         _ => ("another", 0, 0),
     }
@@ -252,11 +285,20 @@ fn number_or_0(rt: &impl Abort, word: Option<&str>) -> u32 {
     }
 }
 
-// Compares a Case of these places with what is told of it.
-fn is_case(rt: &impl Abort, places: &[u32], line: &str, text: &str) {
+// The places of a Case or of a Fork, with its name.
+fn several(does: &Does) -> Option<(&'static str, &[u32])> {
+    match does {
+        Does::Case(places) => Some(("Case", &places.items)),
+        Does::Fork(entrances) => Some(("Fork", &entrances.items)),
+        _ => None,
+    }
+}
+
+// Compares an instruction of this name and of these places with what is told of it.
+fn are_places(rt: &impl Abort, name: &str, places: &[u32], line: &str, text: &str) {
     let mut words = line.split_whitespace();
-    let name = words.next().expect(rt, "a name");
-    holds(rt, name == "Case", text);
+    let told = words.next().expect(rt, "a name");
+    holds(rt, told == name, text);
     for place in places {
         let word = words.next().expect(rt, text);
         holds(rt, number(rt, word) == *place, text);
@@ -267,9 +309,9 @@ fn is_case(rt: &impl Abort, places: &[u32], line: &str, text: &str) {
 // Compares an instruction with what is told of it.
 fn is_as_told(rt: &impl Abort, instr: &Instr, line: &str, text: &str) {
     let (place, rest) = cut(rt, line, " ");
-    if let Does::Case(places) = &instr.does {
+    if let Some((name, places)) = several(&instr.does) {
         holds(rt, instr.place == number(rt, place), text);
-        is_case(rt, &places.items, rest, text);
+        are_places(rt, name, places, rest, text);
         return;
     }
     let mut parts = rest.split_whitespace();
@@ -291,14 +333,25 @@ fn are_as_told(rt: &impl Abort, list: &[Instr], listing: &str, text: &str) {
     holds(rt, lines.next().is_none(), text);
 }
 
+// Compares the code of each text with its listing.
+fn become_instructions(rt: &impl Abort, alloc: Global, listings: &[(&str, &str)]) {
+    for (text, listing) in listings {
+        let program = annotate(alloc, tree_of(rt, alloc, text)).expect(rt, text);
+        let code = generate(alloc, &program).expect(rt, text);
+        drop(program);
+        are_as_told(rt, &code.list.items, listing, text);
+        drop(code);
+    }
+}
+
 #[test]
 fn texts_become_instructions(rt: HostRuntime) {
     let alloc = rt.alloc();
-    for (text, listing) in LISTINGS {
-        let program = annotate(alloc, tree_of(&rt, alloc, text)).expect(&rt, text);
-        let code = generate(alloc, &program).expect(&rt, text);
-        drop(program);
-        are_as_told(&rt, &code.list.items, listing, text);
-        drop(code);
-    }
+    become_instructions(&rt, alloc, LISTINGS);
+}
+
+#[test]
+fn parallel_clauses_become_instructions(rt: HostRuntime) {
+    let alloc = rt.alloc();
+    become_instructions(&rt, alloc, PARALLEL_LISTINGS);
 }

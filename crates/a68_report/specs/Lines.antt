@@ -21,6 +21,10 @@ read_fault_line = line (codes "a68: read fault")
 abbrev pub refusal_line : Rule → ℕ → List ℕ
 refusal_line rule place = line (codes "a68: refused " ++ rule_name rule ++ codes " at byte " ++ decimal place)
 
+-- how many units a made program had, and how many events its run
+abbrev pub units_line : (units events : ℕ) → List ℕ
+units_line units events = line (codes "units " ++ decimal units ++ codes " events " ++ decimal events)
+
 abbrev pub fault_name : FaultKind → List ℕ
 fault_name Unset = codes "Unset"
 fault_name Kind = codes "Kind"

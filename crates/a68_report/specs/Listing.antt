@@ -5,7 +5,7 @@ use Rattle.a68_code.specs.Flow.{one_if}
 use Rattle.a68_code.specs.declared.code.Code.{Code}
 use Rattle.a68_code.specs.declared.code.Instr.{Instr}
 use Rattle.a68_code.specs.declared.does.Does.{Does}
-use Rattle.a68_code.specs.declared.does.Does.TheVariants.{Push, Skip, Nil, Routine, Tag, Enter, Leave, Bind, Make, Heap, Deref, Store, Apply, Same, Slice, Display, Vacuum, Compose, Select, Unite, RowUp, RowUpName, Widen, Drop, Print, Whole, Call, Return, Jump, Unless, Case, Member, Counter, Index, Step, Turn, Advance, Forget, End}
+use Rattle.a68_code.specs.declared.does.Does.TheVariants.{Push, Skip, Nil, Routine, Tag, Enter, Leave, Bind, Make, Heap, Deref, Store, Apply, Same, Slice, Display, Vacuum, Compose, Select, Unite, RowUp, RowUpName, Widen, Drop, Print, Whole, Call, Return, Jump, Unless, Case, Member, Counter, Index, Step, Turn, Advance, Forget, Fork, Close, End}
 use Rattle.a68_layout.specs.declared.types.Form.{Form}
 use Rattle.a68_layout.specs.declared.types.Form.TheVariants as form
 use Rattle.a68_report.specs.Constants.{constant}
@@ -62,6 +62,7 @@ operands (Case places) = listed places
 operands (Member mode places whole) = number mode ++ listed places ++ listed whole
 operands (Step to) = number to
 operands (Advance to) = number to
+operands (Fork entrances) = listed entrances
 operands Nil = []
 operands Widen = []
 operands Drop = []
@@ -71,6 +72,7 @@ operands Index = []
 operands Turn = []
 operands Forget = []
 operands Return = []
+operands Close = []
 operands End = []
 
 abbrev pub line : (index : ℕ) → Does → List ℕ

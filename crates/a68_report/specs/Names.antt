@@ -1,7 +1,7 @@
 -- The names of the instructions (own).
 use Rattle.std.specs.Prelude.{ℕ, List, codes}
 use Rattle.a68_code.specs.declared.does.Does.{Does}
-use Rattle.a68_code.specs.declared.does.Does.TheVariants.{Push, Skip, Nil, Routine, Tag, Enter, Leave, Bind, Make, Heap, Deref, Store, Apply, Same, Slice, Display, Vacuum, Compose, Select, Unite, RowUp, RowUpName, Widen, Drop, Print, Whole, Call, Return, Jump, Unless, Case, Member, Counter, Index, Step, Turn, Advance, Forget, End}
+use Rattle.a68_code.specs.declared.does.Does.TheVariants.{Push, Skip, Nil, Routine, Tag, Enter, Leave, Bind, Make, Heap, Deref, Store, Apply, Same, Slice, Display, Vacuum, Compose, Select, Unite, RowUp, RowUpName, Widen, Drop, Print, Whole, Call, Return, Jump, Unless, Case, Member, Counter, Index, Step, Turn, Advance, Forget, Fork, Close, End}
 
 abbrev pub name_of : Does → List ℕ
 name_of (Push value) = codes "Push"
@@ -42,4 +42,6 @@ name_of (Step to) = codes "Step"
 name_of Turn = codes "Turn"
 name_of (Advance to) = codes "Advance"
 name_of Forget = codes "Forget"
+name_of (Fork entrances) = codes "Fork"
+name_of Close = codes "Close"
 name_of End = codes "End"

@@ -8,6 +8,6 @@ mod name;
 mod put;
 mod variables;
 
-pub use lines::{READ_FAULT, USAGE, end_line, refusal_line};
+pub use lines::{READ_FAULT, USAGE, end_line, refusal_line, units_line};
 pub use listing::code_text;
 pub use variables::names_text;

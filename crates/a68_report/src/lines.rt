@@ -1,6 +1,6 @@
 //! The lines on notes.
 ghost use Rattle.std.specs.Prelude.{◌≡◌, IfOk};
-ghost use Rattle.a68_report.specs.Lines.{refusal_line, fault_line, fault_name, end_line};
+ghost use Rattle.a68_report.specs.Lines.{refusal_line, units_line, fault_line, fault_name, end_line};
 
 use a68_base::{NoMemory, Refusal, Text};
 use a68_values::{End, FaultKind};
@@ -26,6 +26,16 @@ pub fn refusal_line(alloc: Global, refusal: Refusal) -> Result<Text, NoMemory>
     let rule = refusal.rule.name();
     let place = refusal.place;
     let line = format!(in alloc; "a68: refused {rule} at byte {place}\n")?;
+    Ok(Text {
+        items: line.into_bytes(),
+    })
+}
+
+/// The line of a made program that came to its end: its units, and the events of its run.
+pub fn units_line(alloc: Global, units: u32, events: usize) -> Result<Text, NoMemory>
+    ensures { IfOk result (λ text. text ≡ units_line units events) }
+{
+    let line = format!(in alloc; "units {units} events {events}\n")?;
     Ok(Text {
         items: line.into_bytes(),
     })

@@ -140,6 +140,7 @@ fn put_operands(text: &mut Text, does: &Does) -> Result<(), NoMemory>
         | Does::Advance(number) => put_number(text, u64::from(*number)),
         Does::Slice(forms) => put_slice(text, forms),
         Does::Case(places) => put_list(text, &places.items),
+        Does::Fork(entrances) => put_list(text, &entrances.items),
         Does::Member {
             mode,
             places,
@@ -154,6 +155,7 @@ fn put_operands(text: &mut Text, does: &Does) -> Result<(), NoMemory>
         | Does::Turn
         | Does::Forget
         | Does::Return
+        | Does::Close
         | Does::End => Ok(()),
     }
 }

@@ -47,6 +47,8 @@ pub fn name_of(does: &Does) -> &'static str
         Does::Turn => "Turn",
         Does::Advance(_) => "Advance",
         Does::Forget => "Forget",
+        Does::Fork(_) => "Fork",
+        Does::Close => "Close",
         Does::End => "End",
     }
 }

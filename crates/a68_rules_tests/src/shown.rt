@@ -109,6 +109,8 @@ fn parts(want: &Want) -> Told {
         Want::Up { cell } => ("Up", Some(*cell as usize), None, None, None),
         Want::Down { cell } => ("Down", Some(*cell as usize), None, None, None),
         Want::Turn => ("Turn", None, None, None, None),
+        Want::Fork(entrances) => ("Fork", Some(entrances.items.len()), None, None, None),
+        Want::Close => ("Close", None, None, None, None),
         _ => ("another", None, None, None, None),
     }
 }

@@ -298,6 +298,12 @@ loop_runs a ids =
     let test = if_first is_while a tests in
     loop_by_runs a from by to test (only_id (past test tests))
 
+-- ---- parallel clauses (Report, 3.3)
+
+-- two units at least, each of which leaves none
+abbrev pub parallel_runs : Annotated → List ℕ → Bool
+parallel_runs a ids = nat_le 2 (length ids) && all_leave a false ids
+
 -- ---- nodes
 
 -- What the construct of a node leaves before its coercions; None where it does not run yet. One row for each kind of
@@ -338,6 +344,7 @@ leaves_as a node note kind.Conditional = if_so (choice_runs a note.goal (asks_va
 leaves_as a node note kind.Case = if_so (case_runs a note.goal (asks_value a note) node.parts) (asks_value a note)
 leaves_as a node note kind.Conformity = if_so (conformity_runs a note.goal (asks_value a note) node.parts) (asks_value a note)
 leaves_as a node note kind.Loop = if_so (loop_runs a node.parts) false
+leaves_as a node note kind.Parallel = if_so (parallel_runs a node.parts) false
 leaves_as a node note _ = None
 
 -- What is left behind the coercions of a path, which leads from a mode to another, where the unit before them leaves a value

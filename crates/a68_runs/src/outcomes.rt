@@ -130,6 +130,13 @@ pub fn are_values(program: &Annotated, count: usize, ids: &[NodeId]) -> bool
     ids.len() == count && all_leave(program, true, ids)
 }
 
+/// Are there two units at least, and does each leave none?
+pub fn parallel_runs(program: &Annotated, ids: &[NodeId]) -> bool
+    ensures { result ≡ runs.parallel_runs program.now ids.now }
+{
+    2 <= ids.len() && all_leave(program, false, ids)
+}
+
 /// The outcome of the last of these nodes.
 pub fn last_outcome(program: &Annotated, ids: &[NodeId]) -> Option<bool>
     ensures { result ≡ runs.last_outcome program.now ids.now }

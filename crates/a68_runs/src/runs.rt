@@ -23,7 +23,8 @@ use crate::nodes::{
 };
 use crate::outcomes::{
     all_leave, are_phrases, are_values, asks_value, if_so, is_outcome, is_row, is_there,
-    last_outcome, leaves, only_outcome, outcome, outcome_by, proc_yields, refers, yields_value,
+    last_outcome, leaves, only_outcome, outcome, outcome_by, parallel_runs, proc_yields, refers,
+    yields_value,
 };
 use crate::paths::path_leaves;
 use crate::slices::slice_runs;
@@ -345,6 +346,7 @@ fn leaves_as(
             if_so(conformity_runs(program, id, note.goal, asked, parts), asked)
         }
         NodeKind::Loop => if_so(loop_runs(program, id, parts), false),
+        NodeKind::Parallel => if_so(parallel_runs(program, parts), false),
         _ => None,
     };
     Ok(left)

@@ -26,6 +26,7 @@ abbrev pub seen_in : Code → Stance → State → Then State
 seen_in code Idle st = goes st
 seen_in code (Asking w wait) st = acts (place_at code.list st.at) w (told_by code st wait)
 seen_in code (Failed why) st = meets why (place_at code.list st.at)
+seen_in code _ st = goes st
 
 abbrev pub seen : Code → State → Then State
 seen code st = seen_in code st.stance st
@@ -35,6 +36,7 @@ abbrev pub ask_in : Code → Stance → State → Option (Then State)
 ask_in code Idle st = option_map (seen code) (silently code Idle st)
 ask_in code (Asking w wait) st = Some (seen_in code (Asking w wait) st)
 ask_in code (Failed why) st = Some (seen_in code (Failed why) st)
+ask_in code _ st = None
 
 abbrev pub ask : Code → State → Option (Then State)
 ask code st = ask_in code st.stance st

@@ -13,7 +13,7 @@ use Rattle.a68_elab.specs.Elaborations.{Elaborates, stays, silently, by_act}
 use Rattle.a68_elab.specs.Permitted.{Permitted}
 use Rattle.a68_elab.specs.Positions.{here, within, in_this, beside}
 use Rattle.a68_elab.specs.Terms.{todo, yielded}
-use Rattle.a68_elab.specs.Trees.{Tree, operation, phrases, range, choice, call, no_trees, ◌and_tree◌, collateral, serial, Program}
+use Rattle.a68_elab.specs.Trees.{Tree, operation, phrases, range, choice, call, no_trees, ◌and_tree◌, collateral, serial, routine_text, Program}
 use Rattle.a68_gen.specs.Stretches.{Translates}
 use Rattle.a68_layout.specs.Rooms.{bounds_needed, planned}
 use Rattle.a68_layout.specs.Widths.{cells_of}
@@ -62,14 +62,14 @@ program = record {
       range 1 1 1 false
       (phrases 1 (operation 6 (bind 0) serial (operation 10 (routine 0 (Some 0)) serial no_trees and_tree no_trees) and_tree no_trees)
       (operation 57 print collateral (call 63 true (name 63 0 0 and_tree number 65 1 and_tree no_trees) and_tree no_trees)));
-  texts =
-      record {
+  apart =
+      routine_text (record {
         place = 10;
         yields = true;
         tree =
             choice 23 (operation 26 (apply 9) collateral (name 26 0 0 and_tree number 30 0 and_tree no_trees)) (number 37 5)
             (call 44 true (name 44 1 0 and_tree operation 46 (apply 16) collateral (name 46 0 0 and_tree number 50 1 and_tree no_trees) and_tree no_trees));
-      }
+      })
       ∷ [];
   modes = standard_shapes;
 }
@@ -82,6 +82,7 @@ code = record {
       ∷ instr 26 (does.Tag 0 0) ∷ instr 30 (does.Push (whole 0)) ∷ instr 26 (does.Apply 9) ∷ instr 23 (does.Unless 15) ∷ instr 37 (does.Push (whole 5)) ∷ instr 23 (does.Jump 20)
       ∷ instr 44 (does.Tag 1 0) ∷ instr 46 (does.Tag 0 0) ∷ instr 50 (does.Push (whole 1)) ∷ instr 46 (does.Apply 16) ∷ instr 44 (does.Call 1 true) ∷ instr 10 does.Return ∷ [];
   texts = record { at = 9; yields = true } ∷ [];
+  units = [];
   modes = standard_shapes;
 }
 
@@ -102,7 +103,7 @@ translates = record {
     (refl, refl),
   );
   ends = (refl, refl);
-  texts = (
+  apart = (
     20,
     21,
     refl,
@@ -157,6 +158,7 @@ last_store = record {
   frames =
       standard_frame ∷ with_routine 1 ∷ record { outer = 1; scope = 2; slots = Some (whole 1) ∷ [] } ∷ record { outer = 1; scope = 3; slots = Some (whole 0) ∷ [] } ∷ [];
   text = text;
+  strands = 1;
 }
 
 abbrev last_state : State
@@ -199,12 +201,12 @@ void_program = record {
       range 1 1 1 false
       (phrases 1 (operation 6 (bind 0) serial (operation 10 (routine 0 None) serial no_trees and_tree no_trees) and_tree no_trees)
       (call 41 false (name 41 0 0 and_tree number 43 7 and_tree number 46 2 and_tree no_trees)));
-  texts =
-      record {
+  apart =
+      routine_text (record {
         place = 10;
         yields = false;
         tree = operation 27 print collateral (operation 33 (apply 16) collateral (name 33 0 0 and_tree name 37 0 1 and_tree no_trees) and_tree no_trees);
-      }
+      })
       ∷ [];
   modes = standard_shapes;
 }
@@ -216,6 +218,7 @@ void_code = record {
       ∷ instr 41 (does.Call 2 false) ∷ instr 1 (does.Leave 0) ∷ instr 0 does.End
       ∷ instr 33 (does.Tag 0 0) ∷ instr 37 (does.Tag 0 1) ∷ instr 33 (does.Apply 16) ∷ instr 27 (does.Print 1) ∷ instr 10 does.Return ∷ [];
   texts = record { at = 9; yields = false } ∷ [];
+  units = [];
   modes = standard_shapes;
 }
 
@@ -236,7 +239,7 @@ void_translates = record {
     (refl, refl),
   );
   ends = (refl, refl);
-  texts = (
+  apart = (
     13,
     14,
     refl,
@@ -267,6 +270,7 @@ void_store = record {
   cells = [];
   frames = standard_frame ∷ with_routine 0 ∷ record { outer = 1; scope = 2; slots = Some (whole 7) ∷ Some (whole 2) ∷ [] } ∷ [];
   text = text;
+  strands = 1;
 }
 
 abbrev in_routine : List ℕ → World
@@ -308,7 +312,7 @@ newer_program = record {
       range 1 1 1 false
       (phrases 1 (operation 6 (bind 0) serial (operation 10 (routine 0 None) serial no_trees and_tree no_trees) and_tree no_trees)
       (operation 28 drop serial (call 28 true (name 28 0 0 and_tree no_trees) and_tree no_trees)));
-  texts = record { place = 10; yields = true; tree = operation 19 (make 1 0) collateral no_trees } ∷ [];
+  apart = routine_text (record { place = 10; yields = true; tree = operation 19 (make 1 0) collateral no_trees }) ∷ [];
   modes = standard_shapes;
 }
 
@@ -318,6 +322,7 @@ newer_code = record {
       instr 1 (does.Enter 1) ∷ instr 10 (does.Routine 0 None) ∷ instr 6 (does.Bind 0) ∷ instr 28 (does.Tag 0 0) ∷ instr 28 (does.Call 0 true) ∷ instr 28 does.Drop
       ∷ instr 1 (does.Leave 0) ∷ instr 0 does.End ∷ instr 19 (does.Make 1 0) ∷ instr 10 does.Return ∷ [];
   texts = record { at = 8; yields = true } ∷ [];
+  units = [];
   modes = standard_shapes;
 }
 
@@ -338,7 +343,7 @@ newer_translates = record {
     (refl, refl),
   );
   ends = (refl, refl);
-  texts = (9, 10, refl, (8, refl, refl, refl, (refl, refl)), (refl, refl), refl);
+  apart = (9, 10, refl, (8, refl, refl, refl, (refl, refl)), (refl, refl), refl);
   no_more = refl;
   modes = refl;
 }
@@ -360,7 +365,7 @@ newer_state = record { at = 9; stack = stack_of []; chain = newest 2 ∷ newest 
 
 abbrev newer_world : World
 newer_world = record {
-  store = record { cells = held.Plain value.Unset ∷ []; frames = standard_frame ∷ with_routine 0 ∷ record { outer = 1; scope = 2; slots = [] } ∷ []; text = [] };
+  store = record { cells = held.Plain value.Unset ∷ []; frames = standard_frame ∷ with_routine 0 ∷ record { outer = 1; scope = 2; slots = [] } ∷ []; text = []; strands = 1 };
   strands = newer_state ∷ [];
 }
 
@@ -387,7 +392,7 @@ abbrev quiet_program : Program
 quiet_program = record {
   place = 0;
   tree = call 0 false (name 0 0 0 and_tree name 2 0 1 and_tree no_trees);
-  texts = record { place = 10; yields = false; tree = operation 12 (skip 0) serial no_trees } ∷ [];
+  apart = routine_text (record { place = 10; yields = false; tree = operation 12 (skip 0) serial no_trees }) ∷ [];
   modes = standard_shapes;
 }
 
@@ -396,10 +401,10 @@ abbrev frame_of_both : Frame
 frame_of_both = record standard_frame { slots = Some (plain (value.Routine (record { text = 0; frame = 0; scope = 0 }))) ∷ Some (whole 5) ∷ [] }
 
 abbrev of_both : Store
-of_both = record { cells = []; frames = frame_of_both ∷ []; text = [] }
+of_both = record { cells = []; frames = frame_of_both ∷ []; text = []; strands = 1 }
 
 abbrev behind_call : Store
-behind_call = record { cells = []; frames = frame_of_both ∷ record { outer = 0; scope = 1; slots = Some (whole 5) ∷ [] } ∷ []; text = [] }
+behind_call = record { cells = []; frames = frame_of_both ∷ record { outer = 0; scope = 1; slots = Some (whole 5) ∷ [] } ∷ []; text = []; strands = 1 }
 
 -- the elaboration may look at the parameter first
 parameter_first :

@@ -17,7 +17,7 @@ use Rattle.a68_code.specs.declared.does.Does.TheVariants as does
 use Rattle.a68_elab.specs.Rows.{goes, acts, meets, turned, row}
 use Rattle.a68_elab.specs.Rows as rows
 use Rattle.a68_elab.specs.Terms.{calling, entering, binding, inside, Term, part, yielded, no_terms}
-use Rattle.a68_elab.specs.Trees.{Program}
+use Rattle.a68_elab.specs.Trees.{Program, texts_of}
 use Rattle.a68_gen.proofs.Forward.{next_is}
 use Rattle.a68_sim.proofs.Asking.{idle, seen, ask, at_instr, place_is, is_inside}
 use Rattle.a68_sim.proofs.Jobs.{Done, row_done, two_or_more, misled_sim}
@@ -82,7 +82,7 @@ module _ (program : Program) (code : Code) (texts : TextsStand program code) (b 
       t : Term
       t = part (calling p gives) ch (yields acc no_terms)
 
-      keeps : (vs : List Content) (v : Content) (q : Routine) → called (yields_of program.texts) gives v ≡ Ok q → (r : Reply)
+      keeps : (vs : List Content) (v : Content) (q : Routine) → called (yields_of (texts_of program)) gives v ≡ Ok q → (r : Reply)
           → Sim code b base home g (turned p ch (part (entering p q vs) ch no_terms) r)
           (told_by code (asks_for st base (Asking want.Turn (waiting.Called q (first_parameters vs)))) (waiting.Called q (first_parameters vs)) r)
       keeps vs v q is reply.Go = (
@@ -95,20 +95,20 @@ module _ (program : Program) (code : Code) (texts : TextsStand program code) (b 
       keeps vs v q is (reply.Base cell) = misled_sim code b base home g p k d ch tail.4.0
       keeps vs v q is (reply.Held h) = misled_sim code b base home g p k d ch tail.4.0
 
-      by_result : (vs : List Content) (v : Content) (res : Result Routine FaultKind) → called (yields_of program.texts) gives v ≡ res → row program t ≡ Some (rows.call_of p ch vs res)
+      by_result : (vs : List Content) (v : Content) (res : Result Routine FaultKind) → called (yields_of (texts_of program)) gives v ≡ res → row program t ≡ Some (rows.call_of p ch vs res)
           → ask code st ≡ Some (seen code (machine.calling st base vs res)) → Progress program code (Sim code b base home g) t st
       by_result vs v (Ok q) is e a =
           let k2 = told_by code (asks_for st base (Asking want.Turn (waiting.Called q (first_parameters vs)))) (waiting.Called q (first_parameters vs)) in
-          moves_act program code _ t st p want.Turn _ k2 e (a ∙ ap (λ x. Some (acts x want.Turn k2)) (place_is code k p d tail.4.0)) (is_inside code k p d tail.4.0) (keeps vs v q is)
+          moves_act program code _ t st p want.Turn _ k2 e (a ∙ ap (λ x. Some (acts x want.Turn k2)) (place_is code k p d tail.4.0)) (is_inside code k p d tail.4.0) (keeps vs v q is) refl
       by_result vs v (Err why) is e a =
           moves_fault program code _ t _ why p e (a ∙ ap (λ x. Some (meets why x)) (place_is code k p d tail.4.0)) (is_inside code k p d tail.4.0)
 
-      by_values : (vs : List Content) → row program t ≡ Some (rows.calls program.texts p gives ch vs) → ask code st ≡ Some (seen code (machine.calls code.texts st gives (Some (vs, base))))
+      by_values : (vs : List Content) → row program t ≡ Some (rows.calls (texts_of program) p gives ch vs) → ask code st ≡ Some (seen code (machine.calls code.texts st gives (Some (vs, base))))
           → Progress program code (Sim code b base home g) t st
       by_values [] e a =
           moves_fault program code _ t _ fault.Kind p e (a ∙ ap (λ x. Some (meets fault.Kind x)) (place_is code k p d tail.4.0)) (is_inside code k p d tail.4.0)
       by_values (v ∷ vs) e a =
-          by_result vs v (called (yields_of program.texts) gives v) refl e
+          by_result vs v (called (yields_of (texts_of program)) gives v) refl e
           (a ∙ ap (λ (l : List Bool). Some (seen code (machine.calling st base vs (called l gives v)))) texts.alike)
 
   pub entering_done : (p : ℕ) (q : Routine) (vs : List Content) (ch : List Environ) (k : ℕ) → Done program code (entering p q vs) ch k b base home g
@@ -118,7 +118,7 @@ module _ (program : Program) (code : Code) (texts : TextsStand program code) (b 
   entering_done p q vs (e ∷ outer) k [] tail =
       moves_act program code _ _ st p (w (length vs)) _ k2 refl
       (ap (λ x. Some (acts x (w (length (reverse vs))) k2)) (place_is code k p tail.3 tail.4.0) ∙ ap (λ n. Some (acts p (w n) k2)) (length-reverse vs))
-      (is_inside code k p tail.3 tail.4.0) keeps
+      (is_inside code k p tail.3 tail.4.0) keeps refl
     where
       w : ℕ → Want
       w n = want.Enter q.frame (suc e.scope) n
@@ -152,7 +152,7 @@ module _ (program : Program) (code : Code) (texts : TextsStand program code) (b 
       moves_fault program code _ _ _ fault.Kind p refl (ap (λ x. Some (meets fault.Kind x)) (place_is code k p tail.3 tail.4.0)) (is_inside code k p tail.3 tail.4.0)
   binding_one p q from slot v vs (e ∷ outer) k [] tail =
       moves_act program code _ _ st p (want.Bind e.frame slot v) _ k2 refl
-      (ap (λ x. Some (acts x (want.Bind e.frame slot v) k2)) (place_is code k p tail.3 tail.4.0)) (is_inside code k p tail.3 tail.4.0) keeps
+      (ap (λ x. Some (acts x (want.Bind e.frame slot v) k2)) (place_is code k p tail.3 tail.4.0)) (is_inside code k p tail.3 tail.4.0) keeps refl
     where
       items : List Item
       items = caller b home ∷ base

@@ -34,7 +34,7 @@ prints place n = operation place print collateral (number place n and_tree no_tr
 
 -- CASE 2 IN print(1), print(2) OUT print(3) ESAC
 abbrev program : Program
-program = record { place = 0; tree = cases 0 (number 5 2) (prints 10 1 and_tree prints 20 2 and_tree no_trees) (prints 30 3); texts = []; modes = standard_shapes }
+program = record { place = 0; tree = cases 0 (number 5 2) (prints 10 1 and_tree prints 20 2 and_tree no_trees) (prints 30 3); apart = []; modes = standard_shapes }
 
 abbrev code : Code
 code = record {
@@ -42,6 +42,7 @@ code = record {
       instr 5 (does.Push (whole 2)) ∷ instr 0 (does.Case (2 ∷ 5 ∷ 8 ∷ [])) ∷ instr 10 (does.Push (whole 1)) ∷ instr 10 (does.Print 1) ∷ instr 0 (does.Jump 10)
       ∷ instr 20 (does.Push (whole 2)) ∷ instr 20 (does.Print 1) ∷ instr 0 (does.Jump 10) ∷ instr 30 (does.Push (whole 3)) ∷ instr 30 (does.Print 1) ∷ instr 0 does.End ∷ [];
   texts = [];
+  units = [];
   modes = standard_shapes;
 }
 
@@ -68,7 +69,7 @@ translates = record {
   );
   ends = (refl, refl);
   no_more = refl;
-  texts = refl;
+  apart = refl;
   modes = refl;
 }
 
@@ -119,7 +120,7 @@ abbrev turning : Program
 turning = record {
   place = 0;
   tree = loop 0 (number 0 1 and_tree number 0 1 and_tree number 3 2 and_tree no_trees) true false no_test (operation 8 (skip 0) serial no_trees);
-  texts = [];
+  apart = [];
   modes = standard_shapes;
 }
 
@@ -129,6 +130,7 @@ turning_code = record {
       instr 0 (does.Push (whole 1)) ∷ instr 0 (does.Push (whole 1)) ∷ instr 3 (does.Push (whole 2)) ∷ instr 0 (does.Apply 26) ∷ instr 0 does.Counter ∷ instr 0 (does.Step 10)
       ∷ instr 0 does.Turn ∷ instr 8 (does.Skip 0) ∷ instr 0 (does.Advance 5) ∷ instr 0 (does.Jump 10) ∷ instr 0 does.Forget ∷ instr 0 does.End ∷ [];
   texts = [];
+  units = [];
   modes = standard_shapes;
 }
 
@@ -167,7 +169,7 @@ turning_translates = record {
   );
   ends = (refl, refl);
   no_more = refl;
-  texts = refl;
+  apart = refl;
   modes = refl;
 }
 
@@ -197,7 +199,7 @@ unlimited = record {
   place = 0;
   tree =
       loop 0 (operation 5 (skip 1) serial no_trees and_tree number 0 1 and_tree operation 13 (skip 1) serial no_trees and_tree no_trees) true false no_test (operation 21 (skip 0) serial no_trees);
-  texts = [];
+  apart = [];
   modes = standard_shapes;
 }
 
@@ -207,6 +209,7 @@ unlimited_code = record {
       instr 5 (does.Skip 1) ∷ instr 0 (does.Push (whole 1)) ∷ instr 13 (does.Skip 1) ∷ instr 0 (does.Apply 26) ∷ instr 0 does.Counter ∷ instr 0 (does.Step 10)
       ∷ instr 0 does.Turn ∷ instr 21 (does.Skip 0) ∷ instr 0 (does.Advance 5) ∷ instr 0 (does.Jump 10) ∷ instr 0 does.Forget ∷ instr 0 does.End ∷ [];
   texts = [];
+  units = [];
   modes = standard_shapes;
 }
 
@@ -245,7 +248,7 @@ unlimited_translates = record {
   );
   ends = (refl, refl);
   no_more = refl;
-  texts = refl;
+  apart = refl;
   modes = refl;
 }
 

@@ -219,7 +219,7 @@ module _ (program : Program) (code : Code) (same : code.modes ≡ program.modes)
       on_bare program code b base home g (tagging p gives v t) (e ∷ outer) k acc (item.Value v ∷ base)
       (moves_act program code _ _ _ p w _ (told_by code st (waiting.Operation next.Void)) (row_done program (tagging p gives v t) (e ∷ outer) acc)
       (at_instr code k p (item.Value v ∷ base) (e ∷ outer) (does.Bind 0) tail.4.0 refl ∙ ap (λ x. Some (acts x w (told_by code st (waiting.Operation next.Void)))) (place_is code k p (does.Bind 0) tail.4.0))
-      (is_inside code k p (does.Bind 0) tail.4.0) told)
+      (is_inside code k p (does.Bind 0) tail.4.0) told refl)
     where
       w : Want
       w = want.Bind e.frame 0 v

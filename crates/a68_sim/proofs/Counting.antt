@@ -60,7 +60,7 @@ abbrev program : Program
 program = record {
   place = 0;
   tree = range 6 6 1 false (phrases 6 (declaration and_tree counting and_tree no_trees) (operation 48 print collateral (its_value 54 and_tree no_trees)));
-  texts = [];
+  apart = [];
   modes = standard_shapes;
 }
 
@@ -80,6 +80,7 @@ code = record {
       ∷ instr 18 does.Forget ∷ instr 54 (does.Tag 0 0) ∷ instr 54 (does.Deref 1) ∷ instr 48 (does.Print 1) ∷ instr 6 (does.Leave 0)
       ∷ instr 0 does.End ∷ [];
   texts = [];
+  units = [];
   modes = standard_shapes;
 }
 
@@ -165,7 +166,7 @@ translates = record {
   );
   ends = (refl, refl);
   no_more = refl;
-  texts = refl;
+  apart = refl;
   modes = refl;
 }
 
@@ -198,6 +199,7 @@ last_store = record {
   cells = held.Plain (value.Int (pos 3)) ∷ [];
   frames = standard_frame ∷ record { outer = 0; scope = 1; slots = Some (plain (value.Name (record { cell = 0; scope = 1 }))) ∷ [] } ∷ [];
   text = text;
+  strands = 1;
 }
 
 abbrev last_state : State

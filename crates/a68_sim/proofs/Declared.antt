@@ -56,7 +56,7 @@ by_hand = record {
       let item_y = operation 48 (unite 1) serial (operation 48 (tag 0 1) serial no_trees and_tree no_trees) in
       let item_newline = operation 51 (unite 6) serial (operation 51 (constant (layout Newline)) serial no_trees and_tree no_trees) in
       range 6 6 3 false (phrases 6 (variable and_tree (together (y and_tree (z and_tree no_trees)) and_tree no_trees)) (operation 41 print collateral (item_y and_tree (item_newline and_tree no_trees))));
-  texts = [];
+  apart = [];
   modes = standard_shapes;
 }
 

@@ -81,6 +81,7 @@ code = record {
       instr 6 (does.Enter 1) ∷ instr 6 (does.Make 1 0) ∷ instr 15 (does.Push five) ∷ instr 6 (does.Store 1) ∷ instr 6 (does.Bind 0)
       ∷ instr 24 (does.Tag 0 0) ∷ instr 24 (does.Deref 1) ∷ instr 18 (does.Print 1) ∷ instr 6 (does.Leave 0) ∷ instr 0 does.End ∷ [];
   texts = [];
+  units = [];
   modes = standard_shapes;
 }
 
@@ -103,7 +104,7 @@ translates = record {
   );
   ends = (refl, refl);
   no_more = refl;
-  texts = refl;
+  apart = refl;
   modes = refl;
 }
 
@@ -127,6 +128,7 @@ last_store = record {
   cells = held.Plain (value.Int (pos 5)) ∷ [];
   frames = standard_frame ∷ record { outer = 0; scope = 1; slots = Some (plain (value.Name (record { cell = 0; scope = 1 }))) ∷ [] } ∷ [];
   text = text;
+  strands = 1;
 }
 
 abbrev last_state : State
@@ -203,6 +205,7 @@ unset_code = record {
       instr 6 (does.Enter 1) ∷ instr 6 (does.Make 1 0) ∷ instr 6 (does.Bind 0) ∷ instr 19 (does.Tag 0 0) ∷ instr 19 (does.Deref 1)
       ∷ instr 13 (does.Print 1) ∷ instr 6 (does.Leave 0) ∷ instr 0 does.End ∷ [];
   texts = [];
+  units = [];
   modes = standard_shapes;
 }
 
@@ -225,7 +228,7 @@ unset_translates = record {
   );
   ends = (refl, refl);
   no_more = refl;
-  texts = refl;
+  apart = refl;
   modes = refl;
 }
 
@@ -250,6 +253,7 @@ unset_world = record {
     cells = held.Plain value.Unset ∷ [];
     frames = standard_frame ∷ record { outer = 0; scope = 1; slots = Some (plain (value.Name (record { cell = 0; scope = 1 }))) ∷ [] } ∷ [];
     text = [];
+    strands = 1;
   };
   strands = unset_state ∷ [];
 }
@@ -278,6 +282,7 @@ newer_code = record {
       instr 7 (does.Enter 1) ∷ instr 7 (does.Make 1 0) ∷ instr 7 (does.Bind 0) ∷ instr 14 (does.Tag 0 0) ∷ instr 7 (does.Leave 1)
       ∷ instr 6 does.Drop ∷ instr 0 does.End ∷ [];
   texts = [];
+  units = [];
   modes = standard_shapes;
 }
 
@@ -303,7 +308,7 @@ newer_translates = record {
   );
   ends = (refl, refl);
   no_more = refl;
-  texts = refl;
+  apart = refl;
   modes = refl;
 }
 
@@ -325,6 +330,7 @@ newer_world = record {
     cells = held.Plain value.Unset ∷ [];
     frames = standard_frame ∷ record { outer = 0; scope = 1; slots = Some (plain (value.Name (record { cell = 0; scope = 1 }))) ∷ [] } ∷ [];
     text = [];
+    strands = 1;
   };
   strands = newer_state ∷ [];
 }
@@ -349,7 +355,7 @@ abbrev standard : List Environ
 standard = record { frame = 0; scope = 0 } ∷ []
 
 abbrev of_both : Store
-of_both = record { cells = []; frames = record standard_frame { slots = Some five ∷ Some five ∷ [] } ∷ []; text = [] }
+of_both = record { cells = []; frames = record standard_frame { slots = Some five ∷ Some five ∷ [] } ∷ []; text = []; strands = 1 }
 
 abbrev operand : ℕ → Tree
 operand slot = operation slot (tag 0 slot) collateral no_trees

@@ -10,11 +10,12 @@ use Rattle.a68_code.specs.declared.code.RoutineEntrance.{RoutineEntrance}
 use Rattle.a68_code.specs.declared.does.Does.TheVariants as does
 use Rattle.a68_elab.specs.Positions.{within, OpensIn, in_this, past}
 use Rattle.a68_elab.specs.Rows.{meets, acts, within_frame, body_in}
-use Rattle.a68_elab.specs.Terms.{only, Job, operating, resuming, gathering, preceding, ending, ranged, choosing, casing, conforming, specifying, tagging, passing, chosen, limiting, counting, stepping, turning, opening, naming, indexing, ranging, testing, running, advancing, quitting, leaving, calling, entering, binding, inside, Term, todo, part, yielded, Terms, no_terms, ◌and_term◌, todos, order_of}
-use Rattle.a68_elab.specs.Trees.{Tree, Trees, operation, together, phrases, range, choice, cases, conformity, loop, call, unbuilt, Turns, no_trees, ◌and_tree◌, count, Order, Body, Program}
+use Rattle.a68_elab.specs.Terms.{only, Job, operating, resuming, gathering, preceding, ending, ranged, choosing, casing, conforming, specifying, tagging, passing, chosen, limiting, counting, stepping, turning, opening, naming, indexing, ranging, testing, running, advancing, quitting, leaving, calling, entering, binding, inside, forking, joining, closing, Term, todo, part, yielded, unit_of, Terms, no_terms, ◌and_term◌, todos, order_of}
+use Rattle.a68_elab.specs.Trees.{Tree, Trees, operation, together, phrases, range, choice, cases, conformity, loop, call, parallel, unbuilt, Turns, no_trees, ◌and_tree◌, count, Order, Body, Program, texts_of}
 use Rattle.a68_gen.specs.Stretches.{Has, Stands, StandAll, member_places, wholes_of, leave}
 use Rattle.a68_sim.proofs.Conforming.{conforming_done, specifying_done, tagging_done, passing_done}
 use Rattle.a68_sim.proofs.Calling.{calling_done, entering_done, binding_one, inside_done}
+use Rattle.a68_sim.proofs.Forking.{forking_done}
 use Rattle.a68_sim.proofs.Asking.{idle, at_instr, place_is, is_inside}
 use Rattle.a68_gen.proofs.Forward.{next_is}
 use Rattle.a68_sim.proofs.Jobs.{Done, row_done, misled_sim, operating_done, resuming_done, gathering_done, ending_done, ranged_done, choosing_done, casing_done, chosen_done, limiting_done, counting_done, stepping_done, turning_done, opening_done, naming_done, indexing_done, ranging_done, testing_done, running_done, advancing_done, quitting_done, leaving_done}
@@ -31,15 +32,15 @@ use Rattle.a68_values.specs.declared.act.FaultKind.TheVariants as fault
 use Rattle.a68_values.specs.declared.chain.Environ.{Environ}
 use Rattle.a68_values.specs.declared.plain.Routine.{Routine}
 
-opens_yields : (u u' : Term) (o : Order) (acc : List Content) (ts ts' : Terms) → OpensIn u u' 0 0 o ts ts' → OpensIn u u' 0 0 o (yields acc ts) (yields acc ts')
-opens_yields u u' o [] ts ts' x = x
-opens_yields u u' o (v ∷ acc) ts ts' x = opens_yields u u' o acc (yielded v and_term ts) (yielded v and_term ts') (past x)
+opens_yields : (u u' : Term) (x own : ℕ) (o : Order) (acc : List Content) (ts ts' : Terms) → OpensIn u u' x own o ts ts' → OpensIn u u' x own o (yields acc ts) (yields acc ts')
+opens_yields u u' x own o [] ts ts' i = i
+opens_yields u u' x own o (v ∷ acc) ts ts' i = opens_yields u u' x own o acc (yielded v and_term ts) (yielded v and_term ts') (past i)
 
 abbrev in_part : Job → List Environ → List Content → Terms → Term → Term
 in_part job ch acc ts t = part job ch (yields acc (t and_term ts))
 
 part_hole : (job : Job) (ch : List Environ) (acc : List Content) (ts : Terms) → Hole (in_part job ch acc ts)
-part_hole job ch acc ts = record { opens = λ u u' t t' o. within (opens_yields u u' (order_of job) acc (t and_term ts) (t' and_term ts) (in_this o)) }
+part_hole job ch acc ts = record { opens = λ own x u u' t t' o. within (opens_yields u u' x own (order_of job) acc (t and_term ts) (t' and_term ts) (in_this o)) }
 
 module _ (program : Program) (code : Code) (same : code.modes ≡ program.modes) (texts : TextsStand program code) where
   -- a part that is done or that is at work: the whole follows it, and goes on behind it where it yields
@@ -88,7 +89,7 @@ module _ (program : Program) (code : Code) (same : code.modes ≡ program.modes)
         let st = asks_for (idle a base (e ∷ outer)) base (Asking w waiting.Frame) in
         moves_act program code _ _ _ p w _ (told_by code st waiting.Frame) refl
         (at_instr code a p base (e ∷ outer) (does.Enter n) enter.0 refl ∙ ap (λ x. Some (acts x w (told_by code st waiting.Frame))) (place_is code a p (does.Enter n) enter.0))
-        (is_inside code a p (does.Enter n) enter.0) keeps
+        (is_inside code a p (does.Enter n) enter.0) keeps refl
       where
         st : State
         st = asks_for (idle a base (e ∷ outer)) base (Asking (want.Enter e.frame (suc e.scope) n) waiting.Frame)
@@ -181,6 +182,10 @@ module _ (program : Program) (code : Code) (same : code.modes ≡ program.modes)
         progress_row program code _ _ _ st refl
         (trees_progress (primary and_tree parts) (calling p yields) c [] s.a z.0 b base home g st refl z.2 (s.state ∙ ap (λ x. idle s.a base x) (sym s.chain))
         (z.1, s.chain, count parts, count_todos (primary and_tree parts) c, z.3) (calling_done program code texts b base home g p yields c z.0))
+    tree_progress (parallel p numbers) c b base home g st s =
+        let z = s.stands in
+        progress_row program code _ _ _ st refl
+        (moved _ _ st _ (s.state ∙ ap (λ x. idle s.a base x) (sym s.chain)) (forking_done program code b base home g p numbers c s.a [] (z.1, s.chain, z.0, z.3, z.4)))
     tree_progress unbuilt c b base home g st s = absurd s.stands
 
     -- parts that are reached, behind those that have yielded
@@ -202,7 +207,7 @@ module _ (program : Program) (code : Code) (same : code.modes ≡ program.modes)
       → Done program code (binding p q from slot []) ch k b base home g
   binding_last p q from slot ch k b base home g (v ∷ acc) tail = absurd (omega (arith, tail.0, count_yields (v ∷ acc) no_terms))
   binding_last p q from slot ch k b base home g [] tail =
-      by_text (slice_get program.texts q.text) refl (slice_get code.texts q.text) refl (texts.each q.text)
+      by_text (slice_get (texts_of program) q.text) refl (slice_get code.texts q.text) refl (texts.each q.text)
     where
       items : List Item
       items = item.Caller (record { to = b; chain = home }) ∷ base
@@ -210,7 +215,7 @@ module _ (program : Program) (code : Code) (same : code.modes ≡ program.modes)
       t : Term
       t = part (binding p q from slot []) ch no_terms
 
-      by_text : (o : Option Body) → slice_get program.texts q.text ≡ o → (o2 : Option RoutineEntrance) → slice_get code.texts q.text ≡ o2 → Found code o o2
+      by_text : (o : Option Body) → slice_get (texts_of program) q.text ≡ o → (o2 : Option RoutineEntrance) → slice_get code.texts q.text ≡ o2 → Found code o o2
           → Progress program code (Sim code b base home g) t (begins_body (idle k items ch) o2)
       by_text None is None is2 found =
           moves_fault program code _ t _ fault.Kind p (ap (λ (o : Option Body). Some (body_in p from ch o)) is) (ap (λ x. Some (meets fault.Kind x)) (place_is code k p tail.3 tail.4.0))
@@ -258,12 +263,16 @@ module _ (program : Program) (code : Code) (same : code.modes ≡ program.modes)
   all_done (binding p q from slot []) ch k b base home g = binding_last p q from slot ch k b base home g
   all_done (binding p q from slot (v ∷ vs)) ch k b base home g = binding_one program code texts b base home g p q from slot v vs ch k
   all_done (inside p yields from) ch k b base home g = inside_done program code b base home g p yields from ch k
+  all_done (forking p numbers) ch k b base home g = forking_done program code b base home g p numbers ch k
+  all_done joining ch k b base home g = λ acc tail. absurd tail
+  all_done (closing p) ch k b base home g = λ acc tail. absurd tail
 
   -- what comes next for parts at hand
   parts_progress : (ts : Terms) (job : Job) (ch : List Environ) (acc : List Content) (k b : ℕ) (base : List Item) (home : List Environ) (g : Bool) (st : State)
       → DoesParts code ts k (left (parts_give job g) acc (inner job b home base)) ch (parts_give job g) (pose_of job) st → Tail code job (count_terms (yields acc ts)) ch k b home g
       → Progress program code (Sim code b base home g) (part job ch (yields acc ts)) st
   parts_progress no_terms job ch acc k b base home g st does tail = moved _ _ st _ does (all_done job ch k b base home g acc tail)
+  parts_progress (unit_of x t and_term ts) job ch acc k b base home g st does tail = absurd does
   parts_progress (yielded v and_term ts) job ch acc k b base home g st does tail = parts_progress ts job ch (v ∷ acc) k b base home g st does tail
   parts_progress (todo tree c and_term ts) job ch acc k b base home g st does tail =
       from_part job ch acc ts (todo tree c) does.0 k b base home g st does.1 does.2 tail
@@ -284,3 +293,4 @@ module _ (program : Program) (code : Code) (same : code.modes ≡ program.modes)
   term_progress (todo tree c) b base home g st s = tree_progress tree c b base home g st s
   term_progress (part job c ps) b base home g st s = parts_progress ps job c [] s.0 b base home g st s.1 s.2
   term_progress (yielded v) b base home g st s = finishes v still s
+  term_progress (unit_of x t) b base home g st s = absurd s

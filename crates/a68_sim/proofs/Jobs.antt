@@ -28,6 +28,7 @@ use Rattle.a68_ops.specs.Applied.{applied}
 use Rattle.a68_ops.specs.Yields.{Yield}
 use Rattle.a68_sim.proofs.Asking.{idle, seen, ask, at_instr, place_is, does_is, is_inside, Back}
 use Rattle.a68_gen.proofs.Forward.{next_is, forward, forward_index, forward_leaves, forward_arms, forward_test}
+use Rattle.a68_sim.proofs.Forks.{start_forkless}
 use Rattle.a68_sim.proofs.Operating.{exec_of, not_end, operation_begins, operation_goes_on}
 use Rattle.a68_sim.proofs.Quiet.{progress_row, still, quietly, outwards, Progress, moves, finishes, moves_on, moves_act, moves_fault}
 use Rattle.a68_sim.proofs.Relation.{drops, bit_of, pose_of, ready, push, callers_left, count_terms, posed, parts_give, inner, LoopAt, Tail, Sim, yields, left, onto, size, values_yields, pops_left, count_yields, left_none, does_yields}
@@ -150,6 +151,7 @@ module _ (program : Program) (code : Code) where
         operation_begins program code same b base home g p op n k ch (left true acc base) _ (start program.modes op ch (onto acc [])) at tail.1 (sym (callers_left true acc base))
         (row_done program (operating p op o) ch acc)
         (at_instr code k p (left true acc base) ch (does_of op n) at.has.0 (not_end op n) ∙ ap (λ s. Some (seen code s)) done)
+        (start_forkless program.modes op ch (onto acc []))
 
     pub resuming_done : (same : code.modes ≡ program.modes) (p : ℕ) (d : _) (ch : List Environ) (k : ℕ) → Done program code (resuming p d) ch k b base home g
     resuming_done same p d ch k [] tail = operation_goes_on program code same b base home g p k ch d tail.1
@@ -157,7 +159,7 @@ module _ (program : Program) (code : Code) where
 
     pub gathering_done : (ch : List Environ) (k : ℕ) → Done program code gathering ch k b base home g
     gathering_done ch k acc tail =
-        finishes void (quietly here (row_done program gathering ch acc) still)
+        finishes void (quietly (λ own. here) (row_done program gathering ch acc) still)
         (ap (λ s. idle k s ch) (left_none acc base) ∙ ap (λ n. idle n base ch) tail.1 ∙ ap (λ c. idle b base c) tail.2
         ∙ ap (λ (x : Bool). idle b (push x void base) home) (sym tail.0))
 
@@ -165,7 +167,7 @@ module _ (program : Program) (code : Code) where
     ending_done ch k [] tail = absurd (omega (arith, tail.0))
     ending_done ch k (v ∷ (w ∷ acc)) tail = absurd (two_or_more v w acc tail.0)
     ending_done ch k (v ∷ []) tail =
-        finishes v (quietly here (row_done program ending ch (v ∷ [])) still)
+        finishes v (quietly (λ own. here) (row_done program ending ch (v ∷ [])) still)
         (ap (λ n. idle n (push g v base) ch) tail.1 ∙ ap (λ c. idle b (push g v base) c) tail.2)
 
     pub ranged_done : (out : ℕ) (gives : Bool) (ch : List Environ) (k : ℕ) → Done program code (ranged out gives) ch k b base home g
@@ -248,7 +250,7 @@ module _ (program : Program) (code : Code) where
         by_place : (k ≡ b) ⊎ ((p x : ℕ) × Has code p (does.Jump b) k x × (k < b))
             → Progress program code (Sim code b base home g) (part chosen ch (yields (v ∷ []) no_terms)) (idle k (push g v base) ch)
         by_place (inl at_b) =
-            finishes v (quietly here (row_done program chosen ch (v ∷ [])) still)
+            finishes v (quietly (λ own. here) (row_done program chosen ch (v ∷ [])) still)
             (ap (λ n. idle n (push g v base) ch) at_b ∙ ap (λ c. idle b (push g v base) c) tail.0)
         by_place (inr jump) =
             moves_on program code _ _ _ _ (idle b (push g v base) ch) (row_done program chosen ch (v ∷ []))
@@ -361,7 +363,7 @@ module _ (program : Program) (code : Code) where
         on_bare (turning c l) ch k acc items
         (moves_act program code _ _ (idle k items ch) l.place want.Turn _ (told_by code st waiting.Turn) (row_done program (turning c l) ch acc)
         (at_instr code k l.place items ch does.Turn turn.0 refl ∙ ap (λ y. Some (acts y want.Turn (told_by code st waiting.Turn))) (place_is code k l.place does.Turn turn.0))
-        (is_inside code k l.place does.Turn turn.0) (keeps turn))
+        (is_inside code k l.place does.Turn turn.0) (keeps turn) refl)
       where
         by_counts : Has code l.place does.Turn k tail.3.u → (y : Bool) → l.counts ≡ y
             → Sim code b base home g (if y then part (opening c l) ch no_terms else in_turn l.test c l ch) (idle (suc k) (item.Counter c ∷ base) ch)
@@ -395,7 +397,7 @@ module _ (program : Program) (code : Code) where
         let st = asks_for (idle k items (en ∷ outer)) items (Asking w waiting.Frame) in
         moves_act program code _ _ _ p w _ (told_by code st waiting.Frame) e
         (at_instr code k p items (en ∷ outer) (does.Enter n) has.0 refl ∙ ap (λ x. Some (acts x w (told_by code st waiting.Frame))) (place_is code k p (does.Enter n) has.0))
-        (is_inside code k p (does.Enter n) has.0) told
+        (is_inside code k p (does.Enter n) has.0) told refl
       where
         st : State
         st = asks_for (idle k items (en ∷ outer)) items (Asking (want.Enter en.frame (suc en.scope) n) waiting.Frame)
@@ -452,7 +454,7 @@ module _ (program : Program) (code : Code) where
         on_bare (indexing c l) (e ∷ outer) k acc items
         (moves_act program code _ _ _ l.place w _ (told_by code st (waiting.Operation next.Void)) (row_done program (indexing c l) (e ∷ outer) acc)
         (at_instr code k l.place items (e ∷ outer) (does.Bind 0) tail.5.0 refl ∙ ap (λ x. Some (acts x w (told_by code st (waiting.Operation next.Void)))) (place_is code k l.place (does.Bind 0) tail.5.0))
-        (is_inside code k l.place (does.Bind 0) tail.5.0) told)
+        (is_inside code k l.place (does.Bind 0) tail.5.0) told refl)
       where
         w : Want
         w = want.Bind e.frame 0 (plain (value.Int c.at))

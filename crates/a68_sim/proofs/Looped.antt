@@ -49,7 +49,7 @@ by_hand = record {
       let item = operation 55 (unite 1) serial (operation 55 (tag 0 0) serial no_trees and_tree no_trees) in
       loop 0 (number 11 3 and_tree (number 17 2 and_tree (number 22 9 and_tree no_trees))) true true (while_in 30 1 (phrases 30 (k and_tree no_trees) less))
       (phrases 49 no_trees (operation 49 print collateral (item and_tree no_trees)));
-  texts = [];
+  apart = [];
   modes = standard_shapes;
 }
 

@@ -11,11 +11,12 @@ use Rattle.a68_code.specs.declared.code.Code.{Code}
 use Rattle.a68_code.specs.declared.code.RoutineEntrance.{RoutineEntrance}
 use Rattle.a68_code.specs.declared.does.Does.{Does}
 use Rattle.a68_code.specs.declared.does.Does.TheVariants as does
-use Rattle.a68_elab.specs.Terms.{Job, operating, resuming, gathering, preceding, ending, ranged, choosing, casing, conforming, specifying, tagging, passing, chosen, limiting, counting, stepping, turning, opening, naming, indexing, ranging, testing, running, advancing, quitting, leaving, calling, entering, binding, inside, Term, todo, part, yielded, Terms, no_terms, ◌and_term◌, todos, values}
+use Rattle.a68_elab.specs.Terms.{Job, operating, resuming, gathering, preceding, ending, ranged, choosing, casing, conforming, specifying, tagging, passing, chosen, limiting, counting, stepping, turning, opening, naming, indexing, ranging, testing, running, advancing, quitting, leaving, calling, entering, binding, inside, forking, joining, closing, Term, todo, part, yielded, unit_of, Terms, no_terms, ◌and_term◌, todos, values}
 use Rattle.a68_elab.specs.Trees.{Tree, Turns, depth, Trees, no_trees, ◌and_tree◌, count}
-use Rattle.a68_gen.specs.Stretches.{Indexes, Leaves, Has, Stands, StandAll, StandArms, StandSpecs, Tests, member_places, wholes_of, with_last, does_of, leave}
+use Rattle.a68_gen.specs.Stretches.{AreEntrances, Indexes, Leaves, Has, Stands, StandAll, StandArms, StandSpecs, Tests, member_places, wholes_of, with_last, does_of, leave}
 use Rattle.a68_modes.specs.Nodes.{shape_at}
 use Rattle.a68_sim.proofs.Asking.{idle}
+use Rattle.a68_sim.proofs.Forks.{is_fork}
 use Rattle.a68_sim.proofs.Quiet.{outwards}
 use Rattle.a68_strand.specs.Machine.{State, follows, enters_body, binds}
 use Rattle.a68_stack.specs.Values.{callers, pop_values}
@@ -41,6 +42,7 @@ AllTodo code g no_terms a b ch = a ≡ b
 AllTodo code g (todo tree c and_term ts) a b ch = (m : ℕ) × Stands code g tree a m × (c ≡ ch) × AllTodo code g ts m b ch
 AllTodo code g (part job c ps and_term ts) a b ch = ⊥
 AllTodo code g (yielded v and_term ts) a b ch = ⊥
+AllTodo code g (unit_of s t and_term ts) a b ch = ⊥
 
 -- how a strand stands that has done the parts at hand
 pub data Pose : Type 0 where
@@ -110,7 +112,7 @@ pub record OperationAt (code : Code) (p : ℕ) (op : Operation) (n : ℕ) (k b :
 -- an operation that goes on like this stands from k up to b
 abbrev pub Continues : Code → ℕ → Doing → List Environ → ℕ → ℕ → List Environ → Bool → Type 0
 Continues code p (doing.Yields v) ch k b home g = (suc k ≡ b) × (ch ≡ home)
-Continues code p (doing.Asks w next) ch k b home g = (op : Operation) × (n : ℕ) × OperationAt code p op n k b g × (ch ≡ home)
+Continues code p (doing.Asks w next) ch k b home g = (op : Operation) × (n : ℕ) × OperationAt code p op n k b g × (ch ≡ home) × (is_fork w ≡ false)
 Continues code p (doing.Meets why) ch k b home g = (d : Does) × (slice_get code.list k ≡ Some (record { place = p; does = d }))
 
 -- a loop's stretch, from its Step at t up to b
@@ -198,6 +200,10 @@ Tail code (entering p r vs) n ch k b home g = (n ≡ 0) × (ch ≡ home) × Fits
 Tail code (binding p r from slot vs) n ch k b home g = (n ≡ 0) × (from ≡ home) × Fits code r g × (d : Does) × Has code p d k b
 Tail code (inside p yields from) n ch k b home g =
     (g ≡ yields) × (from ≡ home) × (n ≡ 1) × (slice_get code.list k ≡ Some (record { place = p; does = does.Return }))
+Tail code (forking p numbers) n ch k b home g = (g ≡ false) × (ch ≡ home) × (entrances : List ℕ) × AreEntrances code.units numbers entrances × Has code p (does.Fork entrances) k b
+-- a strand that waits for units, and one that ends as a unit, are no part of a strand's own work
+Tail code joining n ch k b home g = ⊥
+Tail code (closing p) n ch k b home g = ⊥
 
 -- the strand is about to begin a tree
 pub record Begins (code : Code) (tree : Tree) (c : List Environ) (b : ℕ) (base : List Item) (home : List Environ) (g : Bool) (st : State) : Type 0 where
@@ -214,6 +220,7 @@ DoesParts code (todo tree c and_term ts) k base ch g d st = (m : ℕ) × (d ≡ 
 DoesParts code (part job c ps and_term ts) k base ch g d st =
     (m : ℕ) × (d ≡ ready) × AllTodo code g ts m k ch × (k2 : ℕ) × DoesParts code ps k2 (inner job m ch base) c (parts_give job g) (pose_of job) st
     × Tail code job (count_terms ps) c k2 m ch g
+DoesParts code (unit_of s t and_term ts) k base ch g d st = ⊥
 
 -- The strand does the term: once that has yielded, the strand is at b, in the chain home, and what it leaves is on base.
 abbrev pub Sim : Code → ℕ → List Item → List Environ → Bool → Term → State → Type 0
@@ -221,6 +228,7 @@ Sim code b base home g (todo tree c) st = Begins code tree c b base home g st
 Sim code b base home g (yielded v) st = st ≡ idle b (push g v base) home
 Sim code b base home g (part job c ps) st =
     (k : ℕ) × DoesParts code ps k (inner job b home base) c (parts_give job g) (pose_of job) st × Tail code job (count_terms ps) c k b home g
+Sim code b base home g (unit_of s t) st = ⊥
 
 -- yielded parts in front, the last one first
 abbrev pub yields : List Content → Terms → Terms
@@ -249,6 +257,7 @@ does_todos code (todo tree c and_term ts) a k base ch g st all e =
     (all.0, refl, all.3, record { a = a; stands = all.1; chain = all.2; state = e })
 does_todos code (part job c ps and_term ts) a k base ch g st all e = absurd all
 does_todos code (yielded v and_term ts) a k base ch g st all e = absurd all
+does_todos code (unit_of s t and_term ts) a k base ch g st all e = absurd all
 
 pub does_first : (code : Code) (t : Term) (ts : Terms) (m k : ℕ) (base : List Item) (ch : List Environ) (g : Bool) (d : Pose) (st : State) → d ≡ ready
     → AllTodo code g ts m k ch → Sim code m base ch g t st → DoesParts code (t and_term ts) k base ch g d st
@@ -256,6 +265,7 @@ does_first code (yielded v) ts m k base ch g d st none all s =
     subst (λ (x : Pose). DoesParts code ts k (push g v base) ch g x st) (sym none) (does_todos code ts m k (push g v base) ch g st all s)
 does_first code (todo tree c) ts m k base ch g d st none all s = (m, none, all, s)
 does_first code (part job c ps) ts m k base ch g d st none all s = (m, none, all, s.0, s.1, s.2)
+does_first code (unit_of x t) ts m k base ch g d st none all s = absurd s
 
 pub same_count : (acc : List Content) (xs ys : Terms) → count_terms xs ≡ count_terms ys → count_terms (yields acc xs) ≡ count_terms (yields acc ys)
 same_count [] xs ys e = e

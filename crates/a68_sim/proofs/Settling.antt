@@ -1,34 +1,29 @@
 -- A strand runs its silent instructions, and the term follows.
-use Rattle.std.proofs.Common.{◌≡◌, ◌<◌, ◌≤◌, ◌⊎◌, ◌+◌, ◌*◌, ℕ, zero, suc, arith, Bool, true, false, List, [], length, None, Some, refl, sym, ap, ◌∙◌, subst, inl, inr}
+use Rattle.std.proofs.Common.{◌≡◌, ◌<◌, ◌≤◌, ◌⊎◌, ◌+◌, ◌*◌, ℕ, zero, suc, arith, Bool, true, false, List, length, None, Some, refl, sym, ap, ◌∙◌, subst, inl, inr}
 use Rattle.std.proofs.Math.Nat.{mul-suc}
 use Rattle.std.proofs.lemmas.Option.{same_Some}
 use Rattle.std.specs.Option.{option_map, option_map_or}
-use Rattle.std.specs.Prelude.{slice_get, if◌then◌else◌}
+use Rattle.std.specs.Prelude.{if◌then◌else◌}
 use Rattle.std.specs.declared.option.Option.{Option}
 use Rattle.a68_acts.specs.Operations.{has_turn}
 use Rattle.a68_acts.specs.declared.operation.Counter.{Counter}
-use Rattle.a68_acts.specs.declared.want.Want.{Want}
 use Rattle.a68_code.specs.Flow.{does_at}
 use Rattle.a68_code.specs.declared.code.Code.{Code}
 use Rattle.a68_code.specs.declared.does.Does.{Does}
 use Rattle.a68_code.specs.declared.does.Does.TheVariants as does
-use Rattle.a68_elab.specs.Positions.{HasOpen}
 use Rattle.a68_elab.specs.Rows.{goes, acts, meets}
 use Rattle.a68_elab.specs.Terms.{Term, yielded}
 use Rattle.a68_elab.specs.Trees.{Program}
-use Rattle.a68_sim.proofs.Asking.{idle, seen_in, seen, at_end_asks, Forth}
-use Rattle.a68_sim.proofs.Follow.{term_progress}
-use Rattle.a68_sim.proofs.Quiet.{Quiet, still, quiet_on, Follows, Progress, moves, finishes, Moves}
-use Rattle.a68_sim.proofs.Relation.{Sim}
+use Rattle.a68_sim.proofs.Asking.{seen_in, seen, Forth}
+use Rattle.a68_sim.proofs.Finishing.{Finish, program_end, unit_end, EndsAt, Works, Closes, never_waits, closes, works, closed, work_progress, no_step}
+use Rattle.a68_sim.proofs.Quiet.{Quiet, still, quiet_on, IsOpen, Follows, Progress, moves, finishes, Moves}
 use Rattle.a68_sim.proofs.Routines.{TextsStand}
-use Rattle.a68_strand.specs.Machine.{State, Stack, at_end, does_one, silently, settle_in, steps, goes_on, goes_to, fails, told_by, place_at}
+use Rattle.a68_strand.proofs.Settled as rest
+use Rattle.a68_strand.specs.Machine.{settle, State, Stack, at_end, does_one, silently, settle_in, steps, goes_on, goes_to, told_by, place_at}
 use Rattle.a68_stack.specs.Values.{callers, top_counter}
 use Rattle.a68_strand.specs.declared.ask.Stance.{Stance}
-use Rattle.a68_strand.specs.declared.ask.Stance.TheVariants.{Idle, Asking, Failed}
-use Rattle.a68_strand.specs.declared.ask.Waiting.{Waiting}
+use Rattle.a68_strand.specs.declared.ask.Stance.TheVariants.{Idle, Asking, Failed, Waits, Closed}
 use Rattle.a68_values.specs.Content.{Content}
-use Rattle.a68_values.specs.declared.act.FaultKind.{FaultKind}
-use Rattle.a68_values.specs.declared.act.FaultKind.TheVariants as fault
 use Rattle.a68_values.specs.declared.chain.Environ.{Environ}
 
 abbrev pub state : ℕ → Stack → List Environ → Stance → State
@@ -113,82 +108,95 @@ module _ (code : Code) where
       by_counter None q = let z = ap (λ (s : State). s.stance) (same_Some _ next q) ∙ idles in absurd (cc)
       by_counter (Some c) q = by_test c (has_turn c) q
 
--- where a strand has settled, the term has followed it: it yields silently where the strand has come to its end
-abbrev pub SettledIn : Program → Code → (Term → State → Type 0) → Stance → Term → State → Type 0
-SettledIn program code K Idle t st = (v : Content) × Quiet program t (yielded v)
-SettledIn program code K (Asking w wait) t st = Follows program K t (acts (place_at code.list st.at) w (told_by code st wait))
-SettledIn program code K (Failed why) t st = (t' : Term) × Quiet program t t' × HasOpen program 0 t' 0 (meets why (place_at code.list st.at))
+-- a program alone comes to its end without an act: its term yields silently
+abbrev pub Yields : Program → Finish → Term → Type 0
+Yields program (program_end b home) t = (v : Content) × Quiet program t (yielded v)
+Yields program (unit_end p k ch) t = ⊥
 
-abbrev pub Settled : Program → Code → (Term → State → Type 0) → Term → State → Type 0
-Settled program code K t st = SettledIn program code K st.stance t st
+-- where a strand has settled, the term has followed it
+abbrev pub SettledIn : Program → Code → Finish → Stance → Term → State → Type 0
+SettledIn program code how Idle t st = Yields program how t
+SettledIn program code how (Asking w wait) t st = Follows program code (Works code how) t (acts (place_at code.list st.at) w (told_by code st wait))
+SettledIn program code how (Failed why) t st = (t' : Term) × Quiet program t t' × IsOpen program t' (meets why (place_at code.list st.at))
+SettledIn program code how (Waits first count) t st = ⊥
+SettledIn program code how Closed t st = Closes how t
 
-module _ (program : Program) (code : Code) (same : code.modes ≡ program.modes) (texts : TextsStand program code) (b p : ℕ) (home : List Environ) (end : slice_get code.list b ≡ Some (record { place = p; does = does.End })) where
+abbrev pub Settled : Program → Code → Finish → Term → State → Type 0
+Settled program code how t st = SettledIn program code how st.stance t st
+
+-- possibly after silent steps the term is where the strand has settled
+abbrev pub Comes : Program → Code → Finish → Term → State → Type 0
+Comes program code how t st = (t' : Term) × Quiet program t t' × Settled program code how t' st
+
+-- a strand whose work is done has settled
+done_settled : (program : Program) (code : Code) (how : Finish) (v : Content) (st : State) → Works code how (yielded v) st → Settled program code how (yielded v) st
+done_settled program code (program_end b home) v st s = subst (Settled program code (program_end b home) (yielded v)) (sym s) (v, still)
+done_settled program code (unit_end p k ch) v st (works u is s) = absurd (cc)
+done_settled program code (unit_end p k ch) v st (closed w is c) = subst (λ (x : Stance). SettledIn program code (unit_end p k ch) x (yielded v) st) (sym c) (v, refl)
+
+module _ (program : Program) (code : Code) (same : code.modes ≡ program.modes) (texts : TextsStand program code) (how : Finish) (end : EndsAt code how) where
   abbrev K : Term → State → Type 0
-  K = Sim code b [] home false
+  K = Works code how
 
-  abbrev Comes : Term → State → Type 0
-  Comes t st = (t' : Term) × Quiet program t t' × Settled program code K t' st
-
-  settle_end : (n : ℕ) → settle_in n code (idle b [] home) ≡ idle b [] home
-  settle_end zero = ap (λ o. option_map_or (λ (next : State). fails (idle b [] home) fault.Kind) o (idle b [] home)) (at_end_asks code b p [] home end)
-  settle_end (suc n) = ap (λ o. option_map_or (settle_in n code) o (idle b [] home)) (at_end_asks code b p [] home end)
-
-  -- a strand that asks or has failed is settled
-  stays_asking : (n at : ℕ) (stack : Stack) (ch : List Environ) (w : Want) (wait : Waiting) → settle_in n code (state at stack ch (Asking w wait)) ≡ state at stack ch (Asking w wait)
-  stays_asking zero at stack ch w wait = refl
-  stays_asking (suc n) at stack ch w wait = refl
-
-  stays_failed : (n at : ℕ) (stack : Stack) (ch : List Environ) (why : FaultKind) → settle_in n code (state at stack ch (Failed why)) ≡ state at stack ch (Failed why)
-  stays_failed zero at stack ch why = refl
-  stays_failed (suc n) at stack ch why = refl
+  abbrev Here : Term → State → Type 0
+  Here t st = Comes program code how t st
 
   -- a step on which the strand asks, fails or goes on
   by_next : (n : ℕ) (t : Term) (at : ℕ) (stack : Stack) (ch : List Environ) (stance : Stance)
-      → Follows program K t (seen code (state at stack ch stance))
-      → ((t' : Term) → stance ≡ Idle → K t' (state at stack ch stance) → Comes t' (settle_in n code (state at stack ch stance)))
-      → Comes t (settle_in n code (state at stack ch stance))
+      → Follows program code K t (seen code (state at stack ch stance))
+      → ((t' : Term) → stance ≡ Idle → K t' (state at stack ch stance) → Here t' (settle_in n code (state at stack ch stance)))
+      → Here t (settle_in n code (state at stack ch stance))
   by_next n t at stack ch Idle f more = let x = more f.0 refl f.2 in (x.0, quiet_on f.1 x.1, x.2)
-  by_next n t at stack ch (Asking w wait) f more = subst (Comes t) (sym (stays_asking n at stack ch w wait)) (t, still, f)
-  by_next n t at stack ch (Failed why) f more = subst (Comes t) (sym (stays_failed n at stack ch why)) (t, still, f)
+  by_next n t at stack ch (Asking w wait) f more = subst (Here t) (sym (rest.still n code (state at stack ch (Asking w wait)) refl)) (t, still, f)
+  by_next n t at stack ch (Failed why) f more = subst (Here t) (sym (rest.still n code (state at stack ch (Failed why)) refl)) (t, still, f)
+  by_next n t at stack ch (Waits first count) f more = absurd (never_waits code how f.0 (state at stack ch (Waits first count)) first count f.2 refl)
+  by_next n t at stack ch Closed f more =
+      subst (Here t) (sym (rest.still n code (state at stack ch Closed) refl)) (f.0, f.1, closes code how f.0 (state at stack ch Closed) f.2 refl)
 
   by_stance : (n : ℕ) (t : Term) (at : ℕ) (stack : Stack) (ch : List Environ) (stance : Stance)
       → Enough code n (state at stack ch stance) → Moves program code K t (state at stack ch stance)
-      → ((k : ℕ) (t' : Term) (next : State) → n ≡ suc k → K t' next → Enough code k next → Comes t' (settle_in k code next))
-      → Comes t (settle_in n code (state at stack ch stance))
+      → ((k : ℕ) (t' : Term) (next : State) → n ≡ suc k → K t' next → Enough code k next → Here t' (settle_in k code next))
+      → Here t (settle_in n code (state at stack ch stance))
   by_stance n t at stack ch (Asking w wait) enough m more =
-      subst (Comes t) (sym (stays_asking n at stack ch w wait))
-      (t, still, subst (Follows program K t) (sym (same_Some _ m.what m.asks)) m.follows)
+      subst (Here t) (sym (rest.still n code (state at stack ch (Asking w wait)) refl))
+      (t, still, subst (Follows program code K t) (sym (same_Some _ m.what m.asks)) m.follows)
   by_stance n t at stack ch (Failed why) enough m more =
-      subst (Comes t) (sym (stays_failed n at stack ch why)) (t, still, subst (Follows program K t) (sym (same_Some _ m.what m.asks)) m.follows)
+      subst (Here t) (sym (rest.still n code (state at stack ch (Failed why)) refl)) (t, still, subst (Follows program code K t) (sym (same_Some _ m.what m.asks)) m.follows)
+  by_stance n t at stack ch (Waits first count) enough m more = let e = m.asks in absurd (cc)
+  by_stance n t at stack ch Closed enough m more = let e = m.asks in absurd (cc)
   by_stance n t at stack ch Idle enough m more = by_step n enough (silently code Idle st) refl m.asks more
     where
       st : State
       st = state at stack ch Idle
 
       by_step : (n : ℕ) → Enough code n st → (o : Option State) → silently code Idle st ≡ o → option_map (seen code) o ≡ Some m.what
-          → ((k : ℕ) (t' : Term) (next : State) → n ≡ suc k → K t' next → Enough code k next → Comes t' (settle_in k code next))
-          → Comes t (settle_in n code st)
+          → ((k : ℕ) (t' : Term) (next : State) → n ≡ suc k → K t' next → Enough code k next → Here t' (settle_in k code next))
+          → Here t (settle_in n code st)
       by_step n enough None e a more = absurd (cc)
       by_step zero enough (Some next) e a more = absurd (some_left code (callers stack.items) at enough m.inside)
       by_step (suc k) enough (Some next) e a more =
           let w : seen code next ≡ m.what = same_Some _ m.what a in
-          subst (λ (o : Option State). Comes t (option_map_or (settle_in k code) o st)) (sym e)
-          (by_next k t next.at next.stack next.chain next.stance (subst (Follows program K t) (sym w) m.follows)
+          subst (λ (o : Option State). Here t (option_map_or (settle_in k code) o st)) (sym e)
+          (by_next k t next.at next.stack next.chain next.stance (subst (Follows program code K t) (sym w) m.follows)
           (λ t' idles kt. more k t' next refl kt
           (enough_left code k at stack ch next m.inside enough e idles (subst (Forth code st) (sym w ∙ ap (λ (md : Stance). seen_in code md next) idles) m.forth))))
 
   by_progress : (n : ℕ) (t : Term) (st : State) → Enough code n st → Progress program code K t st
-      → ((k : ℕ) (t' : Term) (next : State) → n ≡ suc k → K t' next → Enough code k next → Comes t' (settle_in k code next))
-      → Comes t (settle_in n code st)
+      → ((k : ℕ) (t' : Term) (next : State) → n ≡ suc k → K t' next → Enough code k next → Here t' (settle_in k code next))
+      → Here t (settle_in n code st)
   by_progress n t st enough (moves m) more = by_stance n t st.at st.stack st.chain st.stance enough m more
   by_progress n t st enough (finishes v q k) more =
-      subst (Comes t) (sym (ap (settle_in n code) k ∙ settle_end n)) (yielded v, q, (v, still))
+      subst (Here t) (sym (rest.still n code st (no_step code how v st end k))) (yielded v, q, done_settled program code how v st k)
 
   -- a strand settles, and the term follows it
-  pub settle_follows : (n : ℕ) (t : Term) (st : State) → K t st → Enough code n st → Comes t (settle_in n code st)
+  settle_follows : (n : ℕ) (t : Term) (st : State) → K t st → Enough code n st → Here t (settle_in n code st)
   settle_follows zero t st k enough =
-      by_progress zero t st enough (term_progress program code same texts t b [] home false st k) (λ j t' next e kt left. absurd (omega (arith, e)))
+      by_progress zero t st enough (work_progress program code same texts how t st end k) (λ j t' next e kt left. absurd (omega (arith, e)))
   settle_follows (suc n) t st k enough =
-      by_progress (suc n) t st enough (term_progress program code same texts t b [] home false st k)
+      by_progress (suc n) t st enough (work_progress program code same texts how t st end k)
       (λ j t' next e kt left. let same_n : n ≡ j = omega (arith, e) in
-      subst (λ (x : ℕ). Enough code x next → Comes t' (settle_in x code next)) same_n (settle_follows n t' next kt) left)
+      subst (λ (x : ℕ). Enough code x next → Here t' (settle_in x code next)) same_n (settle_follows n t' next kt) left)
+
+  pub settles : (t : Term) (st : State) → Works code how t st → Comes program code how t (settle code st)
+  unfolding settle
+  settles t st k = settle_follows (rooms (length code.list) (callers st.stack.items)) t st k (inl (omega arith))

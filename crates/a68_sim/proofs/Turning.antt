@@ -37,7 +37,7 @@ program = record {
       loop 0 (number 0 1 and_tree number 0 1 and_tree number 9 2 and_tree no_trees) true true
       (while_in 17 1 (phrases 17 (operation 17 (bind 0) serial (operation 25 (tag 1 0) serial no_trees and_tree no_trees) and_tree no_trees) (operation 28 (constant yes_it_is) serial no_trees)))
       (operation 36 drop serial (operation 36 (tag 0 0) serial no_trees and_tree no_trees));
-  texts = [];
+  apart = [];
   modes = standard_shapes;
 }
 
@@ -49,6 +49,7 @@ code = record {
       ∷ instr 28 (does.Push yes_it_is) ∷ instr 0 (does.Unless 21) ∷ instr 36 (does.Tag 0 0) ∷ instr 36 does.Drop ∷ instr 0 (does.Leave 0) ∷ instr 0 (does.Leave 0)
       ∷ instr 0 (does.Advance 5) ∷ instr 0 (does.Jump 23) ∷ instr 0 (does.Leave 0) ∷ instr 0 (does.Leave 0) ∷ instr 0 does.Forget ∷ instr 0 does.End ∷ [];
   texts = [];
+  units = [];
   modes = standard_shapes;
 }
 
@@ -87,7 +88,7 @@ translates = record {
   );
   ends = (refl, refl);
   no_more = refl;
-  texts = refl;
+  apart = refl;
   modes = refl;
 }
 
@@ -104,7 +105,7 @@ abbrev counts : (outer scope n : ℕ) → Frame
 counts outer scope n = record { outer = outer; scope = scope; slots = Some (whole n) ∷ [] }
 
 abbrev last_store : Store
-last_store = record { cells = []; frames = standard_frame ∷ counts 0 1 1 ∷ counts 1 2 1 ∷ counts 0 1 2 ∷ counts 3 2 2 ∷ []; text = [] }
+last_store = record { cells = []; frames = standard_frame ∷ counts 0 1 1 ∷ counts 1 2 1 ∷ counts 0 1 2 ∷ counts 3 2 2 ∷ []; text = []; strands = 1 }
 
 abbrev last_state : State
 last_state = record { at = 24; stack = stack_of []; chain = record { frame = 0; scope = 0 } ∷ []; stance = Idle }

@@ -48,10 +48,10 @@ frames-bound s t f h bound written is =
     ap frames_of written ∙ map-set frame_of s.frames.items f h ∙ ap (λ x. slice_set (frames_of s.frames.items) f x) is
 
 pub bound-sound : (s t : Inside) (f i : ℕ) (g h : Frame) (old : Option Content) (v : Content) → IsSound s → slice_get (frames_of s.frames.items) f ≡ Some (frame_of g)
-    → slice_get g.slots.items i ≡ Some old → t.cells ≡ s.cells → t.text ≡ s.text → t.frames.items ≡ set s.frames.items f h
+    → slice_get g.slots.items i ≡ Some old → t.cells ≡ s.cells → t.text ≡ s.text → t.strands ≡ s.strands → t.frames.items ≡ set s.frames.items f h
     → frame_of h ≡ record (frame_of g) { slots = slice_set g.slots.items i (Some v) } → t.counted + slot_weight old ≡ s.counted + slot_weight (Some v)
     → t.counted ≤ most_counted → IsSound t
-bound-sound s t f i g h old v sound frame slot cells text written is counts few =
+bound-sound s t f i g h old v sound frame slot cells text strands written is counts few =
     let frames = frames-bound s t f h _ written is in
     let sum = sum-bind (frames_of s.frames.items) f i (frame_of g) old (Some v) frame slot in
     let same : sum_by frame_weight (frames_of t.frames.items) + slot_weight old ≡ sum_by frame_weight (frames_of s.frames.items) + slot_weight (Some v) = rw frames sum in
@@ -63,17 +63,18 @@ bound-sound s t f i g h old v sound frame slot cells text written is counts few 
       opened = omega (arith, long, sound.opened);
       linked = rw frames (linked-bind (frames_of s.frames.items) f (frame_of g) _ sound.linked frame);
       short = rw text sound.short;
+      strands_few = rw strands sound.strands_few;
     }
 
-pub bound-view : (s t : Inside) (f i : ℕ) (g h : Frame) (v : Content) → t.cells ≡ s.cells → t.text ≡ s.text → t.frames.items ≡ set s.frames.items f h
+pub bound-view : (s t : Inside) (f i : ℕ) (g h : Frame) (v : Content) → t.cells ≡ s.cells → t.text ≡ s.text → t.strands ≡ s.strands → t.frames.items ≡ set s.frames.items f h
     → frame_of h ≡ record (frame_of g) { slots = slice_set g.slots.items i (Some v) } → store_of t ≡ with_slot (store_of s) f i (frame_of g) v
-bound-view s t f i g h v cells text written is = rw (cells, text, frames-bound s t f h _ written is) refl
+bound-view s t f i g h v cells text strands written is = rw (cells, text, strands, frames-bound s t f h _ written is) refl
 
 -- ---- the store once a frame is entered
 
 pub entered-sound : (s t : Inside) (new : Frame) (n : ℕ) → IsSound s → new.outer < length s.frames.items → new.slots.items ≡ replicate n None → t.cells ≡ s.cells → t.text ≡ s.text
-    → t.frames.items ≡ s.frames.items ++ new ∷ [] → t.counted ≡ s.counted + n → t.counted ≤ most_counted → IsSound t
-entered-sound s t new n sound outer slots cells text pushed counts few =
+    → t.strands ≡ s.strands → t.frames.items ≡ s.frames.items ++ new ∷ [] → t.counted ≡ s.counted + n → t.counted ≤ most_counted → IsSound t
+entered-sound s t new n sound outer slots cells text strands pushed counts few =
     let frames : frames_of t.frames.items ≡ frames_of s.frames.items ++ frame_of new ∷ [] = ap frames_of pushed ∙ frames_of-push s.frames.items new in
     let sum = sum_by_push frame_weight (frames_of s.frames.items) (frame_of new) in
     let weight : frame_weight (frame_of new) ≡ n * 1 = ap (λ l. sum_by slot_weight l) slots ∙ sum_by-replicate slot_weight n None in
@@ -87,6 +88,7 @@ entered-sound s t new n sound outer slots cells text pushed counts few =
       opened = omega (arith, long);
       linked = rw frames (linked-enter (frames_of s.frames.items) (frame_of new) sound.linked there);
       short = rw text sound.short;
+      strands_few = rw strands sound.strands_few;
     }
 
 pub frame-there : (fs : List store.Frame) (f : ℕ) → f < length fs → (frame : store.Frame) × (slice_get fs f ≡ Some frame)
@@ -95,12 +97,12 @@ frame-there (g ∷ fs) zero h = (g, refl)
 frame-there (g ∷ fs) (suc f) h = frame-there fs f (omega arith)
 
 pub entered-view : (s t : Inside) (new : Frame) (outer scope n : ℕ) → new.outer ≡ outer → new.scope ≡ scope → new.slots.items ≡ replicate n None → t.cells ≡ s.cells → t.text ≡ s.text
-    → t.frames.items ≡ s.frames.items ++ new ∷ []
+    → t.strands ≡ s.strands → t.frames.items ≡ s.frames.items ++ new ∷ []
     → store_of t ≡ record (store_of s) { frames = frames_of s.frames.items ++ record { outer = outer; scope = scope; slots = replicate n None } ∷ [] }
-entered-view s t new outer scope n out in_scope slots cells text pushed =
+entered-view s t new outer scope n out in_scope slots cells text strands pushed =
     let frames : frames_of t.frames.items ≡ frames_of s.frames.items ++ frame_of new ∷ [] = ap frames_of pushed ∙ frames_of-push s.frames.items new in
     let is : frame_of new ≡ record { outer = outer; scope = scope; slots = replicate n None } = rw (out, in_scope, slots) refl in
-    rw (cells, text, frames, is) refl
+    rw (cells, text, strands, frames, is) refl
 
 -- the chain of a new frame, as the code makes it
 pub chain-given : (fs : List store.Frame) (read : List Frame) (f outer scope n : ℕ) → AreLinked fs → outer < length fs → f ≡ length fs → frames_of read ≡ fs

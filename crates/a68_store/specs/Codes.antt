@@ -19,5 +19,5 @@ frame_code =
 
 abbrev pub store_code : Coded Store
 store_code =
-    code_by (List Held × (List Frame × List ℕ)) (coded× (coded_list held_code) (coded× (coded_list frame_code) (coded_list coded_ℕ)))
-    (λ s. (s.cells, (s.frames, s.text))) (λ p. record { cells = p.0; frames = p.1.0; text = p.1.1 }) (λ _. refl)
+    code_by (List Held × (List Frame × (List ℕ × ℕ))) (coded× (coded_list held_code) (coded× (coded_list frame_code) (coded× (coded_list coded_ℕ) coded_ℕ)))
+    (λ s. (s.cells, (s.frames, (s.text, s.strands)))) (λ p. record { cells = p.0; frames = p.1.0; text = p.1.1.0; strands = p.1.1.1 }) (λ _. refl)

@@ -1,8 +1,8 @@
 //! The store.
-ghost use Rattle.std.specs.Prelude.{◌≡◌, ◌<◌, ◌+◌, ◌-◌, ◌^◌, [], true, pos, int_lt, None, Some, length, map, replicate, slice_get, slice_set, vec_len, IfOk, IfSome, OnOk};
+ghost use Rattle.std.specs.Prelude.{◌≡◌, ◌<◌, ◌≤◌, ◌+◌, ◌-◌, ◌^◌, [], true, pos, int_lt, nat_lt, None, Some, length, map, replicate, slice_get, slice_set, vec_len, IfOk, IfSome, OnOk};
 ghost use Rattle.std.specs.Option.{option_copied, option_map_or};
 ghost use Rattle.a68_acts.specs.Does.{count_held, count_in, does, did, refused, with_count};
-ghost use Rattle.a68_acts.specs.Store.{opening_store};
+ghost use Rattle.a68_acts.specs.Store.{most_strands, opening_store};
 ghost use Rattle.a68_store.specs.Acts.{DoesAct, has_to_wait};
 ghost use Rattle.a68_store.specs.Frames.{HasSlot, frame_of, plain_bound, plain_held, slot_in};
 
@@ -12,9 +12,9 @@ use crate::plans::{cells_from, is_closed};
 use crate::stop::StoreStop;
 use crate::weight::{slot_weight, weight};
 use a68_acts::{Reply, Want};
-use a68_base::{MOST_COUNTED, MOST_PRINTED, NoMemory, Span, Text};
+use a68_base::{MOST_COUNTED, MOST_PRINTED, MOST_STRANDS, NoMemory, Span, Text};
 use a68_layout::Plan;
-use a68_values::{Act, Cells, Chain, Environ, FaultKind, Held, Plain, Slots, Value};
+use a68_values::{Act, Cells, Chain, Entrances, Environ, FaultKind, Held, Plain, Slots, Value};
 use std::alloc::Global;
 use std::marker::Model;
 use std::mem;
@@ -27,6 +27,8 @@ pub struct Store {
     text: Vec<u8>,
     // What the store counts.
     counted: u32,
+    // How many strands have been made.
+    strands: u32,
 }
 
 impl Drop for Store {
@@ -36,6 +38,7 @@ impl Drop for Store {
             frames: _,
             text: _,
             counted: _,
+            strands: _,
         } = self;
     }
 }
@@ -124,6 +127,14 @@ fn halts(count: i64) -> bool
     count < 1
 }
 
+// Are so many strands more than a run may have beside those that were made?
+fn are_too_many(made: u32, count: usize) -> bool
+    requires { made ≤ most_strands }
+    ensures { result ≡ nat_lt most_strands (made + count) }
+{
+    count > (MOST_STRANDS - made) as usize
+}
+
 #[tactic(auto, unfolding(a68_acts::specs::Does::does))]
 impl Store {
     /// The store of a run that is yet to begin: frame 0 alone.
@@ -141,6 +152,7 @@ impl Store {
             frames,
             text: Vec::new(alloc),
             counted: 0,
+            strands: 1,
         })
     }
 
@@ -322,6 +334,21 @@ impl Store {
         })
     }
 
+    /// New strands for the units that begin at these entrances, and takes no memory. The number of the first comes back;
+    /// the fault Strands comes where the run would have too many.
+    pub fn fork(&mut self, entrances: &Entrances) -> Result<u32, StoreStop>
+        ensures { DoesAct result (λ first. Act.Fork first (length entrances.now)) (λ first. Reply.Base first)
+            (does (Want.Fork entrances.now) self.old) self.old self.new }
+    {
+        let count = entrances.items.len();
+        if are_too_many(self.strands, count) {
+            return Err(StoreStop::Fault(FaultKind::Strands));
+        }
+        let first = self.strands;
+        self.strands += count as u32;
+        Ok(first)
+    }
+
     // The slot of a frame, where they are there.
     fn slot(&self, frame: u32, slot: u32) -> Option<&Option<Value>>
         ensures { option_copied result ≡ slot_in self.now frame slot }
@@ -423,6 +450,15 @@ impl Store {
         }
     }
 
+    fn fault_of_fork(&self, entrances: &Entrances) -> Option<FaultKind>
+        ensures { result ≡ refused (does (Want.Fork entrances.now) self.now) }
+    {
+        if are_too_many(self.strands, entrances.items.len()) {
+            return Some(FaultKind::Strands);
+        }
+        None
+    }
+
     /// The fault that an act would meet, where it would meet one. It takes no memory.
     pub fn fault_of(&self, want: &Want) -> Option<FaultKind>
         ensures { result ≡ refused (does want.now self.now) }
@@ -444,10 +480,10 @@ impl Store {
                 }
             }
             Want::Print(text) => self.fault_of_print(&text.items),
-            Want::Turn => None,
             Want::Up { cell } => self.fault_of_up(*cell),
             Want::Down { cell } => self.fault_of_down(*cell),
-            Want::Fork(_) | Want::Close => Some(FaultKind::Kind),
+            Want::Fork(entrances) => self.fault_of_fork(entrances),
+            Want::Turn | Want::Close => None,
         }
     }
 
@@ -484,6 +520,7 @@ impl Store {
             mut frames,
             text,
             counted: _,
+            strands: _,
         } = self;
         let slots = if frames.len() > 1 {
             frames.swap_remove(1).slots

@@ -15,9 +15,9 @@ use Rattle.a68_values.specs.declared.kept.End.TheVariants as ends
 use Rattle.a68_strand.specs.Runs.{World, acted}
 
 abbrev pub fault_in : Stance → Store → Option FaultKind
-fault_in Idle store = None
 fault_in (Asking want waiting) store = refused (does want store)
 fault_in (Failed why) store = Some why
+fault_in _ store = None
 
 -- the fault before which a strand stands: its own, or one that its act would meet
 abbrev pub fault_of : World → ℕ → Option FaultKind

@@ -38,6 +38,12 @@ pub enum Waiting {
     Entered(u32, Parameters),
     /// It binds the next parameter; behind the last one the body of the routine text of this number begins.
     Bound(u32, Parameters),
+    /// It is told the first of so many units of a parallel clause, and waits for them.
+    Fork { count: usize },
+    /// It has closed.
+    Close,
+    /// It goes on with the next instruction, once these units have closed.
+    Units { first: u32, count: usize },
 }
 
 /// What a strand is about.
@@ -49,6 +55,10 @@ pub enum Stance {
     Asking(Want, Waiting),
     /// It has met a fault.
     Failed(FaultKind),
+    /// It waits for so many units of a parallel clause, which are numbered from this one on.
+    Waits { first: u32, count: usize },
+    /// It was a unit of a parallel clause, and has come to its end.
+    Closed,
 }
 
 /// What a strand shows of itself.
@@ -60,6 +70,8 @@ pub enum Ask {
     Waits,
     /// It has come to its end.
     Ended,
+    /// It was a unit of a parallel clause, and has come to its end.
+    Closed,
     /// It stands before a fault. `place` is the byte of the text at which the construct begins that meets it.
     Fault { kind: FaultKind, place: u32 },
     /// It found no memory, and is spent.

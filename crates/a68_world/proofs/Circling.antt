@@ -1,40 +1,37 @@
 -- Strands that take turns.
-use Rattle.std.proofs.Common.{◌≡◌, ◌≢◌, ◌<◌, ◌≤◌, ◌+◌, ◌-◌, ◌++◌, ◌⊎◌, inl, inr, ℕ, zero, suc, false, List, [], ◌∷◌, length, None, Some, refl, sym, ◌∙◌, ap, subst, arith, length-append, get_or, slice_get, IfSome, IsNone}
+use Rattle.std.proofs.Common.{◌≡◌, ◌≢◌, ◌<◌, ◌≤◌, ◌+◌, ◌-◌, ◌++◌, ◌⊎◌, inl, inr, ℕ, zero, suc, Bool, true, false, List, [], ◌∷◌, length, None, Some, refl, sym, ◌∙◌, ap, subst, arith, length-append, get_or, slice_get, IfSome, IsNone, true≢false}
 use Rattle.std.proofs.lemmas.List.{get_or_push}
 use Rattle.std.proofs.lemmas.Option.{slice_get-get_or}
 use Rattle.std.specs.Bool.{⊤}
+use Rattle.std.specs.Prelude.{Ok, Err, IfOk}
 use Rattle.std.specs.Option.{option_and_then, option_map_or, unwrap_or}
 use Rattle.std.specs.declared.option.Option.{Option}
+use Rattle.std.specs.declared.result.Result.{Result}
 use Rattle.a68_acts.specs.Does.{Outcome, did, refuses, waits, does, refused}
+use Rattle.a68_acts.specs.declared.want.Want.{Want}
 use Rattle.a68_code.specs.declared.code.Code.{Code}
 use Rattle.a68_strand.specs.Cyclic.{HasTurn, Sooner, IsFirstBehind, TakeTurns, IsTurnOf, EndsInTurn, last_of, Cyclic}
 use Rattle.a68_strand.specs.Ends.{fault_of, fault_in, CanAct}
 use Rattle.a68_strand.specs.Machine.{State}
 use Rattle.a68_strand.specs.Runs.{World, Machine, IfNext, opening, acted, acts_in, after}
 use Rattle.a68_strand.specs.declared.ask.Stance.{Stance}
-use Rattle.a68_strand.specs.declared.ask.Stance.TheVariants.{Idle, Asking, Failed}
+use Rattle.a68_strand.specs.declared.ask.Stance.TheVariants.{Idle, Asking, Failed, Waits, Closed}
 use Rattle.a68_values.specs.declared.act.Act.{Act}
 use Rattle.a68_values.specs.declared.act.Entry.{Entry}
 use Rattle.a68_values.specs.declared.kept.End.{End}
 use Rattle.a68_values.specs.declared.kept.End.TheVariants as ends
 use Rattle.a68_values.specs.declared.kept.Kept.{Kept}
-use Rattle.a68_world.specs.Circle.{InTurn, EndedInTurn}
-use Rattle.a68_world.specs.Run.{Run, EndsWithoutTurn, Begins}
-use Rattle.a68_world.specs.Turns.{Acts, EndsAt, EndsHere, HadEnded, IsAbsent, IsAble, last_strand, Finishes}
+use Rattle.a68_world.specs.Circle.{InTurn, HasTurned, EndedInTurn, IsNext, HasGrown}
+use Rattle.a68_world.specs.Run.{Run, AllHome, EndsWithoutTurn, Begins, world}
+use Rattle.a68_world.specs.Turns.{Acts, EndsAt, EndsHere, HadEnded, IsReady, IsNotReady, IsAble, last_strand, Finishes}
+use Rattle.a68_world.specs.Worlds.{world_of, IsJournal}
+use Rattle.a68_world.specs.declared.status.Status.{Status}
+use Rattle.a68_world.specs.declared.status.Status.TheVariants.{Home, Spent}
+use Rattle.a68_world.proofs.Kept.{journal_behind, length_noted}
+use Rattle.a68_world.proofs.Places.{is_there, is_within}
+use Rattle.a68_world.proofs.Showing.{turn_there}
 
 -- ---- a journal with one entry more
-
-next_then : (o : Option (Act × World)) (a : Act) (P Q : World → Type 0) → ((v : World) → P v → Q v) → IfNext o a P → IfNext o a Q
-next_then None a P Q f p = p
-next_then (Some m) a P Q f p = (p.0, f m.1 p.1)
-
-one_entry : (code : Code) (v u : World) (e : Entry) → acted code v e.strand ≡ Some (e.act, u) → Machine code v (e ∷ []) u
-one_entry code v u e next = subst (λ o. IfNext o e.act (λ behind. behind ≡ u)) (sym next) (refl, refl)
-
-pub machine_more : (code : Code) (w v u : World) (es : List Entry) (e : Entry) → Machine code w es v → acted code v e.strand ≡ Some (e.act, u) → Machine code w (es ++ e ∷ []) u
-machine_more code w v u [] e runs next = subst (λ x. Machine code x (e ∷ []) u) (sym runs) (one_entry code v u e next)
-machine_more code w v u (d ∷ es) e runs next =
-    next_then (acted code w d.strand) d.act (λ b. Machine code b es v) (λ b. Machine code b (es ++ e ∷ []) u) (λ b r. machine_more code b v u es e r next) runs
 
 next_both : (o : Option (Act × World)) (a : Act) (P Q R : World → Type 0) → ((v : World) → P v → Q v → R v) → IfNext o a P → IfNext o a Q → IfNext o a R
 next_both None a P Q R f p q = p
@@ -113,23 +110,25 @@ one_turn_of code w (Some b) n m p q = one_first (HasTurn code w) b n m p q
 
 -- ---- a strand that can act stands before no fault
 
-calm_outcome : (code : Code) (w : World) (n : ℕ) (st : State) (o : Outcome) → after code w n st o ≢ None → refused o ≡ None
-calm_outcome code w n st (did act reply store) can = refl
-calm_outcome code w n st (refuses why) can = absurd (can refl)
-calm_outcome code w n st waits can = absurd (can refl)
+no_fault-outcome : (code : Code) (w : World) (n : ℕ) (st : State) (want : Want) (o : Outcome) → after code w n st want o ≢ None → refused o ≡ None
+no_fault-outcome code w n st want (did act reply store) can = refl
+no_fault-outcome code w n st want (refuses why) can = absurd (can refl)
+no_fault-outcome code w n st want waits can = absurd (can refl)
 
-calm_in : (code : Code) (w : World) (n : ℕ) (st : State) (m : Stance) → acts_in m code w n st ≢ None → fault_in m w.store ≡ None
-calm_in code w n st Idle can = absurd (can refl)
-calm_in code w n st (Asking want waiting) can = calm_outcome code w n st (does want w.store) can
-calm_in code w n st (Failed why) can = absurd (can refl)
+no_fault-in : (code : Code) (w : World) (n : ℕ) (st : State) (m : Stance) → acts_in m code w n st ≢ None → fault_in m w.store ≡ None
+no_fault-in code w n st Idle can = absurd (can refl)
+no_fault-in code w n st (Asking want waiting) can = no_fault-outcome code w n st want (does want w.store) can
+no_fault-in code w n st (Failed why) can = absurd (can refl)
+no_fault-in code w n st (Waits first count) can = absurd (can refl)
+no_fault-in code w n st Closed can = absurd (can refl)
 
-calm_found : (code : Code) (w : World) (n : ℕ) (o : Option State)
+no_fault-found : (code : Code) (w : World) (n : ℕ) (o : Option State)
     → option_and_then (λ (st : State). acts_in st.stance code w n st) o ≢ None → option_and_then (λ (st : State). fault_in st.stance w.store) o ≡ None
-calm_found code w n None can = refl
-calm_found code w n (Some st) can = calm_in code w n st st.stance can
+no_fault-found code w n None can = refl
+no_fault-found code w n (Some st) can = no_fault-in code w n st st.stance can
 
-pub calm : (code : Code) (w : World) (n : ℕ) → CanAct code w n → fault_of w n ≡ None
-calm code w n can = calm_found code w n (slice_get w.strands n) can
+pub no_fault : (code : Code) (w : World) (n : ℕ) → CanAct code w n → fault_of w n ≡ None
+no_fault code w n can = no_fault-found code w n (slice_get w.strands n) can
 
 -- ---- the strand of the last entry
 
@@ -141,42 +140,8 @@ last_strand_more es e =
     let is : get_or (es ++ e ∷ []) (length (es ++ e ∷ []) - 1) e ≡ e = get_or_push es e e (length (es ++ e ∷ []) - 1) (omega (arith, long)) in
     ap (λ o. option_map_or (λ (x : Entry). x.strand) o 0) (found ∙ ap (λ x. Some x) is)
 
--- ---- turns
+-- ---- ends
 
-able_first : (run : Run) (behind m : ℕ) → run.end ≡ None → run.spent ≡ false → IsFirstBehind (IsAble run) behind m → IsFirstBehind (HasTurn run.code run.world) behind m
-able_first run behind m e s f = record {
-  such = f.such.turn;
-  first = λ other turn sooner. f.first other (record { unended = e; kept = s; turn = turn }) sooner;
-}
-
--- the next strand is that whose turn it is
-pub next_turn : (run : Run) (before n : ℕ) (found : Option ℕ) → last_of None run.entries ≡ Some before → last_strand run.entries ≡ before
-    → run.spent ≡ false → EndsWithoutTurn run.code run.world run.end
-    → IfSome found (λ m. IsFirstBehind (IsAble run) (last_strand run.entries) m) → (IsNone found → (k : ℕ) → IsAble run k → ⊥)
-    → run.end ≡ None → IsTurnOf run.code run.world (last_of None run.entries) (unwrap_or found n)
-next_turn run before n None last same stands ends first none open_ =
-    let there = subst (λ e. EndsWithoutTurn run.code run.world e) open_ ends in
-    absurd (none refl there.1.0 (record { unended = open_; kept = stands; turn = there.1.1 }))
-next_turn run before n (Some m) last same stands ends first none open_ =
-    subst (λ b. IsTurnOf run.code run.world b m) (sym last) (subst (λ b. IsFirstBehind (HasTurn run.code run.world) b m) same (able_first run (last_strand run.entries) m open_ stands first))
-
--- an act leaves a run in turn
-pub in_turn : (old new : Run) (n m : ℕ) → InTurn old n → Acts old n new
-    → ((before : ℕ) → last_of None new.entries ≡ Some before → last_strand new.entries ≡ before → new.spent ≡ false → EndsWithoutTurn new.code new.world new.end → new.end ≡ None → IsTurnOf new.code new.world (last_of None new.entries) m)
-    → InTurn new m
-in_turn old new n m i a =
-    subst (λ r. ((before : ℕ) → last_of None r.entries ≡ Some before → last_strand r.entries ≡ before → r.spent ≡ false → EndsWithoutTurn r.code r.world r.end → r.end ≡ None → IsTurnOf r.code r.world (last_of None r.entries) m) → InTurn r m)
-    (sym a.after)
-    (λ next. record {
-      kept = i.kept;
-      stands = i.stands;
-      runs = machine_more old.code (opening old.code) old.world new.world old.entries (record { strand = n; act = a.act }) i.runs a.next;
-      turns = turns_more old.code (opening old.code) old.world new.world None old.entries (record { strand = n; act = a.act }) i.turns i.runs (i.next a.goes_on.unended) a.next;
-      ends = a.end;
-      next = next n (last_more None old.entries (record { strand = n; act = a.act })) (last_strand_more old.entries (record { strand = n; act = a.act })) i.stands a.end;
-    })
-
--- an end that needs no turn comes in turn
 silent_end : (code : Code) (w : World) (before : Option ℕ) (e : End) → EndsWithoutTurn code w (Some e) → EndsInTurn code w before e
 silent_end code w before ends.Done p = tt
 silent_end code w before ends.AllHalted p = tt
@@ -184,11 +149,81 @@ silent_end code w before (ends.Fault why place strand) p = absurd p
 silent_end code w before ends.Spent p = absurd p
 
 -- so does one to which the run comes at a turn
-turn_end : (run : Run) (n : ℕ) (before : Option ℕ) (e : End) → IsTurnOf run.code run.world before n → EndsAt run n e → EndsInTurn run.code run.world before e
+turn_end : (run : Run) (n : ℕ) (before : Option ℕ) (e : End) → IsTurnOf run.code (world run) before n → EndsAt run n e → EndsInTurn run.code (world run) before e
 turn_end run n before ends.Done turn p = tt
 turn_end run n before ends.AllHalted turn p = tt
-turn_end run n before (ends.Fault why place strand) turn p = subst (λ k. IsTurnOf run.code run.world before k) (sym p.0) turn
-turn_end run n before ends.Spent turn p = λ k other. subst (λ x. fault_of run.world x ≡ None) (one_turn_of run.code run.world before n k turn other) (calm run.code run.world n p.1)
+turn_end run n before (ends.Fault why place strand) turn p = subst (λ k. IsTurnOf run.code (world run) before k) (sym p.0) turn
+turn_end run n before ends.Spent turn p = λ k other. subst (λ x. fault_of (world run) x ≡ None) (one_turn_of run.code (world run) before n k turn other) (no_fault run.code (world run) n p.1)
+
+-- ---- turns
+
+-- where each strand stands in the world one that is there is at home
+at_home : (run : Run) (n : ℕ) → AllHome run.status → length run.status ≡ length (world run).strands → HasTurn run.code (world run) n → IsReady run n
+at_home run n stand all turn =
+    let st = turn_there run.code (world run) n turn in
+    let there = is_there run.status n (omega (arith, all, is_within (world run).strands n st.0 st.1)) in
+    record { home = there.1 ∙ ap (λ (s : Status). Some s) (home there.0 there.1); turn = turn }
+  where
+    home : (s : Status) → slice_get run.status n ≡ Some s → s ≡ Home
+    home Home e = refl
+    home Spent e = absurd (stand n e)
+
+able_first : (run : Run) (behind m : ℕ) → run.end ≡ None → AllHome run.status → length run.status ≡ length (world run).strands
+    → IsFirstBehind (IsAble run) behind m → IsFirstBehind (HasTurn run.code (world run)) behind m
+able_first run behind m e stand all f = record {
+  such = f.such.ready.turn;
+  first = λ other turn sooner. f.first other (record { unended = e; ready = at_home run other stand all turn }) sooner;
+}
+
+-- an act in turn
+pub has_turned : (old new : Run) (n : ℕ) → InTurn old n → Acts old n new → HasTurned new
+has_turned old new n i a = record {
+  before = n;
+  last = ap (last_of None) a.entries ∙ last_more None old.entries (record { strand = n; act = a.act });
+  last_is = ap last_strand a.entries ∙ last_strand_more old.entries (record { strand = n; act = a.act });
+  all = a.seated.many;
+  runs = journal_behind old new n a.act a.behind a.same.0 a.entries a.next i.runs;
+  turns =
+      subst (λ c. TakeTurns c (opening c) None new.entries) (sym a.same.0)
+      (subst (λ es. TakeTurns old.code (opening old.code) None es) (sym a.entries)
+      (turns_more old.code (opening old.code) (world old) a.behind None old.entries (record { strand = n; act = a.act }) i.turns i.runs (i.next a.goes_on.unended) a.next));
+  stand = λ kept k gone. true≢false (sym (a.spent k gone) ∙ kept);
+  ends = λ kept. a.ends.whole (λ k gone. true≢false (sym (a.spent k gone) ∙ kept));
+}
+
+-- the next strand is that whose turn it is; there is none where the run has ended
+pub next_is : (run : Run) (found : Option ℕ) → HasTurned run → run.lost ≡ false → IfSome found (λ m. IsFirstBehind (IsAble run) (last_strand run.entries) m)
+    → (IsNone found → (k : ℕ) → IsAble run k → ⊥) → IsNext run found
+next_is run None h kept first none = by run.end refl
+  where
+    by : (o : Option End) → run.end ≡ o → EndedInTurn run
+    by None e =
+        let there = subst (λ o. EndsWithoutTurn run.code (world run) o) e (h.ends kept) in
+        absurd (none refl there.1.0 (record { unended = e; ready = at_home run there.1.0 (h.stand kept) h.all there.1.1 }))
+    by (Some end) e = record {
+      runs = h.runs;
+      turns = h.turns;
+      end = end;
+      ended = e;
+      ends = silent_end run.code (world run) (last_of None run.entries) end (subst (λ o. EndsWithoutTurn run.code (world run) o) e (h.ends kept));
+    }
+next_is run (Some m) h kept first none = record {
+  kept = kept;
+  stand = h.stand kept;
+  all = h.all;
+  runs = h.runs;
+  turns = h.turns;
+  ends = h.ends kept;
+  next = λ open_.
+      subst (λ b. IsTurnOf run.code (world run) b m) (sym h.last)
+      (subst (λ b. IsFirstBehind (HasTurn run.code (world run)) b m) h.last_is (able_first run (last_strand run.entries) m open_ (h.stand kept) h.all first));
+}
+
+-- there was fuel for a further entry
+pub has_grown : {E : Type 0} (old new : Run) (n : ℕ) (r : Result (Option ℕ) E) → Acts old n new → IfOk r (λ next. HasGrown old new next)
+has_grown old new n (Ok None) a = tt
+has_grown old new n (Ok (Some m)) a = (a.fuel, length_noted old new n a.act a.entries)
+has_grown old new n (Err x) a = tt
 
 had_ended : (old : Run) (n : ℕ) (e : End) → InTurn old n → old.end ≡ Some e → EndedInTurn old
 had_ended old n e i is = record {
@@ -196,7 +231,7 @@ had_ended old n e i is = record {
   turns = i.turns;
   end = e;
   ended = is;
-  ends = silent_end old.code old.world (last_of None old.entries) e (subst (λ o. EndsWithoutTurn old.code old.world o) is i.ends);
+  ends = silent_end old.code (world old) (last_of None old.entries) e (subst (λ o. EndsWithoutTurn old.code (world old) o) is i.ends);
 }
 
 pub ended_in_turn : (old new : Run) (n : ℕ) (e : End) → InTurn old n → HadEnded old e new ⊎ EndsHere old n e new → EndedInTurn new
@@ -209,9 +244,14 @@ ended_in_turn old new n e i (inr h) = subst (λ r. EndedInTurn r) (sym h.after) 
   ends = turn_end old n (last_of None old.entries) e (i.next h.goes_on.unended) h.ends;
 })
 
+one-home : (k : ℕ) → slice_get (Home ∷ []) k ≡ Some Spent → ⊥
+one-home zero e = absurd (cc)
+one-home (suc k) e = absurd (cc)
+
 -- a run begins in turn
 pub begins_in_turn : (code : Code) (fuel : ℕ) (run : Run) → Begins code fuel run → InTurn run 0
-begins_in_turn code fuel run b = subst (λ r. InTurn r 0) (sym b.is) (record { kept = refl; stands = refl; runs = refl; turns = tt; ends = b.ends; next = λ e. refl })
+begins_in_turn code fuel run b =
+    subst (λ r. InTurn r 0) (sym b.is) (record { kept = refl; stand = one-home; all = refl; runs = refl; turns = tt; ends = b.ends; next = λ e. refl })
 
 some_is : (x y : End) → Some x ≡ Some y → x ≡ y
 some_is x y e = ap (λ o. unwrap_or o x) e
@@ -221,35 +261,32 @@ pub cyclic : (run : Run) (handed : Code) (kept : Kept) → EndedInTurn run → F
 cyclic run handed kept i f = record {
   turns = subst (λ es. TakeTurns run.code (opening run.code) None es) (sym f.entries) i.turns;
   ends = λ w runs.
-      let same : w ≡ run.world = one_world run.code (opening run.code) w run.world run.entries (subst (λ es. Machine run.code (opening run.code) es w) f.entries runs) i.runs in
+      let same : w ≡ world run = one_world run.code (opening run.code) w (world run) run.entries (subst (λ es. Machine run.code (opening run.code) es w) f.entries runs) i.runs in
       let is : kept.end ≡ i.end = some_is kept.end i.end (sym f.end ∙ i.ended) in
       subst (λ x. EndsInTurn run.code x (last_of None kept.journal.entries) kept.end) (sym same)
-      (subst (λ es. EndsInTurn run.code run.world (last_of None es) kept.end) (sym f.entries)
-      (subst (λ e. EndsInTurn run.code run.world (last_of None run.entries) e) (sym is) i.ends));
+      (subst (λ es. EndsInTurn run.code (world run) (last_of None es) kept.end) (sym f.entries)
+      (subst (λ e. EndsInTurn run.code (world run) (last_of None run.entries) e) (sym is) i.ends));
 }
 
--- ---- a strand whose turn it is, is there
-
-turn_is_there : (code : Code) (w : World) (n : ℕ) → HasTurn code w n → slice_get w.strands n ≡ None → ⊥
-turn_is_there code w n (inl can) gone = can (ap (λ o. option_and_then (λ (st : State). acts_in st.stance code w n st) o) gone)
-turn_is_there code w n (inr fault) gone = fault (ap (λ o. option_and_then (λ (st : State). fault_in st.stance w.store) o) gone)
-
-first_is_there : (code : Code) (w : World) (n : ℕ) → opening code ≡ w → n ≡ 0 → slice_get w.strands n ≡ None → ⊥
-first_is_there code w n is first gone =
-    let at_first : slice_get w.strands 0 ≡ None = subst (λ k. slice_get w.strands k ≡ None) first gone in
-    let there : slice_get (opening code).strands 0 ≡ None = subst (λ (v : World). slice_get v.strands 0 ≡ None) (sym is) at_first in
-    absurd (cc)
+-- ---- a strand whose turn it is, is ready
 
 last_is_some : (before : ℕ) (es : List Entry) → (k : ℕ) × (last_of (Some before) es ≡ Some k)
 last_is_some before [] = (before, refl)
 last_is_some before (e ∷ es) = last_is_some e.strand es
 
-turn_there : (code : Code) (w : World) (es : List Entry) (n : ℕ) → Machine code (opening code) es w → IsTurnOf code w (last_of None es) n → slice_get w.strands n ≡ None → ⊥
-turn_there code w [] n runs turn gone = first_is_there code w n runs turn gone
-turn_there code w (e ∷ es) n runs turn gone =
-    let last = last_is_some e.strand es in
-    let first = subst (λ b. IsTurnOf code w b n) last.1 turn in
-    turn_is_there code w n first.such gone
+-- at the beginning there is one strand
+first-turn : (code : Code) (n : ℕ) → HasTurn code (opening code) n → n ≡ 0
+first-turn code zero h = refl
+first-turn code (suc n) h = let st = turn_there code (opening code) (suc n) h in absurd (cc (st.1))
 
-pub never_absent : (old new : Run) (n : ℕ) → InTurn old n → IsAbsent old n new → ⊥
-never_absent old new n i a = turn_there old.code old.world old.entries n i.runs (i.next a.goes_on.unended) a.absent
+turn-is : (code : Code) (es : List Entry) (n : ℕ) → IsTurnOf code (world_of code es) (last_of None es) n → EndsWithoutTurn code (world_of code es) None → HasTurn code (world_of code es) n
+turn-is code [] n turn ends = subst (λ k. HasTurn code (opening code) k) (first-turn code ends.1.0 ends.1.1 ∙ sym turn) ends.1.1
+turn-is code (e ∷ es) n turn ends =
+    let last = last_is_some e.strand es in
+    let first = subst (λ b. IsTurnOf code (world_of code (e ∷ es)) b n) last.1 turn in
+    first.such
+
+pub always_ready : (old new : Run) (n : ℕ) → InTurn old n → IsNotReady old n new → ⊥
+always_ready old new n i a =
+    let ends = subst (λ o. EndsWithoutTurn old.code (world old) o) a.goes_on.unended i.ends in
+    a.unready (at_home old n i.stand i.all (turn-is old.code old.entries n (i.next a.goes_on.unended) ends))

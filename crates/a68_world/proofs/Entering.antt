@@ -5,7 +5,7 @@ use Rattle.std.specs.Option.{option_map_or}
 use Rattle.std.proofs.Math.ListN.{length-set}
 use Rattle.std.specs.declared.option.Option.{Option}
 use Rattle.a68_acts.specs.Does.{Outcome, did, refuses, waits, does, entered, bound, looked, made, within_count, cells_from, is_closed, count_in, with_count, raised, lowered}
-use Rattle.a68_acts.specs.Store.{Store, Frame, chain_step, chain_within, chain_of, counted, slot_weight, most_counted, most_printed}
+use Rattle.a68_acts.specs.Store.{Store, Frame, chain_step, chain_within, chain_of, counted, slot_weight, most_counted, most_printed, most_strands}
 use Rattle.a68_acts.specs.declared.want.Reply.{Reply}
 use Rattle.a68_acts.specs.declared.want.Reply.TheVariants as reply
 use Rattle.a68_acts.specs.declared.want.Want.{Want}
@@ -172,6 +172,11 @@ print-in : (s : Store) (text : List ℕ) (b : Bool) → FramesBelow (length s.fr
 print-in s text true p = tt
 print-in s text false p = same-room s reply.Go (record s { text = s.text ++ text }) p refl tt
 
+fork-in : (s : Store) (n : ℕ) (b : Bool) → FramesBelow (length s.frames) s.frames
+    → RoomBehind (length s.frames) (if b then refuses fault.Strands else did (act.Fork s.strands n) (reply.Base s.strands) (record s { strands = s.strands + n }))
+fork-in s n true p = tt
+fork-in s n false p = same-room s (reply.Base s.strands) (record s { strands = s.strands + n }) p refl tt
+
 -- an act leaves room where it asks for no scope that is too great
 pub does-room : (w : Want) (s : Store) → FramesBelow (length s.frames) s.frames → WantBelow (length s.frames) w → RoomBehind (length s.frames) (does w s)
 unfolding does
@@ -185,5 +190,5 @@ does-room (want.Print text) s p q = print-in s text (nat_lt most_printed (length
 does-room want.Turn s p q = same-room s reply.Go s p refl tt
 does-room (want.Up c) s p q = raise-in s c (count_in s c) p
 does-room (want.Down c) s p q = lower-in s c (count_in s c) p
-does-room (want.Fork entrances) s p q = tt
-does-room want.Close s p q = tt
+does-room (want.Fork entrances) s p q = fork-in s (length entrances) (nat_lt most_strands (s.strands + length entrances)) p
+does-room want.Close s p q = same-room s reply.Go s p refl tt

@@ -27,7 +27,7 @@ use Rattle.a68_strand.specs.Room.{brings_room}
 use Rattle.a68_stack.specs.Values.{callers, pop_values, top_counter, top_value}
 use Rattle.a68_strand.specs.Unbound.{Unbound}
 use Rattle.a68_strand.specs.declared.ask.Stance.{Stance}
-use Rattle.a68_strand.specs.declared.ask.Stance.TheVariants.{Idle, Asking, Failed}
+use Rattle.a68_strand.specs.declared.ask.Stance.TheVariants.{Idle, Asking, Failed, Waits, Closed}
 use Rattle.a68_strand.specs.declared.ask.Waiting.{Waiting}
 use Rattle.a68_strand.specs.declared.ask.Waiting.TheVariants as waiting
 use Rattle.a68_stack.specs.declared.stack.Item.{Item}
@@ -220,6 +220,8 @@ controls-below n modes texts (does.Step to) st p = steps-below n st to (top_coun
 controls-below n modes texts does.Turn st p = record { chain = p.chain; items = p.items; stance = tt }
 controls-below n modes texts (does.Advance to) st p = advances-below n st to st.stack.items (p.chain, p.items) p.items
 controls-below n modes texts does.Forget st p = forgets-below n st st.stack.items (p.chain, p.items) p.items
+controls-below n modes texts (does.Fork entrances) st p = record { chain = p.chain; items = p.items; stance = tt }
+controls-below n modes texts does.Close st p = record { chain = p.chain; items = p.items; stance = tt }
 controls-below n modes texts _ st p = p
 
 exec-below : (n : ℕ) (code : Code) (d : Does) (st : State) → StateBelow n st → StateBelow n (exec code d st)
@@ -241,6 +243,8 @@ silently-below n code Idle st p = test (at_end (does_at code.list st.at))
     test false = does_one-below n code (does_at code.list st.at) st p
 silently-below n code (Asking w wait) st p = tt
 silently-below n code (Failed why) st p = tt
+silently-below n code (Waits first count) st p = tt
+silently-below n code Closed st p = tt
 
 settle_in-below : (n k : ℕ) (code : Code) (st : State) → StateBelow n st → StateBelow n (settle_in k code st)
 settle_in-below n zero code st p = late (next_state code st)
@@ -268,6 +272,9 @@ told_by-below n code st (waiting.Entered text ps) (reply.Frame told) p q =
     binds-below n code.texts (record st { stack = stack_of (item.Caller (record { to = suc st.at; chain = st.chain }) ∷ st.stack.items); chain = told; stance = Idle }) text ps.slot (reverse ps.left) told
     (q, p)
 told_by-below n code st (waiting.Bound text ps) reply.Go p q = binds-below n code.texts st text ps.slot (reverse ps.left) st.chain p
+told_by-below n code st (waiting.Fork count) (reply.Base first) p q = record { chain = p.0; items = p.1; stance = tt }
+told_by-below n code st waiting.Close reply.Go p q = record { chain = p.0; items = p.1; stance = tt }
+told_by-below n code st (waiting.Units first count) reply.Go p q = record { chain = p.0; items = p.1; stance = tt }
 told_by-below n code st _ _ p q = failed n st fault.Kind p
 
 pub replied-below : (n : ℕ) (code : Code) (st : State) (r : Reply) → StateBelow n st → ReplyBelow n r → StateBelow n (replied code st r)
@@ -277,6 +284,8 @@ replied-below n code st r p q = told st.stance p.stance
     told Idle h = p
     told (Failed why) h = p
     told (Asking w wait) h = told_by-below n code st wait r (p.chain, p.items) q
+    told (Waits first count) h = told_by-below n code st (waiting.Units first count) r (p.chain, p.items) q
+    told Closed h = p
 
 -- ---- more frames leave more room
 
@@ -306,6 +315,8 @@ stance-more : (m n : ℕ) (x : Stance) → m ≤ n → StanceBelow m x → Stanc
 stance-more m n (Asking w wait) h p = want-more m n w h p
 stance-more m n Idle h p = tt
 stance-more m n (Failed why) h p = tt
+stance-more m n (Waits first count) h p = tt
+stance-more m n Closed h p = tt
 
 pub state-more : (m n : ℕ) (st : State) → m ≤ n → StateBelow m st → StateBelow n st
 state-more m n st h p = record { chain = chain-more m n st.chain h p.chain; items = items-more m n st.stack.items h p.items; stance = stance-more m n st.stance h p.stance }

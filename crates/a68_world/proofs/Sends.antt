@@ -31,6 +31,7 @@ use Rattle.a68_stack.specs.contracts.caller.Caller as caller
 use Rattle.a68_stack.specs.contracts.stack.Item as item
 use Rattle.a68_stack.specs.contracts.stack.Stack as stack
 use Rattle.a68_strand.specs.contracts.strand.Strand as strand
+use Rattle.a68_world.specs.contracts.seat.Seat as seat
 use Rattle.a68_values.proofs.act.Entry.TheSendSync as entry
 use Rattle.a68_values.proofs.chain.Chain.TheSendSync as chain
 use Rattle.a68_values.proofs.chain.Entrances.TheSendSync as entrances
@@ -142,8 +143,11 @@ strand_send = search (sendable, crosses, body_send, about_send) depth 20
 
 -- ---- the run
 
+seat_send : IsSend (seat.the_field).row
+seat_send = search (sendable, crosses, strand_send) depth 20
+
 pub world_send : IsSend world.the_row
-world_send = search (sendable, crosses, code_send, store_send, strand_send, entry.the_send, end.the_send) depth 20
+world_send = search (sendable, crosses, code_send, store_send, seat_send, entry.the_send, end.the_send) depth 20
 
 -- the same, as what holds a run has it
 pub world_field_send : IsSend (world.the_field).row

@@ -1,7 +1,12 @@
 pub mod Circle
 pub mod Codes
+pub mod Ending
 pub mod Inside
 pub mod Plain
 pub mod Run
 pub mod Scopes
+pub mod Seats
+pub mod Stepping
 pub mod Turns
+pub mod Waking
+pub mod Worlds

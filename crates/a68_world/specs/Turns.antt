@@ -2,6 +2,7 @@
 -- What a turn of a strand comes to.
 use Rattle.std.specs.Prelude.{◌≡◌, ◌<◌, ◌-◌, ◌++◌, ◌∷◌, [], ◌⊎◌, ℕ, true, false, List, length, None, Some, slice_get}
 use Rattle.std.specs.Option.{option_map, option_map_or}
+use Rattle.std.specs.declared.option.Option.{Option}
 use Rattle.a68_acts.specs.declared.want.Want.{Want}
 use Rattle.a68_code.specs.declared.code.Code.{Code}
 use Rattle.a68_strand.specs.Cyclic.{HasTurn}
@@ -9,14 +10,16 @@ use Rattle.a68_strand.specs.Ends.{fault_of, CanAct}
 use Rattle.a68_strand.specs.Machine.{State, place_at}
 use Rattle.a68_strand.specs.RunOf.{RunOf}
 use Rattle.a68_strand.specs.Runs.{World, acted}
-use Rattle.a68_strand.specs.declared.ask.Stance.TheVariants.{Asking}
+use Rattle.a68_strand.specs.declared.ask.Stance.TheVariants.{Asking, Waits}
 use Rattle.a68_strand.specs.declared.ask.Waiting.{Waiting}
 use Rattle.a68_values.specs.declared.act.Act.{Act}
 use Rattle.a68_values.specs.declared.act.Entry.{Entry}
 use Rattle.a68_values.specs.declared.kept.End.{End}
 use Rattle.a68_values.specs.declared.kept.End.TheVariants as ends
 use Rattle.a68_values.specs.declared.kept.Kept.{Kept}
-use Rattle.a68_world.specs.Run.{Run, EndsWithoutTurn}
+use Rattle.a68_world.specs.Run.{Run, EndsWithoutTurn, AllHome, IsNumber, world}
+use Rattle.a68_world.specs.declared.status.Status.{Status}
+use Rattle.a68_world.specs.declared.status.Status.TheVariants.{Home, Spent}
 use Rattle.a68_world.specs.declared.turned.Turned.{Turned}
 use Rattle.a68_world.specs.declared.turned.Turned.TheVariants as turned
 
@@ -25,33 +28,72 @@ pub record GoesOn (run : Run) : Type 0 where
   pub unended : run.end ≡ None
   pub kept : run.lost ≡ false
 
+-- the strand stands in the world, and has a turn
+pub record IsReady (run : Run) (n : ℕ) : Type 0 where
+  pub home : IsNumber run n Home
+  pub turn : HasTurn run.code (world run) n
+
+-- it is a run of the same code and fuel
+abbrev pub IsOf : (old new : Run) → Type 0
+IsOf old new = (new.code ≡ old.code) × (new.fuel ≡ old.fuel)
+
 -- the journal with one entry more
 abbrev pub noted : Run → ℕ → Act → List Entry
 noted run n act = run.entries ++ record { strand = n; act = act } ∷ []
 
--- The strand has done its next act, and it and the store stand as the machine says. Where no further turn is needed the
--- end is set.
+-- the strand waits for units in the one world, and goes on in the other
+pub record GoesOnIn (old new : World) (k : ℕ) : Type 0 where
+  pub st : State
+  pub first : ℕ
+  pub count : ℕ
+  pub there : slice_get old.strands k ≡ Some st
+  pub waits : st.stance ≡ Waits first count
+  pub told : slice_get new.strands k ≡ slice_get old.strands k → ⊥
+
+-- Where the strands are behind an act of one of them. Those that it makes stand in the world. Each other one stays where it
+-- was; one that is told to go on may find no memory, and then the run is lost.
+pub record Seated (old new : Run) (but : ℕ) : Type 0 where
+  pub fresh : (k : ℕ) (s : Status) → slice_get old.status k ≡ None → IsNumber new k s → s ≡ Home
+  pub stays : (k : ℕ) (s : Status) → IsNumber old k s → (k ≡ but → ⊥) → IsNumber new k s ⊎ ((s ≡ Home) × IsNumber new k Spent × GoesOnIn (world old) (world new) k × (new.lost ≡ true))
+  pub many : length new.status ≡ length (world new).strands
+
+-- The end that an act sets: where every strand stands in the world, the one that needs no further turn; else none.
+pub record Ends (new : Run) : Type 0 where
+  pub whole : AllHome new.status → EndsWithoutTurn new.code (world new) new.end
+  pub parted : (k : ℕ) → IsNumber new k Spent → new.end ≡ None
+
+-- The strand has done its next act, and stands as the machine says. Where no further turn is needed the end is set.
 pub record Acts (old : Run) (n : ℕ) (new : Run) : Type 0 where
   pub goes_on : GoesOn old
   pub fuel : length old.entries < old.fuel
+  pub ready : IsReady old n
+  pub same : IsOf old new
   pub act : Act
-  pub next : acted old.code old.world n ≡ Some (act, new.world)
-  pub after : new ≡ record old { entries = noted old n act; world = new.world; end = new.end }
-  pub end : EndsWithoutTurn old.code new.world new.end
+  pub behind : World
+  pub next : acted old.code (world old) n ≡ Some (act, behind)
+  pub entries : new.entries ≡ noted old n act
+  -- it stands in the world; where it waits for no unit that has yet to close it goes on at once, and may find no memory
+  pub stays : IsNumber new n Home ⊎ (IsNumber new n Spent × (new.lost ≡ true))
+  pub seated : Seated old new n
+  -- the run is lost where a strand that was told to go on is spent, and only there
+  pub lost : new.lost ≡ true → (k : ℕ) × IsNumber new k Spent
+  pub spent : (k : ℕ) → IsNumber new k Spent → new.lost ≡ true
+  pub ends : Ends new
 
 -- the place of the construct whose instruction the strand stands at
 abbrev pub StandsAt : Run → ℕ → ℕ → Type 0
-StandsAt run n place = option_map (λ (st : State). place_at run.code.list st.at) (slice_get run.world.strands n) ≡ Some place
+StandsAt run n place = option_map (λ (st : State). place_at run.code.list st.at) (slice_get (world run).strands n) ≡ Some place
 
 -- The run ends at a turn of this strand: with the fault before which it stands, or as the fuel is spent where it stands
 -- before none.
 abbrev pub EndsAt : Run → ℕ → End → Type 0
-EndsAt run n (ends.Fault why place strand) = (strand ≡ n) × (fault_of run.world n ≡ Some why) × StandsAt run n place
-EndsAt run n ends.Spent = (length run.entries ≡ run.fuel) × CanAct run.code run.world n
+EndsAt run n (ends.Fault why place strand) = (strand ≡ n) × (fault_of (world run) n ≡ Some why) × StandsAt run n place
+EndsAt run n ends.Spent = (length run.entries ≡ run.fuel) × CanAct run.code (world run) n
 EndsAt run n _ = ⊥
 
 pub record EndsHere (old : Run) (n : ℕ) (e : End) (new : Run) : Type 0 where
   pub goes_on : GoesOn old
+  pub ready : IsReady old n
   pub ends : EndsAt old n e
   pub after : new ≡ record old { end = Some e }
 
@@ -60,24 +102,29 @@ pub record HadEnded (old : Run) (e : End) (new : Run) : Type 0 where
   pub end : old.end ≡ Some e
   pub after : new ≡ old
 
--- there is no such strand, and the run stays as it was
-pub record IsAbsent (old : Run) (n : ℕ) (new : Run) : Type 0 where
+-- The strand is not there or has no turn: it has ended or closed, waits for units, or would have to wait with its act. The
+-- run goes on, and stays as it was.
+pub record IsNotReady (old : Run) (n : ℕ) (new : Run) : Type 0 where
   pub goes_on : GoesOn old
-  pub absent : slice_get old.world.strands n ≡ None
+  pub unready : IsReady old n → ⊥
   pub after : new ≡ old
 
--- The strand has done its next act, and found no memory behind it.
+-- the strand has done its next act, and found no memory behind it
 pub record IsSpentBy (old : Run) (n : ℕ) (new : Run) : Type 0 where
   pub act : Act
   pub behind : World
-  pub next : acted old.code old.world n ≡ Some (act, behind)
-  pub store : new.world.store ≡ behind.store
-  pub after : new ≡ record old { entries = noted old n act; world = new.world; spent = true; lost = true }
+  pub next : acted old.code (world old) n ≡ Some (act, behind)
+  pub entries : new.entries ≡ noted old n act
+  pub spent : IsNumber new n Spent
+  pub stays : (k : ℕ) (s : Status) → IsNumber old k s → (k ≡ n → ⊥) → IsNumber new k s
+  pub fresh : (k : ℕ) (s : Status) → slice_get old.status k ≡ None → IsNumber new k s → s ≡ Home
+  pub many : length new.status ≡ length (world new).strands
 
--- the strand asks for an act, for which there is fuel
+-- the strand asks for an act for which it need not wait, and there is fuel
 pub record IsDue (run : Run) (n : ℕ) : Type 0 where
+  pub ready : IsReady run n
   pub st : State
-  pub there : slice_get run.world.strands n ≡ Some st
+  pub there : slice_get (world run).strands n ≡ Some st
   pub want : Want
   pub wait : Waiting
   pub asks : st.stance ≡ Asking want wait
@@ -88,20 +135,21 @@ pub record IsDue (run : Run) (n : ℕ) : Type 0 where
 pub record FindsNoMemory (old : Run) (n : ℕ) (new : Run) : Type 0 where
   pub unended : old.end ≡ None
   pub due : (old.lost ≡ true) ⊎ IsDue old n
+  pub same : IsOf old new
+  pub lost : (new.lost ≡ true) × (new.end ≡ None)
   pub after : (new ≡ record old { lost = true }) ⊎ IsSpentBy old n new
 
 -- what a turn of a strand comes to
 abbrev pub TurnOf : (old : Run) (n : ℕ) → Turned → (new : Run) → Type 0
 TurnOf old n turned.Acted new = Acts old n new
 TurnOf old n (turned.Over e) new = HadEnded old e new ⊎ EndsHere old n e new
-TurnOf old n turned.NotReady new = IsAbsent old n new
+TurnOf old n turned.NotReady new = IsNotReady old n new
 TurnOf old n turned.NoMemory new = FindsNoMemory old n new
 
--- the strand can be turned: the run has not ended, and it is not spent and has a turn
+-- the strand can be turned: the run has not ended, and the strand stands in the world and has a turn
 pub record IsAble (run : Run) (n : ℕ) : Type 0 where
   pub unended : run.end ≡ None
-  pub kept : run.spent ≡ false
-  pub turn : HasTurn run.code run.world n
+  pub ready : IsReady run n
 
 -- the strand of the last entry, and 0 where there is none
 abbrev pub last_strand : List Entry → ℕ

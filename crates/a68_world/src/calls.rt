@@ -1,49 +1,38 @@
 //! The calls of a world.
-ghost use Rattle.std.specs.Prelude.{◌≡◌, [], ◌∷◌, ◌<◌, ◌≤◌, ◌^◌, ◌↔◌, ℕ, length, Some, None, IfOk, IfSome, IsNone, MatchOption, MatchResult};
-ghost use Rattle.std.specs.Vec.{vec_capacity};
+ghost use Rattle.std.specs.Prelude.{◌≡◌, [], ◌∷◌, ◌++◌, ◌<◌, ◌≤◌, ◌^◌, ◌↔◌, ℕ, length, Some, None, IfOk, IfSome, IsNone, MatchBool, MatchOption, MatchResult};
+ghost use Rattle.std.specs.Vec.{vec_len, vec_capacity};
 ghost use Rattle.a68_acts.specs.Store.{opening_store};
 ghost use Rattle.a68_code.specs.Valid.{IsValid};
 ghost use Rattle.a68_strand.specs.Cyclic.{IsFirstBehind};
 ghost use Rattle.a68_strand.specs.Machine.{beginning};
 ghost use Rattle.a68_strand.specs.Strands.{HasSettled};
-ghost use Rattle.a68_world.specs.Inside.{end_shown};
+ghost use Rattle.a68_world.specs.Ending.{EndShown};
 ghost use Rattle.a68_world.specs.Run.{IsRun, Begins, most_fuel};
-ghost use Rattle.a68_world.specs.Turns.{GoesOn, EndsAt, IsDue, TurnOf, IsAble, Finishes, last_strand};
+ghost use Rattle.a68_world.specs.Seats.{IsFirst, place_at};
+ghost use Rattle.a68_world.specs.Turns.{GoesOn, IsReady, EndsAt, IsDue, TurnOf, IsAble, Finishes, last_strand};
 
-use crate::acts::{act, act_plain};
+use crate::deed::Deed;
+use crate::seat::Seat;
+use crate::stepping::act_at;
+use crate::turning::{end_at, end_shown, next_turn, turn_at};
+use crate::units::{seat_all, units_ready};
+use crate::waking::wake_behind;
 use crate::{Turned, World};
-use a68_acts::Reply;
 use a68_base::NoMemory;
 use a68_code::Code;
-use a68_store::{Store, StoreStop};
-use a68_strand::{Ask, Strand};
-use a68_values::{Chain, End, Entries, Entry, Environ, Journal, Kept};
+use a68_store::Store;
+use a68_strand::Strand;
+use a68_values::{Act, Chain, End, Entries, Entry, Environ, Journal, Kept};
 use std::alloc::Global;
 
 // The frame of the standard environ.
 const STANDARD: Environ = Environ { frame: 0, scope: 0 };
 
-// The end without a further turn of a run whose only strand shows this over this store.
-fn end_shown(ask: &Ask, store: &Store) -> Option<End>
-    ensures { result ≡ end_shown ask.now store.now }
-{
-    match ask {
-        Ask::Ended => Some(End::Done),
-        Ask::Want(want) => {
-            if store.waits(want) {
-                Some(End::AllHalted)
-            } else {
-                None
-            }
-        }
-        _ => None,
-    }
-}
-
 // Strand 0 at the beginning of the code, in the frame of the standard environ.
 fn first_strand(alloc: Global, code: &Code) -> Result<Strand, NoMemory>
     requires short { length code.now.list < 2 ^ 32 }
-    ensures { IfOk result (HasSettled code.now (beginning 0 (record { frame = 0; scope = 0 } ∷ []))) }
+    ensures settled { IfOk result (HasSettled code.now (beginning 0 (record { frame = 0; scope = 0 } ∷ []))) }
+    ensures number { IfOk result (λ strand. strand.number ≡ 0) }
 {
     let chain = Chain {
         items: vec![in alloc; STANDARD]?,
@@ -52,18 +41,67 @@ fn first_strand(alloc: Global, code: &Code) -> Result<Strand, NoMemory>
     Ok(strand)
 }
 
-// The journal, the store and strand 0 of a run that is yet to begin.
-fn parts(alloc: Global, code: &Code, fuel: u32) -> Result<(Vec<Entry>, Store, Strand), NoMemory>
+// The seats of a run that is yet to begin.
+fn first_seats(alloc: Global, code: &Code) -> Result<Vec<Seat>, NoMemory>
+    requires short { length code.now.list < 2 ^ 32 }
+    ensures { IfOk result (λ seats. IsFirst code.now seats.items) }
+{
+    let strand = first_strand(alloc, code)?;
+    let mut seats = Vec::new(alloc);
+    seats.push(Seat::Home(strand))?;
+    Ok(seats)
+}
+
+// The journal, the store and the seats of a run that is yet to begin.
+fn parts(alloc: Global, code: &Code, fuel: u32) -> Result<(Vec<Entry>, Store, Vec<Seat>), NoMemory>
     requires short { length code.now.list < 2 ^ 32 }
     ensures empty { IfOk result (λ parts. parts.0.items ≡ []) }
     ensures room { IfOk result (λ parts. vec_capacity parts.0 ≡ fuel) }
     ensures store { IfOk result (λ parts. parts.1 ≡ opening_store) }
-    ensures strand { IfOk result (λ parts. HasSettled code.now (beginning 0 (record { frame = 0; scope = 0 } ∷ [])) parts.2) }
+    ensures seats { IfOk result (λ parts. IsFirst code.now parts.2.items) }
 {
     let journal = Vec::with_capacity(alloc, fuel as usize)?;
     let store = Store::new(alloc)?;
-    let strand = first_strand(alloc, code)?;
-    Ok((journal, store, strand))
+    let seats = first_seats(alloc, code)?;
+    Ok((journal, store, seats))
+}
+
+// An entry of a strand in the journal, which has room for it.
+fn note(journal: &mut Vec<Entry>, strand: u32, act: Act)
+    requires { vec_len journal.old < vec_capacity journal.old }
+    ensures items { journal.new.items ≡ journal.old.items ++ record { strand = strand; act = act } ∷ [] }
+    ensures room { vec_capacity journal.old ≤ vec_capacity journal.new }
+{
+    let _ = journal.push(Entry { strand, act });
+}
+
+// Has the journal as many entries as there is fuel?
+#[inline(always)]
+fn is_full(journal: &Vec<Entry>, fuel: u32) -> bool
+    ensures { MatchBool result (fuel ≤ length journal.now.items) (length journal.now.items < fuel) }
+{
+    journal.len() >= fuel as usize
+}
+
+// The end that is set behind an act: none where the run is lost.
+fn end_behind(lost: bool, seats: &[Seat], store: &Store, n: u32) -> Option<End>
+    requires few { length seats.now < 2 ^ 32 }
+    ensures { MatchBool lost (result ≡ None) (EndShown seats.now store.now result) }
+{
+    if lost {
+        return None;
+    }
+    end_shown(seats, store, n)
+}
+
+// The place of the construct at whose instruction the strand stands.
+fn place_at(seats: &[Seat], n: usize) -> u32
+    ensures { result ≡ place_at seats.now n }
+{
+    match seats.get(n) {
+        Some(Seat::Home(strand)) => strand.place(),
+        _ => 0,
+    }
 }
 
 impl World {
@@ -76,14 +114,14 @@ impl World {
         ensures { IfOk result (Begins code fuel) }
     {
         match parts(alloc, &code, fuel) {
-            Ok((journal, store, strand)) => {
-                let end = end_shown(strand.ask(), &store);
+            Ok((journal, store, seats)) => {
+                let end = end_shown(&seats, &store, 0);
                 Ok(World {
                     code,
                     fuel,
                     journal,
                     store,
-                    strand,
+                    seats,
                     lost: false,
                     end,
                 })
@@ -106,145 +144,102 @@ impl World {
         if self.lost {
             return Turned::NoMemory;
         }
-        if strand != 0 {
+        if !self.can_turn(strand) {
             return Turned::NotReady;
         }
-        self.turn_first(alloc)
+        self.turn_ready(alloc, strand)
     }
 
-    // A turn of strand 0, in a run that goes on.
-    fn turn_first(&mut self, alloc: Global) -> Turned
-        requires { GoesOn self.old }
-        ensures { TurnOf self.old 0 result self.new }
+    // Has this strand something to do at its turn?
+    #[inline(always)]
+    fn can_turn(&self, n: u32) -> bool
+        ensures { MatchBool result (IsReady self.now n) (IsReady self.now n → ⊥) }
     {
-        match self.ends_now() {
-            Some(end) => self.end_with(end),
-            None => match self.do_plain(alloc) {
-                Some(turned) => turned,
-                None => self.do_act(alloc),
-            },
+        turn_at(&self.seats, &self.store, n as usize)
+    }
+
+    // A turn of a strand that has something to do, in a run that goes on.
+    fn turn_ready(&mut self, alloc: Global, n: u32) -> Turned
+        requires goes_on { GoesOn self.old }
+        requires ready { IsReady self.old n }
+        ensures { TurnOf self.old n result self.new }
+    {
+        match self.ends_now(n) {
+            Some(end) => self.end_with(n, end),
+            None => self.do_act(alloc, n),
         }
     }
 
-    // The run comes to this end at a turn of strand 0.
-    fn end_with(&mut self, end: End) -> Turned
+    // The run comes to this end at a turn of this strand.
+    fn end_with(&mut self, n: u32, end: End) -> Turned
         requires goes_on { GoesOn self.old }
-        requires ends { EndsAt self.old 0 end }
-        ensures { TurnOf self.old 0 result self.new }
+        requires ready { IsReady self.old n }
+        requires ends { EndsAt self.old n end }
+        ensures { TurnOf self.old n result self.new }
     {
         self.end = Some(end);
         Turned::Over(end)
     }
 
     // There is no memory for an act that is due.
-    fn lose(&mut self) -> Turned
+    fn lose(&mut self, n: u32) -> Turned
         requires goes_on { GoesOn self.old }
-        requires due { IsDue self.old 0 }
-        ensures { TurnOf self.old 0 result self.new }
+        requires due { IsDue self.old n }
+        ensures { TurnOf self.old n result self.new }
     {
         self.lost = true;
         Turned::NoMemory
     }
 
-    // The end to which the run comes at a turn of strand 0, where it comes to one without an act.
-    fn ends_now(&self) -> Option<End>
-        requires { GoesOn self.now }
-        ensures { MatchOption result (IsDue self.now 0) (EndsAt self.now 0) }
+    // The end to which the run comes at a turn of this strand, where it comes to one without an act.
+    fn ends_now(&self, n: u32) -> Option<End>
+        requires goes_on { GoesOn self.now }
+        requires ready { IsReady self.now n }
+        ensures { MatchOption result (IsDue self.now n) (EndsAt self.now n) }
     {
-        match self.strand.ask() {
-            Ask::Fault { kind, place } => Some(End::Fault {
-                kind: *kind,
-                place: *place,
-                strand: 0,
-            }),
-            Ask::Want(want) => {
-                if self.journal.len() < self.fuel as usize {
-                    return None;
-                }
-                match self.store.fault_of(want) {
-                    None => Some(End::Spent),
-                    Some(kind) => Some(End::Fault {
-                        kind,
-                        place: self.strand.place(),
-                        strand: 0,
-                    }),
-                }
-            }
-            _ => None,
-        }
+        let full = is_full(&self.journal, self.fuel);
+        end_at(&self.seats[n as usize], &self.store, full, n)
     }
 
-    // The act for which strand 0 asks, where plain values alone take part in it; none where others do or it meets a fault.
-    fn do_plain(&mut self, alloc: Global) -> Option<Turned>
+    // The act for which this strand asks.
+    fn do_act(&mut self, alloc: Global, n: u32) -> Turned
         requires goes_on { GoesOn self.old }
-        requires due { IsDue self.old 0 }
-        ensures { MatchOption result (self.new ≡ self.old) (λ turned. TurnOf self.old 0 turned self.new) }
+        requires due { IsDue self.old n }
+        ensures { TurnOf self.old n result self.new }
     {
-        let Ask::Want(want) = self.strand.ask() else {
-            return None;
+        let at = n as usize;
+        let Ok(units) = units_ready(alloc, &self.code, &self.store, &mut self.seats, at) else {
+            return self.lose(n);
         };
-        let (done, short) = act_plain(&mut self.store, want)?;
-        let entry = Entry {
-            strand: 0,
-            act: done,
-        };
-        // The journal has room for the whole fuel.
-        let _ = self.journal.push(entry);
-        match self.strand.told_plain(alloc, &self.code, short) {
-            Err(_) => {
-                self.lost = true;
-                Some(Turned::NoMemory)
+        match act_at(alloc, &self.code, &mut self.store, &mut self.seats[at]) {
+            Deed::Told(act) => {
+                note(&mut self.journal, n, act);
+                seat_all(&mut self.seats, units);
+                self.lost = wake_behind(alloc, &self.code, &mut self.seats, at);
+                self.end = end_behind(self.lost, &self.seats, &self.store, n);
+                Turned::Acted
             }
-            Ok(()) => {
-                self.end = end_shown(self.strand.ask(), &self.store);
-                Some(Turned::Acted)
-            }
-        }
-    }
-
-    // The act for which strand 0 asks.
-    fn do_act(&mut self, alloc: Global) -> Turned
-        requires goes_on { GoesOn self.old }
-        requires due { IsDue self.old 0 }
-        ensures { TurnOf self.old 0 result self.new }
-    {
-        let Ask::Want(want) = self.strand.ask() else {
-            // The strand asks for an act that is due.
-            unreachable!();
-        };
-        let mut reply = Reply::Go;
-        let done = match act(alloc, &mut self.store, want, &mut reply) {
-            Ok(done) => done,
-            Err(StoreStop::Fault(kind)) => {
-                drop(reply);
-                let place = self.strand.place();
-                let strand = 0;
-                return self.end_with(End::Fault {
-                    kind,
-                    place,
-                    strand,
-                });
-            }
-            // An act that has to wait ends the run before its turn.
-            Err(StoreStop::Waits) => unreachable!(),
-            Err(StoreStop::NoMemory) => {
-                drop(reply);
-                return self.lose();
-            }
-        };
-        // The journal has room for the whole fuel.
-        let _ = self.journal.push(Entry {
-            strand: 0,
-            act: done,
-        });
-        match self.strand.told(alloc, &self.code, reply) {
-            Err(_) => {
+            Deed::Untold(act) => {
+                note(&mut self.journal, n, act);
+                seat_all(&mut self.seats, units);
                 self.lost = true;
                 Turned::NoMemory
             }
-            Ok(()) => {
-                self.end = end_shown(self.strand.ask(), &self.store);
-                Turned::Acted
+            Deed::Refused(kind) => {
+                drop(units);
+                let place = place_at(&self.seats, at);
+                self.end_with(
+                    n,
+                    End::Fault {
+                        kind,
+                        place,
+                        strand: n,
+                    },
+                )
+            }
+            Deed::NoMemory => {
+                drop(units);
+                self.lose(n)
             }
         }
     }
@@ -255,12 +250,10 @@ impl World {
         ensures first { IfSome result (IsFirstBehind (IsAble self.now) after) }
         ensures none { IsNone result ↔ ((n : ℕ) → IsAble self.now n → ⊥) }
     {
-        // There is one strand, so it is the first behind every other.
-        let _ = after;
-        if self.end.is_some() || self.strand.spent() {
+        if self.end.is_some() {
             return None;
         }
-        Some(0)
+        next_turn(&self.seats, &self.store, after)
     }
 
     /// The strand of the last entry of the journal, and 0 where there is none. It takes no memory.
@@ -313,10 +306,10 @@ impl World {
             code,
             journal,
             store,
-            strand,
+            seats,
             ..
         } = self;
-        drop(strand);
+        drop(seats);
         let (cells, outer, text) = store.into_kept();
         let journal = Journal {
             entries: Entries { items: journal },

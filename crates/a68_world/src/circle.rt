@@ -3,7 +3,7 @@ ghost use Rattle.std.specs.Prelude.{◌≡◌, ◌<◌, ◌≤◌, ◌^◌, leng
 ghost use Rattle.a68_code.specs.Valid.{IsValid};
 ghost use Rattle.a68_strand.specs.Cyclic.{Cyclic};
 ghost use Rattle.a68_strand.specs.RunOf.{RunOf};
-ghost use Rattle.a68_world.specs.Circle.{InTurn, EndedInTurn, IsNext, HasGrown};
+ghost use Rattle.a68_world.specs.Circle.{InTurn, HasTurned, EndedInTurn, IsNext, HasGrown};
 ghost use Rattle.a68_world.specs.Run.{most_fuel};
 
 use crate::{Turned, World};
@@ -11,6 +11,17 @@ use a68_base::NoMemory;
 use a68_code::Code;
 use a68_values::Kept;
 use std::alloc::Global;
+
+// The strand whose turn comes next, behind an act; none where the run has ended.
+fn next_of(world: &World) -> Result<Option<u32>, NoMemory>
+    requires { HasTurned world.now }
+    ensures { IfOk result (λ next. IsNext world.now next) }
+{
+    if world.lost() {
+        return Err(NoMemory);
+    }
+    Ok(world.next(world.last()))
+}
 
 // A turn of the strand whose turn it is, and the strand whose turn comes next; none where the run has ended.
 fn step(alloc: Global, world: &mut World, strand: u32) -> Result<Option<u32>, NoMemory>
@@ -21,7 +32,7 @@ fn step(alloc: Global, world: &mut World, strand: u32) -> Result<Option<u32>, No
     ensures grows { IfOk result (λ next. HasGrown world.old world.new next) }
 {
     match world.turn(alloc, strand) {
-        Turned::Acted => Ok(Some(world.next(world.last()).unwrap_or(strand))),
+        Turned::Acted => next_of(world),
         Turned::Over(_) => Ok(None),
         // It is the strand's turn, so the strand is there.
         Turned::NotReady => unreachable!(),

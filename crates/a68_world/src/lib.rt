@@ -4,9 +4,17 @@
 mod acts;
 mod calls;
 mod circle;
+mod deed;
+mod seat;
+mod status;
+mod stepping;
 mod turned;
+mod turning;
+mod units;
+mod waking;
 mod world;
 
 pub use circle::run;
+pub use status::Status;
 pub use turned::Turned;
 pub use world::World;

@@ -1,11 +1,11 @@
 //! The world of a run.
+use crate::seat::Seat;
 use a68_code::Code;
 use a68_store::Store;
-use a68_strand::Strand;
 use a68_values::{End, Entry};
 use std::marker::Model;
 
-/// A run: its code and its fuel, the journal of what was done, the store and strand 0, and the end where the run has
+/// A run: its code and its fuel, the journal of what was done, the store and the strands, and the end where the run has
 /// come to it. What is known of every run stands in the clauses of [`code`](World::code).
 #[derive(Drop)]
 pub struct World {
@@ -14,7 +14,7 @@ pub struct World {
     pub(crate) fuel: u32,
     pub(crate) journal: Vec<Entry>,
     pub(crate) store: Store,
-    pub(crate) strand: Strand,
+    pub(crate) seats: Vec<Seat>,
     // A turn has found no memory.
     pub(crate) lost: bool,
     pub(crate) end: Option<End>,

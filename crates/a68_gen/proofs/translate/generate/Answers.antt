@@ -1,4 +1,4 @@
-use Rattle.a68_gen.proofs.Fitting.{texts-fit, whole-fits}
+use Rattle.a68_gen.proofs.Fitting.{apart-fit, whole-fits}
 use Rattle.a68_gen.proofs.Refusing.{all-run, finds, refused-so, runs-so}
 use Rattle.a68_gen.proofs.translate.generate.Goals as goal
 
@@ -14,17 +14,17 @@ code_of-requires-clause-modes c =
     let found = c.in_ok-found.ensures in
     (whole-fits a found.there c.first_unready.ensures.nodes (all-run a c.in_ok-found.found c.in-None.is found.least) c.root-root.ensures.within).operands
 
-pub code_of-requires-clause-texts : goal.code_of-requires-clause-texts
-code_of-requires-clause-texts c =
+pub code_of-requires-clause-apart : goal.code_of-requires-clause-apart
+code_of-requires-clause-apart c =
     let a = c.args.program.now in
     let found = c.in_ok-found.ensures in
-    (texts-fit a found.there c.first_unready.ensures.nodes (all-run a c.in_ok-found.found c.in-None.is found.least)).fits
+    (apart-fit a found.there c.first_unready.ensures.nodes (all-run a c.in_ok-found.found c.in-None.is found.least)).fits
 
-pub code_of-requires-clause-text_modes : goal.code_of-requires-clause-text_modes
-code_of-requires-clause-text_modes c =
+pub code_of-requires-clause-apart_modes : goal.code_of-requires-clause-apart_modes
+code_of-requires-clause-apart_modes c =
     let a = c.args.program.now in
     let found = c.in_ok-found.ensures in
-    (texts-fit a found.there c.first_unready.ensures.nodes (all-run a c.in_ok-found.found c.in-None.is found.least)).operands
+    (apart-fit a found.there c.first_unready.ensures.nodes (all-run a c.in_ok-found.found c.in-None.is found.least)).operands
 
 pub returns-in-None-clause-runs : goal.returns-in-None-clause-runs
 returns-in-None-clause-runs c =

@@ -1,4 +1,4 @@
-use Rattle.a68_gen.proofs.Listed.{listed, one_code, not_short, texts_listed}
+use Rattle.a68_gen.proofs.Listed.{listed, one_code, not_short, texts_listed, units_listed}
 use Rattle.a68_gen.proofs.Places.{refused_by}
 use Rattle.a68_gen.proofs.Refusing.{no-code, one-refusal, refused-within}
 use Rattle.a68_gen.proofs.translate.translations_are_listings.Goals as goal
@@ -8,6 +8,9 @@ returns-clause-list c = listed
 
 pub returns-clause-texts : goal.returns-clause-texts
 returns-clause-texts c = texts_listed
+
+pub returns-clause-units : goal.returns-clause-units
+returns-clause-units c = units_listed
 
 pub returns-clause-code : goal.returns-clause-code
 returns-clause-code c = one_code

@@ -1,4 +1,4 @@
-use Rattle.std.proofs.Common.{◌≡◌, ◌<◌, ◌-◌, Some, length, ◌+◌}
+use Rattle.std.proofs.Common.{◌≡◌, ◌<◌, ◌-◌, Some, ◌+◌}
 use Rattle.a68_strand.specs.Bodies.{state_of, stance_of}
 use Rattle.a68_strand.specs.Machine as machine
 use Rattle.std.proofs.Common.{sym, ◌∙◌, ap, arith}

@@ -1,4 +1,4 @@
-use Rattle.std.proofs.Common.{◌≡◌, ◌+◌, length, ap, arith}
+use Rattle.std.proofs.Common.{◌+◌, length, ap, arith}
 use Rattle.a68_strand.proofs.Taking.{as_many}
 use Rattle.a68_strand.proofs.routines.take_call.Goals as goal
 

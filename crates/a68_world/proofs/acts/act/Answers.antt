@@ -23,3 +23,6 @@ returns-in-Up c = rw c.in-Up.is c.up.ensures
 
 pub returns-in-Down : goal.returns-in-Down
 returns-in-Down c = rw c.in-Down.is c.down.ensures
+
+pub returns-in-Fork : goal.returns-in-Fork
+returns-in-Fork c = rw c.in-Fork.is c.fork.ensures

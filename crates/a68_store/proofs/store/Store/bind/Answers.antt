@@ -63,7 +63,7 @@ invariant_of-self c =
     let again = frame-read inside c.args.self.now c.args.frame c.index_mut.result.now c.self.view_is c.requires.frame c.index_mut.ensures.value in
     let same : frame_of c.index_mut.result.now ≡ frame_of c.index.result.now = cc (again, frame) in
     bound-sound inside _ c.args.frame c.args.slot c.index.result.now c.set_slot.new.frame c.index-2.result.now c.args.value c.self.invariant
-    (ap (λ l. slice_get l c.args.frame) frames ∙ frame) slot refl refl refl
+    (ap (λ l. slice_get l c.args.frame) frames ∙ frame) slot refl refl refl refl
     (c.set_slot.ensures ∙ ap (λ (x : store.Frame). record x { slots = slice_set x.slots c.args.slot (Some c.args.value) }) same)
     (omega (arith, small, c.self.invariant.few, c.slot_weight-replaced.ensures, c.from.ensures, c.from-2.ensures, c.if-added-from.false, c.weight.ensures, c.saturating_add-added.ensures))
     (omega (arith, small, c.self.invariant.few, c.slot_weight-replaced.ensures, c.from.ensures, c.from-2.ensures, c.if-added-from.false))
@@ -78,7 +78,7 @@ returns c =
     let same : frame_of c.index_mut.result.now ≡ frame_of c.index.result.now = cc (again, frame) in
     let counts : counted c.args.self.now ≡ inside.counted = ap counted (sym c.self.view_is) ∙ sym c.self.invariant.counted_is in
     let view = bound-view inside (record inside { frames = with_item inside.frames c.args.frame c.set_slot.new.frame; counted = c.from-2.result - c.slot_weight-replaced.result + c.saturating_add-added.result })
-    c.args.frame c.args.slot c.index.result.now c.set_slot.new.frame c.args.value refl refl refl
+    c.args.frame c.args.slot c.index.result.now c.set_slot.new.frame c.args.value refl refl refl refl
     (c.set_slot.ensures ∙ ap (λ (x : store.Frame). record x { slots = slice_set x.slots c.args.slot (Some c.args.value) }) same) in
     bind-did c.args.self.now c.args.frame c.args.slot c.args.value (frame_of c.index.result.now) c.index-2.result.now frame slot
     (omega (arith, counts, small, c.self.invariant.few, c.if-added-from.false, c.slot_weight-replaced.ensures, c.from.ensures, c.weight.ensures, c.saturating_add-added.ensures))

@@ -15,7 +15,7 @@ pub invariant_of-self-2 : goal.invariant_of-self-2
 invariant_of-self-2 c =
     let frames = ap (λ (s : Store). length s.frames) c.self.view_is in
     let there : c.args.outer < length c.self.inside.frames.items = omega (arith, frames, length-frames_of c.self.inside.frames.items, c.requires.there) in
-    entered-sound c.self.inside _ _ c.args.slots c.self.invariant there c.in_ok-slots_of_frame.ensures refl refl c.in_ok-push.ensures.items refl
+    entered-sound c.self.inside _ _ c.args.slots c.self.invariant there c.in_ok-slots_of_frame.ensures refl refl refl c.in_ok-push.ensures.items refl
     (omega (arith, c.if-slots-self.false, c.self.invariant.few))
 
 pub returns : goal.returns
@@ -32,7 +32,7 @@ returns c =
     c.in_ok-chain.ensures
     ∙ chain-given self.frames c.deref.result.now c.len-frame.result c.args.outer c.args.scope c.args.slots linked c.requires.there count (ap frames_of c.deref.ensures.value ∙ frames)
     in
-    let view = entered-view inside (record inside { frames = c.push.new.self; counted = inside.counted + c.args.slots }) _ c.args.outer c.args.scope c.args.slots refl refl c.in_ok-slots_of_frame.ensures refl refl c.in_ok-push.ensures.items in
+    let view = entered-view inside (record inside { frames = c.push.new.self; counted = inside.counted + c.args.slots }) _ c.args.outer c.args.scope c.args.slots refl refl c.in_ok-slots_of_frame.ensures refl refl refl c.in_ok-push.ensures.items in
     enter-did self c.args.outer c.args.scope c.args.slots there.0 there.1 (omega (arith, counts, c.if-slots-self.false, c.self.invariant.few))
     ∙ ap (λ l. did (act.Enter (length self.frames)) (reply.Frame l) (record self { frames = self.frames ++ new ∷ [] })) (sym chain)
     ∙ ap (λ (s : Store). did (act.Enter (length self.frames)) (reply.Frame c.in_ok-chain.chain) s)

@@ -1,43 +1,181 @@
-use Rattle.std.proofs.Common.{◌≡◌, ◌∙◌, ap, subst, sym}
-use Rattle.a68_acts.specs.Does.{does, waits}
-use Rattle.a68_strand.specs.declared.ask.Ask.{Ask}
-use Rattle.a68_world.specs.Inside.{end_shown}
+use Rattle.std.proofs.Common.{◌≡◌, ◌∙◌, ◌++◌, List, Some, ap, sym, subst, length, map, slice_get, slice_set, arith}
+use Rattle.std.specs.Option.{option_map_or}
+use Rattle.a68_world.specs.Inside.{run_of}
 use Rattle.a68_world.specs.Run.{Run}
-use Rattle.a68_world.specs.Turns.{GoesOn}
-use Rattle.a68_world.proofs.Turning.{asked-from, noted-from, told-room, acted-sound, acted-is, spent-sound, spent-is, needs-no-wait}
+use Rattle.a68_world.specs.Seats.{place_at, place_in, status_of}
+use Rattle.a68_world.specs.Turns.{GoesOn, IsDue, TurnOf}
+use Rattle.a68_world.specs.declared.seat.Seat.{Seat}
+use Rattle.a68_world.specs.declared.seat.Seat.TheVariants as seat
+use Rattle.a68_world.proofs.Behind.{Noted}
+use Rattle.a68_world.proofs.Doing.{Told, seat_there, told_all, few_told, untold_all, refused_left, refused_ends, unfound_left}
+use Rattle.a68_world.proofs.Places.{is_within}
+use Rattle.a68_world.proofs.Standing.{seat_home, few_units, few_frames, asking_at}
 use Rattle.a68_world.proofs.world.World.do_act.Goals as goal
 
-pub told-requires-clause-room : goal.told-requires-clause-room
-told-requires-clause-room c =
-    told-room c.self.inside c.in-Want.want c.in-Ok.done c.act.new.reply c.act.new.store
-    (asked-from c.self.inside c.args.self.now c.in-Want.want c.ask.result.now c.in-Ok.done c.act.new.reply c.act.new.store c.self.view_is c.self.invariant c.requires.goes_on c.requires.due c.ask.ensures c.in-Want.is c.in-Ok.ensures)
+pub units_ready-requires-clause-numbers : goal.units_ready-requires-clause-numbers
+units_ready-requires-clause-numbers c =
+    let s = c.self.inside in
+    let n = c.args.n in
+    let due : IsDue (run_of s) n = subst (λ (r : Run). IsDue r n) (sym c.self.view_is) c.requires.due in
+    let h = seat_home s.seats.items n due.ready.home in
+    few_units s c.self.invariant n h.0 h.1
 
-pub invariant_of-self-in-Err : goal.invariant_of-self-in-Err
-invariant_of-self-in-Err c =
-    let a = asked-from c.self.inside c.args.self.now c.in-Want.want c.ask.result.now c.in-Ok.done c.act.new.reply c.act.new.store c.self.view_is c.self.invariant c.requires.goes_on c.requires.due c.ask.ensures c.in-Want.is c.in-Ok.ensures in
-    let noted = noted-from c.self.inside c.in-Ok.done c.push.new.self c.push.result c.self.invariant a.fuel c.push.ensures.items c.push.ensures.succeeds c.push.ensures.capacity in
-    spent-sound c.self.inside c.in-Want.want c.in-Ok.done c.act.new.reply c.act.new.store c.push.new.self c.told.new.self a noted c.in-Err.ensures.err
+pub index_mut-requires : goal.index_mut-requires
+index_mut-requires c =
+    let s = c.self.inside in
+    let n = c.args.n in
+    let due : IsDue (run_of s) n = subst (λ (r : Run). IsDue r n) (sym c.self.view_is) c.requires.due in
+    let h = seat_home s.seats.items n due.ready.home in
+    omega (arith, is_within s.seats.items n (seat.Home h.0) h.1, ap (λ (l : List Seat). length l) c.units_ready.ensures.same, c.units_ready.new.seats.ok.0)
 
-pub returns-in-Err : goal.returns-in-Err
-returns-in-Err c =
-    let a = asked-from c.self.inside c.args.self.now c.in-Want.want c.ask.result.now c.in-Ok.done c.act.new.reply c.act.new.store c.self.view_is c.self.invariant c.requires.goes_on c.requires.due c.ask.ensures c.in-Want.is c.in-Ok.ensures in
-    let noted = noted-from c.self.inside c.in-Ok.done c.push.new.self c.push.result c.self.invariant a.fuel c.push.ensures.items c.push.ensures.succeeds c.push.ensures.capacity in
-    rw (← c.self.view_is) (spent-is c.self.inside c.in-Want.want c.in-Ok.done c.act.new.reply c.act.new.store c.push.new.self c.told.new.self a noted c.in-Err.ensures.err)
+pub act_at-requires-clause-frames : goal.act_at-requires-clause-frames
+act_at-requires-clause-frames c =
+    let s = c.self.inside in
+    let n = c.args.n in
+    let due : IsDue (run_of s) n = subst (λ (r : Run). IsDue r n) (sym c.self.view_is) c.requires.due in
+    let h = seat_home s.seats.items n due.ready.home in
+    few_frames s c.self.invariant due.fuel
 
-pub invariant_of-self-in-Ok-told : goal.invariant_of-self-in-Ok-told
-invariant_of-self-in-Ok-told c =
-    let a = asked-from c.self.inside c.args.self.now c.in-Want.want c.ask.result.now c.in-Ok.done c.act.new.reply c.act.new.store c.self.view_is c.self.invariant c.requires.goes_on c.requires.due c.ask.ensures c.in-Want.is c.in-Ok.ensures in
-    let noted = noted-from c.self.inside c.in-Ok.done c.push.new.self c.push.result c.self.invariant a.fuel c.push.ensures.items c.push.ensures.succeeds c.push.ensures.capacity in
-    acted-sound c.self.inside c.in-Want.want c.in-Ok.done c.act.new.reply c.act.new.store c.push.new.self c.told.new.self c.end_shown-self-inside.result a noted c.in-Ok-told.ensures.ok (c.end_shown-self-inside.ensures ∙ ap (λ (a : Ask). end_shown a c.act.new.store) c.ask-in-Ok-told.ensures)
+pub act_at-requires-clause-asking : goal.act_at-requires-clause-asking
+act_at-requires-clause-asking c =
+    let s = c.self.inside in
+    let n = c.args.n in
+    let due : IsDue (run_of s) n = subst (λ (r : Run). IsDue r n) (sym c.self.view_is) c.requires.due in
+    let h = seat_home s.seats.items n due.ready.home in
+    let same = c.units_ready.ensures.same in
+    let x = c.index_mut.result.now in
+    let there : slice_get s.seats.items n ≡ Some x = seat_there s.seats.items c.units_ready.new.seats.items n x same (is_within s.seats.items n (seat.Home h.0) h.1) c.index_mut.ensures.value in
+    asking_at s c.self.invariant n h.0 h.1 due x there
 
-pub returns-in-Ok-told : goal.returns-in-Ok-told
-returns-in-Ok-told c =
-    let a = asked-from c.self.inside c.args.self.now c.in-Want.want c.ask.result.now c.in-Ok.done c.act.new.reply c.act.new.store c.self.view_is c.self.invariant c.requires.goes_on c.requires.due c.ask.ensures c.in-Want.is c.in-Ok.ensures in
-    let noted = noted-from c.self.inside c.in-Ok.done c.push.new.self c.push.result c.self.invariant a.fuel c.push.ensures.items c.push.ensures.succeeds c.push.ensures.capacity in
-    rw (← c.self.view_is) (acted-is c.self.inside c.in-Want.want c.in-Ok.done c.act.new.reply c.act.new.store c.push.new.self c.told.new.self c.end_shown-self-inside.result a noted c.in-Ok-told.ensures.ok (c.end_shown-self-inside.ensures ∙ ap (λ (a : Ask). end_shown a c.act.new.store) c.ask-in-Ok-told.ensures))
+pub end_behind-self-inside-requires : goal.end_behind-self-inside-requires
+end_behind-self-inside-requires c =
+    let s = c.self.inside in
+    let n = c.args.n in
+    let due : IsDue (run_of s) n = subst (λ (r : Run). IsDue r n) (sym c.self.view_is) c.requires.due in
+    let h = seat_home s.seats.items n due.ready.home in
+    let goes : GoesOn (run_of s) = subst (λ (r : Run). GoesOn r) (sym c.self.view_is) c.requires.goes_on in
+    let same = c.units_ready.ensures.same in
+    let x = c.index_mut.result.now in
+    let there : slice_get s.seats.items n ≡ Some x = seat_there s.seats.items c.units_ready.new.seats.items n x same (is_within s.seats.items n (seat.Home h.0) h.1) c.index_mut.ensures.value in
+    let y = c.act_at.new.seat in
+    let units = c.in-Ok.units.items in
+    let store = c.act_at.new.store in
+    let told : Told s n c.self.invariant goes due x y c.in-Told.act store units = record { there = there; are = c.in-Ok.ensures.units; comes = c.in-Told.ensures } in
+    let placed : c.seat_all.new.seats.items ≡ slice_set s.seats.items n y ++ units = c.seat_all.ensures ∙ ap (λ l. slice_set l n y ++ units) same in
+    record {
+      few = few_told s n c.self.invariant goes due x y c.in-Told.act store units c.seat_all.new.seats.items c.deref.result.now c.wake_behind-self-inside.new.seats.items c.wake_behind-self-inside.result told placed
+          c.wake_behind-self-inside.ensures c.deref.ensures.value;
+    }
 
-pub unreachable-requires-in-Err-Waits : goal.unreachable-requires-in-Err-Waits
-unreachable-requires-in-Err-Waits c =
-    let goes = subst (λ (r : Run). GoesOn r) (sym c.self.view_is) c.requires.goes_on in
-    let waited : (does c.in-Want.want c.self.inside.store ≡ waits) × (c.act.new.store ≡ c.self.inside.store) = rw c.in-Err-Waits.field-0-is at c.in-Err-Waits.ensures in
-    needs-no-wait c.self.inside c.in-Want.want c.self.invariant goes (sym c.ask.ensures ∙ c.in-Want.is) waited.0
+pub invariant_of-self-in-Told : goal.invariant_of-self-in-Told
+invariant_of-self-in-Told c =
+    let s = c.self.inside in
+    let n = c.args.n in
+    let due : IsDue (run_of s) n = subst (λ (r : Run). IsDue r n) (sym c.self.view_is) c.requires.due in
+    let h = seat_home s.seats.items n due.ready.home in
+    let goes : GoesOn (run_of s) = subst (λ (r : Run). GoesOn r) (sym c.self.view_is) c.requires.goes_on in
+    let same = c.units_ready.ensures.same in
+    let x = c.index_mut.result.now in
+    let there : slice_get s.seats.items n ≡ Some x = seat_there s.seats.items c.units_ready.new.seats.items n x same (is_within s.seats.items n (seat.Home h.0) h.1) c.index_mut.ensures.value in
+    let y = c.act_at.new.seat in
+    let units = c.in-Ok.units.items in
+    let store = c.act_at.new.store in
+    let told : Told s n c.self.invariant goes due x y c.in-Told.act store units = record { there = there; are = c.in-Ok.ensures.units; comes = c.in-Told.ensures } in
+    let placed : c.seat_all.new.seats.items ≡ slice_set s.seats.items n y ++ units = c.seat_all.ensures ∙ ap (λ l. slice_set l n y ++ units) same in
+    let noted : Noted s n c.in-Told.act c.note.new.journal = record { items = c.note.ensures.items; room = omega (arith, c.note.ensures.room, c.self.invariant.room) } in
+    let seats = c.wake_behind-self-inside.new.seats in
+    let lost = c.wake_behind-self-inside.result in
+    let all = told_all s n c.self.invariant goes due x y c.in-Told.act store units c.seat_all.new.seats.items c.deref.result.now c.note.new.journal seats lost c.end_behind-self-inside.result told noted placed
+    c.wake_behind-self-inside.ensures c.deref.ensures.value c.end_behind-self-inside.ensures in
+    all.0
+
+pub returns-in-Told : goal.returns-in-Told
+returns-in-Told c =
+    let s = c.self.inside in
+    let n = c.args.n in
+    let due : IsDue (run_of s) n = subst (λ (r : Run). IsDue r n) (sym c.self.view_is) c.requires.due in
+    let h = seat_home s.seats.items n due.ready.home in
+    let goes : GoesOn (run_of s) = subst (λ (r : Run). GoesOn r) (sym c.self.view_is) c.requires.goes_on in
+    let same = c.units_ready.ensures.same in
+    let x = c.index_mut.result.now in
+    let there : slice_get s.seats.items n ≡ Some x = seat_there s.seats.items c.units_ready.new.seats.items n x same (is_within s.seats.items n (seat.Home h.0) h.1) c.index_mut.ensures.value in
+    let y = c.act_at.new.seat in
+    let units = c.in-Ok.units.items in
+    let store = c.act_at.new.store in
+    let told : Told s n c.self.invariant goes due x y c.in-Told.act store units = record { there = there; are = c.in-Ok.ensures.units; comes = c.in-Told.ensures } in
+    let placed : c.seat_all.new.seats.items ≡ slice_set s.seats.items n y ++ units = c.seat_all.ensures ∙ ap (λ l. slice_set l n y ++ units) same in
+    let noted : Noted s n c.in-Told.act c.note.new.journal = record { items = c.note.ensures.items; room = omega (arith, c.note.ensures.room, c.self.invariant.room) } in
+    let seats = c.wake_behind-self-inside.new.seats in
+    let lost = c.wake_behind-self-inside.result in
+    let all = told_all s n c.self.invariant goes due x y c.in-Told.act store units c.seat_all.new.seats.items c.deref.result.now c.note.new.journal seats lost c.end_behind-self-inside.result told noted placed
+    c.wake_behind-self-inside.ensures c.deref.ensures.value c.end_behind-self-inside.ensures in
+    rw (← c.self.view_is) all.1
+
+pub invariant_of-self-in-Untold : goal.invariant_of-self-in-Untold
+invariant_of-self-in-Untold c =
+    let s = c.self.inside in
+    let n = c.args.n in
+    let due : IsDue (run_of s) n = subst (λ (r : Run). IsDue r n) (sym c.self.view_is) c.requires.due in
+    let h = seat_home s.seats.items n due.ready.home in
+    let goes : GoesOn (run_of s) = subst (λ (r : Run). GoesOn r) (sym c.self.view_is) c.requires.goes_on in
+    let same = c.units_ready.ensures.same in
+    let x = c.index_mut.result.now in
+    let there : slice_get s.seats.items n ≡ Some x = seat_there s.seats.items c.units_ready.new.seats.items n x same (is_within s.seats.items n (seat.Home h.0) h.1) c.index_mut.ensures.value in
+    let y = c.act_at.new.seat in
+    let units = c.in-Ok.units.items in
+    let store = c.act_at.new.store in
+    let noted : Noted s n c.in-Untold.act c.note-in-Untold.new.journal =
+    record { items = c.note-in-Untold.ensures.items; room = omega (arith, c.note-in-Untold.ensures.room, c.self.invariant.room) } in
+    let all = untold_all s n c.self.invariant goes due x y c.in-Untold.act store units c.note-in-Untold.new.journal c.seat_all-in-Untold.new.seats there c.in-Ok.ensures.units c.in-Untold.ensures noted
+    (c.seat_all-in-Untold.ensures ∙ ap (λ l. slice_set l n y ++ units) same) in
+    all.0
+
+pub returns-in-Untold : goal.returns-in-Untold
+returns-in-Untold c =
+    let s = c.self.inside in
+    let n = c.args.n in
+    let due : IsDue (run_of s) n = subst (λ (r : Run). IsDue r n) (sym c.self.view_is) c.requires.due in
+    let h = seat_home s.seats.items n due.ready.home in
+    let goes : GoesOn (run_of s) = subst (λ (r : Run). GoesOn r) (sym c.self.view_is) c.requires.goes_on in
+    let same = c.units_ready.ensures.same in
+    let x = c.index_mut.result.now in
+    let there : slice_get s.seats.items n ≡ Some x = seat_there s.seats.items c.units_ready.new.seats.items n x same (is_within s.seats.items n (seat.Home h.0) h.1) c.index_mut.ensures.value in
+    let y = c.act_at.new.seat in
+    let units = c.in-Ok.units.items in
+    let store = c.act_at.new.store in
+    let noted : Noted s n c.in-Untold.act c.note-in-Untold.new.journal =
+    record { items = c.note-in-Untold.ensures.items; room = omega (arith, c.note-in-Untold.ensures.room, c.self.invariant.room) } in
+    let all = untold_all s n c.self.invariant goes due x y c.in-Untold.act store units c.note-in-Untold.new.journal c.seat_all-in-Untold.new.seats there c.in-Ok.ensures.units c.in-Untold.ensures noted
+    (c.seat_all-in-Untold.ensures ∙ ap (λ l. slice_set l n y ++ units) same) in
+    rw (← c.self.view_is) all.1
+
+pub end_with-requires-clause-ends : goal.end_with-requires-clause-ends
+end_with-requires-clause-ends c =
+    let s = c.self.inside in
+    let n = c.args.n in
+    let due : IsDue (run_of s) n = subst (λ (r : Run). IsDue r n) (sym c.self.view_is) c.requires.due in
+    let h = seat_home s.seats.items n due.ready.home in
+    let goes : GoesOn (run_of s) = subst (λ (r : Run). GoesOn r) (sym c.self.view_is) c.requires.goes_on in
+    let same = c.units_ready.ensures.same in
+    let x = c.index_mut.result.now in
+    let there : slice_get s.seats.items n ≡ Some x = seat_there s.seats.items c.units_ready.new.seats.items n x same (is_within s.seats.items n (seat.Home h.0) h.1) c.index_mut.ensures.value in
+    let y = c.act_at.new.seat in
+    let left = refused_left s n c.self.invariant goes due x y c.in-Refused.kind c.act_at.new.store there c.in-Refused.ensures in
+    refused_ends s n c.self.invariant goes due x y c.in-Refused.kind c.act_at.new.store c.place_at-place.result there c.in-Refused.ensures
+    (c.place_at-place.ensures ∙ ap (λ l. place_at l n) (c.deref-in-Refused.ensures.value ∙ ap (λ l. slice_set l n y) same ∙ left.1) ∙ ap (λ o. option_map_or place_in o 0) there)
+
+pub returns-in-NoMemory : goal.returns-in-NoMemory
+returns-in-NoMemory c =
+    let s = c.self.inside in
+    let n = c.args.n in
+    let due : IsDue (run_of s) n = subst (λ (r : Run). IsDue r n) (sym c.self.view_is) c.requires.due in
+    let h = seat_home s.seats.items n due.ready.home in
+    let goes : GoesOn (run_of s) = subst (λ (r : Run). GoesOn r) (sym c.self.view_is) c.requires.goes_on in
+    let same = c.units_ready.ensures.same in
+    let x = c.index_mut.result.now in
+    let there : slice_get s.seats.items n ≡ Some x = seat_there s.seats.items c.units_ready.new.seats.items n x same (is_within s.seats.items n (seat.Home h.0) h.1) c.index_mut.ensures.value in
+    let y = c.act_at.new.seat in
+    let left = unfound_left s n c.self.invariant goes due x y c.act_at.new.store there c.in-NoMemory.ensures in
+    let stays : map status_of (slice_set c.units_ready.new.seats.items n y) ≡ map status_of s.seats.items = ap (λ (l : List Seat). map status_of (slice_set l n y)) same ∙ ap (λ (l : List Seat). map status_of l) left.1 in
+    subst (λ (r : Run). TurnOf r n c.lose-in-NoMemory.result c.lose-in-NoMemory.new.self)
+    (ap (λ l. record { code = s.code; fuel = s.fuel; entries = s.journal.items; status = l; lost = s.lost; end = s.end }) stays ∙ c.self.view_is) c.lose-in-NoMemory.ensures

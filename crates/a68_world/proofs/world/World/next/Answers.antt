@@ -1,11 +1,16 @@
-use Rattle.std.proofs.Common.{◌∙◌, sym, subst}
-use Rattle.a68_world.specs.Run.{Run}
-use Rattle.a68_world.specs.Turns.{IsAble}
-use Rattle.a68_world.proofs.Standing.{able-here, none-from}
+use Rattle.a68_world.proofs.Standing.{few_seats, able_first, able_exactly, none_from}
 use Rattle.a68_world.proofs.world.World.next.Goals as goal
+
+pub next_turn-requires : goal.next_turn-requires
+next_turn-requires c = record { few = rw c.deref.ensures.value (few_seats c.self.inside c.self.invariant) }
+
+pub returns-clause-first : goal.returns-clause-first
+returns-clause-first c =
+    let none = none_from c.self.inside.end c.is_some.result c.is_some.ensures c.if-is_some.false in
+    rw (← c.self.view_is) (able_first c.self.inside c.self.invariant c.args.after c.next_turn.result none (rw c.deref.ensures.value at c.next_turn.ensures.first))
 
 pub returns-clause-none : goal.returns-clause-none
 returns-clause-none c =
-    let none = none-from c.self.inside.end c.is_some.result c.is_some.ensures c.if-is_some.false in
-    let able = able-here c.self.inside c.self.invariant none (sym c.spent.ensures ∙ c.if-spent.false) in
-    (λ e. absurd (cc), λ no. absurd (no 0 (subst (λ (r : Run). IsAble r 0) c.self.view_is able)))
+    let none = none_from c.self.inside.end c.is_some.result c.is_some.ensures c.if-is_some.false in
+    rw (← c.self.view_is) (able_exactly c.self.inside c.self.invariant c.args.after c.next_turn.result none (rw c.deref.ensures.value at c.next_turn.ensures.first)
+    (rw c.deref.ensures.value at c.next_turn.ensures.none))

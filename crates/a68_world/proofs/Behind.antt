@@ -1,0 +1,192 @@
+-- The run behind an act.
+use Rattle.std.proofs.Common.{◌≡◌, ◌∙◌, ◌⊎◌, inl, inr, ℕ, zero, suc, ◌+◌, ◌<◌, ◌≤◌, Bool, true, false, List, [], ◌∷◌, ◌++◌, length, length-append, map, refl, ap, sym, subst, arith, true≢false}
+use Rattle.std.proofs.lemmas.Bool.{false≢true}
+use Rattle.std.specs.Prelude.{◌||◌, None, Some, Ok, Err, MatchBool, slice_get, slice_set, if◌then◌else◌}
+use Rattle.std.specs.Option.{is_some, option_map_or}
+use Rattle.std.specs.Vec.{vec_capacity}
+use Rattle.std.specs.declared.alloc.Global.{Global}
+use Rattle.std.specs.declared.option.Option.{Option}
+use Rattle.std.specs.declared.vec.Vec.{Vec}
+use Rattle.std.proofs.Math.ListN.{length-set}
+use Rattle.a68_acts.specs.Does.{Outcome, did, refused, does}
+use Rattle.a68_acts.specs.Store.{Store}
+use Rattle.a68_acts.specs.declared.want.Reply.{Reply}
+use Rattle.a68_acts.specs.declared.want.Want.{Want}
+use Rattle.a68_acts.specs.declared.want.Want.TheVariants as want
+use Rattle.a68_code.specs.declared.code.Code.{Code}
+use Rattle.a68_strand.proofs.Alive.{active}
+use Rattle.a68_strand.proofs.Settled.{settle_rests}
+use Rattle.a68_strand.proofs.Waking.{Goes, begun_goes, none_woken, goes_open, goes_waits}
+use Rattle.a68_strand.specs.Machine.{State, settle, next_state, replied}
+use Rattle.a68_strand.specs.Runs.{World, acted, after, woken, woken_in, has_closed, is_passive, is_closed, all_closed, begun, strands_after}
+use Rattle.a68_strand.specs.Strands.{standing}
+use Rattle.a68_strand.specs.declared.ask.Ask.{Ask}
+use Rattle.a68_strand.specs.declared.ask.Ask.TheVariants as ask
+use Rattle.a68_strand.specs.declared.ask.Stance.{Stance}
+use Rattle.a68_strand.specs.declared.ask.Stance.TheVariants.{Idle, Asking, Waits}
+use Rattle.a68_strand.specs.declared.ask.Waiting.{Waiting}
+use Rattle.a68_strand.specs.declared.strand.Strand.{Strand}
+use Rattle.a68_values.specs.declared.act.Act.{Act}
+use Rattle.a68_values.specs.declared.act.Entry.{Entry}
+use Rattle.a68_world.specs.Inside.{run_of, IsSound}
+use Rattle.a68_world.specs.Run.{Run, IsRun, AllHome, world}
+use Rattle.a68_world.specs.Seats.{Sits, SitsAt, SitsHere, AreSeated, AllSit, Shows, status_of, closed_in, closed_at, due_at, may_wake}
+use Rattle.a68_world.specs.Stepping.{Does, IsTold, AreUnits, IsUnit, units_asked, units_at, units_begun}
+use Rattle.a68_world.specs.Turns.{GoesOn, IsReady}
+use Rattle.a68_world.specs.Waking.{AllRest}
+use Rattle.a68_world.specs.declared.seat.Seat.{Seat}
+use Rattle.a68_world.specs.declared.seat.Seat.TheVariants as seat
+use Rattle.a68_world.specs.declared.status.Status.TheVariants as status
+use Rattle.a68_world.specs.declared.world.World.TheInside.{Inside}
+use Rattle.a68_world.proofs.Kept.{all_home}
+use Rattle.a68_world.proofs.Places.{get_map, get_front, get_behind, get_other, parted, set_parted, set_same, is_within, length_map}
+use Rattle.a68_world.proofs.Rousing.{closed_same, all_closed_same, woke_first, not_due}
+use Rattle.a68_world.proofs.Showing.{asking, next_act}
+use Rattle.a68_world.proofs.Steady.{Steady, steady_run}
+
+-- ---- a run that goes on
+
+-- the machine's world
+abbrev pub now : Inside → World
+now s = world (run_of s)
+
+pub many_seats : (s : Inside) → IsSound s → length s.seats.items ≡ length (now s).strands
+many_seats s sound = sym (length_map status_of s.seats.items) ∙ sound.run.all
+
+sits-home : (code : Code) (strands : List State) (k : ℕ) (x : Seat) → SitsAt code strands k x → (x ≡ seat.Spent → ⊥) → SitsHere code strands k x
+sits-home code strands k (seat.Home strand) p ne = p
+sits-home code strands k seat.Spent p ne = absurd (ne refl)
+
+-- where no strand is spent each sits in the world
+pub all_sit : (code : Code) (strands : List State) (seats : List Seat) → AreSeated code strands seats → AllHome (map status_of seats) → AllSit code strands seats
+all_sit code strands seats seated home k x e =
+    sits-home code strands k x (seated k x e) (λ is. home k (get_map status_of seats k x e ∙ ap (λ (y : Seat). Some (status_of y)) is))
+
+pub all_here : (s : Inside) → IsSound s → GoesOn (run_of s) → AllSit s.code (now s).strands s.seats.items
+all_here s sound goes = all_sit s.code (now s).strands s.seats.items sound.seats (all_home (run_of s) sound.run goes)
+
+-- ---- an act
+
+-- the journal with one entry more
+pub record Noted (s : Inside) (n : ℕ) (act : Act) (journal : Vec Entry Global) : Type 0 where
+  pub items : journal.items ≡ s.journal.items ++ record { strand = n; act = act } ∷ []
+  pub room : s.fuel ≤ vec_capacity journal
+
+-- the strand of a seat asks for an act, which the store does, and its units have begun
+pub record Moved (s : Inside) (n : ℕ) (act : Act) (store : Store) (units : List Seat) : Type 0 where
+  pub sound : IsSound s
+  pub goes : GoesOn (run_of s)
+  pub ready : IsReady (run_of s) n
+  pub fuel : length s.journal.items < s.fuel
+  pub strand : Strand
+  pub there : slice_get s.seats.items n ≡ Some (seat.Home strand)
+  pub act_done : Does s.store strand act store
+  pub are : AreUnits s.code (units_begun s.code strand s.store) (length s.seats.items) units
+
+-- what an act makes is what was begun
+begun-asked : (code : Code) (strand : Strand) (w : Want) (store behind : Store) (act : Act) (told : Reply) → does w store ≡ did act told behind
+    → begun code (standing strand) w ≡ units_at code strand.body.chain (units_asked (ask.Want w) store)
+begun-asked code strand (want.Fork entrances) store behind act told e =
+    sym (ap (λ (o : Outcome). units_at code strand.body.chain (if is_some (refused o) then [] else entrances)) e)
+begun-asked code strand _ store behind act told e = refl
+
+module _ (s : Inside) (n : ℕ) (act : Act) (store : Store) (units : List Seat) (m : Moved s n act store units) where
+  abbrev pub st : State
+  st = standing m.strand
+
+  abbrev pub next : State
+  next = settle s.code (replied s.code st m.act_done.reply)
+
+  abbrev pub new : List State
+  new = begun s.code st m.act_done.want
+
+  abbrev pub all : List State
+  all = slice_set (now s).strands n next ++ new
+
+  abbrev pub behind : World
+  behind = record { store = store; strands = strands_after s.code (now s).strands n next new }
+
+  pub sits : Sits s.code (now s).strands n m.strand
+  sits = m.sound.seats n (seat.Home m.strand) m.there
+
+  pub steady : Steady s.code (length s.journal.items) (now s)
+  steady = steady_run (run_of s) m.sound.run
+
+  -- the act is the machine's
+  pub next_is : acted s.code (now s) n ≡ Some (act, behind)
+  next_is =
+      let x = asking m.strand m.act_done.want m.act_done.asks in
+      next_act s.code (now s) n st m.act_done.want x.0 sits.there x.1
+      ∙ ap (λ (t : Store). after s.code (now s) n st m.act_done.want (does m.act_done.want t)) (sym m.sound.store)
+      ∙ ap (after s.code (now s) n st m.act_done.want) m.act_done.does_it
+
+  new-is : new ≡ units_begun s.code m.strand s.store
+  new-is =
+      begun-asked s.code m.strand m.act_done.want s.store store act m.act_done.reply m.act_done.does_it
+      ∙ sym (ap (λ (a : Ask). units_at s.code m.strand.body.chain (units_asked a s.store)) m.act_done.asks)
+
+  pub are_new : AreUnits s.code new (length s.seats.items) units
+  are_new = subst (λ (l : List State). AreUnits s.code l (length s.seats.items) units) (sym new-is) m.are
+
+  pub fresh : (j : ℕ) (x : State) → slice_get new j ≡ Some x → Goes s.code x
+  fresh j x e = begun_goes s.code st m.act_done.want j x e
+
+  pub rest : AllRest s.code all
+  rest k x e = elim (parted (slice_set (now s).strands n next) new k x e) [
+    | inl front ↦ elim (set_parted (now s).strands n k next x front) [
+      | inl here_ ↦ ap (next_state s.code) here_.1 ∙ settle_rests s.code (replied s.code st m.act_done.reply)
+      | inr old ↦ steady.calm.rests k x old.1
+    ]
+    | inr born ↦ (fresh born.0 x born.2).0
+  ]
+
+  -- the strand had not closed
+  pub was_open : is_closed (now s).strands n ≡ false
+  was_open =
+      let x = asking m.strand m.act_done.want m.act_done.asks in
+      ap (λ o. option_map_or (λ (y : State). has_closed y.stance) o false) sits.there ∙ ap has_closed x.1
+
+  pub long : (x : Seat) → length (slice_set s.seats.items n x ++ units) ≡ length all
+  long x =
+      omega (arith, length-append (slice_set s.seats.items n x) units, length-set s.seats.items n x, length-append (slice_set (now s).strands n next) new, length-set (now s).strands n next, are_new.long, many_seats s m.sound)
+
+  pub there_next : slice_get all n ≡ Some next
+  there_next = get_front (slice_set (now s).strands n next) new n next (set_same (now s).strands n st next sits.there)
+
+  old-stays : (k : ℕ) (strand : Strand) → (k ≡ n → ⊥) → Sits s.code (now s).strands k strand → Sits s.code all k strand
+  old-stays k strand ne p = record {
+    number = p.number;
+    there = get_front (slice_set (now s).strands n next) new k (standing strand) (get_other (now s).strands n k next (standing strand) ne p.there);
+    shows = p.shows;
+  }
+
+  old-here : (k : ℕ) (x : Seat) → (k ≡ n → ⊥) → SitsHere s.code (now s).strands k x → SitsHere s.code all k x
+  old-here k (seat.Home strand) ne p = old-stays k strand ne p
+  old-here k seat.Spent ne p = p
+
+  born-here : (k i : ℕ) (x : Seat) → k ≡ length s.seats.items + i → IsUnit s.code new (length s.seats.items) i x → SitsHere s.code all k x
+  born-here k i (seat.Home strand) e u = record {
+    number = u.0 ∙ sym e;
+    there =
+        let at : k ≡ length (slice_set (now s).strands n next) + i = omega (arith, e, length-set (now s).strands n next, many_seats s m.sound) in
+        ap (slice_get all) at ∙ get_behind (slice_set (now s).strands n next) new i ∙ u.1;
+    shows = u.2;
+  }
+  born-here k i seat.Spent e u = u
+
+  -- where they sit before any is woken
+  pub sit_by : (x : Seat) → (P : (k : ℕ) → Seat → Type 0) → P n x → ((k : ℕ) (y : Seat) → SitsHere s.code all k y → P k y)
+      → (k : ℕ) (y : Seat) → slice_get (slice_set s.seats.items n x ++ units) k ≡ Some y → P k y
+  sit_by x P told here_ k y e = elim (parted (slice_set s.seats.items n x) units k y e) [
+    | inl front ↦ elim (set_parted s.seats.items n k x y front) [
+      | inl is ↦ subst (λ j. P j y) (sym is.0) (subst (λ z. P n z) (sym is.1) told)
+      | inr old ↦ here_ k y (old-here k y old.0 (all_here s m.sound m.goes k y old.1))
+    ]
+    | inr born ↦ here_ k y (born-here k born.0 y (omega (arith, born.1, length-set s.seats.items n x)) (are_new.each born.0 y born.2))
+  ]
+
+  -- an act behind which the strand goes on wakes none
+  pub live_none : is_passive next.stance ≡ false → map (woken s.code all) all ≡ all
+  live_none live =
+      none_woken s.code (now s).strands new n next steady.calm was_open (settle_rests s.code (replied s.code st m.act_done.reply)) (goes_open next.stance live)
+      (λ f c e. goes_waits next.stance f c _ live e) fresh

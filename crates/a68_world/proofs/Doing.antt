@@ -1,0 +1,145 @@
+-- A turn in which a strand does its act.
+use Rattle.std.proofs.Common.{◌≡◌, ◌∙◌, ◌⊎◌, inl, inr, ℕ, ◌+◌, ◌<◌, ◌≤◌, ◌^◌, Bool, true, false, List, ◌++◌, length, map, get_or, MatchBool, refl, ap, sym, subst, arith}
+use Rattle.std.proofs.lemmas.Option.{slice_get-get_or}
+use Rattle.std.specs.Prelude.{None, Some, slice_get, slice_set}
+use Rattle.std.specs.Option.{option_map}
+use Rattle.std.specs.declared.alloc.Global.{Global}
+use Rattle.std.specs.declared.option.Option.{Option}
+use Rattle.std.specs.declared.vec.Vec.{Vec}
+use Rattle.a68_acts.specs.Does.{refused, does}
+use Rattle.a68_acts.specs.Store.{Store, most_strands}
+use Rattle.a68_strand.specs.Ends.{fault_of, fault_in}
+use Rattle.a68_strand.specs.Machine.{State, replied}
+use Rattle.a68_strand.specs.Machine as machine
+use Rattle.a68_strand.specs.Runs.{is_passive, woken}
+use Rattle.a68_strand.specs.Strands.{standing, HasSettled}
+use Rattle.a68_strand.specs.declared.ask.Stance.{Stance}
+use Rattle.a68_strand.specs.declared.ask.Stance.TheVariants.{Asking}
+use Rattle.a68_strand.specs.declared.strand.Strand.{Strand}
+use Rattle.a68_values.specs.declared.act.Act.{Act}
+use Rattle.a68_values.specs.declared.act.Entry.{Entry}
+use Rattle.a68_values.specs.declared.act.FaultKind.{FaultKind}
+use Rattle.a68_values.specs.declared.kept.End.{End}
+use Rattle.a68_values.specs.declared.kept.End.TheVariants as ends
+use Rattle.a68_world.specs.Ending.{EndShown}
+use Rattle.a68_world.specs.Inside.{run_of, IsSound}
+use Rattle.a68_world.specs.Run.{Run}
+use Rattle.a68_world.specs.Seats.{Sits, place_at, place_in}
+use Rattle.a68_world.specs.Stepping.{Does, ComesToAt, IsTold, IsUntold, Meets, AreUnitsAt}
+use Rattle.a68_world.specs.Turns.{GoesOn, IsDue, Acts, EndsAt, StandsAt, FindsNoMemory}
+use Rattle.a68_world.specs.Waking.{Wakes, WakesBehind}
+use Rattle.a68_world.specs.declared.deed.Deed.TheVariants as deed
+use Rattle.a68_world.specs.declared.seat.Seat.{Seat}
+use Rattle.a68_world.specs.declared.seat.Seat.TheVariants as seat
+use Rattle.a68_world.specs.declared.world.World.TheInside.{Inside}
+use Rattle.a68_world.proofs.Behind as b
+use Rattle.a68_world.proofs.Behind.{Moved, Noted, now}
+use Rattle.a68_world.proofs.Outcomes.{told_seats, told_wakes, told_acts, told_sound, untold_is, untold_sound}
+use Rattle.a68_world.proofs.Places.{set_again, length_map}
+use Rattle.a68_world.proofs.Showing.{asking, next_fault}
+use Rattle.a68_world.proofs.Steady.{steady_run, steady_more}
+
+-- the seat that the code borrows
+pub seat_there : (seats before : List Seat) (n : ℕ) (x : Seat) → before ≡ seats → n < length seats → x ≡ get_or before n x → slice_get seats n ≡ Some x
+seat_there seats before n x same h e =
+    let h2 : n < length before = omega (arith, h, ap (λ l. length l) same) in
+    sym (ap (λ l. slice_get l n) same) ∙ slice_get-get_or before n x h2 ∙ ap (λ y. Some y) (sym e)
+
+module _ (s : Inside) (n : ℕ) (sound : IsSound s) (goes : GoesOn (run_of s)) (due : IsDue (run_of s) n) where
+  abbrev moved : (strand : Strand) (act : Act) (store : Store) (units : List Seat) → slice_get s.seats.items n ≡ Some (seat.Home strand) → AreUnitsAt s.code s.store s.seats.items n units
+      → Does s.store strand act store → Moved s n act store units
+  moved strand act store units there are d =
+      record { sound = sound; goes = goes; ready = due.ready; fuel = due.fuel; strand = strand; there = there; act_done = d; are = are strand there }
+
+  -- ---- the strand has been told
+
+  -- what the calls gave
+  pub record Told (x y : Seat) (act : Act) (store : Store) (units : List Seat) : Type 0 where
+    pub there : slice_get s.seats.items n ≡ Some x
+    pub are : AreUnitsAt s.code s.store s.seats.items n units
+    pub comes : ComesToAt s.code s.store x (deed.Told act) store y
+
+  abbrev pub run_told : Vec Entry Global → Store → Vec Seat Global → Bool → Option End → Inside
+  run_told journal store seats lost end = record s { journal = journal; store = store; seats = seats; lost = lost; end = end }
+
+  told-all : (x y : Seat) (act : Act) (store : Store) (units : List Seat) (journal : Vec Entry Global) (seats : Vec Seat Global) (lost : Bool) (end : Option End)
+      → slice_get s.seats.items n ≡ Some x → AreUnitsAt s.code s.store s.seats.items n units → ComesToAt s.code s.store x (deed.Told act) store y → Noted s n act journal
+      → WakesBehind s.code n (slice_set s.seats.items n y ++ units) seats.items lost → MatchBool lost (end ≡ None) (EndShown seats.items store end)
+      → IsSound (run_told journal store seats lost end) × Acts (run_of s) n (run_of (run_told journal store seats lost end))
+  told-all (seat.Home strand) (seat.Home t) act store units journal seats lost end there are comes noted w e =
+      let m = moved strand act store units there are comes.act_done in
+      let wakes = told_wakes s n act store units m t comes.settled comes.number seats.items lost w in (
+        told_sound s n act store units m t comes.settled comes.number journal seats lost end noted wakes e,
+        told_acts s n act store units m t comes.settled comes.number journal seats lost end noted wakes e,
+      )
+  told-all (seat.Home strand) seat.Spent act store units journal seats lost end there are comes noted w e = absurd comes
+  told-all seat.Spent y act store units journal seats lost end there are comes noted w e = absurd comes
+
+  pub told_all : (x y : Seat) (act : Act) (store : Store) (units placed shown : List Seat) (journal : Vec Entry Global) (seats : Vec Seat Global) (lost : Bool) (end : Option End)
+      → Told x y act store units → Noted s n act journal → placed ≡ slice_set s.seats.items n y ++ units → WakesBehind s.code n placed seats.items lost → shown ≡ seats.items
+      → MatchBool lost (end ≡ None) (EndShown shown store end) → IsSound (run_told journal store seats lost end) × Acts (run_of s) n (run_of (run_told journal store seats lost end))
+  told_all x y act store units placed shown journal seats lost end told noted is w same e =
+      told-all x y act store units journal seats lost end told.there told.are told.comes noted (subst (λ l. WakesBehind s.code n l seats.items lost) is w)
+      (subst (λ l. MatchBool lost (end ≡ None) (EndShown l store end)) same e)
+
+  -- there are numbers for all
+  few-told : (x y : Seat) (act : Act) (store : Store) (units : List Seat) (seats : List Seat) (lost : Bool)
+      → slice_get s.seats.items n ≡ Some x → AreUnitsAt s.code s.store s.seats.items n units → ComesToAt s.code s.store x (deed.Told act) store y
+      → WakesBehind s.code n (slice_set s.seats.items n y ++ units) seats lost → length seats < 2 ^ 32
+  few-told (seat.Home strand) (seat.Home t) act store units seats lost there are comes w =
+      let m = moved strand act store units there are comes.act_done in
+      let wakes = told_wakes s n act store units m t comes.settled comes.number seats lost w in
+      let st = steady_more s.code (length s.journal.items) (now s) n act (b.behind s n act store units m) (steady_run (run_of s) sound.run) (b.next_is s n act store units m) in
+      omega (arith, wakes.long, st.many, st.most, length_map (woken s.code (b.all s n act store units m)) (b.all s n act store units m))
+  few-told (seat.Home strand) seat.Spent act store units seats lost there are comes w = absurd comes
+  few-told seat.Spent y act store units seats lost there are comes w = absurd comes
+
+  pub few_told : (x y : Seat) (act : Act) (store : Store) (units placed shown seats : List Seat) (lost : Bool)
+      → Told x y act store units → placed ≡ slice_set s.seats.items n y ++ units → WakesBehind s.code n placed seats lost → shown ≡ seats → length shown < 2 ^ 32
+  few_told x y act store units placed shown seats lost told is w same =
+      rw same (few-told x y act store units seats lost told.there told.are told.comes (subst (λ l. WakesBehind s.code n l seats lost) is w))
+
+  -- ---- there was no memory to tell it
+
+  abbrev pub run_untold : Vec Entry Global → Store → Vec Seat Global → Inside
+  run_untold journal store seats = record s { journal = journal; store = store; seats = seats; lost = true }
+
+  pub untold_all : (x y : Seat) (act : Act) (store : Store) (units : List Seat) (journal : Vec Entry Global) (seats : Vec Seat Global)
+      → slice_get s.seats.items n ≡ Some x → AreUnitsAt s.code s.store s.seats.items n units → ComesToAt s.code s.store x (deed.Untold act) store y → Noted s n act journal
+      → seats.items ≡ slice_set s.seats.items n y ++ units
+      → IsSound (run_untold journal store seats) × FindsNoMemory (run_of s) n (run_of (run_untold journal store seats))
+  untold_all (seat.Home strand) seat.Spent act store units journal seats there are comes noted is =
+      let m = moved strand act store units there are comes.act_done in (
+        untold_sound s n act store units m comes.live journal seats noted is,
+        untold_is s n act store units m comes.live journal seats noted is,
+      )
+  untold_all (seat.Home strand) (seat.Home t) act store units journal seats there are comes noted is = absurd comes
+  untold_all seat.Spent y act store units journal seats there are comes noted is = absurd comes
+
+  -- ---- the act is not done
+
+  -- it meets a fault
+  pub fault_here : (strand : Strand) (why : FaultKind) (place : ℕ) → slice_get s.seats.items n ≡ Some (seat.Home strand) → Meets s.store strand why → place ≡ strand.place
+      → EndsAt (run_of s) n (ends.Fault why place n)
+  fault_here strand why place there meets is =
+      let sits : Sits s.code (now s).strands n strand = sound.seats n (seat.Home strand) there in
+      let x = asking strand meets.want meets.asks in (
+        refl,
+        next_fault (now s) n (standing strand) (Asking meets.want x.0) sits.there x.1 ∙ ap refused (ap (does meets.want) (sym sound.store) ∙ meets.refused),
+        ap (option_map (λ (st : State). machine.place_at s.code.list st.at)) sits.there ∙ ap (λ p. Some p) (sym sits.shows.place ∙ sym is),
+      )
+
+  pub refused_left : (x y : Seat) (why : FaultKind) (store : Store) → slice_get s.seats.items n ≡ Some x → ComesToAt s.code s.store x (deed.Refused why) store y
+      → (store ≡ s.store) × (slice_set s.seats.items n y ≡ s.seats.items)
+  refused_left (seat.Home strand) y why store there comes = (comes.0, ap (slice_set s.seats.items n) comes.1 ∙ set_again s.seats.items n (seat.Home strand) there)
+  refused_left seat.Spent y why store there comes = absurd comes
+
+  pub refused_ends : (x y : Seat) (why : FaultKind) (store : Store) (place : ℕ) → slice_get s.seats.items n ≡ Some x → ComesToAt s.code s.store x (deed.Refused why) store y
+      → place ≡ place_in x → EndsAt (run_of s) n (ends.Fault why place n)
+  refused_ends (seat.Home strand) y why store place there comes is = fault_here strand why place there comes.2 is
+  refused_ends seat.Spent y why store place there comes is = absurd comes
+
+  pub unfound_left : (x y : Seat) (store : Store) → slice_get s.seats.items n ≡ Some x → ComesToAt s.code s.store x deed.NoMemory store y
+      → (store ≡ s.store) × (slice_set s.seats.items n y ≡ s.seats.items)
+  unfound_left (seat.Home strand) y store there comes = (comes.0, ap (slice_set s.seats.items n) comes.1 ∙ set_again s.seats.items n (seat.Home strand) there)
+  unfound_left seat.Spent y store there comes = absurd comes

@@ -1,0 +1,137 @@
+-- What is known of every run is known behind each turn.
+use Rattle.std.proofs.Common.{◌≡◌, ◌≢◌, ◌∙◌, ◌⊎◌, inl, inr, ℕ, ◌+◌, ◌<◌, ◌≤◌, Bool, true, false, List, [], ◌∷◌, ◌++◌, length, length-append, refl, ap, sym, subst, arith, true≢false}
+use Rattle.std.specs.Prelude.{None, Some, IfSome, slice_get}
+use Rattle.std.specs.Option.{option_map}
+use Rattle.std.specs.declared.option.Option.{Option}
+use Rattle.a68_code.specs.declared.code.Code.{Code}
+use Rattle.a68_strand.specs.Ends.{fault_in, fault_of, HasEnded, CanAct, EndsWith, fault, spent}
+use Rattle.a68_strand.specs.Machine.{State, place_at}
+use Rattle.a68_strand.specs.Runs.{World, acts_in, acted}
+use Rattle.a68_strand.specs.declared.ask.Stance.TheVariants.{Idle}
+use Rattle.a68_values.specs.declared.act.Act.{Act}
+use Rattle.a68_values.specs.declared.act.Entry.{Entry}
+use Rattle.a68_values.specs.declared.kept.End.{End}
+use Rattle.a68_values.specs.declared.kept.End.TheVariants as ends
+use Rattle.a68_world.specs.Run.{Run, IsRun, AllHome, IsNumber, EndsWithoutTurn, world}
+use Rattle.a68_world.specs.Turns.{GoesOn, Acts, EndsAt, EndsHere, FindsNoMemory, IsSpentBy, IsDue, IsOf, StandsAt, noted}
+use Rattle.a68_world.specs.Worlds.{world_of, IsJournal}
+use Rattle.a68_world.specs.declared.status.Status.{Status}
+use Rattle.a68_world.specs.declared.status.Status.TheVariants.{Home, Spent}
+use Rattle.a68_world.proofs.Journals.{entry_of, world_more, journal_more}
+use Rattle.a68_world.proofs.Showing.{is_end}
+
+-- no strand is spent in a run that goes on
+pub all_home : (run : Run) → IsRun run → GoesOn run → AllHome run.status
+all_home run r goes k there = true≢false (sym (r.spent k there) ∙ goes.kept)
+
+-- ---- the world behind an act
+
+pub world_behind : (old new : Run) (n : ℕ) (act : Act) (behind : World) → new.code ≡ old.code → new.entries ≡ noted old n act → acted old.code (world old) n ≡ Some (act, behind)
+    → world new ≡ behind
+world_behind old new n act behind code entries next =
+    ap (λ c. world_of c new.entries) code ∙ ap (λ es. world_of old.code es) entries ∙ world_more old.code old.entries n act behind next
+
+pub journal_behind : (old new : Run) (n : ℕ) (act : Act) (behind : World) → new.code ≡ old.code → new.entries ≡ noted old n act → acted old.code (world old) n ≡ Some (act, behind)
+    → IsJournal old.code old.entries → IsJournal new.code new.entries
+journal_behind old new n act behind code entries next runs =
+    subst (λ c. IsJournal c new.entries) (sym code) (subst (λ es. IsJournal old.code es) (sym entries) (journal_more old.code old.entries n act behind runs next))
+
+pub length_noted : (old new : Run) (n : ℕ) (act : Act) → new.entries ≡ noted old n act → length new.entries ≡ length old.entries + 1
+length_noted old new n act e = ap (λ es. length es) e ∙ length-append old.entries (entry_of n act ∷ [])
+
+-- what stays of a run with one entry more
+record Grown (old new : Run) (n : ℕ) : Type 0 where
+  pub run : IsRun old
+  pub same : IsOf old new
+  pub fuel : length old.entries < old.fuel
+  pub act : Act
+  pub behind : World
+  pub next : acted old.code (world old) n ≡ Some (act, behind)
+  pub entries : new.entries ≡ noted old n act
+  pub many : length new.status ≡ length (world new).strands
+
+grown : (old new : Run) (n : ℕ) → Grown old new n → IfSome new.end (EndsWith new.code new.fuel new.entries (world new)) → (new.end ≡ None → AllHome new.status → EndsWithoutTurn new.code (world new) None)
+    → (new.lost ≡ true → new.end ≡ None) → ((k : ℕ) → IsNumber new k Spent → new.lost ≡ true) → IsRun new
+grown old new n g ended goes lost gone =
+    let run = g.run in
+    record {
+      valid = rw g.same.0 run.valid;
+      short = rw g.same.0 run.short;
+      some_fuel = rw g.same.1 run.some_fuel;
+      little_fuel = rw g.same.1 run.little_fuel;
+      within = omega (arith, length_noted old new n g.act g.entries, g.fuel, g.same.1);
+      runs = journal_behind old new n g.act g.behind g.same.0 g.entries g.next run.runs;
+      all = g.many;
+      ended = ended;
+      goes_on = goes;
+      lost = lost;
+      spent = gone;
+    }
+
+-- ---- an act
+
+pub acts_keep : (old new : Run) (n : ℕ) → IsRun old → Acts old n new → IsRun new
+acts_keep old new n run a =
+    grown old new n (record { run = run; same = a.same; fuel = a.fuel; act = a.act; behind = a.behind; next = a.next; entries = a.entries; many = a.seated.many })
+    (ended new.end refl) (λ none home. subst (λ o. EndsWithoutTurn new.code (world new) o) none (a.ends.whole home)) (λ lost. let k = a.lost lost in a.ends.parted k.0 k.1) a.spent
+  where
+    home : (e : End) → new.end ≡ Some e → AllHome new.status
+    home e is k there = let none = a.ends.parted k there in absurd (cc)
+
+    ended : (o : Option End) → new.end ≡ o → IfSome new.end (EndsWith new.code new.fuel new.entries (world new))
+    ended None is = rw is tt
+    ended (Some e) is = is_end new.code new.fuel new.entries (world new) new.end (a.ends.whole (home e is))
+
+pub spent_keep : (old new : Run) (n : ℕ) → IsRun old → GoesOn old → IsDue old n → IsOf old new → (new.lost ≡ true) × (new.end ≡ None) → IsSpentBy old n new → IsRun new
+spent_keep old new n run goes due same lost s =
+    grown old new n (record { run = run; same = same; fuel = due.fuel; act = s.act; behind = s.behind; next = s.next; entries = s.entries; many = s.many })
+    (rw lost.1 tt) (λ none home. absurd (home n s.spent)) (λ e. lost.1) (λ k e. lost.0)
+
+pub lost_keep : (run : Run) → IsRun run → run.end ≡ None → IsRun (record run { lost = true })
+lost_keep run r none = record {
+  valid = r.valid;
+  short = r.short;
+  some_fuel = r.some_fuel;
+  little_fuel = r.little_fuel;
+  within = r.within;
+  runs = r.runs;
+  all = r.all;
+  ended = r.ended;
+  goes_on = r.goes_on;
+  lost = λ lost. none;
+  spent = λ k e. refl;
+}
+
+-- ---- an end that is set
+
+-- a strand that can act or stands before a fault has not ended; nor has that of the program in a run that goes on
+open_ : (run : Run) → IsRun run → GoesOn run → HasEnded (world run) 0 → ⊥
+open_ run r goes = (r.goes_on goes.unended (all_home run r goes)).0
+
+place-at : (run : Run) (n place : ℕ) (o : Option State) → slice_get (world run).strands n ≡ o → option_map (λ (st : State). place_at run.code.list st.at) o ≡ Some place
+    → (st : State) × (slice_get (world run).strands n ≡ Some st) × (place ≡ place_at run.code.list st.at)
+place-at run n place None e p = absurd (cc)
+place-at run n place (Some st) e p = (st, e, cc)
+
+ends_with : (run : Run) (n : ℕ) (e : End) → IsRun run → GoesOn run → EndsAt run n e → EndsWith run.code run.fuel run.entries (world run) e
+ends_with run n ends.Done r goes h = absurd h
+ends_with run n ends.AllHalted r goes h = absurd h
+ends_with run n ends.Spent r goes h = spent n (open_ run r goes) h.0 h.1
+ends_with run n (ends.Fault why place strand) r goes h =
+    let st = place-at run n place (slice_get (world run).strands n) refl h.2 in
+    rw h.0 (fault {strand = n} {place = place} {kind = why} {st = st.0} (open_ run r goes) h.1 st.1 st.2)
+
+pub ended_keep : (run : Run) (n : ℕ) (e : End) → IsRun run → GoesOn run → EndsAt run n e → IsRun (record run { end = Some e })
+ended_keep run n e r goes at = record {
+  valid = r.valid;
+  short = r.short;
+  some_fuel = r.some_fuel;
+  little_fuel = r.little_fuel;
+  within = r.within;
+  runs = r.runs;
+  all = r.all;
+  ended = ends_with run n e r goes at;
+  goes_on = λ none home. absurd (cc);
+  lost = λ lost. absurd (true≢false (sym lost ∙ goes.kept));
+  spent = r.spent;
+}

@@ -1,0 +1,10 @@
+//! Where a strand is.
+
+/// Where a strand is.
+#[derive(Clone, Copy)]
+pub enum Status {
+    /// It stands in the world.
+    Home,
+    /// It found no memory.
+    Spent,
+}

@@ -1,0 +1,150 @@
+//! The strands that an act makes.
+ghost use Rattle.std.specs.Prelude.{◌≡◌, ◌<◌, ◌≤◌, ◌+◌, ◌++◌, ◌^◌, [], ◌∷◌, IsTrue, length, IfOk, OnOk};
+ghost use Rattle.std.specs.Option.{option_map_or};
+ghost use Rattle.std.specs.Vec.{vec_len, vec_capacity};
+ghost use Rattle.a68_stack.specs.Room.{has_room};
+ghost use Rattle.a68_world.specs.Stepping.{IsUnit, AreUnits, AreUnitsAt, FewUnitsAt, units_asked, units_at, units_begun};
+
+use crate::seat::Seat;
+use a68_acts::Want;
+use a68_base::NoMemory;
+use a68_code::Code;
+use a68_store::Store;
+use a68_strand::{Ask, Strand};
+use a68_values::{Chain, Entrances};
+use std::alloc::Global;
+
+// The units for which this asks, where the act meets no fault.
+fn units_asked<'a>(ask: &'a Ask, store: &Store) -> Option<&'a Entrances>
+    ensures { option_map_or (λ entrances. entrances.now) result [] ≡ units_asked ask.now store.now }
+{
+    let Ask::Want(want) = ask else {
+        return None;
+    };
+    let Want::Fork(entrances) = want else {
+        return None;
+    };
+    match store.fault_of(want) {
+        None => Some(entrances),
+        Some(_) => None,
+    }
+}
+
+// An equal chain.
+fn copy(alloc: Global, chain: &Chain) -> Result<Chain, NoMemory>
+    ensures { IfOk result (λ copy. copy ≡ chain.now) }
+{
+    let mut items = Vec::new(alloc);
+    items.extend_from_slice(&chain.items)?;
+    Ok(Chain { items })
+}
+
+// A unit begins at its entrance.
+fn begin_unit(
+    alloc: Global,
+    code: &Code,
+    number: u32,
+    entrance: u32,
+    chain: &Chain,
+) -> Result<Seat, NoMemory>
+    requires few { length code.now.list < 2 ^ 32 }
+    requires room { IsTrue (has_room chain.now) }
+    ensures { IfOk result (IsUnit code.now (units_at code.now chain.now (entrance ∷ [])) number 0) }
+{
+    let chain = copy(alloc, chain)?;
+    let strand = Strand::begin(alloc, code, number, entrance, chain)?;
+    Ok(Seat::Home(strand))
+}
+
+// The units begin in order, the first of them with this number.
+fn begin_all(
+    alloc: Global,
+    code: &Code,
+    first: u32,
+    entrances: &[u32],
+    chain: &Chain,
+    units: &mut Vec<Seat>,
+) -> Result<(), NoMemory>
+    requires few { length code.now.list < 2 ^ 32 }
+    requires room { IsTrue (has_room chain.now) }
+    requires numbers { first + length entrances.now < 2 ^ 32 }
+    requires empty { units.old.items ≡ [] }
+    ensures { OnOk result (AreUnits code.now (units_at code.now chain.now entrances.now) first units.new.items) }
+{
+    for i in 0..entrances.len() {
+        let unit = begin_unit(alloc, code, first + i as u32, entrances[i], chain)?;
+        units.push(unit)?;
+    }
+    Ok(())
+}
+
+// The seats of the strands that the act of a strand makes, the first of which has this number.
+fn begin_units(
+    alloc: Global,
+    code: &Code,
+    store: &Store,
+    strand: &Strand,
+    first: u32,
+) -> Result<Vec<Seat>, NoMemory>
+    requires few { length code.now.list < 2 ^ 32 }
+    requires numbers { first + length (units_asked strand.now.about.ask store.now) < 2 ^ 32 }
+    ensures { IfOk result (λ units. AreUnits code.now (units_begun code.now strand.now store.now) first units.items) }
+{
+    let mut units = Vec::new(alloc);
+    let Some(entrances) = units_asked(strand.ask(), store) else {
+        return Ok(units);
+    };
+    match begin_all(
+        alloc,
+        code,
+        first,
+        &entrances.items,
+        strand.chain(),
+        &mut units,
+    ) {
+        Ok(()) => Ok(units),
+        Err(error) => {
+            drop(units);
+            Err(error)
+        }
+    }
+}
+
+/// The seats of the strands that the act of this strand makes, and room for them.
+pub fn units_ready(
+    alloc: Global,
+    code: &Code,
+    store: &Store,
+    seats: &mut Vec<Seat>,
+    n: usize,
+) -> Result<Vec<Seat>, NoMemory>
+    requires few { length code.now.list < 2 ^ 32 }
+    requires numbers { FewUnitsAt seats.old.items store.now n }
+    ensures same { seats.new.items ≡ seats.old.items }
+    ensures units { IfOk result (λ units. AreUnitsAt code.now store.now seats.old.items n units.items) }
+    ensures room { IfOk result (λ units. vec_len seats.new + vec_len units ≤ vec_capacity seats.new) }
+{
+    let Some(Seat::Home(strand)) = seats.get(n) else {
+        // The strand asks for an act.
+        unreachable!();
+    };
+    let units = begin_units(alloc, code, store, strand, seats.len() as u32)?;
+    match seats.reserve(units.len()) {
+        Ok(()) => Ok(units),
+        Err(_) => {
+            drop(units);
+            Err(NoMemory)
+        }
+    }
+}
+
+/// New strands take their seats behind the others.
+pub fn seat_all(seats: &mut Vec<Seat>, units: Vec<Seat>)
+    requires { vec_len seats.old + vec_len units ≤ vec_capacity seats.old }
+    ensures { seats.new.items ≡ seats.old.items ++ units.items }
+{
+    let mut units = units;
+    // There is room for them.
+    let _ = seats.append(&mut units);
+    drop(units);
+}
