@@ -5,7 +5,7 @@ ghost use Rattle.a68_builder.specs.Aiming.{names_at};
 use crate::codes::code_of;
 use crate::table::holds;
 use a68_builder::Builder;
-use a68_code::{Code, Does, Instr, Routines};
+use a68_code::{Code, Does, Instr, Places, Routines};
 use a68_modes::Modes;
 use std::alloc::Global;
 use std::panic::Expect;
@@ -65,8 +65,11 @@ fn built(rt: &impl Abort, alloc: Global, code: &Code, patch: (u32, u32, u32)) ->
     let texts = Routines {
         items: Vec::new(alloc),
     };
+    let units = Places {
+        items: Vec::new(alloc),
+    };
     let modes = Modes::new(alloc).expect(rt, "memory");
-    builder.finish(texts, modes).expect(rt, "memory")
+    builder.finish(texts, units, modes)
 }
 
 fn agree(one: &Code, other: &Code) -> bool {

@@ -260,5 +260,13 @@ pub fn code_of(rt: &impl Abort, alloc: Global, ops: &str) -> Code {
 pub fn code_over(rt: &impl Abort, alloc: Global, modes: Modes, ops: &str) -> Code {
     let list = instructions(rt, alloc, ops);
     let texts = texts(rt, alloc, ops);
-    Code { list, texts, modes }
+    let units = Places {
+        items: Vec::new(alloc),
+    };
+    Code {
+        list,
+        texts,
+        units,
+        modes,
+    }
 }

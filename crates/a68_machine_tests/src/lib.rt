@@ -8,6 +8,8 @@ mod code;
 #[cfg(test)]
 mod codes;
 #[cfg(test)]
+mod parallel;
+#[cfg(test)]
 mod stack;
 #[cfg(test)]
 mod store;

@@ -232,8 +232,8 @@ const RUNS: &[(&str, u32, u64, End)] = &[
     (RAISED_BEYOND, 9, 2, OVERFLOW_AT_10),
 ];
 
-// The code of these instructions, which is valid.
-fn valid_code(rt: &impl Abort, alloc: Global, ops: &str) -> Code
+/// The code of these instructions, which is valid.
+pub fn valid_code(rt: &impl Abort, alloc: Global, ops: &str) -> Code
     ensures valid { IsValid result }
     ensures short { length result.list < 2 ^ 32 }
 {

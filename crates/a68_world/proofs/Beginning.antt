@@ -1,16 +1,15 @@
 -- New strands begin one by one.
-use Rattle.std.proofs.Common.{◌≡◌, ◌∙◌, ◌⊎◌, inl, inr, ℕ, zero, suc, ◌+◌, ◌<◌, List, [], ◌∷◌, ◌++◌, length, length-append, map, take, get_or, refl, ap, sym, subst, arith}
-use Rattle.std.specs.Prelude.{None, Some, slice_get}
+use Rattle.std.proofs.Common.{◌≡◌, ◌∙◌, inl, inr, ℕ, zero, suc, ◌+◌, ◌<◌, List, [], ◌∷◌, ◌++◌, length, length-append, take, get_or, refl, ap, sym, subst, arith}
+use Rattle.std.specs.Prelude.{Some, slice_get}
 use Rattle.std.proofs.lemmas.List.{take_more}
 use Rattle.a68_code.specs.declared.code.Code.{Code}
 use Rattle.a68_strand.specs.Machine.{State, beginning, settle}
 use Rattle.a68_strand.specs.Strands.{standing}
-use Rattle.a68_strand.specs.declared.strand.Strand.{Strand}
 use Rattle.a68_values.specs.declared.chain.Environ.{Environ}
 use Rattle.a68_world.specs.Stepping.{AreUnits, IsUnit, units_at}
 use Rattle.a68_world.specs.declared.seat.Seat.{Seat}
 use Rattle.a68_world.specs.declared.seat.Seat.TheVariants as seat
-use Rattle.a68_world.proofs.Places.{get_front, get_behind, parted, is_within}
+use Rattle.a68_world.proofs.Places.{get_front, get_behind, parted}
 
 units-joined : (code : Code) (chain : List Environ) (xs ys : List ℕ) → units_at code chain (xs ++ ys) ≡ units_at code chain xs ++ units_at code chain ys
 units-joined code chain [] ys = refl

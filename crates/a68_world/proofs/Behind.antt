@@ -1,11 +1,9 @@
 -- The run behind an act.
-use Rattle.std.proofs.Common.{◌≡◌, ◌∙◌, ◌⊎◌, inl, inr, ℕ, zero, suc, ◌+◌, ◌<◌, ◌≤◌, Bool, true, false, List, [], ◌∷◌, ◌++◌, length, length-append, map, refl, ap, sym, subst, arith, true≢false}
-use Rattle.std.proofs.lemmas.Bool.{false≢true}
-use Rattle.std.specs.Prelude.{◌||◌, None, Some, Ok, Err, MatchBool, slice_get, slice_set, if◌then◌else◌}
+use Rattle.std.proofs.Common.{◌≡◌, ◌∙◌, inl, inr, ℕ, ◌+◌, ◌<◌, ◌≤◌, false, List, [], ◌∷◌, ◌++◌, length, length-append, map, refl, ap, sym, subst, arith}
+use Rattle.std.specs.Prelude.{Some, slice_get, slice_set, if◌then◌else◌}
 use Rattle.std.specs.Option.{is_some, option_map_or}
 use Rattle.std.specs.Vec.{vec_capacity}
 use Rattle.std.specs.declared.alloc.Global.{Global}
-use Rattle.std.specs.declared.option.Option.{Option}
 use Rattle.std.specs.declared.vec.Vec.{Vec}
 use Rattle.std.proofs.Math.ListN.{length-set}
 use Rattle.a68_acts.specs.Does.{Outcome, did, refused, does}
@@ -14,33 +12,28 @@ use Rattle.a68_acts.specs.declared.want.Reply.{Reply}
 use Rattle.a68_acts.specs.declared.want.Want.{Want}
 use Rattle.a68_acts.specs.declared.want.Want.TheVariants as want
 use Rattle.a68_code.specs.declared.code.Code.{Code}
-use Rattle.a68_strand.proofs.Alive.{active}
 use Rattle.a68_strand.proofs.Settled.{settle_rests}
 use Rattle.a68_strand.proofs.Waking.{Goes, begun_goes, none_woken, goes_open, goes_waits}
 use Rattle.a68_strand.specs.Machine.{State, settle, next_state, replied}
-use Rattle.a68_strand.specs.Runs.{World, acted, after, woken, woken_in, has_closed, is_passive, is_closed, all_closed, begun, strands_after}
+use Rattle.a68_strand.specs.Runs.{World, acted, after, woken, has_closed, is_passive, is_closed, begun, strands_after}
 use Rattle.a68_strand.specs.Strands.{standing}
 use Rattle.a68_strand.specs.declared.ask.Ask.{Ask}
+use Rattle.a68_strand.specs.declared.ask.Stance.TheVariants.{Waits}
 use Rattle.a68_strand.specs.declared.ask.Ask.TheVariants as ask
-use Rattle.a68_strand.specs.declared.ask.Stance.{Stance}
-use Rattle.a68_strand.specs.declared.ask.Stance.TheVariants.{Idle, Asking, Waits}
-use Rattle.a68_strand.specs.declared.ask.Waiting.{Waiting}
 use Rattle.a68_strand.specs.declared.strand.Strand.{Strand}
 use Rattle.a68_values.specs.declared.act.Act.{Act}
 use Rattle.a68_values.specs.declared.act.Entry.{Entry}
 use Rattle.a68_world.specs.Inside.{run_of, IsSound}
-use Rattle.a68_world.specs.Run.{Run, IsRun, AllHome, world}
-use Rattle.a68_world.specs.Seats.{Sits, SitsAt, SitsHere, AreSeated, AllSit, Shows, status_of, closed_in, closed_at, due_at, may_wake}
-use Rattle.a68_world.specs.Stepping.{Does, IsTold, AreUnits, IsUnit, units_asked, units_at, units_begun}
+use Rattle.a68_world.specs.Run.{AllHome, world}
+use Rattle.a68_world.specs.Seats.{Sits, SitsAt, SitsHere, AreSeated, AllSit, status_of}
+use Rattle.a68_world.specs.Stepping.{Does, AreUnits, IsUnit, units_asked, units_at, units_begun}
 use Rattle.a68_world.specs.Turns.{GoesOn, IsReady}
-use Rattle.a68_world.specs.Waking.{AllRest}
+use Rattle.a68_world.specs.Waking.{AllRest, WaitBelow}
 use Rattle.a68_world.specs.declared.seat.Seat.{Seat}
 use Rattle.a68_world.specs.declared.seat.Seat.TheVariants as seat
-use Rattle.a68_world.specs.declared.status.Status.TheVariants as status
 use Rattle.a68_world.specs.declared.world.World.TheInside.{Inside}
 use Rattle.a68_world.proofs.Kept.{all_home}
-use Rattle.a68_world.proofs.Places.{get_map, get_front, get_behind, get_other, parted, set_parted, set_same, is_within, length_map}
-use Rattle.a68_world.proofs.Rousing.{closed_same, all_closed_same, woke_first, not_due}
+use Rattle.a68_world.proofs.Places.{get_map, get_front, get_behind, get_other, parted, set_parted, set_same, length_map}
 use Rattle.a68_world.proofs.Showing.{asking, next_act}
 use Rattle.a68_world.proofs.Steady.{Steady, steady_run}
 
@@ -183,6 +176,16 @@ module _ (s : Inside) (n : ℕ) (act : Act) (store : Store) (units : List Seat) 
       | inr old ↦ here_ k y (old-here k y old.0 (all_here s m.sound m.goes k y old.1))
     ]
     | inr born ↦ here_ k y (born-here k born.0 y (omega (arith, born.1, length-set s.seats.items n x)) (are_new.each born.0 y born.2))
+  ]
+
+  -- those that wait have smaller numbers than before, but for this one
+  pub wait_all : (below : ℕ) → s.waits_below ≤ below → ((f c : ℕ) → next.stance ≡ Waits f c → n < below) → WaitBelow below all
+  wait_all below least own k x f c e waits = elim (parted (slice_set (now s).strands n next) new k x e) [
+    | inl front ↦ elim (set_parted (now s).strands n k next x front) [
+      | inl is ↦ omega (arith, is.0, own f c (sym (ap (λ (y : State). y.stance) is.1) ∙ waits))
+      | inr old ↦ omega (arith, least, m.sound.waits k x f c old.1 waits)
+    ]
+    | inr born ↦ goes_waits x.stance f c _ (fresh born.0 x born.2).1 waits
   ]
 
   -- an act behind which the strand goes on wakes none

@@ -1,5 +1,5 @@
 -- Strands that take turns.
-use Rattle.std.proofs.Common.{◌≡◌, ◌≢◌, ◌<◌, ◌≤◌, ◌+◌, ◌-◌, ◌++◌, ◌⊎◌, inl, inr, ℕ, zero, suc, Bool, true, false, List, [], ◌∷◌, length, None, Some, refl, sym, ◌∙◌, ap, subst, arith, length-append, get_or, slice_get, IfSome, IsNone, true≢false}
+use Rattle.std.proofs.Common.{◌≡◌, ◌≢◌, ◌<◌, ◌≤◌, ◌+◌, ◌-◌, ◌++◌, ◌⊎◌, inl, inr, ℕ, zero, suc, false, List, [], ◌∷◌, length, None, Some, refl, sym, ◌∙◌, ap, subst, arith, length-append, get_or, slice_get, IfSome, IsNone, true≢false}
 use Rattle.std.proofs.lemmas.List.{get_or_push}
 use Rattle.std.proofs.lemmas.Option.{slice_get-get_or}
 use Rattle.std.specs.Bool.{⊤}
@@ -24,7 +24,7 @@ use Rattle.a68_values.specs.declared.kept.Kept.{Kept}
 use Rattle.a68_world.specs.Circle.{InTurn, HasTurned, EndedInTurn, IsNext, HasGrown}
 use Rattle.a68_world.specs.Run.{Run, AllHome, EndsWithoutTurn, Begins, world}
 use Rattle.a68_world.specs.Turns.{Acts, EndsAt, EndsHere, HadEnded, IsReady, IsNotReady, IsAble, last_strand, Finishes}
-use Rattle.a68_world.specs.Worlds.{world_of, IsJournal}
+use Rattle.a68_world.specs.Worlds.{world_of}
 use Rattle.a68_world.specs.declared.status.Status.{Status}
 use Rattle.a68_world.specs.declared.status.Status.TheVariants.{Home, Spent}
 use Rattle.a68_world.proofs.Kept.{journal_behind, length_noted}

@@ -1,5 +1,5 @@
 -- A turn in which a strand does its act.
-use Rattle.std.proofs.Common.{◌≡◌, ◌∙◌, ◌⊎◌, inl, inr, ℕ, ◌+◌, ◌<◌, ◌≤◌, ◌^◌, Bool, true, false, List, ◌++◌, length, map, get_or, MatchBool, refl, ap, sym, subst, arith}
+use Rattle.std.proofs.Common.{◌≡◌, ◌∙◌, ℕ, ◌<◌, ◌^◌, Bool, true, List, ◌++◌, length, get_or, MatchBool, refl, ap, sym, subst, arith}
 use Rattle.std.proofs.lemmas.Option.{slice_get-get_or}
 use Rattle.std.specs.Prelude.{None, Some, slice_get, slice_set}
 use Rattle.std.specs.Option.{option_map}
@@ -7,13 +7,11 @@ use Rattle.std.specs.declared.alloc.Global.{Global}
 use Rattle.std.specs.declared.option.Option.{Option}
 use Rattle.std.specs.declared.vec.Vec.{Vec}
 use Rattle.a68_acts.specs.Does.{refused, does}
-use Rattle.a68_acts.specs.Store.{Store, most_strands}
-use Rattle.a68_strand.specs.Ends.{fault_of, fault_in}
+use Rattle.a68_acts.specs.Store.{Store}
 use Rattle.a68_strand.specs.Machine.{State, replied}
 use Rattle.a68_strand.specs.Machine as machine
-use Rattle.a68_strand.specs.Runs.{is_passive, woken}
-use Rattle.a68_strand.specs.Strands.{standing, HasSettled}
-use Rattle.a68_strand.specs.declared.ask.Stance.{Stance}
+use Rattle.a68_strand.specs.Runs.{woken}
+use Rattle.a68_strand.specs.Strands.{standing}
 use Rattle.a68_strand.specs.declared.ask.Stance.TheVariants.{Asking}
 use Rattle.a68_strand.specs.declared.strand.Strand.{Strand}
 use Rattle.a68_values.specs.declared.act.Act.{Act}
@@ -23,18 +21,17 @@ use Rattle.a68_values.specs.declared.kept.End.{End}
 use Rattle.a68_values.specs.declared.kept.End.TheVariants as ends
 use Rattle.a68_world.specs.Ending.{EndShown}
 use Rattle.a68_world.specs.Inside.{run_of, IsSound}
-use Rattle.a68_world.specs.Run.{Run}
-use Rattle.a68_world.specs.Seats.{Sits, place_at, place_in}
-use Rattle.a68_world.specs.Stepping.{Does, ComesToAt, IsTold, IsUntold, Meets, AreUnitsAt}
-use Rattle.a68_world.specs.Turns.{GoesOn, IsDue, Acts, EndsAt, StandsAt, FindsNoMemory}
-use Rattle.a68_world.specs.Waking.{Wakes, WakesBehind}
+use Rattle.a68_world.specs.Seats.{Sits, place_in}
+use Rattle.a68_world.specs.Stepping.{Does, ComesToAt, Meets, AreUnitsAt}
+use Rattle.a68_world.specs.Turns.{GoesOn, IsDue, Acts, EndsAt, FindsNoMemory}
+use Rattle.a68_world.specs.Waking.{StaysBelow, WakesBehind}
 use Rattle.a68_world.specs.declared.deed.Deed.TheVariants as deed
 use Rattle.a68_world.specs.declared.seat.Seat.{Seat}
 use Rattle.a68_world.specs.declared.seat.Seat.TheVariants as seat
 use Rattle.a68_world.specs.declared.world.World.TheInside.{Inside}
 use Rattle.a68_world.proofs.Behind as b
 use Rattle.a68_world.proofs.Behind.{Moved, Noted, now}
-use Rattle.a68_world.proofs.Outcomes.{told_seats, told_wakes, told_acts, told_sound, untold_is, untold_sound}
+use Rattle.a68_world.proofs.Outcomes.{told_wakes, told_acts, told_sound, untold_is, untold_sound}
 use Rattle.a68_world.proofs.Places.{set_again, length_map}
 use Rattle.a68_world.proofs.Showing.{asking, next_fault}
 use Rattle.a68_world.proofs.Steady.{steady_run, steady_more}
@@ -59,45 +56,49 @@ module _ (s : Inside) (n : ℕ) (sound : IsSound s) (goes : GoesOn (run_of s)) (
     pub are : AreUnitsAt s.code s.store s.seats.items n units
     pub comes : ComesToAt s.code s.store x (deed.Told act) store y
 
-  abbrev pub run_told : Vec Entry Global → Store → Vec Seat Global → Bool → Option End → Inside
-  run_told journal store seats lost end = record s { journal = journal; store = store; seats = seats; lost = lost; end = end }
+  abbrev pub run_told : Vec Entry Global → Store → Vec Seat Global → (below : ℕ) → Bool → Option End → Inside
+  run_told journal store seats below lost end = record s { journal = journal; store = store; seats = seats; waits_below = below; lost = lost; end = end }
 
-  told-all : (x y : Seat) (act : Act) (store : Store) (units : List Seat) (journal : Vec Entry Global) (seats : Vec Seat Global) (lost : Bool) (end : Option End)
+  told-all : (x y : Seat) (act : Act) (store : Store) (units : List Seat) (journal : Vec Entry Global) (seats : Vec Seat Global) (below : ℕ) (lost : Bool) (end : Option End)
       → slice_get s.seats.items n ≡ Some x → AreUnitsAt s.code s.store s.seats.items n units → ComesToAt s.code s.store x (deed.Told act) store y → Noted s n act journal
-      → WakesBehind s.code n (slice_set s.seats.items n y ++ units) seats.items lost → MatchBool lost (end ≡ None) (EndShown seats.items store end)
-      → IsSound (run_told journal store seats lost end) × Acts (run_of s) n (run_of (run_told journal store seats lost end))
-  told-all (seat.Home strand) (seat.Home t) act store units journal seats lost end there are comes noted w e =
+      → StaysBelow s.waits_below (slice_set s.seats.items n y ++ units) n below → WakesBehind s.code n below (slice_set s.seats.items n y ++ units) seats.items lost
+      → MatchBool lost (end ≡ None) (EndShown seats.items store end)
+      → IsSound (run_told journal store seats below lost end) × Acts (run_of s) n (run_of (run_told journal store seats below lost end))
+  told-all (seat.Home strand) (seat.Home t) act store units journal seats below lost end there are comes noted stays w e =
       let m = moved strand act store units there are comes.act_done in
-      let wakes = told_wakes s n act store units m t comes.settled comes.number seats.items lost w in (
-        told_sound s n act store units m t comes.settled comes.number journal seats lost end noted wakes e,
-        told_acts s n act store units m t comes.settled comes.number journal seats lost end noted wakes e,
+      let wakes = told_wakes s n act store units m t comes.settled comes.number seats.items below lost stays w in (
+        told_sound s n act store units m t comes.settled comes.number journal seats below lost end noted stays wakes e,
+        told_acts s n act store units m t comes.settled comes.number journal seats below lost end noted stays wakes e,
       )
-  told-all (seat.Home strand) seat.Spent act store units journal seats lost end there are comes noted w e = absurd comes
-  told-all seat.Spent y act store units journal seats lost end there are comes noted w e = absurd comes
+  told-all (seat.Home strand) seat.Spent act store units journal seats below lost end there are comes noted stays w e = absurd comes
+  told-all seat.Spent y act store units journal seats below lost end there are comes noted stays w e = absurd comes
 
-  pub told_all : (x y : Seat) (act : Act) (store : Store) (units placed shown : List Seat) (journal : Vec Entry Global) (seats : Vec Seat Global) (lost : Bool) (end : Option End)
-      → Told x y act store units → Noted s n act journal → placed ≡ slice_set s.seats.items n y ++ units → WakesBehind s.code n placed seats.items lost → shown ≡ seats.items
-      → MatchBool lost (end ≡ None) (EndShown shown store end) → IsSound (run_told journal store seats lost end) × Acts (run_of s) n (run_of (run_told journal store seats lost end))
-  told_all x y act store units placed shown journal seats lost end told noted is w same e =
-      told-all x y act store units journal seats lost end told.there told.are told.comes noted (subst (λ l. WakesBehind s.code n l seats.items lost) is w)
-      (subst (λ l. MatchBool lost (end ≡ None) (EndShown l store end)) same e)
+  pub told_all : (x y : Seat) (act : Act) (store : Store) (units placed shown seen : List Seat) (journal : Vec Entry Global) (seats : Vec Seat Global) (below : ℕ) (lost : Bool) (end : Option End)
+      → Told x y act store units → Noted s n act journal → placed ≡ slice_set s.seats.items n y ++ units → seen ≡ placed → StaysBelow s.waits_below seen n below
+      → WakesBehind s.code n below placed seats.items lost → shown ≡ seats.items → MatchBool lost (end ≡ None) (EndShown shown store end)
+      → IsSound (run_told journal store seats below lost end) × Acts (run_of s) n (run_of (run_told journal store seats below lost end))
+  told_all x y act store units placed shown seen journal seats below lost end told noted is at stays w same e =
+      told-all x y act store units journal seats below lost end told.there told.are told.comes noted (subst (λ l. StaysBelow s.waits_below l n below) (at ∙ is) stays)
+      (subst (λ l. WakesBehind s.code n below l seats.items lost) is w) (subst (λ l. MatchBool lost (end ≡ None) (EndShown l store end)) same e)
 
   -- there are numbers for all
-  few-told : (x y : Seat) (act : Act) (store : Store) (units : List Seat) (seats : List Seat) (lost : Bool)
+  few-told : (x y : Seat) (act : Act) (store : Store) (units : List Seat) (seats : List Seat) (below : ℕ) (lost : Bool)
       → slice_get s.seats.items n ≡ Some x → AreUnitsAt s.code s.store s.seats.items n units → ComesToAt s.code s.store x (deed.Told act) store y
-      → WakesBehind s.code n (slice_set s.seats.items n y ++ units) seats lost → length seats < 2 ^ 32
-  few-told (seat.Home strand) (seat.Home t) act store units seats lost there are comes w =
+      → StaysBelow s.waits_below (slice_set s.seats.items n y ++ units) n below → WakesBehind s.code n below (slice_set s.seats.items n y ++ units) seats lost → length seats < 2 ^ 32
+  few-told (seat.Home strand) (seat.Home t) act store units seats below lost there are comes stays w =
       let m = moved strand act store units there are comes.act_done in
-      let wakes = told_wakes s n act store units m t comes.settled comes.number seats lost w in
+      let wakes = told_wakes s n act store units m t comes.settled comes.number seats below lost stays w in
       let st = steady_more s.code (length s.journal.items) (now s) n act (b.behind s n act store units m) (steady_run (run_of s) sound.run) (b.next_is s n act store units m) in
       omega (arith, wakes.long, st.many, st.most, length_map (woken s.code (b.all s n act store units m)) (b.all s n act store units m))
-  few-told (seat.Home strand) seat.Spent act store units seats lost there are comes w = absurd comes
-  few-told seat.Spent y act store units seats lost there are comes w = absurd comes
+  few-told (seat.Home strand) seat.Spent act store units seats below lost there are comes stays w = absurd comes
+  few-told seat.Spent y act store units seats below lost there are comes stays w = absurd comes
 
-  pub few_told : (x y : Seat) (act : Act) (store : Store) (units placed shown seats : List Seat) (lost : Bool)
-      → Told x y act store units → placed ≡ slice_set s.seats.items n y ++ units → WakesBehind s.code n placed seats lost → shown ≡ seats → length shown < 2 ^ 32
-  few_told x y act store units placed shown seats lost told is w same =
-      rw same (few-told x y act store units seats lost told.there told.are told.comes (subst (λ l. WakesBehind s.code n l seats lost) is w))
+  pub few_told : (x y : Seat) (act : Act) (store : Store) (units placed shown seen seats : List Seat) (below : ℕ) (lost : Bool)
+      → Told x y act store units → placed ≡ slice_set s.seats.items n y ++ units → seen ≡ placed → StaysBelow s.waits_below seen n below
+      → WakesBehind s.code n below placed seats lost → shown ≡ seats → length shown < 2 ^ 32
+  few_told x y act store units placed shown seen seats below lost told is at stays w same =
+      rw same (few-told x y act store units seats below lost told.there told.are told.comes (subst (λ l. StaysBelow s.waits_below l n below) (at ∙ is) stays)
+      (subst (λ l. WakesBehind s.code n below l seats lost) is w))
 
   -- ---- there was no memory to tell it
 

@@ -1,6 +1,6 @@
 -- The first strand with a turn, in the order that begins behind another.
-use Rattle.std.proofs.Common.{◌≡◌, ◌∙◌, ◌⊎◌, inl, inr, ℕ, zero, suc, ◌+◌, ◌<◌, ◌≤◌, true, false, min, List, length, ap, sym, arith, true≢false}
-use Rattle.std.specs.Prelude.{None, Some, IfSome, IsNone}
+use Rattle.std.proofs.Common.{◌≡◌, ◌∙◌, ◌⊎◌, inl, inr, ℕ, zero, suc, ◌+◌, ◌<◌, ◌≤◌, false, min, List, length, ap, sym, arith, true≢false}
+use Rattle.std.specs.Prelude.{None, Some, IfSome}
 use Rattle.std.specs.Option.{option_map_or}
 use Rattle.std.specs.declared.option.Option.{Option}
 use Rattle.a68_acts.specs.Store.{Store}

@@ -1,22 +1,18 @@
 -- What is known of every run is known behind each turn.
-use Rattle.std.proofs.Common.{◌≡◌, ◌≢◌, ◌∙◌, ◌⊎◌, inl, inr, ℕ, ◌+◌, ◌<◌, ◌≤◌, Bool, true, false, List, [], ◌∷◌, ◌++◌, length, length-append, refl, ap, sym, subst, arith, true≢false}
+use Rattle.std.proofs.Common.{◌≡◌, ◌∙◌, ℕ, ◌+◌, ◌<◌, true, [], ◌∷◌, length, length-append, refl, ap, sym, subst, arith, true≢false}
 use Rattle.std.specs.Prelude.{None, Some, IfSome, slice_get}
 use Rattle.std.specs.Option.{option_map}
 use Rattle.std.specs.declared.option.Option.{Option}
-use Rattle.a68_code.specs.declared.code.Code.{Code}
-use Rattle.a68_strand.specs.Ends.{fault_in, fault_of, HasEnded, CanAct, EndsWith, fault, spent}
+use Rattle.a68_strand.specs.Ends.{HasEnded, EndsWith, fault, spent}
 use Rattle.a68_strand.specs.Machine.{State, place_at}
-use Rattle.a68_strand.specs.Runs.{World, acts_in, acted}
-use Rattle.a68_strand.specs.declared.ask.Stance.TheVariants.{Idle}
+use Rattle.a68_strand.specs.Runs.{World, acted}
 use Rattle.a68_values.specs.declared.act.Act.{Act}
-use Rattle.a68_values.specs.declared.act.Entry.{Entry}
 use Rattle.a68_values.specs.declared.kept.End.{End}
 use Rattle.a68_values.specs.declared.kept.End.TheVariants as ends
 use Rattle.a68_world.specs.Run.{Run, IsRun, AllHome, IsNumber, EndsWithoutTurn, world}
-use Rattle.a68_world.specs.Turns.{GoesOn, Acts, EndsAt, EndsHere, FindsNoMemory, IsSpentBy, IsDue, IsOf, StandsAt, noted}
+use Rattle.a68_world.specs.Turns.{GoesOn, Acts, EndsAt, IsSpentBy, IsDue, IsOf, noted}
 use Rattle.a68_world.specs.Worlds.{world_of, IsJournal}
-use Rattle.a68_world.specs.declared.status.Status.{Status}
-use Rattle.a68_world.specs.declared.status.Status.TheVariants.{Home, Spent}
+use Rattle.a68_world.specs.declared.status.Status.TheVariants.{Spent}
 use Rattle.a68_world.proofs.Journals.{entry_of, world_more, journal_more}
 use Rattle.a68_world.proofs.Showing.{is_end}
 

@@ -1,37 +1,33 @@
 -- What an act of a strand makes of the run.
-use Rattle.std.proofs.Common.{◌≡◌, ◌∙◌, ◌⊎◌, inl, inr, ℕ, zero, suc, ◌+◌, ◌<◌, ◌≤◌, Bool, true, false, List, [], ◌∷◌, ◌++◌, length, length-append, map, refl, ap, sym, subst, arith, true≢false}
+use Rattle.std.proofs.Common.{◌≡◌, ◌∙◌, ◌⊎◌, inl, inr, ℕ, zero, suc, ◌<◌, ◌≤◌, Bool, true, false, List, ◌++◌, length, length-append, map, refl, ap, sym, subst, arith, true≢false}
 use Rattle.std.proofs.lemmas.Bool.{false≢true}
 use Rattle.std.specs.Prelude.{◌||◌, None, Some, MatchBool, slice_get, slice_set, if◌then◌else◌}
-use Rattle.std.specs.Option.{option_map, option_map_or}
+use Rattle.std.specs.Option.{option_map_or}
 use Rattle.std.specs.declared.alloc.Global.{Global}
 use Rattle.std.specs.declared.option.Option.{Option}
 use Rattle.std.specs.declared.vec.Vec.{Vec}
 use Rattle.std.proofs.Math.ListN.{length-set}
-use Rattle.a68_acts.specs.Does.{Outcome, refuses, refused, does}
 use Rattle.a68_acts.specs.Store.{Store}
 use Rattle.a68_code.specs.declared.code.Code.{Code}
 use Rattle.a68_strand.proofs.Alive.{active}
 use Rattle.a68_strand.proofs.Settled.{settle_rests}
-use Rattle.a68_strand.proofs.Waking.{none_woken, goes_waits}
-use Rattle.a68_strand.specs.Ends.{fault_of, fault_in}
-use Rattle.a68_strand.specs.Machine.{State, settle, replied, place_at}
-use Rattle.a68_strand.specs.Runs.{World, acted, woken, woken_in, has_closed, is_passive, all_closed}
+use Rattle.a68_strand.proofs.Waking.{none_woken, goes_waits, woken_still}
+use Rattle.a68_strand.specs.Machine.{State, settle, replied, next_state}
+use Rattle.a68_strand.specs.Runs.{World, woken, woken_in, has_closed, is_passive, all_closed}
 use Rattle.a68_strand.specs.Strands.{standing, HasSettled}
 use Rattle.a68_strand.specs.declared.ask.Stance.{Stance}
-use Rattle.a68_strand.specs.declared.ask.Stance.TheVariants.{Idle, Asking, Waits}
+use Rattle.a68_strand.specs.declared.ask.Stance.TheVariants.{Idle, Asking, Failed, Waits, Closed}
 use Rattle.a68_strand.specs.declared.strand.Strand.{Strand}
 use Rattle.a68_values.specs.declared.act.Act.{Act}
 use Rattle.a68_values.specs.declared.act.Entry.{Entry}
-use Rattle.a68_values.specs.declared.act.FaultKind.{FaultKind}
 use Rattle.a68_values.specs.declared.kept.End.{End}
-use Rattle.a68_values.specs.declared.kept.End.TheVariants as ends
 use Rattle.a68_world.specs.Ending.{EndShown}
 use Rattle.a68_world.specs.Inside.{run_of, IsSound}
-use Rattle.a68_world.specs.Run.{Run, AllHome, IsNumber, EndsWithoutTurn, world}
-use Rattle.a68_world.specs.Seats.{Sits, SitsAt, SitsHere, AreSeated, AllSit, Shows, status_of, closed_in, closed_at, due_at, may_wake}
-use Rattle.a68_world.specs.Stepping.{Meets, IsUnit}
-use Rattle.a68_world.specs.Turns.{GoesOn, IsReady, IsDue, Acts, Seated, Ends, EndsAt, GoesOnIn, IsSpentBy, FindsNoMemory, StandsAt}
-use Rattle.a68_world.specs.Waking.{IsReleased, Wakes, WakesBehind}
+use Rattle.a68_world.specs.Run.{AllHome, IsNumber, EndsWithoutTurn, world}
+use Rattle.a68_world.specs.Seats.{Sits, SitsAt, SitsHere, AreSeated, AllSit, status_of, closed_in, closed_at, due_at, may_wake}
+use Rattle.a68_world.specs.Stepping.{IsUnit}
+use Rattle.a68_world.specs.Turns.{IsDue, Acts, GoesOnIn, IsSpentBy, FindsNoMemory}
+use Rattle.a68_world.specs.Waking.{IsReleased, StaysBelow, WaitBelow, Wakes, WakesBehind}
 use Rattle.a68_world.specs.declared.seat.Seat.{Seat}
 use Rattle.a68_world.specs.declared.seat.Seat.TheVariants as seat
 use Rattle.a68_world.specs.declared.status.Status.{Status}
@@ -40,9 +36,9 @@ use Rattle.a68_world.specs.declared.world.World.TheInside.{Inside}
 use Rattle.a68_world.proofs.Behind as b
 use Rattle.a68_world.proofs.Behind.{Moved, Noted, now, many_seats, all_sit}
 use Rattle.a68_world.proofs.Kept.{all_home, world_behind, acts_keep, spent_keep}
-use Rattle.a68_world.proofs.Places.{get_mapped, get_map, get_front, get_other, parted, set_parted, set_same, is_there, is_within, is_beyond, length_map}
+use Rattle.a68_world.proofs.Places.{get_mapped, get_map, get_front, get_other, parted, set_same, is_there, is_within, length_map}
 use Rattle.a68_world.proofs.Rousing.{closed_same, all_closed_same, woke_first, not_due}
-use Rattle.a68_world.proofs.Showing.{asking, next_fault, end_seen}
+use Rattle.a68_world.proofs.Showing.{asking, end_seen}
 
 -- ---- numbers and seats
 
@@ -76,6 +72,20 @@ waits-no-more code all st f c waits closed same =
     let live : is_passive (settle code (record st { at = suc st.at; stance = Idle })).stance ≡ false = active code (record st { at = suc st.at; stance = Idle }) refl in
     let passive : is_passive st.stance ≡ true = ap is_passive waits in
     true≢false (sym passive ∙ ap (λ (x : State). is_passive x.stance) (sym same ∙ woke) ∙ live)
+
+-- one that waits once those that are due are woken has waited before
+waits-before : (code : Code) (all : List State) (st : State) (f c : ℕ) → next_state code st ≡ None → (woken code all st).stance ≡ Waits f c → (a : ℕ) × (b : ℕ) × (st.stance ≡ Waits a b)
+waits-before code all st f c none w = by st.stance refl
+  where
+    same : ((a b : ℕ) → st.stance ≡ Waits a b → ⊥) → st.stance ≡ Waits f c
+    same no_wait = sym (ap (λ (x : State). x.stance) (woken_still code all st none (λ a b e. absurd (no_wait a b e)))) ∙ w
+
+    by : (m : Stance) → st.stance ≡ m → (a : ℕ) × (b : ℕ) × (st.stance ≡ Waits a b)
+    by (Waits a b) e = (a, b, e)
+    by Idle e = (f, c, same (λ a b g. absurd (cc (e, g))))
+    by (Asking want wait) e = (f, c, same (λ a b g. absurd (cc (e, g))))
+    by (Failed why) e = (f, c, same (λ a b g. absurd (cc (e, g))))
+    by Closed e = (f, c, same (λ a b g. absurd (cc (e, g))))
 
 -- ---- the strand has been told
 
@@ -121,14 +131,18 @@ module _ (s : Inside) (n : ℕ) (act : Act) (store : Store) (units : List Seat) 
         ∙ not_due told_seats n f c t told-there both.1 (ap (λ (x : State). x.stance) told.state ∙ waits))
         (b.fresh s n act store units m)
 
-    -- those that are due are woken
-    pub told_wakes : (seats : List Seat) (lost : Bool) → WakesBehind s.code n told_seats seats lost → Wakes s.code (b.all s n act store units m) seats lost
-    told_wakes seats lost w = w (b.all s n act store units m) told_sit told-long (b.rest s n act store units m) told-none
+    told-waits : (below : ℕ) → StaysBelow s.waits_below told_seats n below → WaitBelow below (b.all s n act store units m)
+    told-waits below stays = b.wait_all s n act store units m below stays.least (λ f c e. stays.own t f c told-there (ap (λ (x : State). x.stance) told.state ∙ e))
 
-    module _ (journal : Vec Entry Global) (seats : Vec Seat Global) (lost : Bool) (end : Option End) (noted : Noted s n act journal)
+    -- those that are due are woken
+    pub told_wakes : (seats : List Seat) (below : ℕ) (lost : Bool) → StaysBelow s.waits_below told_seats n below → WakesBehind s.code n below told_seats seats lost
+        → Wakes s.code (b.all s n act store units m) seats lost
+    told_wakes seats below lost stays w = w (b.all s n act store units m) told_sit told-long (b.rest s n act store units m) (told-waits below stays) told-none
+
+    module _ (journal : Vec Entry Global) (seats : Vec Seat Global) (below : ℕ) (lost : Bool) (end : Option End) (noted : Noted s n act journal) (stays : StaysBelow s.waits_below told_seats n below)
         (w : Wakes s.code (b.all s n act store units m) seats.items lost) (ends : MatchBool lost (end ≡ None) (EndShown seats.items store end)) where
       abbrev pub told_run : Inside
-      told_run = record s { journal = journal; store = store; seats = seats; lost = lost; end = end }
+      told_run = record s { journal = journal; store = store; seats = seats; waits_below = below; lost = lost; end = end }
 
       told-world : world (run_of told_run) ≡ b.behind s n act store units m
       told-world = world_behind (run_of s) (run_of told_run) n act (b.behind s n act store units m) refl noted.items (b.next_is s n act store units m)
@@ -179,6 +193,12 @@ module _ (s : Inside) (n : ℕ) (act : Act) (store : Store) (units : List Seat) 
                 let same : woken s.code (b.all s n act store units m) r.st ≡ r.st = cc in
                 waits-no-more s.code (b.all s n act store units m) r.st r.first r.count r.waits r.closed same;
           }
+
+      waits-behind : WaitBelow below (map (woken s.code (b.all s n act store units m)) (b.all s n act store units m))
+      waits-behind k x f c e w =
+          let y = get_mapped (woken s.code (b.all s n act store units m)) (b.all s n act store units m) k x e in
+          let before = waits-before s.code (b.all s n act store units m) y.0 f c (b.rest s n act store units m k y.0 y.1) (ap (λ (z : State). z.stance) y.2 ∙ w) in
+          told-waits below stays k y.0 before.0 before.1 y.1 before.2
 
       -- a new strand does not wait
       born : (k : ℕ) → length s.seats.items ≤ k → IsReleased (b.all s n act store units m) k → ⊥
@@ -245,6 +265,7 @@ module _ (s : Inside) (n : ℕ) (act : Act) (store : Store) (units : List Seat) 
         room = noted.room;
         store = sym (ap (λ (x : World). x.store) told-world);
         seats = told-seated;
+        waits = subst (λ (x : World). WaitBelow below x.strands) (sym told-world) waits-behind;
       }
 
   -- ---- there was no memory to tell the strand
@@ -305,4 +326,5 @@ module _ (s : Inside) (n : ℕ) (act : Act) (store : Store) (units : List Seat) 
       room = noted.room;
       store = sym (ap (λ (x : World). x.store) untold-world);
       seats = untold-seated;
+      waits = subst (λ l. WaitBelow s.waits_below l) (sym untold-strands) (b.wait_all s n act store units m s.waits_below (omega arith) (λ f c e. goes_waits (b.next s n act store units m).stance f c _ live e));
     }

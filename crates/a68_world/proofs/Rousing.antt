@@ -1,5 +1,5 @@
 -- Strands are woken one by one.
-use Rattle.std.proofs.Common.{◌≡◌, ◌∙◌, ◌⊎◌, inl, inr, ℕ, zero, suc, ◌+◌, ◌-◌, ◌<◌, ◌≤◌, Bool, true, false, List, [], ◌∷◌, length, map, refl, ap, sym, subst, arith, true≢false}
+use Rattle.std.proofs.Common.{◌≡◌, ◌∙◌, ◌⊎◌, inl, inr, ℕ, zero, suc, ◌+◌, ◌-◌, ◌<◌, ◌≤◌, Bool, true, false, List, length, map, refl, ap, sym, subst, arith, true≢false}
 use Rattle.std.proofs.lemmas.Bool.{false≢true}
 use Rattle.std.specs.Prelude.{◌&&◌, None, Some, slice_get, slice_set, if◌then◌else◌}
 use Rattle.std.specs.Option.{option_map_or}
@@ -10,7 +10,7 @@ use Rattle.a68_code.specs.declared.code.Code.{Code}
 use Rattle.a68_strand.proofs.Waking.{woken_still, woken_closed}
 use Rattle.a68_strand.specs.Machine.{State, settle, replied, replied_in}
 use Rattle.a68_strand.specs.Runs.{has_closed, units_of, is_closed, all_closed, woken, woken_in}
-use Rattle.a68_strand.specs.Strands.{standing, awaits, HasSettled}
+use Rattle.a68_strand.specs.Strands.{standing, awaits}
 use Rattle.a68_strand.specs.declared.ask.Ask.{Ask}
 use Rattle.a68_strand.specs.declared.ask.Ask.TheVariants as ask
 use Rattle.a68_strand.specs.declared.ask.Stance.{Stance}
@@ -18,8 +18,8 @@ use Rattle.a68_strand.specs.declared.ask.Stance.TheVariants.{Idle, Asking, Faile
 use Rattle.a68_strand.specs.declared.ask.Waiting.{Waiting}
 use Rattle.a68_strand.specs.Bodies.{stance_in}
 use Rattle.a68_strand.specs.declared.strand.Strand.{Strand}
-use Rattle.a68_world.specs.Seats.{Sits, SitsAt, SitsHere, AreSeated, AllSit, Shows, closed_in, closed_at, all_closed_at, due_in, due_at, may_wake}
-use Rattle.a68_world.specs.Waking.{seat_awaits, GoesOnAt, WakesBy, WakesAt, AllRest, IsReleased, Wakes, AllWake}
+use Rattle.a68_world.specs.Seats.{Sits, SitsAt, SitsHere, AllSit, closed_in, closed_at, all_closed_at, due_in, due_at}
+use Rattle.a68_world.specs.Waking.{WaitBelow, seat_awaits, GoesOnAt, WakesBy, WakesAt, AllRest, IsReleased, Wakes}
 use Rattle.a68_world.specs.declared.seat.Seat.{Seat}
 use Rattle.a68_world.specs.declared.seat.Seat.TheVariants as seat
 use Rattle.a68_world.proofs.Places.{get_mapped, get_map, get_other, set_parted, set_same, is_there, is_within, is_beyond}
@@ -302,17 +302,40 @@ module _ (code : Code) (all : List State) (settled : AllRest code all) where
       let next : suc i ≡ i + 1 = omega arith in
       subst (λ j. Woke code all j new (if found then lost else true)) next (woke_on i old new lost found w step)
 
-  pub woke_all : (seats : List Seat) (i : ℕ) (lost : Bool) → length seats ≤ i → Woke code all i seats lost → Wakes code all seats lost
-  woke_all seats i lost is w = record {
+  -- one that does not wait stays
+  still_here : (below k : ℕ) (strand : Strand) → WaitBelow below all → below ≤ k → Sits code all k strand → Sits code (map (woken code all) all) k strand
+  still_here below k strand waits high sits =
+      let same : woken code all (standing strand) ≡ standing strand =
+      woken_still code all (standing strand) (settled k (standing strand) sits.there)
+      (λ f c w. absurd (omega (arith, high, waits k (standing strand) f c sits.there w))) in
+      record { number = sits.number; there = get_map (woken code all) all k (standing strand) sits.there ∙ ap (λ (st : State). Some st) same; shows = sits.shows }
+
+  pub woke_all : (seats : List Seat) (i below : ℕ) (lost : Bool) → WaitBelow below all → ((k : ℕ) → k < length seats → i ≤ k → below ≤ k) → Woke code all i seats lost
+      → Wakes code all seats lost
+  woke_all seats i below lost waits high w = record {
     long = w.long;
-    seated = λ k x e. seated_by k x (w.woke k x (omega (arith, is, is_within seats k x e)) e);
-    spent = λ k e. (w.woke k seat.Spent (omega (arith, is, is_within seats k seat.Spent e)) e, w.gone k e);
+    seated = λ k x e. seated_by k x e;
+    spent = λ k e. (gone k e (below-or-not k i), w.gone k e);
     lost = w.none;
   }
     where
-      seated_by : (k : ℕ) (x : Seat) → Roused code all k x → SitsAt code (map (woken code all) all) k x
-      seated_by k (seat.Home strand) r = r
-      seated_by k seat.Spent r = tt
+      here_by : (k : ℕ) (x : Seat) → below ≤ k → SitsHere code all k x → SitsAt code (map (woken code all) all) k x
+      here_by k (seat.Home strand) h p = still_here below k strand waits h p
+      here_by k seat.Spent h p = tt
+
+      woke_by : (k : ℕ) (x : Seat) → Roused code all k x → SitsAt code (map (woken code all) all) k x
+      woke_by k (seat.Home strand) r = r
+      woke_by k seat.Spent r = tt
+
+      seated_by : (k : ℕ) (x : Seat) → slice_get seats k ≡ Some x → SitsAt code (map (woken code all) all) k x
+      seated_by k x e = elim (below-or-not k i) [
+        | inl p ↦ woke_by k x (w.woke k x p e)
+        | inr p ↦ here_by k x (high k (is_within seats k x e) p) (w.rest k x p e)
+      ]
+
+      gone : (k : ℕ) → slice_get seats k ≡ Some seat.Spent → (k < i) ⊎ (i ≤ k) → IsReleased all k
+      gone k e (inl p) = w.woke k seat.Spent p e
+      gone k e (inr p) = absurd (w.rest k seat.Spent p e)
 
 -- none is due
 pub none_wakes : (code : Code) (all : List State) (seats : List Seat) → AllSit code all seats → length seats ≡ length all → map (woken code all) all ≡ all → Wakes code all seats false

@@ -1,17 +1,16 @@
 -- What the seats show of the world.
-use Rattle.std.proofs.Common.{◌≡◌, ◌≢◌, ◌∙◌, ◌⊎◌, inl, inr, ℕ, zero, suc, ◌<◌, Bool, true, false, List, length, map, refl, ap, sym, subst, arith, true≢false}
+use Rattle.std.proofs.Common.{◌≡◌, ◌∙◌, inl, inr, ℕ, Bool, true, false, List, length, refl, ap, sym, subst, arith, true≢false}
 use Rattle.std.proofs.lemmas.Bool.{false≢true}
 use Rattle.std.specs.Prelude.{None, Some, IfSome, slice_get, if◌then◌else◌}
 use Rattle.std.specs.Option.{option_and_then, option_map_or}
 use Rattle.std.specs.declared.option.Option.{Option}
 use Rattle.a68_acts.specs.Does.{Outcome, did, refuses, waits, refused, does}
-use Rattle.a68_acts.specs.Store.{Store}
 use Rattle.a68_acts.specs.declared.want.Want.{Want}
 use Rattle.a68_code.specs.declared.code.Code.{Code}
 use Rattle.a68_store.specs.Acts.{has_to_wait}
 use Rattle.a68_strand.specs.Bodies.{stance_in}
 use Rattle.a68_strand.specs.Cyclic.{HasTurn}
-use Rattle.a68_strand.specs.Ends.{fault_in, fault_of, HasEnded, CanAct, EndsWith, done, all_halted}
+use Rattle.a68_strand.specs.Ends.{fault_in, fault_of, HasEnded, EndsWith, done, all_halted}
 use Rattle.a68_strand.specs.Machine.{State, asked, place_at}
 use Rattle.a68_strand.specs.Runs.{World, after, acts_in, acted}
 use Rattle.a68_strand.specs.Strands.{standing}
@@ -27,7 +26,7 @@ use Rattle.a68_values.specs.declared.kept.End.{End}
 use Rattle.a68_values.specs.declared.kept.End.TheVariants as ends
 use Rattle.a68_world.specs.Ending.{EndShown}
 use Rattle.a68_world.specs.Run.{EndsWithoutTurn}
-use Rattle.a68_world.specs.Seats.{Sits, SitsAt, SitsHere, AreSeated, AllSit, Shows, turn_shown, turn_in, turn_at, ended_shown, ended_in, ended_at}
+use Rattle.a68_world.specs.Seats.{Sits, SitsHere, AreSeated, AllSit, Shows, turn_shown, turn_in, turn_at, ended_shown, ended_in, ended_at}
 use Rattle.a68_world.specs.declared.seat.Seat.{Seat}
 use Rattle.a68_world.specs.declared.seat.Seat.TheVariants as seat
 use Rattle.a68_world.proofs.Places.{is_there, is_within}

@@ -1,5 +1,5 @@
 -- Where a run stands: at its beginning, between two turns, and at its end.
-use Rattle.std.proofs.Common.{◌≡◌, ◌∙◌, ◌⊎◌, inl, inr, ℕ, zero, suc, ◌+◌, ◌<◌, ◌≤◌, ◌-◌, ◌^◌, ◌↔◌, Bool, true, false, List, [], ◌∷◌, length, map, refl, ap, sym, subst, arith, true≢false, MatchOption, MatchBool}
+use Rattle.std.proofs.Common.{◌≡◌, ◌∙◌, ℕ, zero, suc, ◌+◌, ◌<◌, ◌≤◌, ◌-◌, ◌^◌, ◌↔◌, Bool, true, false, List, [], ◌∷◌, length, map, refl, ap, sym, subst, arith, true≢false, MatchOption, MatchBool}
 use Rattle.std.proofs.lemmas.Bool.{false≢true}
 use Rattle.std.specs.Prelude.{None, Some, IfSome, IsNone, slice_get, nat_lt, if◌then◌else◌}
 use Rattle.std.specs.Option.{is_some, option_map, option_map_or}
@@ -10,19 +10,18 @@ use Rattle.std.specs.declared.vec.Vec.{Vec}
 use Rattle.a68_acts.specs.Does.{Outcome, did, refuses, waits, refused, does}
 use Rattle.a68_acts.specs.Keeping.{outer_slots, IsKept}
 use Rattle.a68_acts.specs.Store.{Store, opening_store, most_strands}
-use Rattle.a68_acts.specs.declared.want.Reply.{Reply}
 use Rattle.a68_acts.specs.declared.want.Reply.TheVariants as reply
 use Rattle.a68_acts.specs.declared.want.Want.{Want}
 use Rattle.a68_acts.specs.declared.want.Want.TheVariants as want
 use Rattle.a68_code.specs.Valid.{IsValid}
 use Rattle.a68_code.specs.declared.code.Code.{Code}
 use Rattle.a68_store.specs.Acts.{has_to_wait}
-use Rattle.a68_strand.specs.Cyclic.{HasTurn, Sooner, IsFirstBehind}
-use Rattle.a68_strand.specs.Ends.{fault_of, fault_in, CanAct, EndsWith}
+use Rattle.a68_strand.specs.Cyclic.{IsFirstBehind}
+use Rattle.a68_strand.specs.Ends.{fault_of, fault_in, EndsWith}
 use Rattle.a68_strand.specs.Machine.{State, asked, beginning, settle}
 use Rattle.a68_strand.specs.Machine as machine
-use Rattle.a68_strand.specs.Runs.{World, opening, acted, after as runs_after}
-use Rattle.a68_strand.specs.Strands.{standing, wants, HasSettled}
+use Rattle.a68_strand.specs.Runs.{World, opening, after as runs_after}
+use Rattle.a68_strand.specs.Strands.{standing, wants}
 use Rattle.a68_strand.specs.declared.ask.Ask.{Ask}
 use Rattle.a68_strand.specs.declared.ask.Ask.TheVariants as ask
 use Rattle.a68_strand.specs.declared.ask.Stance.{Stance}
@@ -32,31 +31,28 @@ use Rattle.a68_strand.specs.declared.strand.Strand.{Strand}
 use Rattle.a68_values.specs.declared.act.Act.{Act}
 use Rattle.a68_values.specs.declared.act.Entry.{Entry}
 use Rattle.a68_values.specs.declared.act.Act.TheVariants as act
-use Rattle.a68_values.specs.declared.act.FaultKind.{FaultKind}
 use Rattle.a68_values.specs.declared.act.FaultKind.TheVariants as fault
 use Rattle.a68_values.specs.declared.kept.End.{End}
 use Rattle.a68_values.specs.declared.kept.End.TheVariants as ends
 use Rattle.a68_values.specs.declared.kept.Kept.{Kept}
 use Rattle.a68_world.specs.Ending.{EndShown, Turns, end_asked, end_at}
 use Rattle.a68_world.specs.Inside.{run_of, IsSound}
-use Rattle.a68_world.specs.Run.{Run, AllHome, Begins, EndsWithoutTurn, IsNumber, most_fuel, world}
+use Rattle.a68_world.specs.Run.{Begins, EndsWithoutTurn, most_fuel, world}
 use Rattle.a68_world.specs.Scopes.{WantBelow, StanceBelow}
-use Rattle.a68_world.specs.Stepping.{IsAsking, IsAskingAt, BringsRoom, FewUnitsAt, Meets, units_asked}
+use Rattle.a68_world.specs.Stepping.{IsAsking, IsAskingAt, BringsRoom, FewUnitsAt, units_asked}
 use Rattle.a68_world.specs.Turns.{GoesOn, IsReady, IsDue, EndsAt, StandsAt, IsAble, Finishes}
 use Rattle.a68_world.specs.declared.seat.Seat.{Seat}
 use Rattle.a68_world.specs.declared.seat.Seat.TheVariants as seat
-use Rattle.a68_world.specs.declared.status.Status.{Status}
 use Rattle.a68_world.specs.declared.status.Status.TheVariants as status
 use Rattle.a68_world.specs.declared.world.World.TheInside.{Inside}
-use Rattle.a68_world.specs.Seats.{Sits, SitsAt, SitsHere, AreSeated, AllSit, Shows, IsFirst, status_of, place_at, place_in, turn_at, turn_in, turn_shown}
-use Rattle.a68_world.proofs.Behind.{now, many_seats, all_here}
+use Rattle.a68_world.specs.Seats.{Sits, SitsAt, SitsHere, AreSeated, AllSit, IsFirst, status_of, turn_at, turn_shown}
+use Rattle.a68_world.proofs.Behind.{now, many_seats}
 use Rattle.a68_world.proofs.Entering.{RoomAfter, RoomBehind, does-room}
-use Rattle.a68_world.proofs.Kept.{all_home}
 use Rattle.a68_world.proofs.Outcomes.{number_of}
-use Rattle.a68_world.proofs.Places.{get_mapped, get_map, is_there, is_within}
+use Rattle.a68_world.proofs.Places.{get_mapped}
 use Rattle.a68_world.proofs.ScopesKept.{brings_room-below}
 use Rattle.a68_world.proofs.Showing.{asking, shown, next_act, next_fault, turn_sits, turn_at_is, turn_not, end_seen, is_end}
-use Rattle.a68_world.proofs.Steady.{Steady, steady_run, counted_behind}
+use Rattle.a68_world.proofs.Steady.{steady_run, counted_behind, opening_waits}
 
 -- a Fork need not wait
 forks-go : (store : Store) (entrances : List ℕ) → does (want.Fork entrances) store ≡ waits → ⊥
@@ -79,7 +75,7 @@ pub record Made (code : Code) (fuel : ℕ) (journal : Vec Entry Global) (store :
 
 module _ (code : Code) (fuel : ℕ) (journal : Vec Entry Global) (store : Store) (seats : Vec Seat Global) (end : Option End) (m : Made code fuel journal store seats end) where
   abbrev pub made_run : Inside
-  made_run = record { code = code; fuel = fuel; journal = journal; store = store; seats = seats; lost = false; end = end }
+  made_run = record { code = code; fuel = fuel; journal = journal; store = store; seats = seats; waits_below = 0; lost = false; end = end }
 
   made-world : world (run_of made_run) ≡ opening code
   made-world = ap (λ (es : List Entry). world (record { code = code; fuel = fuel; entries = es; status = map status_of seats.items; lost = false; end = end })) m.items
@@ -141,6 +137,7 @@ module _ (code : Code) (fuel : ℕ) (journal : Vec Entry Global) (store : Store)
     room = omega (arith, m.room);
     store = rw made-world m.store_is;
     seats = rw made-world made-seated;
+    waits = rw made-world (opening_waits code);
   }
 
 -- ---- between two turns

@@ -1,11 +1,11 @@
 -- What is known of the store and the strands behind every journal.
-use Rattle.std.proofs.Common.{◌≡◌, ◌∙◌, ◌⊎◌, inl, inr, ℕ, zero, suc, ◌+◌, ◌<◌, ◌≤◌, ℤ, pos, Bool, true, false, List, [], ◌∷◌, ◌++◌, length, length-append, map, refl, ap, sym, subst, arith, true≢false, ltb-false}
-use Rattle.std.specs.Prelude.{⊤, None, Some, slice_get, slice_set, replicate, nat_lt, int_lt, ◌+ℤ◌, ◌-ℤ◌, if◌then◌else◌}
+use Rattle.std.proofs.Common.{◌≡◌, ◌∙◌, inl, inr, ℕ, zero, suc, ◌+◌, ◌<◌, ◌≤◌, ℤ, pos, Bool, true, false, List, [], ◌∷◌, ◌++◌, length, length-append, refl, ap, sym, subst, arith, true≢false, ltb-false}
+use Rattle.std.specs.Prelude.{⊤, None, Some, slice_get, slice_set, replicate, nat_lt, int_lt, ◌+ℤ◌, if◌then◌else◌}
 use Rattle.std.specs.Option.{option_and_then, option_map_or}
 use Rattle.std.proofs.Math.ListN.{length-set}
 use Rattle.std.specs.declared.option.Option.{Option}
 use Rattle.a68_acts.specs.Does.{Outcome, did, refuses, waits, does, entered, bound, looked, made, within_count, is_closed, cells_from, count_in, raised, lowered, is_int}
-use Rattle.a68_acts.specs.Store.{Store, Frame, standard_frame, opening_store, chain_of, most_counted, most_printed, most_strands, counted, slot_weight}
+use Rattle.a68_acts.specs.Store.{Store, Frame, standard_frame, chain_of, most_counted, most_printed, most_strands, counted, slot_weight}
 use Rattle.a68_acts.specs.declared.want.Reply.{Reply}
 use Rattle.a68_acts.specs.declared.want.Reply.TheVariants as reply
 use Rattle.a68_acts.specs.declared.want.Want.{Want}
@@ -282,3 +282,11 @@ steady-goes code count w v (e ∷ es) s runs =
 pub steady_run : (run : Run) → IsRun run → Steady run.code (length run.entries) (world run)
 steady_run run r =
     subst (λ (k : ℕ). Steady run.code k (world run)) (omega arith) (steady-goes run.code 0 (opening run.code) (world run) run.entries (steady_opening run.code) r.runs)
+
+-- nor does a strand wait at the beginning
+pub opening_waits : (code : Code) (k : ℕ) (st : State) (first count : ℕ) → slice_get (opening code).strands k ≡ Some st → st.stance ≡ Waits first count → k < 0
+opening_waits code zero st f c e w =
+    let begin : State = beginning 0 (record { frame = 0; scope = 0 } ∷ []) in
+    let same : settle code begin ≡ st = cc in
+    absurd (true≢false (sym (ap is_passive (ap (λ (x : State). x.stance) same ∙ w)) ∙ active code begin refl))
+opening_waits code (suc k) st f c e w = absurd (cc)

@@ -4,6 +4,7 @@ use Rattle.std.specs.Prelude.{◌≡◌, ◌≤◌, map}
 use Rattle.std.specs.Vec.{vec_capacity}
 use Rattle.a68_world.specs.Run.{Run, IsRun, world}
 use Rattle.a68_world.specs.Seats.{AreSeated, status_of}
+use Rattle.a68_world.specs.Waking.{WaitBelow}
 use Rattle.a68_world.specs.declared.world.World.TheInside.{Inside}
 
 abbrev pub run_of : Inside → Run
@@ -16,3 +17,4 @@ pub record IsSound (s : Inside) : Type 0 where
   pub store : s.store ≡ (world (run_of s)).store
   -- each strand that is not spent stands as the machine has it
   pub seats : AreSeated s.code (world (run_of s)).strands s.seats.items
+  pub waits : WaitBelow s.waits_below (world (run_of s)).strands

@@ -1,6 +1,6 @@
 -- Inner: the headline does not rest on this file.
 -- Strands that waited for units which have now closed.
-use Rattle.std.specs.Prelude.{◌≡◌, ⊤, ℕ, Bool, true, false, List, length, map, None, Some, slice_get, slice_set}
+use Rattle.std.specs.Prelude.{◌≡◌, ◌<◌, ◌≤◌, ⊤, ℕ, Bool, true, false, List, length, map, None, Some, slice_get, slice_set}
 use Rattle.a68_acts.specs.declared.want.Reply.TheVariants as reply
 use Rattle.a68_code.specs.declared.code.Code.{Code}
 use Rattle.a68_strand.specs.Machine.{State, next_state, replied}
@@ -51,13 +51,22 @@ pub record Wakes (code : Code) (strands : List State) (new : List Seat) (found_n
   pub spent : (k : ℕ) → slice_get new k ≡ Some seat.Spent → IsReleased strands k × (found_none ≡ true)
   pub lost : found_none ≡ true → (k : ℕ) × (slice_get new k ≡ Some seat.Spent)
 
+-- the strands that wait for units have smaller numbers than this
+abbrev pub WaitBelow : ℕ → List State → Type 0
+WaitBelow below strands = (k : ℕ) (st : State) (first count : ℕ) → slice_get strands k ≡ Some st → st.stance ≡ Waits first count → k < below
+
+-- a bound that is no smaller, and above this strand too where it waits
+pub record StaysBelow (below : ℕ) (seats : List Seat) (n new : ℕ) : Type 0 where
+  pub least : below ≤ new
+  pub own : (strand : Strand) (first count : ℕ) → slice_get seats n ≡ Some (seat.Home strand) → (standing strand).stance ≡ Waits first count → n < new
+
 -- the strands at their seats are woken
-abbrev pub AllWake : Code → (old new : List Seat) → Bool → Type 0
-AllWake code old new lost =
-    (strands : List State) → AllSit code strands old → length old ≡ length strands → AllRest code strands → Wakes code strands new lost
+abbrev pub AllWake : Code → (below : ℕ) → (old new : List Seat) → Bool → Type 0
+AllWake code below old new lost =
+    (strands : List State) → AllSit code strands old → length old ≡ length strands → AllRest code strands → WaitBelow below strands → Wakes code strands new lost
 
 -- the strands at their seats are woken, where none is due that need not be looked for
-abbrev pub WakesBehind : Code → ℕ → (old new : List Seat) → Bool → Type 0
-WakesBehind code n old new lost =
-    (strands : List State) → AllSit code strands old → length old ≡ length strands → AllRest code strands
+abbrev pub WakesBehind : Code → (n below : ℕ) → (old new : List Seat) → Bool → Type 0
+WakesBehind code n below old new lost =
+    (strands : List State) → AllSit code strands old → length old ≡ length strands → AllRest code strands → WaitBelow below strands
     → (may_wake old n ≡ false → map (woken code strands) strands ≡ strands) → Wakes code strands new lost

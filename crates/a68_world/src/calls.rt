@@ -16,7 +16,7 @@ use crate::seat::Seat;
 use crate::stepping::act_at;
 use crate::turning::{end_at, end_shown, next_turn, turn_at};
 use crate::units::{seat_all, units_ready};
-use crate::waking::wake_behind;
+use crate::waking::{waits_below, wake_behind};
 use crate::{Turned, World};
 use a68_base::NoMemory;
 use a68_code::Code;
@@ -122,6 +122,7 @@ impl World {
                     journal,
                     store,
                     seats,
+                    waits_below: 0,
                     lost: false,
                     end,
                 })
@@ -215,7 +216,9 @@ impl World {
             Deed::Told(act) => {
                 note(&mut self.journal, n, act);
                 seat_all(&mut self.seats, units);
-                self.lost = wake_behind(alloc, &self.code, &mut self.seats, at);
+                let below = waits_below(self.waits_below, &self.seats, n);
+                self.lost = wake_behind(alloc, &self.code, &mut self.seats, at, below);
+                self.waits_below = below;
                 self.end = end_behind(self.lost, &self.seats, &self.store, n);
                 Turned::Acted
             }

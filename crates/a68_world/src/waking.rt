@@ -1,7 +1,7 @@
 //! Strands that waited for units which have now closed.
 ghost use Rattle.std.specs.Prelude.{◌≡◌, ◌<◌, ◌≤◌, ◌+◌, ◌^◌, true, length, slice_get, Some, if◌then◌else◌};
 ghost use Rattle.a68_world.specs.Seats.{closed_in, closed_at, all_closed_at, due_at, may_wake};
-ghost use Rattle.a68_world.specs.Waking.{GoesOnAt, WakesBehind, seat_awaits, AllWake, WakesAt};
+ghost use Rattle.a68_world.specs.Waking.{GoesOnAt, WakesBehind, seat_awaits, AllWake, WakesAt, StaysBelow};
 
 use crate::seat::{Seat, spend};
 use a68_acts::Reply;
@@ -56,6 +56,19 @@ fn due_at(seats: &[Seat], n: usize) -> bool
     }
 }
 
+/// A bound for the numbers of the strands that wait for units, behind an act of this one.
+pub fn waits_below(below: usize, seats: &[Seat], n: u32) -> usize
+    ensures { StaysBelow below seats.now n result }
+{
+    let Some(Seat::Home(strand)) = seats.get(n as usize) else {
+        return below;
+    };
+    match strand.units() {
+        Some(_) => below.max(n as usize + 1),
+        None => below,
+    }
+}
+
 // The strand at this seat is told to go on. Tells whether it found memory.
 fn go_on(alloc: Global, code: &Code, seat: &mut Seat) -> bool
     requires few { length code.now.list < 2 ^ 32 }
@@ -94,13 +107,14 @@ fn is_lost(lost: bool, found: bool) -> bool
     if found { lost } else { true }
 }
 
-// All strands go on that wait for units which have all closed. Tells whether one found no memory.
-fn wake_all(alloc: Global, code: &Code, seats: &mut Vec<Seat>) -> bool
+// All strands go on that wait for units which have all closed; those that wait have numbers below this one. Tells whether
+// one found no memory.
+fn wake_all(alloc: Global, code: &Code, seats: &mut Vec<Seat>, below: usize) -> bool
     requires few { length code.now.list < 2 ^ 32 }
-    ensures { AllWake code.now seats.old.items seats.new.items result }
+    ensures { AllWake code.now below seats.old.items seats.new.items result }
 {
     let mut lost = false;
-    for n in 0..seats.len() {
+    for n in 0..below.min(seats.len()) {
         let found = wake_at(alloc, code, seats, n);
         lost = is_lost(lost, found);
     }
@@ -116,12 +130,18 @@ fn may_wake(seats: &[Seat], n: usize) -> bool
 
 /// Behind an act of this strand, those go on that wait for units which have all closed: there are none unless the strand
 /// has closed. Tells whether one found no memory, and is spent.
-pub fn wake_behind(alloc: Global, code: &Code, seats: &mut Vec<Seat>, n: usize) -> bool
+pub fn wake_behind(
+    alloc: Global,
+    code: &Code,
+    seats: &mut Vec<Seat>,
+    n: usize,
+    below: usize,
+) -> bool
     requires few { length code.now.list < 2 ^ 32 }
-    ensures { WakesBehind code.now n seats.old.items seats.new.items result }
+    ensures { WakesBehind code.now n below seats.old.items seats.new.items result }
 {
     if may_wake(seats, n) {
-        return wake_all(alloc, code, seats);
+        return wake_all(alloc, code, seats, below);
     }
     false
 }

@@ -15,6 +15,8 @@ pub struct World {
     pub(crate) journal: Vec<Entry>,
     pub(crate) store: Store,
     pub(crate) seats: Vec<Seat>,
+    // The strands that wait for units have smaller numbers.
+    pub(crate) waits_below: usize,
     // A turn has found no memory.
     pub(crate) lost: bool,
     pub(crate) end: Option<End>,

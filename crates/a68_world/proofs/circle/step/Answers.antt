@@ -1,5 +1,4 @@
-use Rattle.std.proofs.Common.{ap, ◌∙◌}
-use Rattle.a68_world.proofs.Circling.{has_turned, has_grown, ended_in_turn, always_ready}
+use Rattle.a68_world.proofs.Circling.{has_turned, always_ready}
 use Rattle.a68_world.proofs.circle.step.Goals as goal
 
 pub next_of-requires : goal.next_of-requires

@@ -1,4 +1,4 @@
-use Rattle.std.proofs.Common.{ap, MatchBool, ◌∙◌}
+use Rattle.std.proofs.Common.{ap, ◌∙◌}
 use Rattle.a68_world.specs.Seats.{turn_at}
 use Rattle.a68_world.proofs.Standing.{ready_by}
 use Rattle.a68_world.proofs.world.World.can_turn.Goals as goal

@@ -63,8 +63,8 @@ end_behind-self-inside-requires c =
     let told : Told s n c.self.invariant goes due x y c.in-Told.act store units = record { there = there; are = c.in-Ok.ensures.units; comes = c.in-Told.ensures } in
     let placed : c.seat_all.new.seats.items ≡ slice_set s.seats.items n y ++ units = c.seat_all.ensures ∙ ap (λ l. slice_set l n y ++ units) same in
     record {
-      few = few_told s n c.self.invariant goes due x y c.in-Told.act store units c.seat_all.new.seats.items c.deref.result.now c.wake_behind-self-inside.new.seats.items c.wake_behind-self-inside.result told placed
-          c.wake_behind-self-inside.ensures c.deref.ensures.value;
+      few = few_told s n c.self.invariant goes due x y c.in-Told.act store units c.seat_all.new.seats.items c.deref-in-Told.result.now c.deref.result.now c.wake_behind-self-inside.new.seats.items c.waits_below-below.result c.wake_behind-self-inside.result told placed c.deref.ensures.value c.waits_below-below.ensures
+          c.wake_behind-self-inside.ensures c.deref-in-Told.ensures.value;
     }
 
 pub invariant_of-self-in-Told : goal.invariant_of-self-in-Told
@@ -85,8 +85,8 @@ invariant_of-self-in-Told c =
     let noted : Noted s n c.in-Told.act c.note.new.journal = record { items = c.note.ensures.items; room = omega (arith, c.note.ensures.room, c.self.invariant.room) } in
     let seats = c.wake_behind-self-inside.new.seats in
     let lost = c.wake_behind-self-inside.result in
-    let all = told_all s n c.self.invariant goes due x y c.in-Told.act store units c.seat_all.new.seats.items c.deref.result.now c.note.new.journal seats lost c.end_behind-self-inside.result told noted placed
-    c.wake_behind-self-inside.ensures c.deref.ensures.value c.end_behind-self-inside.ensures in
+    let all = told_all s n c.self.invariant goes due x y c.in-Told.act store units c.seat_all.new.seats.items c.deref-in-Told.result.now c.deref.result.now c.note.new.journal seats c.waits_below-below.result lost c.end_behind-self-inside.result told noted placed c.deref.ensures.value c.waits_below-below.ensures
+    c.wake_behind-self-inside.ensures c.deref-in-Told.ensures.value c.end_behind-self-inside.ensures in
     all.0
 
 pub returns-in-Told : goal.returns-in-Told
@@ -107,8 +107,8 @@ returns-in-Told c =
     let noted : Noted s n c.in-Told.act c.note.new.journal = record { items = c.note.ensures.items; room = omega (arith, c.note.ensures.room, c.self.invariant.room) } in
     let seats = c.wake_behind-self-inside.new.seats in
     let lost = c.wake_behind-self-inside.result in
-    let all = told_all s n c.self.invariant goes due x y c.in-Told.act store units c.seat_all.new.seats.items c.deref.result.now c.note.new.journal seats lost c.end_behind-self-inside.result told noted placed
-    c.wake_behind-self-inside.ensures c.deref.ensures.value c.end_behind-self-inside.ensures in
+    let all = told_all s n c.self.invariant goes due x y c.in-Told.act store units c.seat_all.new.seats.items c.deref-in-Told.result.now c.deref.result.now c.note.new.journal seats c.waits_below-below.result lost c.end_behind-self-inside.result told noted placed c.deref.ensures.value c.waits_below-below.ensures
+    c.wake_behind-self-inside.ensures c.deref-in-Told.ensures.value c.end_behind-self-inside.ensures in
     rw (← c.self.view_is) all.1
 
 pub invariant_of-self-in-Untold : goal.invariant_of-self-in-Untold

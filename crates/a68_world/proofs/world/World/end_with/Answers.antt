@@ -1,4 +1,4 @@
-use Rattle.std.proofs.Common.{subst, sym, refl}
+use Rattle.std.proofs.Common.{subst, sym}
 use Rattle.a68_world.specs.Inside.{run_of}
 use Rattle.a68_world.specs.Run.{Run}
 use Rattle.a68_world.specs.Turns.{GoesOn, EndsAt}
@@ -12,4 +12,5 @@ invariant_of-self c = record {
   room = c.self.invariant.room;
   store = c.self.invariant.store;
   seats = c.self.invariant.seats;
+  waits = c.self.invariant.waits;
 }
