@@ -11,8 +11,11 @@ use std::alloc::Global;
 use std::panic::Expect;
 use std::process::Abort;
 
+/// The entrances of the units of each code, in order.
+const UNITS: &[u32] = &[0, 2, 1];
+
 /// Instructions, which instruction is given a place, by its number and that of the place in it, the place, and the
-/// instructions then. The others stay as they are.
+/// instructions then. The others stay as they are. A Fork is given the number of a unit, and names its entrance then.
 const PATCHES: &[(&str, u32, u32, u32, &str)] = &[
     ("Push 7, Unless 0, End", 1, 0, 2, "Push 7, Unless 2, End"),
     ("Jump 0, Jump 0, End", 0, 0, 2, "Jump 2, Jump 0, End"),
@@ -37,7 +40,7 @@ const PATCHES: &[(&str, u32, u32, u32, &str)] = &[
         0,
         "Step 0, Turn, Advance 0, End",
     ),
-    ("Fork 0 0, End, Close", 0, 1, 2, "Fork 0 2, End, Close"),
+    ("Fork 0 0, End, Close", 0, 1, 1, "Fork 0 2, End, Close"),
 ];
 
 // A place that an instruction names, of a Case or a Fork the second one; 0 where it names none.
@@ -66,7 +69,7 @@ fn built(rt: &impl Abort, alloc: Global, code: &Code, patch: (u32, u32, u32)) ->
         items: Vec::new(alloc),
     };
     let units = Places {
-        items: Vec::new(alloc),
+        items: Vec::from_slice(alloc, UNITS).expect(rt, "memory"),
     };
     let modes = Modes::new(alloc).expect(rt, "memory");
     builder.finish(texts, units, modes)

@@ -84,9 +84,19 @@ fn status_and_events(finish: &Finish) -> (u8, usize) {
 }
 
 fn call<R: Threads + Wait + Sync + Abort>(rt: &R, alloc: Global, given: Given<'_>) -> Left {
+    let out = MemorySink::new(alloc, given.room, 4, given.writes_fail).expect(rt, "memory");
+    call_over(rt, alloc, given, out)
+}
+
+// A call that prints to this sink.
+fn call_over<R: Threads + Wait + Sync + Abort>(
+    rt: &R,
+    alloc: Global,
+    given: Given<'_>,
+    mut out: MemorySink,
+) -> Left {
     let words = strings(rt, alloc, given.words);
     let mut shelf = shelf(rt, alloc, given);
-    let mut out = MemorySink::new(alloc, given.room, 4, given.writes_fail).expect(rt, "memory");
     let mut notes = MemorySink::new(alloc, given.notes_room, 5, &[]).expect(rt, "memory");
     let finish = a68(
         rt, alloc, &words, &mut shelf, &mut out, &mut notes, &FreeGate,
@@ -302,11 +312,6 @@ const REFUSED: &[(&str, u8, &str)] = &[
     ("BEGIN SKIP END ~", 1, "a68: refused S2 at byte 15\n"),
     ("BEGIN print(1) END CO", 1, "a68: refused S1 at byte 19\n"),
     ("BEGIN print(#)#1)", 1, "a68: refused S6 at byte 17\n"),
-    (
-        "( print(1); PAR (SKIP, SKIP); [] INT a = 1; SKIP )",
-        1,
-        "a68: refused X0 at byte 12\n",
-    ),
     (
         "( REF STRING (NIL) +:= \"a\" )",
         3,
@@ -567,6 +572,78 @@ fn programs_run_within_their_fuel(rt: HostRuntime) {
         let found = answers(&rt, rt.alloc(), given, *status, *texts);
         holds(&rt, found == *events, "how many events there are");
     }
+}
+
+const FIRST_AND_THEN: &str =
+    "( SEMA s = LEVEL 0; PAR ( (DOWN s; print(\"b\")), (print(\"a\"); UP s) ) )";
+
+/// Texts with parallel clauses or semaphores, the status, what is printed and noted, and how many events there are.
+const PARALLEL: &[(&str, u8, (&str, &str), usize)] = &[
+    (FIRST_AND_THEN, 0, ("ab", ""), 13),
+    (
+        "( INT x := 0; PAR ( x := x + 1, x := x + 1 ); print(x) )",
+        0,
+        ("                  +1", ""),
+        18,
+    ),
+    (
+        "( SEMA s = LEVEL 0; DOWN s )",
+        4,
+        ("", "a68: all halted\n"),
+        5,
+    ),
+    (
+        "( SEMA a = LEVEL 0, b = LEVEL 0; PAR ( (DOWN a; UP b), (DOWN b; UP a) ) )",
+        4,
+        ("", "a68: all halted\n"),
+        10,
+    ),
+    // A unit that is a routine text is called; one of another mode is voided.
+    ("( PAR (VOID: print(\"p\"), 3) )", 0, ("p", ""), 6),
+    // A clause goes on when all its units have ended, and not before.
+    (
+        "( PAR (print(\"a\"), (print(\"b\"); print(\"c\"))); print(\"d\") )",
+        0,
+        ("abcd", ""),
+        7,
+    ),
+    // Units of a clause within a unit.
+    (
+        "( PAR (PAR (print(\"a\"), print(\"b\")), print(\"c\")) )",
+        0,
+        ("cab", ""),
+        9,
+    ),
+    // A unit meets a fault while others have acts to do, and one while others have to wait.
+    (
+        "( PAR ((print(\"a\"); print(\"b\")), print(1 OVER 0)) )",
+        3,
+        ("a", "a68: fault Divisor at byte 39\n"),
+        2,
+    ),
+    (
+        "( SEMA s = LEVEL 0; PAR (DOWN s, print(7 MOD 0)) )",
+        3,
+        ("", "a68: fault Divisor at byte 39\n"),
+        6,
+    ),
+];
+
+#[test]
+fn strands_take_turns(rt: HostRuntime) {
+    for (text, status, texts, events) in PARALLEL {
+        let found = answers(&rt, rt.alloc(), run_f(text), *status, *texts);
+        holds(&rt, found == *events, "how many events there are");
+    }
+}
+
+#[test]
+fn a_write_fails_between_two_strands_texts(rt: HostRuntime) {
+    let out = MemorySink::new(rt.alloc(), 10, 1, &[2]).expect(&rt, "memory");
+    let left = call_over(&rt, rt.alloc(), run_f(FIRST_AND_THEN), out);
+    prints(&rt, &left, 7, "a");
+    holds(&rt, left.events == 13, "the run is kept");
+    drop(left);
 }
 
 /// Texts that are run with their names, the status, and what is noted.
