@@ -1,5 +1,6 @@
 -- What a task owes for a text, by what the text is made into.
 use Rattle.std.specs.Prelude.{ℕ, List}
+use Rattle.a68_base.specs.declared.limits.TheConstants.{USUAL_FUEL}
 use Rattle.a68_base.specs.declared.refusal.Refusal.{Refusal}
 use Rattle.a68_elab.specs.Made.{program_of}
 use Rattle.a68_elab.specs.Permitted.{Permitted}
@@ -8,7 +9,7 @@ use Rattle.a68_strand.specs.RunOf.{RunOf}
 use Rattle.a68_top.specs.Answer.{AnswersText, IsRefusal, refused, ran, unmade, compiled}
 use Rattle.a68_top.specs.Commands.{AnswersMade}
 use Rattle.a68_top.specs.Compiles.{Compiles, RefusedAs}
-use Rattle.a68_top.specs.Words.{Task, run, check, show_code}
+use Rattle.a68_top.specs.Words.{Task, run, check, show_code, make_units}
 use Rattle.a68_top.specs.declared.finish.Finish.{Finish}
 use Rattle.a68_top.specs.declared.finish.Made.{Made}
 use Rattle.a68_values.specs.declared.kept.Kept.{Kept}
@@ -18,6 +19,7 @@ module _ (text : List ℕ) (finish : Finish) (out notes : List ℕ) where
   refuses (run file fuel names) refusal why says = refused refusal why says
   refuses (check file) refusal why says = unmade refusal why says
   refuses (show_code file) refusal why says = unmade refusal why says
+  refuses (make_units units) refusal why says = refused refusal why says
 
   pub answers : (task : Task) (made : Made) → Compiles text made
       → ((fuel : ℕ) (kept : Kept) → Translates (program_of made.program) made.code → RunOf made.code fuel kept → Permitted (program_of made.program) fuel kept)
@@ -25,3 +27,4 @@ module _ (text : List ℕ) (finish : Finish) (out notes : List ℕ) where
   answers (run file fuel names) made is law has = ran made is has (law fuel has.kept is.translated has.machine)
   answers (check file) made is law has = compiled made is has
   answers (show_code file) made is law has = compiled made is has
+  answers (make_units units) made is law has = ran made is has (law USUAL_FUEL has.kept is.translated has.machine)

@@ -1,15 +1,16 @@
 -- What a call owes: the relation between the task, the text of the file, the finish, and the bytes on out and notes.
-use Rattle.std.specs.Prelude.{◌≡◌, ℕ, Bool, List, [], ◌∷◌, ◌++◌, take, None, Some, if◌then◌else◌}
+use Rattle.std.specs.Prelude.{◌≡◌, ℕ, Bool, List, [], ◌∷◌, ◌++◌, length, take, None, Some, if◌then◌else◌}
 use Rattle.std.specs.declared.option.Option.{Option}
 use Rattle.a68_annot.specs.declared.annotated.Annotated.{Annotated}
-use Rattle.a68_base.specs.declared.limits.TheConstants.{MOST_READ}
+use Rattle.a68_base.specs.declared.limits.TheConstants.{MOST_READ, USUAL_FUEL}
 use Rattle.a68_base.specs.declared.refusal.Refusal.{Refusal}
 use Rattle.a68_base.specs.declared.status.Status.{Status}
 use Rattle.a68_base.specs.declared.status.Status.TheVariants.{Done, Refused, Usage, Fault, AllHalted, Spent}
 use Rattle.a68_code.specs.declared.code.Code.{Code}
 use Rattle.a68_elab.specs.Made.{program_of}
 use Rattle.a68_elab.specs.Permitted.{Permitted}
-use Rattle.a68_report.specs.Lines.{usage_line, refusal_line, end_line}
+use Rattle.a68_maker.specs.Making.{make_text}
+use Rattle.a68_report.specs.Lines.{usage_line, refusal_line, end_line, units_line}
 use Rattle.a68_report.specs.Listing.{code_text}
 use Rattle.a68_report.specs.Variables.{names_text}
 use Rattle.a68_strand.specs.Cyclic.{Cyclic}
@@ -17,7 +18,9 @@ use Rattle.a68_strand.specs.RunOf.{RunOf}
 use Rattle.a68_top.specs.Compiles.{Compiles, RefusedAs}
 use Rattle.a68_top.specs.declared.finish.Finish.{Finish}
 use Rattle.a68_top.specs.declared.finish.Made.{Made}
-use Rattle.a68_top.specs.Words.{Task, run, check, show_code}
+use Rattle.a68_top.specs.declared.finish.Telling.{Telling}
+use Rattle.a68_top.specs.declared.finish.Telling.TheVariants.{EndAlone, Variables, Units}
+use Rattle.a68_top.specs.Words.{Task, run, check, show_code, make_units}
 use Rattle.a68_values.specs.declared.kept.End.{End}
 use Rattle.a68_values.specs.declared.kept.End.TheVariants as ends
 use Rattle.a68_values.specs.declared.kept.Kept.{Kept}
@@ -47,22 +50,33 @@ status_of (ends.Fault why place strand) = Fault
 status_of ends.AllHalted = AllHalted
 status_of ends.Spent = Spent
 
--- The lines of a run: how it ended, and behind that what its variables refer to, where this is asked for.
-abbrev pub run_lines : (names : Bool) → Annotated → Kept → List ℕ
-run_lines names program kept = end_line kept.end ++ (if names then names_text program kept else [])
+-- what a run tells where its variables are asked for, or are not
+abbrev pub telling_of : (names : Bool) → Telling
+telling_of names = if names then Variables else EndAlone
+
+-- the units and the events of a run that is done
+abbrev pub size_line : End → (units events : ℕ) → List ℕ
+size_line ends.Done units events = units_line units events
+size_line end units events = []
+
+-- The lines of a run: how it ended, and behind that what its variables refer to, or how great it was, where this is asked for.
+abbrev pub run_lines : Telling → Annotated → Kept → List ℕ
+run_lines EndAlone program kept = end_line kept.end
+run_lines Variables program kept = end_line kept.end ++ names_text program kept
+run_lines (Units units) program kept = end_line kept.end ++ size_line kept.end units (length kept.journal.entries)
 
 -- The program has run so; the text that the run printed is on out, and its lines are on notes.
-pub record HasRun (made : Made) (fuel : ℕ) (names : Bool) (finish : Finish) (out notes : List ℕ) : Type 0 where
+pub record HasRun (made : Made) (fuel : ℕ) (telling : Telling) (finish : Finish) (out notes : List ℕ) : Type 0 where
   pub kept : Kept
   pub machine : RunOf made.code fuel kept
   pub cyclic : Cyclic made.code kept
-  pub says : Says finish out notes (record { status = status_of kept.end; refusal = None; made = Some made; ran = Some kept }) kept.journal.text (run_lines names made.program kept)
+  pub says : Says finish out notes (record { status = status_of kept.end; refusal = None; made = Some made; ran = Some kept }) kept.journal.text (run_lines telling made.program kept)
 
 -- A run of a text: the text is refused, or its program has run, as the rules of the language permit.
-pub data IsRunOf (text : List ℕ) (fuel : ℕ) (names : Bool) (finish : Finish) (out notes : List ℕ) : Type 0 where
-  refused : (refusal : Refusal) → RefusedAs text refusal → IsRefusal refusal finish out notes → IsRunOf text fuel names finish out notes
-  ran : (made : Made) → Compiles text made → (has : HasRun made fuel names finish out notes) → Permitted (program_of made.program) fuel has.kept
-      → IsRunOf text fuel names finish out notes
+pub data IsRunOf (text : List ℕ) (fuel : ℕ) (telling : Telling) (finish : Finish) (out notes : List ℕ) : Type 0 where
+  refused : (refusal : Refusal) → RefusedAs text refusal → IsRefusal refusal finish out notes → IsRunOf text fuel telling finish out notes
+  ran : (made : Made) → Compiles text made → (has : HasRun made fuel telling finish out notes) → Permitted (program_of made.program) fuel has.kept
+      → IsRunOf text fuel telling finish out notes
 
 -- The program is kept and not run, and this is on out.
 abbrev pub IsKept : Made → List ℕ → Finish → List ℕ → List ℕ → Type 0
@@ -77,18 +91,29 @@ pub data IsMadeOf (text : List ℕ) (shown : Code → List ℕ) (finish : Finish
 abbrev pub nothing : Code → List ℕ
 nothing code = []
 
--- what a task owes for what is read of the text of its file
+-- what a task owes for its text
 abbrev pub AnswersText : Task → List ℕ → Finish → List ℕ → List ℕ → Type 0
-AnswersText (run file fuel names) text finish out notes = IsRunOf text fuel names finish out notes
+AnswersText (run file fuel names) text finish out notes = IsRunOf text fuel (telling_of names) finish out notes
 AnswersText (check file) text finish out notes = IsMadeOf text nothing finish out notes
 AnswersText (show_code file) text finish out notes = IsMadeOf text code_text finish out notes
+AnswersText (make_units units) text finish out notes = IsRunOf text USUAL_FUEL (Units units) finish out notes
 
 -- as much of a program's text as is read: one byte above the limit
 abbrev pub read_of : List ℕ → List ℕ
 read_of text = take MOST_READ text
 
+-- what is read of the text of a task: of the one that is made, or of the text of its file
+abbrev pub text_for : Task → List (List ℕ) → Option (List ℕ)
+text_for (make_units units) [] = Some (read_of (make_text units))
+text_for (make_units units) (text ∷ texts) = None
+text_for task (text ∷ []) = Some (read_of text)
+text_for task _ = None
+
+abbrev pub AnswersSome : Task → Option (List ℕ) → Finish → List ℕ → List ℕ → Type 0
+AnswersSome task None finish out notes = ⊥
+AnswersSome task (Some text) finish out notes = AnswersText task text finish out notes
+
 -- The answer, where every read and write succeeds and memory suffices. The texts are those of the files, in order.
 abbrev pub Answer : Option Task → List (List ℕ) → Finish → List ℕ → List ℕ → Type 0
 Answer None texts finish out notes = IsUsage finish out notes
-Answer (Some task) (text ∷ []) finish out notes = AnswersText task (read_of text) finish out notes
-Answer (Some task) _ finish out notes = ⊥
+Answer (Some task) texts finish out notes = AnswersSome task (text_for task texts) finish out notes

@@ -28,6 +28,17 @@ pub struct Finish {
     pub ran: Option<Kept>,
 }
 
+/// What a run tells behind the line on how it ended.
+#[derive(Clone, Copy)]
+pub enum Telling {
+    /// Nothing more.
+    EndAlone,
+    /// What the variables of the program refer to.
+    Variables,
+    /// The units of a made text and the events of its run, where that is done.
+    Units(u32),
+}
+
 /// What a call owes where every write succeeds: its finish, and the bytes for `out` and for `notes`.
 #[derive(Drop)]
 pub struct Owed {

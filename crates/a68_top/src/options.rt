@@ -45,8 +45,8 @@ fn is_operand(word: &[u8]) -> bool
     }
 }
 
-// A number of an option: one to eight digits, from 1 to a limit.
-fn number_in(most: u32, word: &[u8]) -> Option<u32>
+/// A number of one to eight digits, from 1 to a limit.
+pub fn number_in(most: u32, word: &[u8]) -> Option<u32>
     ensures number { result ≡ spec.number_in most word.now }
     ensures range { IfSome result (λ number. (1 ≤ number) × (number ≤ most)) }
 {

@@ -1,28 +1,31 @@
 //! All that a call does before its first byte is written.
-ghost use Rattle.std.specs.Prelude.{◌≡◌, ◌≤◌, ◌<◌, ◌^◌, ◌++◌, [], length, map, string_bytes, IfOk, OnOk, IfSome, IsErrOf, Some};
+ghost use Rattle.std.specs.Prelude.{◌≡◌, ◌≤◌, ◌<◌, ◌^◌, ◌++◌, [], length, map, take, string_bytes, IfOk, OnOk, IfSome, IsErrOf, Some};
 ghost use Rattle.a68_outside.specs.Cause.{Rose};
-ghost use Rattle.a68_top.specs.Words.{MayAskFor, task_in, file_of, files_of};
+ghost use Rattle.a68_top.specs.Words.{MayAskFor, task_in, files_of};
 ghost use Rattle.a68_code.specs.Valid.{IsValid};
+ghost use Rattle.a68_maker.specs.Making.{make_text};
 ghost use Rattle.a68_strand.specs.Cyclic.{Cyclic};
 ghost use Rattle.a68_strand.specs.RunOf.{RunOf};
-ghost use Rattle.a68_top.specs.Commands.{task_of, AnswersMade, HasFuel};
+ghost use Rattle.a68_top.specs.Commands.{task_of, AnswersMade, HasRange};
 ghost use Rattle.a68_report.specs.Variables.{names_text};
 ghost use Rattle.a68_report.specs.Listing.{code_text as listing};
-ghost use Rattle.a68_top.specs.Answer.{AnswersText, IsKept, IsRefusal, HasRun, IsUsage, read_of, run_lines};
-ghost use Rattle.a68_top.specs.Outcome.{IsAnswer, Owes};
+ghost use Rattle.a68_top.specs.Answer.{AnswersText, IsKept, IsRefusal, HasRun, IsUsage, read_of, run_lines, size_line, telling_of};
+ghost use Rattle.a68_report.specs.Lines.{end_line};
+ghost use Rattle.a68_top.specs.Outcome.{IsAnswer, IsTextFor, Owes};
 ghost use Rattle.a68_world.specs.Run.{most_fuel};
 ghost use Rattle.a68_top.specs.declared.prepare.Early.TheVariants as early;
 
 use crate::compile::compile;
-use crate::finish::{Finish, Made, Owed, bare, status_of};
+use crate::finish::{Finish, Made, Owed, Telling, bare, status_of};
 use crate::words::{Command, command_of};
 use a68_annot::Annotated;
-use a68_base::{MOST_READ, NoMemory, Refusal, Status, Stop, Text};
+use a68_base::{MOST_READ, NoMemory, Refusal, Status, Stop, Text, USUAL_FUEL};
 use a68_code::Code;
+use a68_maker::{FEWEST_UNITS, MOST_UNITS, make_text};
 use a68_outside::{ReadStop, Shelf, read_at_most};
-use a68_report::{USAGE, code_text, end_line, names_text, refusal_line};
+use a68_report::{USAGE, code_text, end_line, names_text, refusal_line, units_line};
 use a68_sim::permitted_law;
-use a68_values::Kept;
+use a68_values::{End, Kept};
 use a68_world::run;
 use std::alloc::Global;
 
@@ -107,15 +110,49 @@ fn add_names(
     Ok(())
 }
 
+// Puts the line of a made text's run behind that of its end, where the run is done.
+fn add_size(alloc: Global, notes: &mut Text, units: u32, kept: &Kept) -> Result<(), NoMemory>
+    ensures { OnOk result (notes.new ≡ notes.old ++ size_line kept.now.end units (length kept.now.journal.entries)) }
+{
+    match kept.end {
+        End::Done => {
+            let line = units_line(alloc, units, kept.journal.entries.items.len())?;
+            notes.items.extend_from_slice(line.as_slice())?;
+            Ok(())
+        }
+        _ => Ok(()),
+    }
+}
+
+// Puts what is told behind the line of a run's end.
+fn add_more(
+    alloc: Global,
+    notes: &mut Text,
+    telling: Telling,
+    program: &Annotated,
+    kept: &Kept,
+) -> Result<(), NoMemory>
+    requires { notes.old ≡ end_line kept.now.end }
+    ensures { OnOk result (notes.new ≡ run_lines telling program.now kept.now) }
+{
+    match telling {
+        Telling::EndAlone => Ok(()),
+        Telling::Variables => add_names(alloc, notes, program, kept),
+        Telling::Units(units) => add_size(alloc, notes, units, kept),
+    }
+}
+
 // The lines of a run on notes.
-fn noted(alloc: Global, names: bool, program: &Annotated, kept: &Kept) -> Result<Text, NoMemory>
-    ensures { IfOk result (λ text. text ≡ run_lines names program.now kept.now) }
+fn noted(
+    alloc: Global,
+    telling: Telling,
+    program: &Annotated,
+    kept: &Kept,
+) -> Result<Text, NoMemory>
+    ensures { IfOk result (λ text. text ≡ run_lines telling program.now kept.now) }
 {
     let mut notes = end_line(alloc, kept.end)?;
-    if !names {
-        return Ok(notes);
-    }
-    match add_names(alloc, &mut notes, program, kept) {
+    match add_more(alloc, &mut notes, telling, program, kept) {
         Ok(()) => Ok(notes),
         Err(error) => {
             drop(notes);
@@ -127,16 +164,16 @@ fn noted(alloc: Global, names: bool, program: &Annotated, kept: &Kept) -> Result
 // What a run writes to out, and its lines on notes.
 fn told(
     alloc: Global,
-    names: bool,
+    telling: Telling,
     program: &Annotated,
     kept: &Kept,
 ) -> Result<(Text, Text), NoMemory>
     ensures out { IfOk result (λ texts. texts.0 ≡ kept.now.journal.text) }
-    ensures notes { IfOk result (λ texts. texts.1 ≡ run_lines names program.now kept.now) }
+    ensures notes { IfOk result (λ texts. texts.1 ≡ run_lines telling program.now kept.now) }
 {
     let printed = &kept.journal.text;
     let out = Text::from_slice(alloc, printed.as_slice())?;
-    let notes = noted(alloc, names, program, kept)?;
+    let notes = noted(alloc, telling, program, kept)?;
     Ok((out, notes))
 }
 
@@ -146,7 +183,7 @@ fn finished(
     program: &Annotated,
     code: Code,
     fuel: u32,
-    names: bool,
+    telling: Telling,
 ) -> Result<(Code, Kept, (Text, Text)), NoMemory>
     requires valid { IsValid code }
     requires short { length code.list < 2 ^ 32 }
@@ -156,10 +193,10 @@ fn finished(
     ensures runs { IfOk result (λ done. RunOf code fuel done.1) }
     ensures cyclic { IfOk result (λ done. Cyclic code done.1) }
     ensures out { IfOk result (λ done. done.2.0 ≡ done.1.journal.text) }
-    ensures notes { IfOk result (λ done. done.2.1 ≡ run_lines names program.now done.1) }
+    ensures notes { IfOk result (λ done. done.2.1 ≡ run_lines telling program.now done.1) }
 {
     let (code, kept) = run(alloc, code, fuel)?;
-    match told(alloc, names, program, &kept) {
+    match told(alloc, telling, program, &kept) {
         Ok(texts) => Ok((code, kept, texts)),
         Err(error) => {
             drop(code);
@@ -175,16 +212,16 @@ fn ran(
     program: Annotated,
     code: Code,
     fuel: u32,
-    names: bool,
+    telling: Telling,
 ) -> Result<Owed, NoMemory>
     requires valid { IsValid code }
     requires short { length code.list < 2 ^ 32 }
     requires some_fuel { 1 ≤ fuel }
     requires little_fuel { fuel ≤ most_fuel }
     ensures status { IfOk result (λ due. IsAnswer due.finish.status) }
-    ensures answer { IfOk result (λ due. HasRun (record { program = program; code = code }) fuel names due.finish due.out due.notes) }
+    ensures answer { IfOk result (λ due. HasRun (record { program = program; code = code }) fuel telling due.finish due.out due.notes) }
 {
-    match finished(alloc, &program, code, fuel, names) {
+    match finished(alloc, &program, code, fuel, telling) {
         Ok((code, kept, (out, notes))) => Ok(Owed {
             finish: Finish {
                 status: status_of(kept.end),
@@ -235,18 +272,33 @@ fn listed(alloc: Global, made: Made) -> Result<Owed, NoMemory>
     }
 }
 
+// What a run tells where its variables are asked for, or are not.
+fn telling_of(names: bool) -> Telling
+    ensures { result ≡ telling_of names }
+{
+    if names {
+        Telling::Variables
+    } else {
+        Telling::EndAlone
+    }
+}
+
 // What a command owes for the program of its text.
 fn due_made(alloc: Global, command: &Command, made: Made) -> Result<Owed, NoMemory>
     requires valid { IsValid made.code }
     requires short { length made.code.list < 2 ^ 32 }
-    requires fuel { HasFuel command.now }
+    requires range { HasRange command.now }
     ensures status { IfOk result (λ due. IsAnswer due.finish.status) }
     ensures answer { IfOk result (λ due. AnswersMade (task_of command.now) made due.finish due.out due.notes) }
 {
     match command {
         Command::Run { fuel, names, .. } => {
             let Made { program, code } = made;
-            ran(alloc, program, code, *fuel, *names)
+            ran(alloc, program, code, *fuel, telling_of(*names))
+        }
+        Command::Make { units } => {
+            let Made { program, code } = made;
+            ran(alloc, program, code, USUAL_FUEL, Telling::Units(*units))
         }
         Command::Check { .. } => {
             let out = Text {
@@ -261,7 +313,7 @@ fn due_made(alloc: Global, command: &Command, made: Made) -> Result<Owed, NoMemo
 // What a command owes for its text, as much of it as was read.
 fn due_for(alloc: Global, command: &Command, text: &[u8]) -> Result<Owed, NoMemory>
     requires length { length text.now < 2 ^ 32 }
-    requires fuel { HasFuel command.now }
+    requires range { HasRange command.now }
     ensures status { IfOk result (λ due. IsAnswer due.finish.status) }
     ensures answer { IfOk result (λ due. AnswersText (task_of command.now) text.now due.finish due.out due.notes) }
 {
@@ -273,10 +325,50 @@ fn due_for(alloc: Global, command: &Command, text: &[u8]) -> Result<Owed, NoMemo
     }
 }
 
+// Leaves at most so many bytes of a text.
+fn cut(text: &mut Text, most: usize)
+    ensures { text.new ≡ take most text.old }
+{
+    text.items.truncate(most);
+}
+
+// What is read of the text that is made.
+fn made_text(alloc: Global, units: u32) -> Result<Text, Early>
+    requires some { FEWEST_UNITS ≤ units }
+    requires few { units ≤ MOST_UNITS }
+    ensures text { IfOk result (λ text. text ≡ read_of (make_text units)) }
+    ensures length { IfOk result (λ text. length text ≤ MOST_READ) }
+    ensures failed { IsErrOf result Early.ReadFault → ⊥ }
+{
+    let mut text = make_text(alloc, units)?;
+    cut(&mut text, MOST_READ);
+    Ok(text)
+}
+
+// The text of a command: the one that is made, or what is read of its file.
+fn text_for<F: Shelf>(alloc: Global, command: &Command, shelf: &mut F) -> Result<Text, Early>
+    requires may_ask { MayAskFor F.may_ask (Some (task_of command.now)) }
+    requires range { HasRange command.now }
+    ensures text { IfOk result (IsTextFor (task_of command.now) (F.under shelf.old)) }
+    ensures length { IfOk result (λ text. length text ≤ MOST_READ) }
+    ensures calm { OnOk result (F.faults shelf.new ≡ F.faults shelf.old) }
+    ensures memory { IsErrOf result Early.NoMemory → F.faults shelf.new ≡ F.faults shelf.old }
+    ensures failed { IsErrOf result Early.ReadFault → Rose (F.faults shelf.old) (F.faults shelf.new) }
+    ensures unasked { files_of (Some (task_of command.now)) ≡ [] → F.faults shelf.new ≡ F.faults shelf.old }
+    ensures no_fault { files_of (Some (task_of command.now)) ≡ [] → IsErrOf result Early.ReadFault → ⊥ }
+{
+    match command {
+        Command::Make { units } => made_text(alloc, *units),
+        Command::Run { file, .. } => fetch(alloc, file.as_str(), shelf),
+        Command::Check { file } => fetch(alloc, file.as_str(), shelf),
+        Command::Code { file } => fetch(alloc, file.as_str(), shelf),
+    }
+}
+
 // What a command owes.
 fn due_of<F: Shelf>(alloc: Global, command: &Command, shelf: &mut F) -> Result<Owed, Early>
     requires may_ask { MayAskFor F.may_ask (Some (task_of command.now)) }
-    requires fuel { HasFuel command.now }
+    requires range { HasRange command.now }
     ensures status { IfOk result (λ due. IsAnswer due.finish.status) }
     ensures answer { IfOk result (λ due. Owes (Some (task_of command.now))
         (F.under shelf.old)
@@ -284,8 +376,10 @@ fn due_of<F: Shelf>(alloc: Global, command: &Command, shelf: &mut F) -> Result<O
     ensures calm { OnOk result (F.faults shelf.new ≡ F.faults shelf.old) }
     ensures memory { IsErrOf result Early.NoMemory → F.faults shelf.new ≡ F.faults shelf.old }
     ensures failed { IsErrOf result Early.ReadFault → Rose (F.faults shelf.old) (F.faults shelf.new) }
+    ensures unasked { files_of (Some (task_of command.now)) ≡ [] → F.faults shelf.new ≡ F.faults shelf.old }
+    ensures no_fault { files_of (Some (task_of command.now)) ≡ [] → IsErrOf result Early.ReadFault → ⊥ }
 {
-    let text = fetch(alloc, command.file().as_str(), shelf)?;
+    let text = text_for(alloc, command, shelf)?;
     Ok(due_for(alloc, command, text.as_slice())?)
 }
 

@@ -1,12 +1,15 @@
 //! The words of the command line.
-ghost use Rattle.std.specs.Prelude.{◌≡◌, ◌≤◌, List, ℕ, map, string_bytes, IfOk, IfSome};
+ghost use Rattle.std.specs.Prelude.{◌≡◌, ◌≤◌, List, ℕ, map, string_bytes, IfOk, IfSome, MatchOption, None, Some, if◌then◌else◌};
 ghost use Rattle.std.specs.Option.{option_map, option_and_then};
 ghost use Rattle.a68_top.specs.Options.{HasRange, start, steps};
-ghost use Rattle.a68_top.specs.Words.{fuel_or_usual, has_no_option, task_in, task_by, task_of_found, file_of};
-ghost use Rattle.a68_top.specs.Commands.{task_of, HasFuel};
+ghost use Rattle.a68_top.specs.Words.{compiled_by, fuel_or_usual, has_no_option, has_workers_alone, make_units, task_in, task_by, task_of_found, units_in};
+ghost use Rattle.a68_maker.specs.declared.maker.TheConstants.{FEWEST_UNITS, MOST_UNITS};
+ghost use Rattle.a68_top.specs.Commands as commands;
+ghost use Rattle.a68_top.specs.Commands.{task_of};
 
-use crate::options::{Due, Found, found_in};
+use crate::options::{Due, Found, found_in, number_in};
 use a68_base::{MOST_FUEL, NoMemory, USUAL_FUEL};
+use a68_maker::{FEWEST_UNITS, MOST_UNITS};
 use std::alloc::Global;
 use std::marker::Model;
 
@@ -58,17 +61,10 @@ pub enum Command {
     Code {
         file: FileName,
     },
-}
-
-impl Command {
-    /// The file that is read.
-    pub fn file(&self) -> &FileName
-        ensures { result.now ≡ file_of (task_of self.now) }
-    {
-        match self {
-            Command::Run { file, .. } | Command::Check { file } | Command::Code { file } => file,
-        }
-    }
+    /// To make a text with so many units, to compile it and to run it.
+    Make {
+        units: u32,
+    },
 }
 
 // The fuel of a run.
@@ -90,26 +86,43 @@ fn has_no_option(found: Found) -> bool
     found.workers.is_none() && found.fuel.is_none() && !found.names
 }
 
-// What a verb asks for of a file: `run` alone has options.
-fn command_by(
-    alloc: Global,
-    verb: &str,
-    found: Found,
-    file: &str,
-) -> Result<Option<Command>, NoMemory>
-    requires { HasRange found }
-    ensures task { IfOk result (λ command. option_map task_of command ≡ task_by verb.now found file.now) }
-    ensures fuel { IfOk result (λ command. IfSome command HasFuel) }
+// Is no option given but the number of workers?
+fn has_workers_alone(found: Found) -> bool
+    ensures { result ≡ has_workers_alone found }
 {
-    if verb == "run" {
-        let file = FileName::new(alloc, file)?;
-        let fuel = fuel_or_usual(found.fuel);
-        let names = found.names;
-        return Ok(Some(Command::Run { file, fuel, names }));
+    found.fuel.is_none() && !found.names
+}
+
+// The number of units that a text may have.
+fn units_in(word: &str) -> Option<u32>
+    ensures units { result ≡ units_in word.now }
+    ensures range { IfSome result (λ units. (FEWEST_UNITS ≤ units) × (units ≤ MOST_UNITS)) }
+{
+    match number_in(MOST_UNITS, word.as_bytes()) {
+        Some(units) if units >= FEWEST_UNITS => Some(units),
+        _ => None,
     }
-    if !has_no_option(found) {
-        return Ok(None);
+}
+
+// What `make` asks for.
+fn made_by(found: Found, operand: &str) -> Option<Command>
+    ensures task { option_map task_of result ≡ (if has_workers_alone found then option_map make_units (units_in operand.now) else None) }
+    ensures range { IfSome result commands.HasRange }
+{
+    if !has_workers_alone(found) {
+        return None;
     }
+    match units_in(operand) {
+        Some(units) => Some(Command::Make { units }),
+        None => None,
+    }
+}
+
+// What `check` and `code` ask for of a file.
+fn compiled_by(alloc: Global, verb: &str, file: &str) -> Result<Option<Command>, NoMemory>
+    ensures task { IfOk result (λ command. option_map task_of command ≡ compiled_by verb.now file.now) }
+    ensures range { IfOk result (λ command. IfSome command commands.HasRange) }
+{
     if verb == "check" {
         let file = FileName::new(alloc, file)?;
         return Ok(Some(Command::Check { file }));
@@ -121,7 +134,33 @@ fn command_by(
     Ok(None)
 }
 
-// The command of a verb, by what the words behind it give: there is exactly one file.
+// What a verb asks for of its operand: `run` has all options, `make` the number of workers, and the others none.
+fn command_by(
+    alloc: Global,
+    verb: &str,
+    found: Found,
+    operand: &str,
+) -> Result<Option<Command>, NoMemory>
+    requires { HasRange found }
+    ensures task { IfOk result (λ command. option_map task_of command ≡ task_by verb.now found operand.now) }
+    ensures range { IfOk result (λ command. IfSome command commands.HasRange) }
+{
+    if verb == "run" {
+        let file = FileName::new(alloc, operand)?;
+        let fuel = fuel_or_usual(found.fuel);
+        let names = found.names;
+        return Ok(Some(Command::Run { file, fuel, names }));
+    }
+    if verb == "make" {
+        return Ok(made_by(found, operand));
+    }
+    if !has_no_option(found) {
+        return Ok(None);
+    }
+    compiled_by(alloc, verb, operand)
+}
+
+// The command of a verb, by what the words behind it give: there is exactly one operand.
 fn command_in(
     alloc: Global,
     verb: &str,
@@ -130,7 +169,7 @@ fn command_in(
 ) -> Result<Option<Command>, NoMemory>
     requires { HasRange found }
     ensures task { IfOk result (λ command. option_map task_of command ≡ task_of_found verb.now (map string_bytes words.now) found) }
-    ensures fuel { IfOk result (λ command. IfSome command HasFuel) }
+    ensures range { IfOk result (λ command. IfSome command commands.HasRange) }
 {
     match found.due {
         Due::Workers | Due::Fuel => return Ok(None),
@@ -149,7 +188,7 @@ fn command_in(
 fn command_behind(alloc: Global, verb: &str, words: &[String]) -> Result<Option<Command>, NoMemory>
     ensures task { IfOk result (λ command. option_map task_of command
         ≡ option_and_then (task_of_found verb.now (map string_bytes words.now)) (steps start 0 (map string_bytes words.now))) }
-    ensures fuel { IfOk result (λ command. IfSome command HasFuel) }
+    ensures range { IfOk result (λ command. IfSome command commands.HasRange) }
 {
     match found_in(words) {
         None => Ok(None),
@@ -160,7 +199,7 @@ fn command_behind(alloc: Global, verb: &str, words: &[String]) -> Result<Option<
 /// The command that the words are, without the program's name; none where they are no command.
 pub fn command_of(alloc: Global, words: &[String]) -> Result<Option<Command>, NoMemory>
     ensures task { IfOk result (λ command. option_map task_of command ≡ task_in (map string_bytes words.now)) }
-    ensures fuel { IfOk result (λ command. IfSome command HasFuel) }
+    ensures range { IfOk result (λ command. IfSome command commands.HasRange) }
 {
     match words {
         [] => Ok(None),

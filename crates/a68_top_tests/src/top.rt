@@ -646,6 +646,20 @@ fn a_write_fails_between_two_strands_texts(rt: HostRuntime) {
     drop(left);
 }
 
+/// Units of a made text, what is printed, and what is noted.
+const MADE: &[(&str, &str, &str)] = &[
+    ("3", "                  +6", "units 3 events 38\n"),
+    ("2", "                  +3", "units 2 events 29\n"),
+];
+
+#[test]
+fn texts_are_made_and_run(rt: HostRuntime) {
+    for (units, out, notes) in MADE {
+        let words = ["make", units];
+        answers(&rt, rt.alloc(), of_words(&words, ""), 0, (out, notes));
+    }
+}
+
 /// Texts that are run with their names, the status, and what is noted.
 const NAMED: &[(&str, u8, &str)] = &[
     ("( INT x := 4; BOOL b; x +:= 1 )", 0, "x = 5\nb = unset\n"),

@@ -5,7 +5,8 @@ use std::alloc::Global;
 use std::panic::Expect;
 use std::process::Abort;
 
-// The verb of a command, its file, and its fuel, which is 0 where it has none. Names are told with the verb.
+// The verb of a command, its file, and its fuel, which is 0 where it has none. Names are told with the verb. A made text has
+// no file, and its units are told in the place of the fuel.
 fn parts(command: &Command) -> (&'static str, &str, u32) {
     match command {
         Command::Run { file, fuel, names } => (
@@ -15,6 +16,7 @@ fn parts(command: &Command) -> (&'static str, &str, u32) {
         ),
         Command::Check { file } => ("check", file.as_str(), 0),
         Command::Code { file } => ("code", file.as_str(), 0),
+        Command::Make { units } => ("make", "", *units),
     }
 }
 
@@ -132,6 +134,24 @@ fn words_check_and_list_files(rt: HostRuntime) {
     }
 }
 
+/// Words that ask for a made text, and its units.
+const MADE: &[(&[&str], u32)] = &[
+    (&["make", "2"], 2),
+    (&["make", "3"], 3),
+    (&["make", "2000"], 2000),
+    (&["make", "00000002"], 2),
+    (&["make", "--", "7"], 7),
+    (&["make", "3", "--workers", "2"], 3),
+    (&["make", "--workers=64", "3"], 3),
+];
+
+#[test]
+fn words_make_texts(rt: HostRuntime) {
+    for (words, units) in MADE {
+        are_command(&rt, rt.alloc(), words, ("make", "", *units));
+    }
+}
+
 /// Words that no command has, or too many files, or none.
 const MISSHAPEN: &[&[&str]] = &[
     &[],
@@ -239,8 +259,15 @@ const UNSUITED: &[&[&str]] = &[
     &["code", "f", "--workers=1"],
     &["code", "--", "f", "g"],
     &["make"],
-    &["make", "3"],
-    &["make", "3", "--workers", "2"],
+    &["make", "0"],
+    &["make", "1"],
+    &["make", "2001"],
+    &["make", "000000002"],
+    &["make", "f"],
+    &["make", "-3"],
+    &["make", "3", "4"],
+    &["make", "3", "--fuel", "7"],
+    &["make", "3", "--workers", "65"],
     &["explain", "S6"],
     &["try", "f"],
 ];

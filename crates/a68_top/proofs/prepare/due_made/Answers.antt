@@ -2,7 +2,7 @@ use Rattle.std.proofs.Common.{◌≡◌, [], rules}
 use Rattle.a68_top.proofs.prepare.due_made.Goals as goal
 
 pub returns-in-Run-clause-answer : goal.returns-in-Run-clause-answer
-returns-in-Run-clause-answer c = rw c.in-Run.is c.ran.ensures.answer
+returns-in-Run-clause-answer c = rw c.in-Run.is (rw c.telling_of.ensures at c.ran.ensures.answer)
 
 pub returns-in-Check-clause-answer : goal.returns-in-Check-clause-answer
 returns-in-Check-clause-answer c =

@@ -1,0 +1,24 @@
+use Rattle.std.proofs.Common.{◌≡◌, ap, sym}
+use Rattle.std.specs.Prelude.{Some}
+use Rattle.a68_top.specs.Commands.{task_of}
+use Rattle.a68_top.specs.Words.{file_of}
+use Rattle.a68_top.proofs.Told.{fetched, made}
+use Rattle.a68_top.proofs.prepare.text_for.Goals as goal
+
+pub returns-in-Run-clause-text : goal.returns-in-Run-clause-text
+returns-in-Run-clause-text g c =
+    let e : file_of (task_of c.args.command.now) ≡ Some c.as_str.result.now = rw c.in-Run.is (ap Some (sym c.as_str.ensures)) in
+    fetched (task_of c.args.command.now) (g.F.Shelf.under c.args.shelf.now) c.as_str.result.now c.fetch.result e c.fetch.ensures.text c.fetch.ensures.length
+
+pub returns-in-Check-clause-text : goal.returns-in-Check-clause-text
+returns-in-Check-clause-text g c =
+    let e : file_of (task_of c.args.command.now) ≡ Some c.as_str-in-Check.result.now = rw c.in-Check.is (ap Some (sym c.as_str-in-Check.ensures)) in
+    fetched (task_of c.args.command.now) (g.F.Shelf.under c.args.shelf.now) c.as_str-in-Check.result.now c.fetch-in-Check.result e c.fetch-in-Check.ensures.text c.fetch-in-Check.ensures.length
+
+pub returns-in-Code-clause-text : goal.returns-in-Code-clause-text
+returns-in-Code-clause-text g c =
+    let e : file_of (task_of c.args.command.now) ≡ Some c.as_str-in-Code.result.now = rw c.in-Code.is (ap Some (sym c.as_str-in-Code.ensures)) in
+    fetched (task_of c.args.command.now) (g.F.Shelf.under c.args.shelf.now) c.as_str-in-Code.result.now c.fetch-in-Code.result e c.fetch-in-Code.ensures.text c.fetch-in-Code.ensures.length
+
+pub returns-in-Make-clause-text : goal.returns-in-Make-clause-text
+returns-in-Make-clause-text g c = rw c.in-Make.is (made (g.F.Shelf.under c.args.shelf.now) c.in-Make.units c.made_text.result c.made_text.ensures.text)
