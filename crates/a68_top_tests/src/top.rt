@@ -808,7 +808,7 @@ const MISUSED: &[&[&str]] = &[
     &["check", "f", "g"],
     &["check", "f", "--names"],
     &["code", "f", "--fuel", "7"],
-    &["make", "3"],
+    &["make", "2001"],
 ];
 
 #[test]
