@@ -72,8 +72,6 @@ pub enum Rule {
     L4,
     /// More instructions than a program may have (own).
     L7,
-    /// A form of the language that this compiler does not compile yet (own).
-    X0,
 }
 
 impl Rule {
@@ -108,7 +106,6 @@ impl Rule {
             Rule::L3 => "L3",
             Rule::L4 => "L4",
             Rule::L7 => "L7",
-            Rule::X0 => "X0",
         }
     }
 }

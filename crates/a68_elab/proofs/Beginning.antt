@@ -7,7 +7,10 @@ use Rattle.a68_annot.specs.declared.annotated.Annotated.{Annotated}
 use Rattle.a68_annot.specs.declared.note.Note.{Note}
 use Rattle.a68_elab.specs.Constants.{value_in}
 use Rattle.a68_elab.specs.Made as made
-use Rattle.a68_elab.specs.Made.{body_of, bytes_of, defined_bound, no_bound, seen, tree_in, last_id, parallel_unit_of, parts_at, program_of, tree_at, tree_from, trees_at, unit, coerced, behind_proc, behind_ref, all_but_last, last_tree, spelling_of, is_one_of, called, printers, wholes, items_at, begins_with, is_heap, is_declarer, behind_heap, first_bounds, new_name}
+use Rattle.a68_elab.specs.Programs as programs
+use Rattle.a68_elab.specs.Made.{bytes_of, seen, last_id, parts_at, trees_at, coerced, behind_proc, behind_ref, all_but_last, last_tree, spelling_of, is_one_of, called, printers, wholes, items_at, begins_with, is_heap, is_declarer, behind_heap, first_bounds, new_name}
+use Rattle.a68_elab.specs.Runs.{agrees, is_outcome, left_by, outcome, outcome_by}
+use Rattle.a68_elab.specs.Programs.{asked_tree, body_yields, fitting, misfit, place_of, body_of, defined_bound, no_bound, tree_in, parallel_unit_of, program_of, tree_at, tree_from, unit}
 use Rattle.a68_elab.specs.Places.{BeginsBy, AllBeginBy, SpecsBeginBy, TestBeginsBy, ApartBeginBy, ProgramBeginsBy}
 use Rattle.a68_elab.specs.declared.bound.Bound.{Bound}
 use Rattle.a68_elab.specs.declared.bound.Bound.TheVariants as bound
@@ -64,6 +67,10 @@ module _ (end : ℕ) where
   variable_begins new false place mode slot no_trees p n b = tt
   variable_begins new false place mode slot (source and_tree no_trees) p n b = (p, ((p, (n, (b.0, tt))), tt))
   variable_begins new false place mode slot (source and_tree (t and_tree ts)) p n b = tt
+
+  misfit_begins : (place : ℕ) (wanted : Bool) → place ≤ end → BeginsBy end (misfit place wanted)
+  misfit_begins place true p = (p, ((p, tt), tt))
+  misfit_begins place false p = (p, ((p, ((p, tt), tt)), tt))
 
   trees_begin : (f : ℕ → Tree) (ids : List ℕ) → ((id : ℕ) → BeginsBy end (f id)) → AllBeginBy end (trees_at f ids)
   trees_begin f [] h = tt
@@ -254,8 +261,11 @@ module _ (end : ℕ) where
       let rest : (i : ℕ) → BeginsBy end (f i) = λ i. node_begins a sight g (suc base) nodes notes w all (λ k n e. h (suc k) n e) i in
       let here : node.span.from ≤ end = h 0 node refl in
       let as_seen = seen a sight note in
-      either_begins (nat_eq id base) (unit a g f node as_seen) (f id)
+      let asked = outcome_by a node note node.kind in
+      either_begins (nat_eq id base) (fitting a node note (unit a g f node as_seen)) (f id)
+      (either_begins (agrees asked (left_by a node note)) (unit a g f node as_seen) (misfit node.span.from (is_outcome true asked))
       (coerced_begins a.modes node.span.from as_seen.goal as_seen.mode as_seen.path (made.made a g f node as_seen node.kind) here (construct_begins a g f node as_seen node.kind here w rest all))
+      (misfit_begins node.span.from (is_outcome true asked) here))
       (rest id)
 
   first_begins : (o : Option Node) → ((n : Node) → o ≡ Some n → n.span.from ≤ end) → option_map_or (λ (n : Node). n.span.from) o 0 ≤ end
@@ -272,6 +282,11 @@ module _ (end : ℕ) where
   tree_at_begins program h id =
       node_begins program sight.Here (defined_bound program sight.Here) 0 program.tree.nodes program.notes (λ frames k. within_begins program frames (bytes_of program k) h k) h h id
 
+  asked_begins_by : (a : Annotated) (wanted : Bool) (id : ℕ) → ((id : ℕ) (n : Node) → slice_get a.tree.nodes id ≡ Some n → n.span.from ≤ end) → BeginsBy end (asked_tree a wanted id)
+  asked_begins_by a wanted id h =
+      either_begins (is_outcome wanted (outcome a id)) (tree_at a id) (misfit (place_of a id) wanted) (tree_at_begins a h id)
+      (misfit_begins (place_of a id) wanted (first_begins (slice_get a.tree.nodes id) (λ n e. h id n e)))
+
   joined_begin : (xs ys : List Apart) → ApartBeginBy end xs → ApartBeginBy end ys → ApartBeginBy end (xs ++ ys)
   joined_begin [] ys p q = q
   joined_begin (routine_text body ∷ xs) ys p q = (p.0, joined_begin xs ys p.1 q)
@@ -280,13 +295,13 @@ module _ (end : ℕ) where
   texts_begin : (a : Annotated) (ids : List ℕ) → ((id : ℕ) (n : Node) → slice_get a.tree.nodes id ≡ Some n → n.span.from ≤ end)
       → ApartBeginBy end (map (λ id. routine_text (body_of a id)) ids)
   texts_begin a [] h = tt
-  texts_begin a (id ∷ ids) h = ((first_begins (slice_get a.tree.nodes id) (λ n e. h id n e), tree_at_begins a h (last_id (parts_at a id))), texts_begin a ids h)
+  texts_begin a (id ∷ ids) h = ((first_begins (slice_get a.tree.nodes id) (λ n e. h id n e), asked_begins_by a (body_yields a id) (last_id (parts_at a id)) h), texts_begin a ids h)
 
   -- the units that nodes have which begin by that byte
   placed_begin : (a : Annotated) (place : ℕ) (ids : List ℕ) → place ≤ end → ((id : ℕ) (n : Node) → slice_get a.tree.nodes id ≡ Some n → n.span.from ≤ end)
       → ApartBeginBy end (map (λ u. parallel_unit (parallel_unit_of a u)) (map (λ id. (place, id)) ids))
   placed_begin a place [] p h = tt
-  placed_begin a place (id ∷ ids) p h = ((p, tree_at_begins a h id), placed_begin a place ids p h)
+  placed_begin a place (id ∷ ids) p h = ((p, asked_begins_by a false id h), placed_begin a place ids p h)
 
   unit_begins : (a : Annotated) (byte : ℕ) (n : Node) (b : Bool) → n.span.from ≤ end → ((id : ℕ) (m : Node) → slice_get a.tree.nodes id ≡ Some m → m.span.from ≤ end)
       → ApartBeginBy end (map (λ u. parallel_unit (parallel_unit_of a u)) (if b then map (λ id. (n.span.from, id)) (made.beginning_at a byte n.parts) else []))
@@ -305,13 +320,13 @@ module _ (end : ℕ) where
       either_of a (made.unit_in a byte n) (made.unit_among a byte ns) (unit_begins a byte n (made.is_parallel n.kind) (all 0 n refl) h)
       (units_begin a byte ns (λ k m e. all (suc k) m e) h)
 
-  apart_begins : (a : Annotated) (byte : ℕ) → ((id : ℕ) (n : Node) → slice_get a.tree.nodes id ≡ Some n → n.span.from ≤ end) → ApartBeginBy end (made.apart_before a byte)
+  apart_begins : (a : Annotated) (byte : ℕ) → ((id : ℕ) (n : Node) → slice_get a.tree.nodes id ≡ Some n → n.span.from ≤ end) → ApartBeginBy end (programs.apart_before a byte)
   apart_begins a zero h = tt
   apart_begins a (suc byte) h =
-      joined_begin (made.apart_before a byte) (made.apart_at a byte) (apart_begins a byte h)
+      joined_begin (programs.apart_before a byte) (programs.apart_at a byte) (apart_begins a byte h)
       (joined_begin (map (λ u. parallel_unit (parallel_unit_of a u)) (made.unit_among a byte a.tree.nodes)) (map (λ id. routine_text (body_of a id)) (made.text_among byte 0 a.tree.nodes))
       (units_begin a byte a.tree.nodes h h) (texts_begin a (made.text_among byte 0 a.tree.nodes) h))
 
 -- where all nodes begin by a byte, the constructs do
 pub program_begins : (program : Annotated) (end : ℕ) → ((id : ℕ) (n : Node) → slice_get program.tree.nodes id ≡ Some n → n.span.from ≤ end) → ProgramBeginsBy end (program_of program)
-program_begins program end h = record { place = first_begins end (slice_get program.tree.nodes 0) (λ n e. h 0 n e); tree = tree_at_begins end program h 0; apart = apart_begins end program (made.behind_all program.tree.nodes) h }
+program_begins program end h = record { place = first_begins end (slice_get program.tree.nodes 0) (λ n e. h 0 n e); tree = asked_begins_by end program false 0 h; apart = apart_begins end program (made.behind_all program.tree.nodes) h }

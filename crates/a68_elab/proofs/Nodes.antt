@@ -5,7 +5,8 @@ use Rattle.std.proofs.lemmas.Bool.{cases_lt}
 use Rattle.std.specs.Prelude.{if◌then◌else◌}
 use Rattle.a68_annot.specs.declared.annotated.Annotated.{Annotated}
 use Rattle.a68_annot.specs.declared.note.Note.{Note}
-use Rattle.a68_elab.specs.Made.{behind, bytes_of, defined_bound, no_bound, seen, tree_from, tree_in, unit, trees_at}
+use Rattle.a68_elab.specs.Made.{bytes_of, seen, trees_at}
+use Rattle.a68_elab.specs.Programs.{fitting, behind, defined_bound, no_bound, tree_from, tree_in, unit}
 use Rattle.a68_elab.specs.declared.sight.Sight.{Sight}
 use Rattle.a68_elab.specs.declared.sight.Sight.TheVariants as sight
 use Rattle.a68_elab.specs.Trees.{Tree, Trees, unbuilt, ◌and_tree◌}
@@ -43,7 +44,7 @@ module _ (a : Annotated) (sight : Sight) (g : (frames id : ℕ) → Tree) where
       → tree_from a sight g base (node ∷ nodes) (note ∷ notes) id ≡ tree_from a sight g (suc base) nodes notes id
   skips base node nodes note notes id ne =
       let rest = tree_from a sight g (suc base) nodes notes in
-      ap (λ (b : Bool). if b then unit a g rest node (seen a sight note) else rest id) (ne_eqb id base ne)
+      ap (λ (b : Bool). if b then fitting a node note (unit a g rest node (seen a sight note)) else rest id) (ne_eqb id base ne)
 
   -- a node before all of them
   before_all : (base : ℕ) (nodes : List Node) (notes : List Note) (id : ℕ) → id < base → tree_from a sight g base nodes notes id ≡ unbuilt
@@ -64,7 +65,7 @@ module _ (a : Annotated) (sight : Sight) (g : (frames id : ℕ) → Tree) where
           (λ h. before_all (suc base) nodes notes i (omega arith) ∙ sym (behind_none base i all h)) c
 
   tree_of_node : (base : ℕ) (nodes : List Node) (notes : List Note) (k : ℕ) (node : Node) (note : Note) → slice_get nodes k ≡ Some node → slice_get notes k ≡ Some note
-      → tree_from a sight g base nodes notes (base + k) ≡ unit a g (behind (base + k) (tree_from a sight g base nodes notes)) node (seen a sight note)
+      → tree_from a sight g base nodes notes (base + k) ≡ fitting a node note (unit a g (behind (base + k) (tree_from a sight g base nodes notes)) node (seen a sight note))
   tree_of_node base [] notes k node note e f = absurd (cc)
   tree_of_node base (n ∷ nodes) [] k node note e f = absurd (cc)
   tree_of_node base (first ∷ nodes) (about ∷ notes) zero node note e f =
@@ -74,11 +75,11 @@ module _ (a : Annotated) (sight : Sight) (g : (frames id : ℕ) → Tree) where
       let is_note : about ≡ note = cc in
       let q : base + 0 ≡ base = omega arith in
       ap all q
-      ∙ ap (λ (b : Bool). if b then unit a g rest first (seen a sight about) else rest base) (eq-eqb base base refl)
-      ∙ ap (λ (t : ℕ → Tree). unit a g t first (seen a sight about)) (rest_is base first nodes about notes)
-      ∙ ap (λ (n : ℕ). unit a g (behind n all) first (seen a sight about)) (sym q)
-      ∙ ap (λ (n : Node). unit a g (behind (base + 0) all) n (seen a sight about)) is
-      ∙ ap (λ (n : Note). unit a g (behind (base + 0) all) node (seen a sight n)) is_note
+      ∙ ap (λ (b : Bool). if b then fitting a first about (unit a g rest first (seen a sight about)) else rest base) (eq-eqb base base refl)
+      ∙ ap (λ (t : ℕ → Tree). fitting a first about (unit a g t first (seen a sight about))) (rest_is base first nodes about notes)
+      ∙ ap (λ (n : ℕ). fitting a first about (unit a g (behind n all) first (seen a sight about))) (sym q)
+      ∙ ap (λ (n : Node). fitting a n about (unit a g (behind (base + 0) all) n (seen a sight about))) is
+      ∙ ap (λ (n : Note). fitting a node n (unit a g (behind (base + 0) all) node (seen a sight n))) is_note
   tree_of_node base (first ∷ nodes) (about ∷ notes) (suc k) node note e f =
       let all = tree_from a sight g base (first ∷ nodes) (about ∷ notes) in
       let q : base + suc k ≡ suc base + k = omega arith in
@@ -86,18 +87,18 @@ module _ (a : Annotated) (sight : Sight) (g : (frames id : ℕ) → Tree) where
       skips base first nodes about notes (base + suc k) ne
       ∙ ap (tree_from a sight g (suc base) nodes notes) q
       ∙ tree_of_node (suc base) nodes notes k node note e f
-      ∙ ap (λ (t : ℕ → Tree). unit a g (behind (suc base + k) t) node (seen a sight note)) (rest_is base first nodes about notes)
-      ∙ ap (λ (t : ℕ → Tree). unit a g t node (seen a sight note)) (behind_twice base (suc base + k) all (omega arith))
-      ∙ ap (λ (n : ℕ). unit a g (behind n all) node (seen a sight note)) (sym q)
+      ∙ ap (λ (t : ℕ → Tree). fitting a node note (unit a g (behind (suc base + k) t) node (seen a sight note))) (rest_is base first nodes about notes)
+      ∙ ap (λ (t : ℕ → Tree). fitting a node note (unit a g t node (seen a sight note))) (behind_twice base (suc base + k) all (omega arith))
+      ∙ ap (λ (n : ℕ). fitting a node note (unit a g (behind n all) node (seen a sight note))) (sym q)
 
 pub tree_of_nodes : (program : Annotated) (sight : Sight) (id : ℕ) (node : Node) (note : Note) → slice_get program.tree.nodes id ≡ Some node → slice_get program.notes id ≡ Some note
-    → tree_in program sight id ≡ unit program (defined_bound program sight) (behind id (tree_in program sight)) node (seen program sight note)
+    → tree_in program sight id ≡ fitting program node note (unit program (defined_bound program sight) (behind id (tree_in program sight)) node (seen program sight note))
 unfolding tree_in
 tree_of_nodes program sight id node note e f =
     let g = defined_bound program sight in
     let all = tree_from program sight g 0 program.tree.nodes program.notes in
     let q : 0 + id ≡ id = omega arith in
-    ap all (sym q) ∙ tree_of_node program sight g 0 program.tree.nodes program.notes id node note e f ∙ ap (λ (n : ℕ). unit program g (behind n all) node (seen program sight note)) q
+    ap all (sym q) ∙ tree_of_node program sight g 0 program.tree.nodes program.notes id node note e f ∙ ap (λ (n : ℕ). fitting program node note (unit program g (behind n all) node (seen program sight note))) q
 
 -- a bound of a definition is one that is seen from within it
 pub defined_is : (program : Annotated) (frames id : ℕ) → defined_bound program sight.Here frames id ≡ tree_in program (sight.Within frames (bytes_of program id)) id

@@ -1,4 +1,4 @@
--- The tree of a program, of the list of its annotated nodes.
+-- The construct that a node of an annotated tree stands for, over the trees of its parts.
 use Rattle.std.specs.Prelude.{ℕ, zero, suc, ◌+◌, pos, max, min, Bool, true, false, not, ◌&&◌, ◌||◌, List, [], ◌∷◌, ◌++◌, length, map, None, Some, codes, slice_get, take, nat_eq, nat_le, nat_lt, if◌then◌else◌}
 use Rattle.std.specs.List.{list_any}
 use Rattle.std.specs.Option.{is_some, option_map_or, option_and_then}
@@ -675,7 +675,7 @@ abbrev pub numbers_of : Annotated → List ℕ → List ℕ
 numbers_of a ids = map (λ id. unit_number a (bytes_of a id).from) ids
 
 -- The construct that a node stands for: `f` gives the trees of the nodes behind it, and `g` those of the bounds that stand in
--- definitions of mode words, so many frames further out. One row for each kind of node; the others are not built yet.
+-- definitions of mode words, so many frames further out. One row for each kind of node; the others stand for none.
 abbrev pub made : Annotated → (g : (frames id : ℕ) → Tree) (f : ℕ → Tree) → Node → Note → NodeKind → Tree
 made a g f node note kind.Denotation = denoted node.span.from (option_and_then value_in (spelling_of a node))
 made a g f node note kind.Skip = leaf node.span.from (skip note.goal)
@@ -716,70 +716,3 @@ made a g f node note kind.Conformity = conformity_of a f node.span.from note.goa
 made a g f node note kind.Loop = loop_of a f node.span.from node.parts
 made a g f node note kind.Parallel = parallel node.span.from (numbers_of a node.parts)
 made a g f node note _ = unbuilt
-
-abbrev pub unit : Annotated → (g : (frames id : ℕ) → Tree) (f : ℕ → Tree) → Node → Note → Tree
-unit a g f node note = coerced a.modes node.span.from note.goal note.mode note.path (made a g f node note node.kind)
-
--- the tree of node `id` as it is seen, where the lists begin with node `base`: the parts of a node stand behind it
-abbrev pub tree_from : Annotated → Sight → (g : (frames id : ℕ) → Tree) (base : ℕ) → List Node → List Note → (id : ℕ) → Tree
-tree_from a sight g base [] notes id = unbuilt
-tree_from a sight g base (node ∷ nodes) [] id = unbuilt
-tree_from a sight g base (node ∷ nodes) (note ∷ notes) id =
-    if nat_eq id base then unit a g (tree_from a sight g (suc base) nodes notes) node (seen a sight note) else tree_from a sight g (suc base) nodes notes id
-
--- within the bounds of a definition no mode word has bounds: what breaks this is refused, and 0 stands in its place (own)
-abbrev pub no_bound : (frames id : ℕ) → Tree
-no_bound frames id = leaf 0 (constant (plain (value.Int (pos 0))))
-
--- the tree of a bound in the definition of a mode word that is applied so many frames further in
-abbrev pub defined_bound : Annotated → Sight → (frames id : ℕ) → Tree
-defined_bound a sight.Here frames id = tree_from a (sight.Within frames (bytes_of a id)) no_bound 0 a.tree.nodes a.notes id
-defined_bound a (sight.Within hops bytes) frames id = no_bound frames id
-
--- the tree of a node as it is seen
-unfoldable pub tree_in : Annotated → Sight → (id : ℕ) → Tree
-tree_in a sight id = tree_from a sight (defined_bound a sight) 0 a.tree.nodes a.notes id
-
--- the tree of a node where it is written
-abbrev pub tree_at : Annotated → (id : ℕ) → Tree
-tree_at a id = tree_in a sight.Here id
-
--- the trees of the nodes behind a node; nothing else is looked at
-abbrev pub behind : (id : ℕ) → (ℕ → Tree) → ℕ → Tree
-behind id f i = if nat_lt id i then f i else unbuilt
-
--- ---- programs
-
-abbrev pub place_of : Annotated → (id : ℕ) → ℕ
-place_of a id = option_map_or (λ (n : Node). n.span.from) (slice_get a.tree.nodes id) 0
-
--- the body of a routine text is its last part; it leaves a value where the mode of the routine is not one without a yield
-abbrev pub body_of : Annotated → (id : ℕ) → Body
-body_of a id = record {
-  place = place_of a id;
-  yields = not (is_void (shape_at a.modes (behind_proc (shape_at a.modes (mode_of a id)))));
-  tree = tree_at a (last_id (parts_at a id));
-}
-
--- a unit of a parallel clause that begins there
-abbrev pub parallel_unit_of : Annotated → (ℕ × ℕ) → ParallelUnit
-parallel_unit_of a u = record { place = u.0; tree = tree_at a u.1 }
-
--- what stands apart and begins at a byte: the unit of a parallel clause before the routine text that it is (own)
-abbrev pub apart_at : Annotated → (byte : ℕ) → List Apart
-apart_at a byte =
-    map (λ u. parallel_unit (parallel_unit_of a u)) (unit_among a byte a.tree.nodes) ++ map (λ id. routine_text (body_of a id)) (text_among byte 0 a.tree.nodes)
-
--- what stands apart and begins before a byte, in order of text
-abbrev pub apart_before : Annotated → (byte : ℕ) → List Apart
-apart_before a zero = []
-apart_before a (suc byte) = apart_before a byte ++ apart_at a byte
-
--- the program of an annotated tree, whose first node is that of the whole text
-abbrev pub program_of : Annotated → Program
-program_of a = record {
-  place = place_of a 0;
-  tree = tree_at a 0;
-  apart = apart_before a (behind_all a.tree.nodes);
-  modes = a.modes;
-}

@@ -13,7 +13,8 @@ use Rattle.a68_code.specs.declared.code.Instr.{Instr}
 use Rattle.a68_code.specs.declared.does.Does.{Does}
 use Rattle.a68_code.specs.declared.does.Does.TheVariants as does
 use Rattle.a68_elab.proofs.Nodes.{behind_all}
-use Rattle.a68_elab.specs.Made.{before_out, begun_by, behind, conformity_of, framed, goal_at, has_tag, left_out, out_of, parts_at, phrases_of, spec_mode, spec_of, specs_of, trees_at}
+use Rattle.a68_elab.specs.Made.{before_out, begun_by, conformity_of, framed, goal_at, has_tag, left_out, out_of, parts_at, phrases_of, spec_mode, spec_of, specs_of, trees_at}
+use Rattle.a68_elab.specs.Programs.{behind}
 use Rattle.a68_elab.specs.Trees.{Tree, Trees, conformity, Specs, no_specs, spec, while_in}
 use Rattle.a68_gen.proofs.Chaining.{framed_list, kept_writes, never_none, was_none}
 use Rattle.a68_gen.proofs.Constructs.{parts_are}

@@ -14,7 +14,9 @@ use Rattle.a68_acts.specs.Operations.{bind, tag, compose, display, row_up, row_u
 use Rattle.a68_code.specs.declared.does.Does.{Does}
 use Rattle.a68_code.specs.declared.does.Does.TheVariants as does
 use Rattle.a68_elab.specs.Made as made
-use Rattle.a68_elab.specs.Made.{coerced, behind_proc, behind_ref, leaf, only, rowed_to, tree_in, trees_at, all_but_last, last_tree}
+use Rattle.a68_elab.specs.Programs as programs
+use Rattle.a68_elab.specs.Made.{coerced, behind_proc, behind_ref, leaf, only, rowed_to, trees_at, all_but_last, last_tree}
+use Rattle.a68_elab.specs.Programs.{tree_in}
 use Rattle.a68_elab.specs.declared.bound.Bound.{Bound}
 use Rattle.a68_elab.specs.declared.sight.Sight.{Sight}
 use Rattle.a68_elab.specs.Trees.{Tree, Trees, operation, together, collateral, serial, choice, call, unbuilt, no_trees, ◌and_tree◌, count}
@@ -159,20 +161,20 @@ pub bound-cons : (g : (frames id : ℕ) → Tree) (f : ℕ → Tree) (place at i
 bound-cons g f place at i bounds d p = rw (add-one, drop-cons bounds i d, size_stretch (made.bound_tree g f place (get_or bounds i d)) at) refl
 
 -- a number of no node has no tree
-tree-past : (a : Annotated) (s : Sight) (g : (frames id : ℕ) → Tree) (base k : ℕ) (nodes : List Node) (notes : List Note) → base + length nodes ≤ k → made.tree_from a s g base nodes notes k ≡ unbuilt
+tree-past : (a : Annotated) (s : Sight) (g : (frames id : ℕ) → Tree) (base k : ℕ) (nodes : List Node) (notes : List Note) → base + length nodes ≤ k → programs.tree_from a s g base nodes notes k ≡ unbuilt
 tree-past a s g base k [] notes past = refl
 tree-past a s g base k (n ∷ nodes) [] past = refl
 tree-past a s g base k (n ∷ nodes) (m ∷ notes) past =
-    let f = made.tree_from a s g (suc base) nodes notes in
+    let f = programs.tree_from a s g (suc base) nodes notes in
     let other : k ≢ base = λ e. omega (arith, past, e) in
-    ap (λ (b : Bool). if b then made.unit a g f n (made.seen a s m) else f k) (ne_eqb k base other) ∙ tree-past a s g (suc base) k nodes notes (omega (arith, past))
+    ap (λ (b : Bool). if b then programs.fitting a n m (programs.unit a g f n (made.seen a s m)) else f k) (ne_eqb k base other) ∙ tree-past a s g (suc base) k nodes notes (omega (arith, past))
 
 pub none-past : (a : Annotated) (s : Sight) (k : ℕ) → length a.tree.nodes ≤ k → tree_in a s k ≡ unbuilt
 unfolding tree_in
-none-past a s k past = tree-past a s (made.defined_bound a s) 0 k a.tree.nodes a.notes (omega (arith, past))
+none-past a s k past = tree-past a s (programs.defined_bound a s) 0 k a.tree.nodes a.notes (omega (arith, past))
 
 -- nor has one that does not stand behind a node
-pub none-behind : (a : Annotated) (s : Sight) (id k : ℕ) → (nat_lt id k && nat_lt k (length a.tree.nodes)) ≡ false → made.behind id (tree_in a s) k ≡ unbuilt
+pub none-behind : (a : Annotated) (s : Sight) (id k : ℕ) → (nat_lt id k && nat_lt k (length a.tree.nodes)) ≡ false → programs.behind id (tree_in a s) k ≡ unbuilt
 none-behind a s id k is = go (nat_lt id k) is
   where
     go : (b : Bool) → (b && nat_lt k (length a.tree.nodes)) ≡ false → (if b then tree_in a s k else unbuilt) ≡ unbuilt

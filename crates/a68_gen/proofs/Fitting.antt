@@ -1,4 +1,4 @@
--- A program whose nodes all run fits what is taken of its trees.
+-- The trees of a program fit what is taken of them.
 use Rattle.std.proofs.Common.{◌≡◌, ℕ, zero, suc, ◌+◌, ◌<◌, ◌≤◌, Bool, true, false, List, [], ◌∷◌, ◌++◌, length, length-append, refl, sym, ◌∙◌, ap, subst, arith, None, Some, slice_get}
 use Rattle.std.proofs.lemmas.Bool.{false≢true, eq-eqb, leb-true, lt-ltb}
 use Rattle.std.proofs.lemmas.Option.{same_Some, slice_get_within}
@@ -13,7 +13,8 @@ use Rattle.a68_base.specs.declared.refusal.Span.{Span}
 use Rattle.a68_elab.proofs.Nodes.{behind_is, defined_is, tree_of_nodes}
 use Rattle.a68_elab.specs.Constants.{value_in}
 use Rattle.a68_elab.specs.Made as made
-use Rattle.a68_elab.specs.Made.{apart_before, beginning_at, is_parallel, numbers_of, or_other, parallel_unit_of, unit_among, unit_in, unit_number, units_before, bytes_of, defined_bound, hops_seen, seen, tree_in, all_but_last, before_out, behind, behind_all, behind_heap, behind_proc, behind_ref, begins_with, body_of, called, coerced, field_in, fields_at, first_bounds, first_goal, form_of, forms_of, if_first, index_units, is_by, is_collateral, is_declarer, is_for, is_from, is_heap, is_one_of, is_out, is_routine_text, is_to, is_while, isnt, items_at, kind_at, last_id, last_tree, leaf, mode_of, new_name, only, only_id, out_of, parts_at, past, printers, program_of, rowed_to, spelling_of, standard_of, tag_of, text_among, text_number, texts_before, texts_in, tree_at, trees_at, wholes}
+use Rattle.a68_elab.specs.Made.{beginning_at, is_parallel, numbers_of, or_other, unit_among, unit_in, unit_number, units_before, bytes_of, hops_seen, seen, all_but_last, before_out, behind_all, behind_heap, behind_proc, behind_ref, begins_with, called, coerced, field_in, fields_at, first_bounds, first_goal, form_of, forms_of, if_first, index_units, is_by, is_collateral, is_declarer, is_for, is_from, is_heap, is_one_of, is_out, is_routine_text, is_to, is_while, isnt, items_at, kind_at, last_id, last_tree, leaf, mode_of, new_name, only, only_id, out_of, parts_at, past, printers, rowed_to, spelling_of, standard_of, tag_of, text_among, text_number, texts_before, texts_in, trees_at, wholes}
+use Rattle.a68_elab.specs.Programs.{asked_tree, body_yields, fitting, misfit, place_of, apart_before, parallel_unit_of, defined_bound, tree_in, behind, body_of, program_of, tree_at}
 use Rattle.a68_elab.specs.declared.sight.Sight.{Sight}
 use Rattle.a68_elab.specs.declared.sight.Sight.TheVariants as sight
 use Rattle.a68_elab.specs.Trees.{collateral, serial, Tree, Apart, routine_text, parallel_unit}
@@ -21,10 +22,11 @@ use Rattle.a68_gen.proofs.Ordered.{all-before}
 use Rattle.a68_gen.proofs.Entering.{index-is, map-long}
 use Rattle.a68_gen.specs.Fits.{ApartFits}
 use Rattle.a68_gen.specs.Operands.{ApartFitsModes}
-use Rattle.a68_runs.specs.Runs.{AllRun, agrees, agrees_at, all_leave, are_phrases, are_values, asks_value, call_leaves, case_runs, choice_runs, if_so, is_outcome, is_row, is_there, is_whole, last_outcome, leaves_as, left_by, loop_runs, parallel_runs, new_runs, outcome, outcome_at, outcome_by, path_leaves, proc_yields, refers, runs, selects, slice_runs, variable_runs, yields_value, conformity_runs}
+use Rattle.a68_elab.specs.Runs.{agrees, all_leave, are_phrases, are_values, asks_value, call_leaves, case_runs, choice_runs, if_so, is_outcome, is_row, is_there, last_outcome, leaves_as, left_by, loop_runs, parallel_runs, new_runs, outcome, outcome_at, outcome_by, path_leaves, proc_yields, refers, runs, selects, slice_runs, variable_runs, yields_value, conformity_runs}
 use Rattle.a68_runs.proofs.Between.{between-above, between-each}
-use Rattle.a68_runs.specs.Unready.{AreThere, IsThere}
+use Rattle.a68_runs.specs.Running.{AreThere, IsThere}
 use Rattle.a68_modes.specs.Nodes.{shape_at, HoldsNodes}
+use Rattle.a68_modes.specs.declared.shape.Shape.{Shape}
 use Rattle.a68_tree.specs.Trees.{AllBetween}
 use Rattle.a68_tree.specs.declared.kind.NodeKind.{NodeKind}
 use Rattle.a68_tree.specs.declared.kind.NodeKind.TheVariants as kind
@@ -146,25 +148,6 @@ module _ (a : Annotated) (there : AreThere a (length a.tree.nodes)) (nodes : Hol
 
 -- ---- routine texts
 
--- these nodes are routine texts
-abbrev pub AreTexts : Annotated → List ℕ → Type 0
-AreTexts a [] = Unit {0}
-AreTexts a (id ∷ ids) = ((n : Node) × (slice_get a.tree.nodes id ≡ Some n) × IsTrue (is_routine_text n.kind)) × AreTexts a ids
-
-among-are : (a : Annotated) (byte from : ℕ) (ns : List Node) → ((i : ℕ) (n : Node) → slice_get ns i ≡ Some n → slice_get a.tree.nodes (from + i) ≡ Some n) → AreTexts a (text_among byte from ns)
-among-are a byte from [] each = tt
-among-are a byte from (n ∷ ns) each =
-    go (is_routine_text n.kind) (nat_eq n.span.from byte) refl
-    (among-are a byte (suc from) ns (λ i m e. let z : suc from + i ≡ from + suc i = omega arith in rw z (each (suc i) m e)))
-  where
-    go : (t u : Bool) → is_routine_text n.kind ≡ t → AreTexts a (text_among byte (suc from) ns) → AreTexts a (if t && u then from ∷ [] else text_among byte (suc from) ns)
-    go true true e rest = ((n, (let z : from + 0 ≡ from = omega arith in rw z at (each 0 n refl)), e), tt)
-    go true false e rest = rest
-    go false u e rest = rest
-
-texts-are : (a : Annotated) (byte : ℕ) → AreTexts a (text_among byte 0 a.tree.nodes)
-texts-are a byte = among-are a byte 0 a.tree.nodes (λ i n e. let z : 0 + i ≡ i = omega arith in rw z e)
-
 -- a routine text is found at the byte at which it begins
 among-some : (byte from : ℕ) (ns : List Node) (i : ℕ) (n : Node) → slice_get ns i ≡ Some n → IsTrue (is_routine_text n.kind) → n.span.from ≡ byte → 0 < length (text_among byte from ns)
 among-some byte from [] i n e k at = absurd (cc)
@@ -270,68 +253,6 @@ units-within : (a : Annotated) (id : ℕ) (n : Node) → slice_get a.tree.nodes 
     → IsTrue (list_all (λ n. nat_lt n (all_units a)) (numbers_of a n.parts))
 units-within a id n e b k = all-within a n.parts (unit-within a id n e b k)
 
--- this node is a unit of a parallel clause
-pub record IsUnitNode (a : Annotated) (unit : ℕ) : Type 0 where
-  pub id : ℕ
-  pub node : Node
-  pub is : slice_get a.tree.nodes id ≡ Some node
-  pub parallel : IsTrue (is_parallel node.kind)
-  pub which : ℕ
-  pub among : slice_get node.parts which ≡ Some unit
-
-abbrev AreUnits : Annotated → List (ℕ × ℕ) → Type 0
-AreUnits a [] = Unit {0}
-AreUnits a (u ∷ us) = IsUnitNode a u.1 × AreUnits a us
-
-or-are : (a : Annotated) (xs ys : List (ℕ × ℕ)) → AreUnits a xs → AreUnits a ys → AreUnits a (or_other xs ys)
-or-are a [] ys p q = q
-or-are a (x ∷ xs) ys p q = p
-
-begun-are : (a : Annotated) (byte place id : ℕ) (n : Node) → slice_get a.tree.nodes id ≡ Some n → IsTrue (is_parallel n.kind) → (ids : List ℕ)
-    → ((j p : ℕ) → slice_get ids j ≡ Some p → (i : ℕ) × (slice_get n.parts i ≡ Some p)) → AreUnits a (map (λ p. (place, p)) (beginning_at a byte ids))
-begun-are a byte place id n e k [] each = tt
-begun-are a byte place id n e k (q ∷ ids) each = go (nat_eq (bytes_of a q).from byte) (begun-are a byte place id n e k ids (λ j p f. each (suc j) p f))
-  where
-    go : (t : Bool) → AreUnits a (map (λ p. (place, p)) (beginning_at a byte ids)) → AreUnits a (map (λ p. (place, p)) (if t then q ∷ [] else beginning_at a byte ids))
-    go true later = let f = each 0 q refl in (record { id = id; node = n; is = e; parallel = k; which = f.0; among = f.1 }, tt)
-    go false later = later
-
-in-are : (a : Annotated) (byte id : ℕ) (n : Node) → slice_get a.tree.nodes id ≡ Some n → AreUnits a (unit_in a byte n)
-in-are a byte id n e = go (is_parallel n.kind) refl
-  where
-    go : (t : Bool) → is_parallel n.kind ≡ t → AreUnits a (if t then map (λ p. (n.span.from, p)) (beginning_at a byte n.parts) else [])
-    go true k = begun-are a byte n.span.from id n e k n.parts (λ j p f. (j, f))
-    go false k = tt
-
-units-are : (a : Annotated) (byte from : ℕ) (ns : List Node) → ((i : ℕ) (n : Node) → slice_get ns i ≡ Some n → slice_get a.tree.nodes (from + i) ≡ Some n) → AreUnits a (unit_among a byte ns)
-units-are a byte from [] each = tt
-units-are a byte from (n ∷ ns) each =
-    or-are a (unit_in a byte n) (unit_among a byte ns) (in-are a byte from n (let z : from + 0 ≡ from = omega arith in rw z at (each 0 n refl)))
-    (units-are a byte (suc from) ns (λ i m e. let z : suc from + i ≡ from + suc i = omega arith in rw z (each (suc i) m e)))
-
-all-are : (a : Annotated) (byte : ℕ) → AreUnits a (unit_among a byte a.tree.nodes)
-all-are a byte = units-are a byte 0 a.tree.nodes (λ i n e. let z : 0 + i ≡ i = omega arith in rw z e)
-
--- one of those that all leave something leaves it
-each-leaves : (a : Annotated) (wanted : Bool) (ids : List ℕ) (j x : ℕ) → slice_get ids j ≡ Some x → IsTrue (all_leave a wanted ids) → IsTrue (is_outcome wanted (outcome a x))
-each-leaves a wanted [] j x e all = absurd (cc)
-each-leaves a wanted (y ∷ ids) zero x e all =
-    subst (λ (z : ℕ). IsTrue (is_outcome wanted (outcome a z))) (same_Some y x e) (first (is_outcome wanted (outcome a y)) (all_leave a wanted ids) all)
-each-leaves a wanted (y ∷ ids) (suc j) x e all = each-leaves a wanted ids j x e (second (is_outcome wanted (outcome a y)) (all_leave a wanted ids) all)
-
-parallel-kind : (k : NodeKind) → IsTrue (is_parallel k) → k ≡ kind.Parallel
-parallel-kind kind.Parallel e = refl
-parallel-kind _ e = absurd (false≢true e)
-
-routine-kind : (k : NodeKind) → IsTrue (is_routine_text k) → k ≡ kind.RoutineText
-routine-kind kind.RoutineText e = refl
-routine-kind _ e = absurd (false≢true e)
-
-last-outcome : (a : Annotated) (ids : List ℕ) (left : Bool) → last_outcome a ids ≡ Some left → outcome a (last_id ids) ≡ Some left
-last-outcome a [] left e = absurd (cc)
-last-outcome a (x ∷ []) left e = e
-last-outcome a (x ∷ (y ∷ ids)) left e = last-outcome a (y ∷ ids) left e
-
 -- ---- the whole
 
 -- what is known of a node with an outcome
@@ -351,20 +272,31 @@ has-outcome a id wanted e = go (slice_get a.tree.nodes id) (slice_get a.notes id
     go (Some node) None is noted by = absurd (cc)
     go None m is noted by = absurd (cc)
 
--- a node that runs and has an outcome leaves it
-leaves-it : (a : Annotated) (id : ℕ) (wanted : Bool) (h : HasOutcome a id wanted) → runs a id ≡ true → left_by a h.node h.note ≡ Some wanted
-unfolding runs
-leaves-it a id wanted h e =
-    let agrees_is : IsTrue (agrees_at a (slice_get a.tree.nodes id) (slice_get a.notes id)) = second (is_whole a id) (agrees_at a (slice_get a.tree.nodes id) (slice_get a.notes id)) e in
-    let by_note : IsTrue (agrees_at a (Some h.node) (slice_get a.notes id)) = subst (λ o. IsTrue (agrees_at a o (slice_get a.notes id))) h.is agrees_is in
-    let both_known : IsTrue (agrees (outcome_by a h.node h.note h.node.kind) (left_by a h.node h.note)) = subst (λ m. IsTrue (agrees_at a (Some h.node) m)) h.noted by_note in
-    wanted-is wanted (left_by a h.node h.note) (subst (λ o. IsTrue (agrees o (left_by a h.node h.note))) h.by both_known)
+-- ---- misfits
 
-whole-leaves : (a : Annotated) → runs a 0 ≡ true → IsTrue (is_outcome false (outcome a 0))
-unfolding runs
-whole-leaves a e = first (is_outcome false (outcome a 0)) (agrees_at a (slice_get a.tree.nodes 0) (slice_get a.notes 0)) e
+module _ (ms : List Shape) (texts units : ℕ) where
+  -- a misfit leaves what is asked of it
+  misfit-fits : (place : ℕ) (wanted : Bool) → IsFit ms texts units wanted (misfit place wanted)
+  misfit-fits place true = record { fits = (refl, refl, ((refl, refl, tt), tt)); operands = (refl, ((refl, tt), tt)) }
+  misfit-fits place false = record { fits = (refl, refl, ((refl, refl, ((refl, refl, tt), tt)), tt)); operands = (refl, ((refl, ((refl, tt), tt)), tt)) }
 
-module _ (a : Annotated) (there : AreThere a (length a.tree.nodes)) (nodes : HoldsNodes a.modes) (all : AllRun a) where
+  -- what stands for a node leaves what is asked of it
+  fitting-fits : (a : Annotated) (node : Node) (note : Note) (wanted : Bool) (t : Tree) → outcome_by a node note node.kind ≡ Some wanted
+      → (left_by a node note ≡ Some wanted → IsFit ms texts units wanted t) → IsFit ms texts units wanted (fitting a node note t)
+  fitting-fits a node note wanted t by fit = subst (λ (o : Option Bool). IsFit ms texts units wanted (either (agrees o (left_by a node note)) o)) (sym by) (go (is_outcome wanted (left_by a node note)) refl)
+    where
+      either : (b : Bool) (o : Option Bool) → Tree
+      either b o = if b then t else misfit node.span.from (is_outcome true o)
+
+      go : (b : Bool) → is_outcome wanted (left_by a node note) ≡ b → IsFit ms texts units wanted (either b (Some wanted))
+      go true e = fit (wanted-is wanted (left_by a node note) e)
+      go false e = stands wanted
+        where
+          stands : (w : Bool) → IsFit ms texts units w (misfit node.span.from (is_outcome true (Some w)))
+          stands true = misfit-fits node.span.from true
+          stands false = misfit-fits node.span.from false
+
+module _ (a : Annotated) (there : AreThere a (length a.tree.nodes)) (nodes : HoldsNodes a.modes) where
   -- from the last node to the first, as they are seen
   node-fits : (s : Sight) → GivenBounds a (defined_bound a s) → (left id : ℕ) (wanted : Bool) → length a.tree.nodes ≤ id + left → IsTrue (is_outcome wanted (outcome a id))
       → IsFit a.modes (texts_of a) (all_units a) wanted (tree_in a s id)
@@ -379,9 +311,11 @@ module _ (a : Annotated) (there : AreThere a (length a.tree.nodes)) (nodes : Hol
       let parts : AllBetween id (length a.tree.nodes) h.node.parts = subst (λ (m : Node). AllBetween id (length a.tree.nodes) m.parts) (same_Some t.node h.node (sym t.is ∙ h.is)) t.behind in
       let f = behind id (tree_in a s) in
       let given : Given a id f = λ p g less o. subst (λ u. IsFit a.modes (texts_of a) (all_units a) g u) (sym (behind_is id p (tree_in a s) less)) (node-fits s defined left p g (omega (arith, le, less)) o) in
-      let l = then-is (leaves_as a h.node h.note h.node.kind) (λ l. path_leaves a.modes h.note.goal h.note.mode l h.note.path) wanted (leaves-it a id wanted h (all id within)) in
+      subst (λ u. IsFit a.modes (texts_of a) (all_units a) wanted u) (sym (tree_of_nodes a s id h.node h.note h.is h.noted))
+      (fitting-fits a.modes (texts_of a) (all_units a) a h.node h.note wanted _ h.by
+      (λ leaves. let l = then-is (leaves_as a h.node h.note h.node.kind) (λ l. path_leaves a.modes h.note.goal h.note.mode l h.note.path) wanted leaves in
       let m = made-fits a there nodes id f given s (defined_bound a s) defined h.node h.note l.0 h.node.kind (number-within a id h.node h.is) (units-within a id h.node h.is parts) parts l.1 in
-      subst (λ u. IsFit a.modes (texts_of a) (all_units a) wanted u) (sym (tree_of_nodes a s id h.node h.note h.is h.noted)) (coerced-fits a.modes (texts_of a) (all_units a) h.node.span.from h.note.goal h.note.mode l.0 wanted h.note.path _ l.2 m)
+      coerced-fits a.modes (texts_of a) (all_units a) h.node.span.from h.note.goal h.note.mode l.0 wanted h.note.path _ l.2 m))
 
   -- within bounds of definitions, where 0 stands for each of their own, and then where all is written
   within-fits : (frames : ℕ) (bytes : Span) → GivenBounds a (defined_bound a (sight.Within frames bytes))
@@ -392,48 +326,13 @@ module _ (a : Annotated) (there : AreThere a (length a.tree.nodes)) (nodes : Hol
       let bytes = bytes_of a p in
       subst (λ u. IsFit a.modes (texts_of a) (all_units a) true u) (sym (defined_is a frames p)) (node-fits (sight.Within frames bytes) (within-fits frames bytes) (length a.tree.nodes) p true (omega arith) e)
 
-  pub whole-fits : 0 < length a.tree.nodes → IsFit a.modes (texts_of a) (all_units a) false (tree_at a 0)
-  whole-fits some = node-fits sight.Here here-fits (length a.tree.nodes) 0 false (omega arith) (whole-leaves a (all 0 some))
-
-  -- what is left by the body of a routine text is what its mode says
-  body-leaves : (id : ℕ) (n : Node) (is : slice_get a.tree.nodes id ≡ Some n) (k : IsTrue (is_routine_text n.kind)) (t : IsThere a id) → (n ≡ t.node)
-      → last_outcome a n.parts ≡ Some (proc_yields a t.note.mode)
-  body-leaves id n is k t eq =
-      let wanted = asks_value a t.note in
-      let routine_is : n.kind ≡ kind.RoutineText = routine-kind n.kind k in
-      let by : outcome_by a n t.note n.kind ≡ Some wanted = ap (λ (x : NodeKind). outcome_by a n t.note x) routine_is in
-      let h : HasOutcome a id wanted = record { node = n; note = t.note; is = is; noted = t.noted; by = by } in
-      let l = then-is (leaves_as a n t.note n.kind) (λ l. path_leaves a.modes t.note.goal t.note.mode l t.note.path) wanted (leaves-it a id wanted h (all id (slice_get_within a.tree.nodes id n is))) in
-      let row : leaves_as a n t.note kind.RoutineText ≡ Some l.0 = ap (λ (x : NodeKind). leaves_as a n t.note x) (sym routine_is) ∙ l.1 in
-      wanted-is (proc_yields a t.note.mode) (last_outcome a n.parts) (so-holds (is_outcome (proc_yields a t.note.mode) (last_outcome a n.parts)) true l.0 row)
-
-  body-fits-in : (id : ℕ) (n : Node) → slice_get a.tree.nodes id ≡ Some n → IsTrue (is_routine_text n.kind) → IsFit a.modes (texts_of a) (all_units a) (body_of a id).yields (body_of a id).tree
-  body-fits-in id n is k =
-      let t = there id (slice_get_within a.tree.nodes id n is) in
-      let is_same : n ≡ t.node = same_Some n t.node (sym is ∙ t.is) in
-      let left = last-outcome a n.parts (proc_yields a t.note.mode) (body-leaves id n is k t is_same) in
-      let fit = node-fits sight.Here here-fits (length a.tree.nodes) (last_id n.parts) (proc_yields a t.note.mode) (omega arith) (is-wanted (proc_yields a t.note.mode) (outcome a (last_id n.parts)) left) in
-      let parts_are : parts_at a id ≡ n.parts = ap (λ (o : Option Node). option_map_or (λ (x : Node). x.parts) o []) is in
-      let mode_is : mode_of a id ≡ t.note.mode = ap (λ (o : Option Note). option_map_or (λ (x : Note). x.mode) o 0) t.noted in
-      subst (λ (x : List ℕ). IsFit a.modes (texts_of a) (all_units a) (proc_yields a (mode_of a id)) (tree_at a (last_id x))) (sym parts_are)
-      (subst (λ (x : ℕ). IsFit a.modes (texts_of a) (all_units a) (proc_yields a x) (tree_at a (last_id n.parts))) (sym mode_is) fit)
-
-  -- what is left by the units of a parallel clause is nothing
-  units-leave : (id : ℕ) (n : Node) (is : slice_get a.tree.nodes id ≡ Some n) (k : IsTrue (is_parallel n.kind)) (t : IsThere a id) → (n ≡ t.node) → IsTrue (all_leave a false n.parts)
-  units-leave id n is k t eq =
-      let wanted = asks_value a t.note in
-      let parallel_is : n.kind ≡ kind.Parallel = parallel-kind n.kind k in
-      let by : outcome_by a n t.note n.kind ≡ Some wanted = ap (λ (x : NodeKind). outcome_by a n t.note x) parallel_is in
-      let h : HasOutcome a id wanted = record { node = n; note = t.note; is = is; noted = t.noted; by = by } in
-      let l = then-is (leaves_as a n t.note n.kind) (λ l. path_leaves a.modes t.note.goal t.note.mode l t.note.path) wanted (leaves-it a id wanted h (all id (slice_get_within a.tree.nodes id n is))) in
-      let row : leaves_as a n t.note kind.Parallel ≡ Some l.0 = ap (λ (x : NodeKind). leaves_as a n t.note x) (sym parallel_is) ∙ l.1 in
-      second (nat_le 2 (length n.parts)) (all_leave a false n.parts) (so-holds (parallel_runs a n.parts) false l.0 row)
-
-  unit-fits : (unit : ℕ) → IsUnitNode a unit → IsFit a.modes (texts_of a) (all_units a) false (tree_at a unit)
-  unit-fits unit u =
-      let t = there u.id (slice_get_within a.tree.nodes u.id u.node u.is) in
-      let is_same : u.node ≡ t.node = same_Some u.node t.node (sym u.is ∙ t.is) in
-      node-fits sight.Here here-fits (length a.tree.nodes) unit false (omega arith) (each-leaves a false u.node.parts u.which unit u.among (units-leave u.id u.node u.is u.parallel t is_same))
+  -- a node of which a value is asked or none
+  pub asked-fits : (wanted : Bool) (id : ℕ) → IsFit a.modes (texts_of a) (all_units a) wanted (asked_tree a wanted id)
+  asked-fits wanted id = go (is_outcome wanted (outcome a id)) refl
+    where
+      go : (b : Bool) → is_outcome wanted (outcome a id) ≡ b → IsFit a.modes (texts_of a) (all_units a) wanted (if b then tree_at a id else misfit (place_of a id) wanted)
+      go true e = node-fits sight.Here here-fits (length a.tree.nodes) id wanted (omega arith) e
+      go false e = misfit-fits a.modes (texts_of a) (all_units a) (place_of a id) wanted
 
   -- what stands apart fits in both ways
   pub record ApartIsFit (xs : List Apart) : Type 0 where
@@ -447,18 +346,18 @@ module _ (a : Annotated) (there : AreThere a (length a.tree.nodes)) (nodes : Hol
   apart-append (parallel_unit unit ∷ xs) ys p q =
       let r = apart-append xs ys (record { fits = p.fits.1; operands = p.operands.1 }) q in record { fits = (p.fits.0, r.fits); operands = (p.operands.0, r.operands) }
 
-  bodies-fit : (ids : List ℕ) → AreTexts a ids → ApartIsFit (map (λ id. routine_text (body_of a id)) ids)
-  bodies-fit [] r = record { fits = tt; operands = tt }
-  bodies-fit (id ∷ ids) r =
-      let here = body-fits-in id r.0.0 r.0.1 r.0.2 in
-      let rest = bodies-fit ids r.1 in
+  bodies-fit : (ids : List ℕ) → ApartIsFit (map (λ id. routine_text (body_of a id)) ids)
+  bodies-fit [] = record { fits = tt; operands = tt }
+  bodies-fit (id ∷ ids) =
+      let here = asked-fits (body_yields a id) (last_id (parts_at a id)) in
+      let rest = bodies-fit ids in
       record { fits = (here.fits, rest.fits); operands = (here.operands, rest.operands) }
 
-  units-fit : (us : List (ℕ × ℕ)) → AreUnits a us → ApartIsFit (map (λ u. parallel_unit (parallel_unit_of a u)) us)
-  units-fit [] r = record { fits = tt; operands = tt }
-  units-fit (u ∷ us) r =
-      let here = unit-fits u.1 r.0 in
-      let rest = units-fit us r.1 in
+  units-fit : (us : List (ℕ × ℕ)) → ApartIsFit (map (λ u. parallel_unit (parallel_unit_of a u)) us)
+  units-fit [] = record { fits = tt; operands = tt }
+  units-fit (u ∷ us) =
+      let here = asked-fits false u.1 in
+      let rest = units-fit us in
       record { fits = (here.fits, rest.fits); operands = (here.operands, rest.operands) }
 
   before-fit : (byte : ℕ) → ApartIsFit (apart_before a byte)
@@ -468,7 +367,7 @@ module _ (a : Annotated) (there : AreThere a (length a.tree.nodes)) (nodes : Hol
       let ids = text_among byte 0 a.tree.nodes in
       let xs = map (λ u. parallel_unit (parallel_unit_of a u)) us in
       let ys = map (λ id. routine_text (body_of a id)) ids in
-      apart-append (apart_before a byte) (xs ++ ys) (before-fit byte) (apart-append xs ys (units-fit us (all-are a byte)) (bodies-fit ids (texts-are a byte)))
+      apart-append (apart_before a byte) (xs ++ ys) (before-fit byte) (apart-append xs ys (units-fit us) (bodies-fit ids))
 
   pub apart-fit : ApartIsFit (program_of a).apart
   apart-fit = before-fit (behind_all a.tree.nodes)

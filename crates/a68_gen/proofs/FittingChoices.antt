@@ -12,17 +12,20 @@ use Rattle.a68_annot.specs.declared.annotated.Annotated.{Annotated}
 use Rattle.a68_annot.specs.declared.note.Note.{Note}
 use Rattle.a68_code.specs.Flow.{units_in, units_of}
 use Rattle.a68_elab.specs.Made as made
-use Rattle.a68_elab.specs.Made.{all_but_last, before_out, behind, behind_all, behind_heap, behind_proc, behind_ref, begins_with, body_of, called, coerced, field_in, fields_at, first_bounds, first_goal, form_of, forms_of, if_first, index_units, is_by, is_collateral, is_declarer, is_for, is_from, is_heap, is_one_of, is_out, is_routine_text, is_to, is_while, isnt, items_at, kind_at, last_id, last_tree, leaf, mode_of, new_name, only, only_id, out_of, parts_at, past, printers, program_of, rowed_to, spelling_of, standard_of, tag_of, text_among, text_number, texts_before, texts_in, tree_at, trees_at, wholes, goal_at}
+use Rattle.a68_elab.specs.Made.{all_but_last, before_out, behind_all, behind_heap, behind_proc, behind_ref, begins_with, called, coerced, field_in, fields_at, first_bounds, first_goal, form_of, forms_of, if_first, index_units, is_by, is_collateral, is_declarer, is_for, is_from, is_heap, is_one_of, is_out, is_routine_text, is_to, is_while, isnt, items_at, kind_at, last_id, last_tree, leaf, mode_of, new_name, only, only_id, out_of, parts_at, past, printers, rowed_to, spelling_of, standard_of, tag_of, text_among, text_number, texts_before, texts_in, trees_at, wholes, goal_at}
+use Rattle.a68_elab.specs.Programs.{behind, body_of, program_of, tree_at}
 use Rattle.a68_elab.specs.declared.bound.Bound.{Bound}
 use Rattle.a68_elab.specs.declared.bound.Bound.TheVariants as bound
 use Rattle.a68_elab.specs.Trees.{serial, Tree, together, unbuilt, no_trees, count, Test}
 use Rattle.a68_gen.proofs.Constructs.{count_trees}
 use Rattle.a68_gen.specs.Fits.{TestFits}
 use Rattle.a68_gen.specs.Operands.{TestFitsModes}
-use Rattle.a68_runs.specs.Runs.{all_leave, are_phrases, asks, body_runs, case_runs, choice_runs, control_runs, enquiry_runs, is_index, is_outcome, is_there, loop_by_runs, loop_runs, out_runs, outcome, slice_runs, test_runs, conformity_runs, specs_run}
+use Rattle.a68_elab.specs.Runs.{all_leave, are_phrases, asks, body_runs, case_runs, choice_runs, control_runs, enquiry_runs, is_index, is_outcome, written_units, is_there, loop_by_runs, loop_runs, out_runs, outcome, slice_runs, test_runs, conformity_runs, specs_run}
 use Rattle.a68_runs.proofs.Between.{between-above}
-use Rattle.a68_runs.specs.Unready.{AreThere}
+use Rattle.a68_runs.specs.Running.{AreThere}
 use Rattle.a68_layout.specs.Rooms.{bounds_needed}
+use Rattle.a68_layout.specs.declared.types.Form.{Form}
+use Rattle.a68_layout.specs.declared.types.Form.TheVariants as form
 use Rattle.a68_modes.specs.Nodes.{shape_at, is_void, HoldsNodes, standard_shapes}
 use Rattle.a68_modes.specs.declared.shape.Shape.{Shape}
 use Rattle.a68_modes.specs.declared.shape.Shape.TheVariants as shape
@@ -33,6 +36,11 @@ use Rattle.a68_values.specs.Content.{plain}
 use Rattle.a68_values.specs.declared.plain.Plain.TheVariants as value
 use Rattle.a68_gen.proofs.Fitted.{IsFit, both, first, fit-none, framed-fits, second}
 use Rattle.a68_gen.proofs.FittingParts.{all_units, AreBehind, Given, all-fit, before-fits, out-fits, phrases-fit, texts_of, before-between, specs-fit}
+
+-- how many units an index has is told alike of what is written and of the instruction
+written-is : (f : Form) → written_units f ≡ units_in f
+written-is form.Subscript = refl
+written-is (form.Trimmer lower upper at) = refl
 
 -- ---- loops
 
@@ -337,8 +345,9 @@ module _ (a : Annotated) (there : AreThere a (length a.tree.nodes)) (nodes : Hol
   units-taken (x ∷ ids) e =
       let here = first (is_index a x) (list_all (is_index a) ids) e in
       let rest = units-taken ids (second (is_index a x) (list_all (is_index a) ids) e) in
-      let one = eqb-true (units_in (form_of a (parts_at a x))) (length (parts_at a x))
-      (first (units_in (form_of a (parts_at a x)) == length (parts_at a x)) (all_leave a true (parts_at a x)) here) in
+      let one = sym (written-is (form_of a (parts_at a x)))
+      ∙ eqb-true (written_units (form_of a (parts_at a x))) (length (parts_at a x))
+      (first (written_units (form_of a (parts_at a x)) == length (parts_at a x)) (all_leave a true (parts_at a x)) here) in
       sum_by-cons units_in (form_of a (parts_at a x)) (forms_of a ids)
       ∙ ap (λ n. n + units_of (forms_of a ids)) one ∙ ap (λ n. length (parts_at a x) + n) rest ∙ sym (length-append (parts_at a x) (index_units a ids))
 
@@ -346,7 +355,7 @@ module _ (a : Annotated) (there : AreThere a (length a.tree.nodes)) (nodes : Hol
   units-leave [] e = refl
   units-leave (x ∷ ids) e =
       let here = first (is_index a x) (list_all (is_index a) ids) e in
-      leave-append a (parts_at a x) (index_units a ids) (second (units_in (form_of a (parts_at a x)) == length (parts_at a x)) (all_leave a true (parts_at a x)) here)
+      leave-append a (parts_at a x) (index_units a ids) (second (written_units (form_of a (parts_at a x)) == length (parts_at a x)) (all_leave a true (parts_at a x)) here)
       (units-leave ids (second (is_index a x) (list_all (is_index a) ids) e))
 
   pub forms-long : (ids : List ℕ) → length (forms_of a ids) ≡ length ids

@@ -11,7 +11,8 @@ use Rattle.a68_code.specs.declared.code.Instr.{Instr}
 use Rattle.a68_code.specs.declared.code.RoutineEntrance.{RoutineEntrance}
 use Rattle.a68_code.specs.declared.does.Does.TheVariants as does
 use Rattle.a68_builder.specs.Linking.{linked}
-use Rattle.a68_elab.specs.Made.{apart_before, behind_all, body_of, last_id, parallel_unit_of, parts_at, place_of, program_of, text_among, texts_before, texts_in, tree_at, unit_among, units_before, units_in}
+use Rattle.a68_elab.specs.Made.{behind_all, last_id, parts_at, text_among, texts_before, texts_in, unit_among, units_before, units_in}
+use Rattle.a68_elab.specs.Programs.{apart_before, asked_tree, body_of, body_yields, parallel_unit_of, place_of, program_of}
 use Rattle.a68_elab.specs.Trees.{Apart, Program, bodies, routine_text, parallel_unit, units}
 use Rattle.a68_gen.specs.Fits.{Fits, ApartFits}
 use Rattle.a68_gen.specs.Listing.{apart_size, apart_stretch, apart_stretches, instr, listing, size, stretch, text_entrances, texts_entered, unit_entrances, units_entered, written}
@@ -46,11 +47,11 @@ apart_first all s l texts units no_texts no_units = record {
 
 -- a body and its Return
 pub text_written : (a : Annotated) (id part : ℕ) (node : Node) (s0 s1 s2 s3 : Option Stop) (l0 l1 l2 l3 : List Instr) → slice_get a.tree.nodes id ≡ Some node → part ≡ last_id (parts_at a id)
-    → l1 ≡ l0 → (s1 ≡ s0) ⊎ (s1 ≡ ran_out s0) → Writes s1 s2 l1 l2 (stretch (tree_at a part) (length l1)) → Writes s2 s3 l2 l3 (instr node.span.from does.Return ∷ [])
+    → l1 ≡ l0 → (s1 ≡ s0) ⊎ (s1 ≡ ran_out s0) → Writes s1 s2 l1 l2 (stretch (asked_tree a (body_yields a id) part) (length l1)) → Writes s2 s3 l2 l3 (instr node.span.from does.Return ∷ [])
     → Writes s0 s3 l0 l3 (apart_stretch (routine_text (body_of a id)) (length l0))
 text_written a id part node s0 s1 s2 s3 l0 l1 l2 l3 is part_is same_list kept w v =
-    let t = tree_at a (last_id (parts_at a id)) in
-    let tree : Writes s1 s2 l1 l2 (stretch t (length l1)) = subst (λ (i : ℕ). Writes s1 s2 l1 l2 (stretch (tree_at a i) (length l1))) part_is w in
+    let t = asked_tree a (body_yields a id) (last_id (parts_at a id)) in
+    let tree : Writes s1 s2 l1 l2 (stretch t (length l1)) = subst (λ (i : ℕ). Writes s1 s2 l1 l2 (stretch (asked_tree a (body_yields a id) i) (length l1))) part_is w in
     let place : place_of a id ≡ node.span.from = ap (λ (m : Option Node). option_map_or (λ (n : Node). n.span.from) m 0) is in
     let last : Writes s2 s3 l2 l3 (instr (place_of a id) does.Return ∷ []) = subst (λ (p : ℕ). Writes s2 s3 l2 l3 (instr p does.Return ∷ [])) (sym place) v in
     let first : Writes s0 s2 l0 l2 (stretch t (length l0)) = kept_before s0 s1 s2 l0 l1 l2 t same_list kept tree in
@@ -58,10 +59,10 @@ text_written a id part node s0 s1 s2 s3 l0 l1 l2 l3 is part_is same_list kept w 
 
 -- a unit and its Close
 pub unit_written : (a : Annotated) (u : UnitNode) (s0 s1 s2 s3 : Option Stop) (l0 l1 l2 l3 : List Instr) → l1 ≡ l0 → (s1 ≡ s0) ⊎ (s1 ≡ ran_out s0)
-    → Writes s1 s2 l1 l2 (stretch (tree_at a u.id) (length l1)) → Writes s2 s3 l2 l3 (instr u.place does.Close ∷ [])
+    → Writes s1 s2 l1 l2 (stretch (asked_tree a false u.id) (length l1)) → Writes s2 s3 l2 l3 (instr u.place does.Close ∷ [])
     → Writes s0 s3 l0 l3 (apart_stretch (parallel_unit (parallel_unit_of a (pair_of u))) (length l0))
 unit_written a u s0 s1 s2 s3 l0 l1 l2 l3 same_list kept w v =
-    let t = tree_at a u.id in
+    let t = asked_tree a false u.id in
     and_behind s0 s2 s3 l0 l2 l3 (stretch t (length l0)) (λ n. instr u.place does.Close ∷ []) (kept_before s0 s1 s2 l0 l1 l2 t same_list kept w) v
 
 pub last_is_last : (ids : List ℕ) → 0 < length ids → slice_index_or ids (length ids - 1) 0 ≡ last_id ids
@@ -137,13 +138,13 @@ behind_end program =
     ∙ append_assoc (stretch program.tree 0) (instr program.place does.End ∷ []) (apart_stretches program.apart (size program.tree + 1))
 
 pub program_written : (a : Annotated) (root : ℕ) (node : Node) (s0 s1 s2 : Option Stop) (l0 l1 l2 : List Instr) → root ≡ 0 → slice_get a.tree.nodes root ≡ Some node
-    → Writes s0 s1 l0 l1 (stretch (tree_at a root) (length l0)) → Writes s1 s2 l1 l2 (instr node.span.from does.End ∷ []) → Writes s0 s2 l0 l2 (program_list (program_of a) (length l0))
+    → Writes s0 s1 l0 l1 (stretch (asked_tree a false root) (length l0)) → Writes s1 s2 l1 l2 (instr node.span.from does.End ∷ []) → Writes s0 s2 l0 l2 (program_list (program_of a) (length l0))
 program_written a root node s0 s1 s2 l0 l1 l2 first is w v =
-    let tree : Writes s0 s1 l0 l1 (stretch (tree_at a 0) (length l0)) = subst (λ (i : ℕ). Writes s0 s1 l0 l1 (stretch (tree_at a i) (length l0))) first w in
+    let tree : Writes s0 s1 l0 l1 (stretch (asked_tree a false 0) (length l0)) = subst (λ (i : ℕ). Writes s0 s1 l0 l1 (stretch (asked_tree a false i) (length l0))) first w in
     let at_root : slice_get a.tree.nodes 0 ≡ Some node = subst (λ (i : ℕ). slice_get a.tree.nodes i ≡ Some node) first is in
     let place : place_of a 0 ≡ node.span.from = ap (λ (m : Option Node). option_map_or (λ (n : Node). n.span.from) m 0) at_root in
     let last : Writes s1 s2 l1 l2 (instr (place_of a 0) does.End ∷ []) = subst (λ (p : ℕ). Writes s1 s2 l1 l2 (instr p does.End ∷ [])) (sym place) v in
-    and_behind s0 s1 s2 l0 l1 l2 (stretch (tree_at a 0) (length l0)) (λ n. instr (place_of a 0) does.End ∷ []) tree last
+    and_behind s0 s1 s2 l0 l1 l2 (stretch (asked_tree a false 0) (length l0)) (λ n. instr (place_of a 0) does.End ∷ []) tree last
 
 -- all of a program is written, or writing stopped
 pub all_written : (program : Program) (s0 s1 s2 : Option Stop) (l0 l1 l2 : List Instr) → l0 ≡ [] → Writes s0 s1 l0 l1 (program_list program (length l0))

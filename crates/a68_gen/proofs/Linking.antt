@@ -1,12 +1,14 @@
 -- The next choice of a chain.
 use Rattle.std.proofs.Common.{◌≡◌, ◌<◌, Bool, ℕ, List, [], ◌∷◌, length, sym, ◌∙◌, ap, subst, None, Some, slice_get, refl}
 use Rattle.std.specs.Option.{option_map, option_map_or}
-use Rattle.std.specs.Prelude.{IfSome, MatchOption, not}
+use Rattle.std.specs.Prelude.{IfSome, MatchOption, not, if◌then◌else◌, true, false}
 use Rattle.std.specs.declared.option.Option.{Option}
 use Rattle.a68_annot.specs.declared.annotated.Annotated.{Annotated}
 use Rattle.a68_annot.specs.declared.note.Note.{Note}
 use Rattle.a68_elab.proofs.Nodes.{tree_of_nodes, behind_is, behind_all}
-use Rattle.a68_elab.specs.Made.{before_out, begun_by, behind, case_of, choice_of, coerced, defined_bound, framed, left_out, made, out_of, parts_at, phrases_of, seen, tree_in, trees_at}
+use Rattle.a68_elab.specs.Made.{before_out, begun_by, case_of, choice_of, coerced, framed, left_out, made, out_of, parts_at, phrases_of, seen, trees_at}
+use Rattle.a68_elab.specs.Runs.{agrees, agrees_at, is_outcome, left_by, outcome, outcome_at, outcome_by, runs}
+use Rattle.a68_elab.specs.Programs.{fitting, misfit, unit, behind, defined_bound, tree_in}
 use Rattle.a68_elab.specs.declared.sight.Sight.{Sight}
 use Rattle.a68_elab.specs.Trees.{Tree, Trees, cases, choice, unbuilt}
 use Rattle.a68_gen.specs.Chains.{enquiry_tree, IsWithin, link_tree, other_tree}
@@ -38,18 +40,48 @@ link_behind a id f l within same =
     ∙ ap (λ (t : Tree). whole (enquiry_tree a f l) t (other_tree g l)) (behind_is id l.part f p)
     ∙ ap (λ (t : Tree). whole (enquiry_tree a f l) (f l.part) t) (other_behind id n l.place l.goal f l.other o)
 
+-- what stands for a node that runs is its unit, and a misfit stands for another one
+runs_is : (a : Annotated) (id : ℕ) (node : Node) (note : Note) → slice_get a.tree.nodes id ≡ Some node → slice_get a.notes id ≡ Some note
+    → runs a id ≡ agrees (outcome_by a node note node.kind) (left_by a node note)
+unfolding runs
+runs_is a id node note e f = ap (λ (o : Option Node). agrees_at a o (slice_get a.notes id)) e ∙ ap (λ (o : Option Note). agrees_at a (Some node) o) f
+
+run_fitting : (a : Annotated) (id : ℕ) (node : Node) (note : Note) (t : Tree) → slice_get a.tree.nodes id ≡ Some node → slice_get a.notes id ≡ Some note → runs a id ≡ true
+    → fitting a node note t ≡ t
+run_fitting a id node note t e f run =
+    ap (λ (b : Bool). if b then t else misfit node.span.from (is_outcome true (outcome_by a node note node.kind))) (sym (runs_is a id node note e f) ∙ run)
+
+unrun_fitting : (a : Annotated) (id : ℕ) (node : Node) (note : Note) (t : Tree) → slice_get a.tree.nodes id ≡ Some node → slice_get a.notes id ≡ Some note → runs a id ≡ false
+    → fitting a node note t ≡ misfit node.span.from (is_outcome true (outcome a id))
+unfolding outcome
+unrun_fitting a id node note t e f run =
+    let asked : outcome a id ≡ outcome_by a node note node.kind =
+    ap (λ (o : Option Node). outcome_at a o (slice_get a.notes id)) e ∙ ap (λ (o : Option Note). outcome_at a (Some node) o) f in
+    ap (λ (b : Bool). if b then t else misfit node.span.from (is_outcome true (outcome_by a node note node.kind))) (sym (runs_is a id node note e f) ∙ run)
+    ∙ ap (λ (o : Option Bool). misfit node.span.from (is_outcome true o)) (sym asked)
+
+pub tree_run : (a : Annotated) (s : Sight) (id : ℕ) (node : Node) (note : Note) → slice_get a.tree.nodes id ≡ Some node → slice_get a.notes id ≡ Some note → runs a id ≡ true
+    → tree_in a s id ≡ unit a (defined_bound a s) (behind id (tree_in a s)) node (seen a s note)
+tree_run a s id node note e f run =
+    tree_of_nodes a s id node note e f ∙ run_fitting a id node note (unit a (defined_bound a s) (behind id (tree_in a s)) node (seen a s note)) e f run
+
+pub tree_misfit : (a : Annotated) (s : Sight) (id : ℕ) (node : Node) (note : Note) → slice_get a.tree.nodes id ≡ Some node → slice_get a.notes id ≡ Some note → runs a id ≡ false
+    → tree_in a s id ≡ misfit node.span.from (is_outcome true (outcome a id))
+tree_misfit a s id node note e f run =
+    tree_of_nodes a s id node note e f ∙ unrun_fitting a id node note (unit a (defined_bound a s) (behind id (tree_in a s)) node (seen a s note)) e f run
+
 -- the tree of a node that is a choice without coercions
 pub next_tree : (program : Annotated) (s : Sight) (id : ℕ) (node : Node) (note : Note) (o : Option Link) (place goal : ℕ) (ids : List ℕ) → slice_get program.tree.nodes id ≡ Some node
-    → slice_get program.notes id ≡ Some note → node.kind ≡ kind.Conditional → note.path ≡ [] → place ≡ node.span.from → goal ≡ note.goal → ids ≡ node.parts
+    → slice_get program.notes id ≡ Some note → runs program id ≡ true → node.kind ≡ kind.Conditional → note.path ≡ [] → place ≡ node.span.from → goal ≡ note.goal → ids ≡ node.parts
     → ((f : ℕ → Tree) → MatchOption o (choice_of program f place goal (not (is_void (shape_at program.modes goal))) ids ≡ unbuilt)
     (λ l. choice_of program f place goal (not (is_void (shape_at program.modes goal))) ids ≡ link_tree program f l))
     → IfSome o (IsWithin program) → IfSome o (λ l. l.id ≡ id) → IfSome o (λ l. tree_in program s l.id ≡ link_tree program (tree_in program s) l)
-next_tree program s id node note None place goal ids e f is_choice bare at asked these m within same = tt
-next_tree program s id node note (Some l) place goal ids e f is_choice bare at asked these m within same =
+next_tree program s id node note None place goal ids e f run is_choice bare at asked these m within same = tt
+next_tree program s id node note (Some l) place goal ids e f run is_choice bare at asked these m within same =
     let g = behind id (tree_in program s) in
     let b = defined_bound program s in
     let of : ℕ → ℕ → List ℕ → Tree = λ p q is. choice_of program g p q (not (is_void (shape_at program.modes q))) is in
-    ap (tree_in program s) same ∙ tree_of_nodes program s id node note e f
+    ap (tree_in program s) same ∙ tree_run program s id node note e f run
     ∙ ap (λ (path : List Coercion). coerced program.modes node.span.from note.goal note.mode path (made program b g node (seen program s note) node.kind)) bare
     ∙ ap (λ (k : NodeKind). made program b g node (seen program s note) k) is_choice
     ∙ ap (λ (p : ℕ). of p note.goal node.parts) (sym at) ∙ ap (λ (q : ℕ). of place q node.parts) (sym asked) ∙ ap (λ (is : List ℕ). of place goal is) (sym these) ∙ m g

@@ -7,7 +7,8 @@ use Rattle.std.specs.Option.{option_map_or}
 use Rattle.std.specs.Prelude.{map, max, nat_eq, slice_index_or, ◌&&◌, if◌then◌else◌}
 use Rattle.std.specs.declared.option.Option.{Option}
 use Rattle.a68_annot.specs.declared.annotated.Annotated.{Annotated}
-use Rattle.a68_elab.specs.Made.{apart_before, beginning_at, behind_all, body_of, bytes_of, is_parallel, is_routine_text, or_other, parallel_unit_of, text_among, text_number, texts_before, unit_among, unit_in, unit_number, units_before}
+use Rattle.a68_elab.specs.Made.{beginning_at, behind_all, bytes_of, is_parallel, is_routine_text, or_other, text_among, text_number, texts_before, unit_among, unit_in, unit_number, units_before}
+use Rattle.a68_elab.specs.Programs.{apart_before, body_of, parallel_unit_of}
 use Rattle.a68_elab.specs.Trees.{Apart, routine_text, parallel_unit}
 use Rattle.a68_gen.proofs.Entering.{map-behind}
 use Rattle.a68_gen.specs.declared.entered.Entered.{Entered}
@@ -336,3 +337,9 @@ module _ (f : ℕ → ℕ) where
       let long : length numbers ≡ end = ap (λ (l : List ℕ). length l) are ∙ up_to_long end in
       let there = slice_get_read numbers (length numbers) byte n refl (omega arith) e in
       same_Some n (f byte) (sym there ∙ ap (λ (l : List ℕ). slice_get l byte) are ∙ up_to_at end byte less)
+
+-- what stands at a place that is there, whatever stood in its place if it were not
+pub get-either : (xs : List Bool) (i : ℕ) (b c : Bool) → i < length xs → get_or xs i b ≡ get_or xs i c
+get-either [] i b c less = absurd (omega arith)
+get-either (x ∷ xs) zero b c less = refl
+get-either (x ∷ xs) (suc i) b c less = get-either xs i b c (omega arith)

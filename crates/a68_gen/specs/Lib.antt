@@ -7,7 +7,7 @@ pub mod Listing
 pub mod Loops
 pub mod Numbers
 pub mod Operands
-pub mod Runs
+pub mod Refusals
 pub mod Sources
 pub mod Stretches
 pub mod Texts

@@ -3,7 +3,8 @@
 use Rattle.std.specs.Prelude.{◌≡◌, ◌<◌, ℕ, zero, suc, List, [], ◌∷◌, ◌++◌, length, drop, map, None, Some, slice_index_or}
 use Rattle.std.specs.declared.option.Option.{Option}
 use Rattle.a68_annot.specs.declared.annotated.Annotated.{Annotated}
-use Rattle.a68_elab.specs.Made.{apart_before, beginning_at, behind_all, body_of, or_other, parallel_unit_of, text_among, text_number, unit_among, unit_number}
+use Rattle.a68_elab.specs.Made.{beginning_at, behind_all, or_other, text_among, text_number, unit_among, unit_number}
+use Rattle.a68_elab.specs.Programs.{apart_before, body_of, parallel_unit_of}
 use Rattle.a68_elab.specs.Trees.{Apart, routine_text, parallel_unit}
 use Rattle.a68_gen.specs.declared.entered.Entered.{Entered}
 use Rattle.a68_gen.specs.declared.entered.Entered.TheVariants as entered

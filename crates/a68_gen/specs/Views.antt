@@ -2,7 +2,8 @@
 -- Programs as they are seen from where they are written, or from within a bound of a definition.
 use Rattle.std.specs.Prelude.{ℕ, suc, length}
 use Rattle.a68_annot.specs.declared.note.Note.{Note}
-use Rattle.a68_elab.specs.Made.{defined_bound, seen, tree_in}
+use Rattle.a68_elab.specs.Made.{seen}
+use Rattle.a68_elab.specs.Programs.{defined_bound, tree_in}
 use Rattle.a68_elab.specs.Trees.{Tree}
 use Rattle.a68_elab.specs.declared.sight.Sight.{Sight}
 use Rattle.a68_elab.specs.declared.sight.Sight.TheVariants as sight

@@ -109,6 +109,9 @@ pub fn next_link(program: &View, link: &Link) -> Option<Link>
     if !is_link(node, note) {
         return None;
     }
+    if !program.of.runs(id) {
+        return None;
+    }
     let place = node.span.from;
     let parts = &node.parts.items;
     let next = link_of(program, id, parts, place, note.goal);

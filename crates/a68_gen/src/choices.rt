@@ -2,7 +2,8 @@
 ghost use Rattle.std.specs.Option.{option_map_or};
 ghost use Rattle.std.specs.Prelude.{◌≡◌, ◌<◌, ◌≤◌, ◌+◌, ◌∷◌, ◌++◌, [], not, length, IfSome};
 ghost use Rattle.a68_elab.specs.Made as made;
-ghost use Rattle.a68_elab.specs.Made.{behind, trees_at};
+ghost use Rattle.a68_elab.specs.Made.{trees_at};
+ghost use Rattle.a68_elab.specs.Programs.{behind};
 ghost use Rattle.a68_gen.specs.Chains.{IsOpen, IsWhole, IsWithin, enquiry_tree, jump_of, link_list, link_tree, other_tree};
 ghost use Rattle.a68_gen.specs.Listing.{arm_places, arm_stretches, instr, size, stretch};
 ghost use Rattle.a68_gen.specs.Numbers.{arm_jumps, case_list};

@@ -4,7 +4,8 @@ ghost use Rattle.std.specs.Prelude.{◌≡◌, ◌<◌, ◌+◌, ◌⊎◌, ◌�
 ghost use Rattle.a68_acts.specs.Members.{members_of};
 ghost use Rattle.a68_acts.specs.Operations as operations;
 ghost use Rattle.a68_elab.specs.Made as made;
-ghost use Rattle.a68_elab.specs.Made.{behind, specs_of};
+ghost use Rattle.a68_elab.specs.Made.{specs_of};
+ghost use Rattle.a68_elab.specs.Programs.{behind};
 ghost use Rattle.a68_elab.specs.Rows.{is_among};
 ghost use Rattle.a68_elab.specs.Trees.{Tree};
 ghost use Rattle.a68_gen.specs.Conforming.{IsUnaimed, conform_list, spec_body, spec_jumps, spec_size, takes_of};

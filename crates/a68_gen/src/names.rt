@@ -1,7 +1,9 @@
 //! New names, with their bounds.
 ghost use Rattle.std.specs.Prelude.{◌≡◌, ◌<◌, ◌&&◌, nat_lt, length, false, true};
 ghost use Rattle.a68_elab.specs.Made as made;
-ghost use Rattle.a68_elab.specs.Made.{behind, trees_at};
+ghost use Rattle.a68_elab.specs.Programs as programs;
+ghost use Rattle.a68_elab.specs.Made.{trees_at};
+ghost use Rattle.a68_elab.specs.Programs.{behind};
 ghost use Rattle.a68_elab.specs.declared.sight.Sight.TheVariants as sights;
 ghost use Rattle.a68_gen.specs.Listing.{stretch, stretches};
 ghost use Rattle.a68_gen.specs.Sources.{assigned_tree, named};
@@ -47,7 +49,7 @@ fn write_written(alloc: Global, program: &View, id: NodeId, bound: NodeId, out: 
 // A bound of a definition that stands so many frames further out than where it is elaborated: [bound], as it is seen there.
 #[cycle(units)]
 fn write_outside(alloc: Global, program: &Numbered, frames: u32, bound: NodeId, out: &mut Writer)
-    ensures { Wrote out.old out.new (stretch (made.defined_bound program.now sights.Here frames bound) (length out.old.list)) }
+    ensures { Wrote out.old out.new (stretch (programs.defined_bound program.now sights.Here frames bound) (length out.old.list)) }
 {
     if bound >= program.len() {
         unbuilt(out);

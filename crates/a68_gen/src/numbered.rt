@@ -1,34 +1,40 @@
-//! The numbers of routine texts and of units of parallel clauses.
+//! The numbers of routine texts and of units of parallel clauses, and which nodes run.
 ghost use Rattle.std.specs.Option.{option_map};
-ghost use Rattle.std.specs.Prelude.{◌≡◌, ◌<◌, ◌≤◌, ◌++◌, ◌+◌, [], suc, max, map, length, slice_get, Some, IfOk, OnOk};
+ghost use Rattle.std.specs.Prelude.{◌≡◌, ◌<◌, ◌≤◌, ◌++◌, ◌+◌, [], suc, true, max, map, length, slice_get, Some, IfOk, OnOk};
 ghost use Rattle.a68_elab.specs.Made as made;
+ghost use Rattle.a68_elab.specs.Programs as programs;
+ghost use Rattle.a68_elab.specs.Runs.{is_outcome, outcome, runs};
 ghost use Rattle.a68_gen.specs.Texts as texts;
 ghost use Rattle.a68_gen.specs.Texts.{AreFirsts, AreFirstUnits, AreInside, AreNumbered};
 ghost use Rattle.a68_modes.specs.Nodes.{shape_at, is_void};
+ghost use Rattle.a68_runs.specs.Running.{AreRuns};
 ghost use Rattle.a68_tree.specs.Trees.{AllBetween};
 
 use crate::entered::{Entered, UnitNode};
 use a68_annot::{Annotated, Note};
 use a68_base::NoMemory;
 use a68_modes::{ModeId, Modes};
+use a68_runs::leaves;
 use a68_tree::{Node, NodeId, NodeKind};
 use std::alloc::Global;
 use std::marker::Model;
 
-/// An annotated tree whose routine texts and units of parallel clauses are numbered in order of text. The numbers are
-/// kept by the bytes at which these begin, so that each is found at once.
+/// An annotated tree whose routine texts and units of parallel clauses are numbered in order of text, and of which it is
+/// known which nodes run. The numbers are kept by the bytes at which these begin, so that each is found at once.
 #[derive(Drop)]
 pub struct Numbered<'a> {
     program: &'a Annotated,
     apart: Vec<Entered>,
     texts: Vec<u32>,
     units: Vec<u32>,
+    runs: Vec<bool>,
 }
 
 impl<'a> Model for Numbered<'a> {
     ghost use Rattle.a68_annot.specs.contracts.annotated.Annotated as annotated;
     ghost use Rattle.a68_annot.specs.declared.annotated.Annotated.{Annotated};
     ghost use Rattle.a68_gen.specs.Texts.{AreNumbered};
+    ghost use Rattle.a68_runs.specs.Running.{AreRuns};
 
     ghost Value = { Annotated };
 
@@ -36,7 +42,7 @@ impl<'a> Model for Numbered<'a> {
 
     ghost view = { λ numbered. numbered.program.now };
 
-    ghost invariant = { λ numbered. AreNumbered numbered.program.now numbered.apart.items numbered.texts.items numbered.units.items };
+    ghost invariant = { λ numbered. AreNumbered numbered.program.now numbered.apart.items numbered.texts.items numbered.units.items × AreRuns numbered.program.now numbered.runs.items };
 }
 
 // The byte behind that at which a node begins, or one that is behind it already.
@@ -203,8 +209,13 @@ fn number_apart(
 }
 
 impl<'a> Numbered<'a> {
-    /// An annotated tree with its routine texts and units numbered.
-    pub fn new(alloc: Global, program: &'a Annotated) -> Result<Numbered<'a>, NoMemory>
+    /// An annotated tree, of which it is known which nodes run, with its routine texts and units numbered.
+    pub fn new(
+        alloc: Global,
+        program: &'a Annotated,
+        runs: Vec<bool>,
+    ) -> Result<Numbered<'a>, NoMemory>
+        requires { AreRuns program.now runs.items }
         ensures { IfOk result (λ numbered. numbered ≡ program.now) }
     {
         let first_texts = first_texts(alloc, program)?;
@@ -225,6 +236,7 @@ impl<'a> Numbered<'a> {
             apart,
             texts,
             units,
+            runs,
         })
     }
 
@@ -277,6 +289,23 @@ impl<'a> Numbered<'a> {
         self.program.note(id)
     }
 
+    /// Does a node run: does it leave what is asked of it?
+    #[tactic(auto, unfolding(a68_elab::specs::Runs::runs))]
+    pub fn runs(&self, id: NodeId) -> bool
+        requires { id < length self.now.tree.nodes }
+        ensures { result ≡ runs self.now id }
+    {
+        self.runs[id as usize]
+    }
+
+    /// Is a value asked of a node?
+    pub fn asks_value(&self, id: NodeId) -> bool
+        requires { id < length self.now.tree.nodes }
+        ensures { result ≡ is_outcome true (outcome self.now id) }
+    {
+        leaves(self.program, true, id)
+    }
+
     /// The modes that the tree names.
     pub fn modes(&self) -> &Modes
         ensures { result.now ≡ self.now.modes }
@@ -293,7 +322,7 @@ impl<'a> Numbered<'a> {
 
     /// All routine texts and all units of parallel clauses, in order of text.
     pub fn apart(&self) -> &[Entered]
-        ensures are { map (texts.apart_of self.now) result.now ≡ (made.program_of self.now).apart }
+        ensures are { map (texts.apart_of self.now) result.now ≡ (programs.program_of self.now).apart }
         ensures inside { AreInside (length self.now.tree.nodes) result.now }
     {
         &self.apart

@@ -2,7 +2,8 @@
 ghost use Rattle.a68_acts.specs.Operations as operations;
 ghost use Rattle.std.specs.Prelude.{◌<◌, length};
 ghost use Rattle.a68_elab.specs.Made as made;
-ghost use Rattle.a68_elab.specs.Made.{behind, trees_at};
+ghost use Rattle.a68_elab.specs.Made.{trees_at};
+ghost use Rattle.a68_elab.specs.Programs.{behind};
 ghost use Rattle.a68_elab.specs.Trees as trees;
 ghost use Rattle.a68_gen.specs.Listing.{stretch, stretches};
 ghost use Rattle.a68_gen.specs.Views.{tree_of};

@@ -2,7 +2,8 @@
 ghost use Rattle.a68_acts.specs.Operations as operations;
 ghost use Rattle.std.specs.Prelude.{◌≡◌, ◌<◌, ◌∷◌, ◌++◌, [], not, length};
 ghost use Rattle.a68_elab.specs.Made as made;
-ghost use Rattle.a68_elab.specs.Made.{behind, trees_at};
+ghost use Rattle.a68_elab.specs.Made.{trees_at};
+ghost use Rattle.a68_elab.specs.Programs.{behind};
 ghost use Rattle.a68_elab.specs.Trees as trees;
 ghost use Rattle.a68_gen.specs.Listing.{instr, stretch, stretches};
 ghost use Rattle.a68_gen.specs.Views.{bound_of, note_of, tree_of};
@@ -17,7 +18,7 @@ use crate::conformity::conformity;
 use crate::names::{generator, variable};
 use crate::parallel::parallel;
 use crate::parts::{collateral, selection, slice};
-use crate::single::{denotation, leave, nothing, same, store, tag, unbuilt};
+use crate::single::{denotation, leave, misfit, nothing, same, store, tag, unbuilt};
 use crate::turns::repeat;
 use crate::view::View;
 use crate::writer::Writer;
@@ -26,7 +27,7 @@ use a68_code::Does;
 use a68_tree::{Node, NodeId, NodeKind};
 use std::alloc::Global;
 
-/// Writes a unit and its coercions: [construct] coercions.
+/// Writes a unit and its coercions: [construct] coercions; or a misfit, where it does not leave what is asked of it.
 #[cycle(units)]
 pub fn unit(alloc: Global, program: &View, id: NodeId, out: &mut Writer)
     requires { id < length program.now.of.now.tree.nodes }
@@ -34,6 +35,10 @@ pub fn unit(alloc: Global, program: &View, id: NodeId, out: &mut Writer)
 {
     let node = program.of.node(id);
     let note = program.of.note(id);
+    if !program.of.runs(id) {
+        misfit(node.span.from, program.of.asks_value(id), out);
+        return;
+    }
     if !are_built(program.of.modes(), note) {
         unbuilt(out);
         return;

@@ -3,6 +3,7 @@ ghost use Rattle.std.specs.Option.{option_and_then};
 ghost use Rattle.std.specs.Prelude.{◌≡◌, ◌<◌, ◌++◌, not, length, map, if◌then◌else◌, IfOk, OnOk};
 ghost use Rattle.a68_elab.specs.Constants.{value_in};
 ghost use Rattle.a68_elab.specs.Made as made;
+ghost use Rattle.a68_elab.specs.Programs as programs;
 ghost use Rattle.a68_elab.specs.Trees as trees;
 ghost use Rattle.a68_gen.specs.Forms.{form_of};
 ghost use Rattle.a68_gen.specs.Listing.{stretch};
@@ -29,6 +30,17 @@ use std::alloc::Global;
 pub fn unbuilt(_out: &mut Writer)
     ensures { Wrote _out.old _out.new (stretch trees.unbuilt (length _out.old.list)) }
 {}
+
+/// Writes what meets the fault Kind, and leaves a value or none as is asked: Nil Widen; with Drop where it is none.
+pub fn misfit(place: u32, wanted: bool, out: &mut Writer)
+    ensures { Wrote out.old out.new (stretch (programs.misfit place wanted) (length out.old.list)) }
+{
+    out.emit(place, Does::Nil);
+    out.emit(place, Does::Widen);
+    if !wanted {
+        out.emit(place, Does::Drop);
+    }
+}
 
 /// Writes nothing for what is not elaborated.
 pub fn nothing(_out: &mut Writer)

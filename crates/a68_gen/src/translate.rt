@@ -2,55 +2,43 @@
 ghost use Rattle.std.specs.Prelude.{◌≡◌, ◌<◌, ◌⊎◌, ◌∷◌, ◌++◌, [], ℕ, false, ◌≤◌, List, Some, slice_get, length, IfOk, IfErr};
 ghost use Rattle.a68_annot.specs.declared.annotated.Annotated.{Annotated};
 ghost use Rattle.a68_base.specs.declared.refusal.Refusal.{Refusal};
-ghost use Rattle.a68_base.specs.declared.refusal.Rule.TheVariants.{X0};
-ghost use Rattle.a68_base.specs.declared.refusal.Stop.TheVariants.{Refused};
 ghost use Rattle.a68_code.specs.declared.code.Code.{Code};
 ghost use Rattle.a68_code.specs.declared.code.Instr.{Instr};
 ghost use Rattle.a68_code.specs.Valid.{IsValid};
-ghost use Rattle.a68_elab.specs.Made.{body_of, last_id, parallel_unit_of, parts_at, program_of, texts_in, units_in};
+ghost use Rattle.a68_elab.specs.Made.{last_id, parts_at, texts_in, units_in};
+ghost use Rattle.a68_elab.specs.Programs.{asked_tree, body_of, body_yields, parallel_unit_of, program_of};
 ghost use Rattle.a68_elab.specs.Places.{ProgramBeginsBy};
 ghost use Rattle.a68_elab.specs.Trees.{Program, routine_text, parallel_unit};
 ghost use Rattle.a68_gen.specs.Fits.{Fits, ApartFits};
 ghost use Rattle.a68_gen.specs.Listing.{apart_stretch, apart_stretches, instr, listing, stretch, text_entrances, texts_entered, unit_entrances, units_entered, written};
 ghost use Rattle.a68_gen.specs.Operands.{FitsModes, ApartFitsModes};
-ghost use Rattle.a68_gen.specs.Runs.{IsNotGenerated};
+ghost use Rattle.a68_gen.specs.Refusals.{IsNotGenerated};
 ghost use Rattle.a68_gen.specs.Stretches.{Translates};
 ghost use Rattle.a68_gen.specs.Texts.{apart_of, node_of, pair_of};
 ghost use Rattle.a68_gen.specs.Writers.{Wrote};
 ghost use Rattle.a68_gen.specs.Writing.{IsTooLong, Stops, most, ran_out};
-ghost use Rattle.a68_ranges.specs.Nodes.{place_at};
 ghost use Rattle.a68_ranges.specs.Twice.{StopsBy};
-ghost use Rattle.a68_runs.specs.Runs.{AllRun};
+ghost use Rattle.a68_runs.specs.Running.{AreRuns};
 ghost use Rattle.a68_tree.specs.declared.node.Node.{Node};
 
 use crate::entered::{Entered, UnitNode};
 use crate::numbered::Numbered;
 use crate::rows::unit;
+use crate::single::misfit;
 use crate::view::View;
 use crate::writer::Writer;
 use a68_annot::Annotated;
-use a68_base::{Refusal, Rule, Stop};
+use a68_base::Stop;
 use a68_code::{Code, Does, Places, RoutineEntrance, Routines};
 use a68_elab::Sight;
-use a68_runs::{behind_proc, first_unready};
+use a68_runs::{behind_proc, leaves, which_run};
 use a68_tree::NodeId;
 use std::alloc::Global;
-
-// Refuses a node that does not run yet.
-fn unready(program: &Annotated, id: NodeId) -> Stop
-    requires { id < length program.now.tree.nodes }
-    ensures { result ≡ Refused (record { rule = X0; place = place_at program.now.tree id }) }
-{
-    Stop::Refused(Refusal {
-        rule: Rule::X0,
-        place: program.tree.node(id).span.from,
-    })
-}
 
 // Does the body of a routine text leave a value?
 fn yields(program: &Numbered, id: NodeId) -> bool
     requires { id < length program.now.tree.nodes }
-    ensures { result ≡ (body_of program.now id).yields }
+    ensures { result ≡ body_yields program.now id }
 {
     let mode = program.note(id).mode;
     !program.is_void(behind_proc(program.modes(), mode))
@@ -69,6 +57,22 @@ fn body(program: &Numbered, id: NodeId) -> NodeId
     } else {
         parts[parts.len() - 1]
     }
+}
+
+// Writes a node of which a value is asked or none: [unit], or a misfit in the place of one that leaves something else.
+fn write_asked(alloc: Global, program: &Numbered, wanted: bool, id: NodeId, out: &mut Writer)
+    requires { id < length program.now.tree.nodes }
+    ensures { Wrote out.old out.new (stretch (asked_tree program.now wanted id) (length out.old.list)) }
+{
+    if !leaves(program.annotated(), wanted, id) {
+        misfit(program.node(id).span.from, wanted, out);
+        return;
+    }
+    let view = View {
+        of: program,
+        sight: Sight::Here,
+    };
+    unit(alloc, &view, id, out);
 }
 
 // Where routine texts and units of parallel clauses begin, each by their numbers.
@@ -106,11 +110,7 @@ fn write_program(alloc: Global, program: &Numbered, out: &mut Writer)
 {
     let root = program.root();
     let place = program.node(root).span.from;
-    let view = View {
-        of: program,
-        sight: Sight::Here,
-    };
-    unit(alloc, &view, root, out);
+    write_asked(alloc, program, false, root, out);
     out.emit(place, Does::End);
 }
 
@@ -128,12 +128,9 @@ fn write_text(
 {
     let place = program.node(id).span.from;
     let start = out.len();
-    enter_text(texts, start, yields(program, id), out);
-    let view = View {
-        of: program,
-        sight: Sight::Here,
-    };
-    unit(alloc, &view, body(program, id), out);
+    let wanted = yields(program, id);
+    enter_text(texts, start, wanted, out);
+    write_asked(alloc, program, wanted, body(program, id), out);
     out.emit(place, Does::Return);
 }
 
@@ -151,11 +148,7 @@ fn write_unit(
 {
     let start = out.len();
     enter_unit(units, start, out);
-    let view = View {
-        of: program,
-        sight: Sight::Here,
-    };
-    unit(alloc, &view, node.id, out);
+    write_asked(alloc, program, false, node.id, out);
     out.emit(node.place, Does::Close);
 }
 
@@ -205,9 +198,9 @@ fn write_all(alloc: Global, program: &Numbered, entrances: &mut Entrances, out: 
     write_apart(alloc, program, entrances, out);
 }
 
-// The code of a program whose nodes all run: that of each construct, in order, End behind it, and that of each routine
-// text and of each unit of a parallel clause in order.
-fn code_of(alloc: Global, program: &Annotated) -> Result<Code, Stop>
+// The code of a program of which it is known which nodes run.
+fn code_of(alloc: Global, program: &Annotated, runs: Vec<bool>) -> Result<Code, Stop>
+    requires runs { AreRuns program.now runs.items }
     requires fits { Fits program.now.modes (length (units_in program.now)) false (program_of program.now).tree }
     requires apart { ApartFits program.now.modes (length (units_in program.now)) (program_of program.now).apart }
     requires modes { FitsModes program.now.modes (length (texts_in program.now)) (program_of program.now).tree }
@@ -217,7 +210,7 @@ fn code_of(alloc: Global, program: &Annotated) -> Result<Code, Stop>
     ensures short { IfOk result (λ code. length code.list ≤ most) }
     ensures too_long { IfErr result (λ stop. Stops stop (listing (program_of program.now))) }
 {
-    let numbered = Numbered::new(alloc, program)?;
+    let numbered = Numbered::new(alloc, program, runs)?;
     let mut entrances = Entrances {
         texts: Vec::new(alloc),
         units: Vec::new(alloc),
@@ -235,21 +228,17 @@ fn code_of(alloc: Global, program: &Annotated) -> Result<Code, Stop>
 }
 
 /// The code of a program: that of each construct, in order, End behind it, and that of each routine text and of each unit
-/// of a parallel clause in order. It is refused where a node of it does not run yet, at the first such node in the text;
-/// and where it has more than 1,048,576 instructions, at the construct that needs the next.
+/// of a parallel clause in order. A program that has more than 1,048,576 instructions is refused, at the construct that
+/// needs the next.
 pub fn generate(alloc: Global, program: &Annotated) -> Result<Code, Stop>
     ensures translates { IfOk result (λ code. Translates (program_of program.now) code) }
     ensures valid { IfOk result (λ code. IsValid code) }
     ensures short { IfOk result (λ code. length code.list ≤ most) }
-    ensures runs { IfOk result (λ code. AllRun program.now) }
     ensures refused { IfErr result (StopsBy (IsNotGenerated program.now)) }
 {
     let _root = program.tree.root();
-    let found = first_unready(alloc, program)?;
-    match found {
-        Some(id) => Err(unready(program, id)),
-        None => { code_of(alloc, program) }
-    }
+    let runs = which_run(alloc, program)?;
+    code_of(alloc, program, runs)
 }
 
 /// A law: the instructions of a program and the entrances of its routine texts and of its units are those that are listed,
@@ -265,7 +254,7 @@ pub fn translations_are_listings()
     ensures place { (program : Program) (end : ℕ) (refusal : Refusal) → ProgramBeginsBy end program → IsTooLong (listing program) refusal
         → refusal.place ≤ end }
     ensures one { (program : Annotated) (refusal other : Refusal) → IsNotGenerated program refusal → IsNotGenerated program other → other ≡ refusal }
-    ensures apart { (program : Annotated) (code : Code) (refusal : Refusal) → AllRun program → Translates (program_of program) code → length code.list ≤ most
+    ensures apart { (program : Annotated) (code : Code) (refusal : Refusal) → Translates (program_of program) code → length code.list ≤ most
         → IsNotGenerated program refusal → ⊥ }
     ensures within { (program : Annotated) (end : ℕ) (refusal : Refusal)
         → ((id : ℕ) (n : Node) → slice_get program.tree.nodes id ≡ Some n → n.span.from ≤ end) → IsNotGenerated program refusal → refusal.place ≤ end }

@@ -3,7 +3,6 @@ use crate::annot::note;
 use crate::table::{agrees, cut, holds, number};
 use crate::trees::tree_of;
 use a68_annot::{Annotated, Notes};
-use a68_base::{Rule, Stop};
 use a68_check::annotate;
 use a68_code::{Code, Does, Instr};
 use a68_gen::generate;
@@ -96,14 +95,6 @@ fn program(rt: &impl Abort, alloc: Global, lines: &str) -> Annotated {
     }
 }
 
-// Where a program is refused that does not run yet.
-fn unready_at(made: Result<Code, Stop>) -> Option<u32> {
-    match made {
-        Err(Stop::Refused(refusal)) if matches!(refusal.rule, Rule::X0) => Some(refusal.place),
-        _ => None,
-    }
-}
-
 #[test]
 fn skips_run(rt: HostRuntime) {
     let alloc = rt.alloc();
@@ -114,11 +105,24 @@ fn skips_run(rt: HostRuntime) {
     drop(code);
 }
 
+// The instructions of what does not fit: NIL is not widened.
+fn is_misfit(rt: &impl Abort, list: &[Instr], place: u32) {
+    holds(rt, list.len() == 3, "three instructions");
+    holds(rt, list[0].place == place, "where the node begins");
+    holds(rt, matches!(list[0].does, Does::Nil), "NIL");
+    holds(rt, matches!(list[1].does, Does::Widen), "that is widened");
+    holds(rt, matches!(list[2].does, Does::Drop), "and dropped");
+}
+
 #[test]
-fn jumps_are_refused_at_the_first(rt: HostRuntime) {
+fn jumps_do_not_fit(rt: HostRuntime) {
     let alloc = rt.alloc();
     let program = program(&rt, alloc, JUMPING);
-    let place = unready_at(generate(alloc, &program));
+    let code = generate(alloc, &program).expect(&rt, "code");
     drop(program);
-    holds(&rt, place == Some(12), "the first jump");
+    let list = &code.list.items;
+    holds(&rt, list.len() == 8, "a skip, two jumps and the end");
+    is_misfit(&rt, &list[1..4], 12);
+    is_misfit(&rt, &list[4..7], 20);
+    drop(code);
 }

@@ -4,7 +4,7 @@ use Rattle.std.proofs.lemmas.Bool.{cases_lt, eqb-false, eqb-true}
 use Rattle.std.proofs.lemmas.List.{drop_all}
 use Rattle.std.specs.Prelude.{◌&&◌}
 use Rattle.a68_annot.specs.declared.annotated.Annotated.{Annotated}
-use Rattle.a68_runs.specs.Runs.{is_outcome, outcome, specs_run}
+use Rattle.a68_elab.specs.Runs.{is_outcome, outcome, specs_run}
 
 -- the next two
 pub specs_step : (a : Annotated) (wanted : Bool) (ids : List ℕ) (at : ℕ) (b : Bool) → at + 1 < length ids → is_outcome wanted (outcome a (get_or ids (at + 1) 0)) ≡ b

@@ -1,4 +1,3 @@
 pub mod Bounds
 pub mod Loops
-pub mod Runs
-pub mod Unready
+pub mod Running

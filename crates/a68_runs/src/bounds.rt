@@ -6,7 +6,7 @@ ghost use Rattle.a68_elab.specs.Made as made;
 ghost use Rattle.a68_layout.specs.Rooms.{bounds_needed};
 ghost use Rattle.a68_modes.specs.Nodes.{shape_at};
 ghost use Rattle.a68_runs.specs.Bounds as bounds_so_far;
-ghost use Rattle.a68_runs.specs.Runs as runs;
+ghost use Rattle.a68_elab.specs.Runs as runs;
 ghost use Rattle.a68_tree.specs.Trees.{AllBetween};
 
 use crate::nodes::{behind_ref, is_one_of, kind_at, last_id, mode_at, parts_at};

@@ -1,7 +1,7 @@
 //! Conformity clauses.
 ghost use Rattle.std.specs.Prelude.{◌≡◌, ◌<◌, length};
 ghost use Rattle.a68_elab.specs.Made as made;
-ghost use Rattle.a68_runs.specs.Runs as runs;
+ghost use Rattle.a68_elab.specs.Runs as runs;
 ghost use Rattle.a68_tree.specs.Trees.{AllBetween};
 
 use crate::nodes::{before_out, out_of};

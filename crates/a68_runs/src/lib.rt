@@ -1,4 +1,4 @@
-//! Which programs run: each node of an annotated tree is looked at by itself.
+//! Which nodes of an annotated tree run: each is looked at by itself.
 #![tactic(auto)]
 
 mod bounds;
@@ -21,6 +21,7 @@ pub use nodes::{
     before_out, begins_in_heap, begins_with_declarer, behind_heap, behind_proc, behind_ref, called,
     is_one_of, items_at, out_of, parts_at, printers, wholes,
 };
+pub use outcomes::{leaves, outcome};
 pub use rowing::rowed_to;
-pub use runs::first_unready;
+pub use runs::which_run;
 pub use slices::form_of;

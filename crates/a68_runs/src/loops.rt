@@ -3,7 +3,7 @@ ghost use Rattle.std.specs.Prelude.{◌≡◌, ◌<◌, ℕ, length, IfSome};
 ghost use Rattle.a68_elab.specs.Made as made;
 ghost use Rattle.a68_elab.specs.Trees.{Tree};
 ghost use Rattle.a68_runs.specs.Loops.{AreWithin};
-ghost use Rattle.a68_runs.specs.Runs as runs;
+ghost use Rattle.a68_elab.specs.Runs as runs;
 ghost use Rattle.a68_tree.specs.Trees.{AllBetween};
 
 use a68_annot::Annotated;

@@ -3,7 +3,7 @@ ghost use Rattle.std.specs.Prelude.{◌≡◌, ◌<◌, length};
 ghost use Rattle.std.specs.List.{list_all};
 ghost use Rattle.a68_acts.specs.Operations as operations;
 ghost use Rattle.a68_elab.specs.Made as made;
-ghost use Rattle.a68_runs.specs.Runs as runs;
+ghost use Rattle.a68_elab.specs.Runs as runs;
 ghost use Rattle.a68_modes.specs.Nodes.{shape_at};
 
 use crate::constants::standard_of;
@@ -89,7 +89,7 @@ pub fn outcome_by(program: &Annotated, node: &Node, note: &Note) -> Option<bool>
 }
 
 /// The outcome of a node, where there is one.
-#[tactic(auto, unfolding(crate::specs::Runs::outcome))]
+#[tactic(auto, unfolding(a68_elab::specs::Runs::outcome))]
 pub fn outcome(program: &Annotated, id: NodeId) -> Option<bool>
     ensures { result ≡ runs.outcome program.now id }
 {

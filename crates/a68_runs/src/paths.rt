@@ -2,8 +2,8 @@
 ghost use Rattle.std.specs.Option.{option_and_then};
 ghost use Rattle.std.specs.Prelude.{◌≡◌};
 ghost use Rattle.a68_elab.specs.Made as made;
-ghost use Rattle.a68_runs.specs.Runs as runs;
-ghost use Rattle.a68_runs.specs.Unready as unready;
+ghost use Rattle.a68_elab.specs.Runs as runs;
+ghost use Rattle.a68_runs.specs.Running as running;
 
 use crate::nodes::{behind_proc, behind_ref};
 use crate::outcomes::is_there;
@@ -20,7 +20,7 @@ pub struct Between {
 
 // A value of a mode that is there.
 fn value_of(modes: &Modes, mode: ModeId) -> Option<Between>
-    ensures { result ≡ unready.value_of modes.now mode }
+    ensures { result ≡ running.value_of modes.now mode }
 {
     if is_there(modes, mode) {
         Some(Between { mode, left: true })
@@ -31,7 +31,7 @@ fn value_of(modes: &Modes, mode: ModeId) -> Option<Between>
 
 // A row, behind which a path leads to a mode.
 fn row_before(modes: &Modes, goal: ModeId, path: &[Coercion]) -> Option<Between>
-    ensures { result ≡ option_and_then (unready.value_of modes.now) (made.rowed_to modes.now goal path.now) }
+    ensures { result ≡ option_and_then (running.value_of modes.now) (made.rowed_to modes.now goal path.now) }
 {
     match rowed_to(modes, goal, path) {
         Some(mode) => value_of(modes, mode),
@@ -47,7 +47,7 @@ fn behind(
     coercion: Coercion,
     path: &[Coercion],
 ) -> Option<Between>
-    ensures { result ≡ unready.behind modes.now goal mode coercion path.now }
+    ensures { result ≡ running.behind modes.now goal mode coercion path.now }
 {
     match coercion {
         Coercion::Deref => value_of(modes, behind_ref(modes, mode)),
@@ -82,7 +82,7 @@ fn one_more(
     coercion: Coercion,
     path: &[Coercion],
 ) -> Option<Between>
-    ensures { result ≡ unready.one_more modes.now goal at coercion path.now }
+    ensures { result ≡ running.one_more modes.now goal at coercion path.now }
 {
     if at.left {
         behind(modes, goal, at.mode, coercion, path)

@@ -2,7 +2,7 @@
 ghost use Rattle.std.specs.Prelude.{◌≡◌};
 ghost use Rattle.a68_elab.specs.Made as made;
 ghost use Rattle.a68_modes.specs.Nodes.{shape_at};
-ghost use Rattle.a68_runs.specs.Unready as unready;
+ghost use Rattle.a68_runs.specs.Running as running;
 
 use crate::nodes::behind_ref;
 use a68_modes::{Coercion, ModeId, Modes, Shape};
@@ -95,7 +95,7 @@ fn unrowed_name(modes: &Modes, mode: ModeId) -> Option<ModeId>
 
 // The mode before a rowing to a mode; none before another coercion.
 fn before(modes: &Modes, mode: Option<ModeId>, coercion: Coercion) -> Option<ModeId>
-    ensures { result ≡ unready.before modes.now mode coercion }
+    ensures { result ≡ running.before modes.now mode coercion }
 {
     match (coercion, mode) {
         (Coercion::RowUp, Some(mode)) => unrowed(modes, mode),

@@ -3,13 +3,10 @@ ghost use Rattle.std.specs.Prelude.{◌≡◌, ◌<◌, length, IfOk, IfSome};
 ghost use Rattle.std.specs.Option.{is_some, option_and_then};
 ghost use Rattle.a68_elab.specs.Constants as constants;
 ghost use Rattle.a68_elab.specs.Made as made;
+ghost use Rattle.a68_elab.specs.Runs as runs;
 ghost use Rattle.a68_runs.specs.Loops.{AreWithin};
-ghost use Rattle.a68_runs.specs.Runs as runs;
-ghost use Rattle.a68_runs.specs.Unready as unready;
-ghost use Rattle.a68_runs.specs.Unready.{AreThere, IsThere};
+ghost use Rattle.a68_runs.specs.Running.{AreRuns, AreThere, IsThere};
 ghost use Rattle.a68_modes.specs.Nodes.{HoldsNodes, shape_at};
-ghost use Rattle.a68_ranges.specs.Indexed.{IsLeast};
-ghost use Rattle.a68_ranges.specs.Nodes.{place_at};
 ghost use Rattle.a68_tree.specs.Trees.{AllBetween};
 
 use crate::bounds::new_runs;
@@ -388,19 +385,8 @@ fn agrees(outcome: Option<bool>, left: Option<bool>) -> bool
     }
 }
 
-// Does the node of the whole text leave none? Nothing is asked of the others.
-fn is_whole(program: &Annotated, id: NodeId) -> bool
-    ensures { result ≡ runs.is_whole program.now id }
-{
-    if id == 0 {
-        is_outcome(false, outcome(program, 0))
-    } else {
-        true
-    }
-}
-
 // Does a node run?
-#[tactic(auto, unfolding(crate::specs::Runs::runs))]
+#[tactic(auto, unfolding(a68_elab::specs::Runs::runs))]
 fn is_run(alloc: Global, program: &Annotated, id: NodeId) -> Result<bool, NoMemory>
     requires { id < length program.now.tree.nodes }
     ensures runs { IfOk result (λ is_run. is_run ≡ runs.runs program.now id) }
@@ -409,57 +395,20 @@ fn is_run(alloc: Global, program: &Annotated, id: NodeId) -> Result<bool, NoMemo
     let node = program.tree.node(id);
     let note = program.note(id);
     let left = left_by(alloc, program, id, node, note)?;
-    let is_run = is_whole(program, id) && agrees(outcome_by(program, node, note), left);
-    Ok(is_run)
+    Ok(agrees(outcome_by(program, node, note), left))
 }
 
-// The byte at which a node begins; a number of no node begins at the first.
-fn place_of(program: &Annotated, id: NodeId) -> u32
-    ensures { result ≡ place_at program.now.tree id }
-{
-    if id < program.tree.len() {
-        program.tree.node(id).span.from
-    } else {
-        0
-    }
-}
-
-// Does a node stand before the one that was found, if any?
-fn is_earlier(program: &Annotated, found: Option<NodeId>, id: NodeId) -> bool
-    ensures { result ≡ unready.is_earlier program.now.tree found id }
-{
-    match found {
-        Some(other) => place_of(program, id) < place_of(program, other),
-        None => true,
-    }
-}
-
-// What was found, or one node more, where it does not run and stands before that.
-fn with_node(
-    alloc: Global,
-    program: &Annotated,
-    found: Option<NodeId>,
-    id: NodeId,
-) -> Result<Option<NodeId>, NoMemory>
-    requires { id < length program.now.tree.nodes }
-    ensures found { IfOk result (λ next. next ≡ unready.with_node program.now found id) }
-    ensures there { IsThere program.now id }
-{
-    let is_run = is_run(alloc, program, id)?;
-    let is_kept = is_run || !is_earlier(program, found, id);
-    Ok(if is_kept { found } else { Some(id) })
-}
-
-/// The node that does not run and stands first in the text, if any.
-pub fn first_unready(alloc: Global, program: &Annotated) -> Result<Option<NodeId>, NoMemory>
-    ensures least { IfOk result (λ found. IsLeast program.now.tree (runs.DoesNotRun program.now) found) }
-    ensures there { IfOk result (λ found. AreThere program.now (length program.now.tree.nodes)) }
+/// Which nodes run: whether each of them leaves what is asked of it, by their numbers.
+pub fn which_run(alloc: Global, program: &Annotated) -> Result<Vec<bool>, NoMemory>
+    ensures runs { IfOk result (λ list. AreRuns program.now list.items) }
+    ensures there { IfOk result (λ list. AreThere program.now (length program.now.tree.nodes)) }
     ensures nodes { HoldsNodes program.now.modes }
 {
     let _nodes = program.modes.len();
-    let mut found = None;
+    let mut list = Vec::new(alloc);
     for id in 0..program.tree.len() {
-        found = with_node(alloc, program, found, id)?;
+        let is_run = is_run(alloc, program, id)?;
+        list.push(is_run)?;
     }
-    Ok(found)
+    Ok(list)
 }

@@ -1,9 +1,8 @@
 //! Slices: how their indexes are written.
 ghost use Rattle.std.specs.Prelude.{◌≡◌};
 ghost use Rattle.std.specs.List.{list_all};
-ghost use Rattle.a68_code.specs.Flow.{units_in};
 ghost use Rattle.a68_elab.specs.Made as made;
-ghost use Rattle.a68_runs.specs.Runs as runs;
+ghost use Rattle.a68_elab.specs.Runs as runs;
 
 use crate::nodes::{kind_at, parts_at};
 use crate::outcomes::{all_leave, leaves};
@@ -52,9 +51,9 @@ pub fn form_of(program: &Annotated, parts: &[NodeId]) -> Form
     }
 }
 
-// How many units a form has.
-fn units_in(form: Form) -> usize
-    ensures { result ≡ units_in form }
+// How many units an index that is written so has.
+fn written_units(form: Form) -> usize
+    ensures { result ≡ runs.written_units form }
 {
     match form {
         Form::Subscript => 1,
@@ -69,7 +68,7 @@ fn is_index(program: &Annotated, id: NodeId) -> bool
     ensures { result ≡ runs.is_index program.now id }
 {
     let parts = parts_at(program, id);
-    units_in(form_of(program, parts)) == parts.len() && all_leave(program, true, parts)
+    written_units(form_of(program, parts)) == parts.len() && all_leave(program, true, parts)
 }
 
 // Are all of these such indexes?

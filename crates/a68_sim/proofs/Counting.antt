@@ -11,7 +11,9 @@ use Rattle.a68_acts.specs.declared.want.Want.TheVariants as want
 use Rattle.a68_ops.specs.Applied.{applied}
 use Rattle.a68_code.specs.declared.code.Code.{Code}
 use Rattle.a68_code.specs.declared.does.Does.TheVariants as does
-use Rattle.a68_elab.specs.Made.{program_of, most_bounds, tree_in}
+use Rattle.a68_elab.specs.Made.{most_bounds}
+use Rattle.a68_elab.specs.Programs.{program_of, tree_in}
+use Rattle.a68_elab.specs.Runs.{outcome}
 use Rattle.a68_elab.specs.Permitted.{Permitted}
 use Rattle.a68_elab.specs.Trees.{Tree, operation, phrases, range, loop, while_in, no_trees, ◌and_tree◌, collateral, serial, Program}
 use Rattle.a68_gen.specs.Stretches.{Translates}
@@ -66,7 +68,7 @@ program = record {
 
 -- it is that of the annotated text
 is_program_of : program_of three_counted ≡ program
-unfolding tree_in bounds_needed most_bounds
+unfolding tree_in outcome bounds_needed most_bounds
 is_program_of = refl
 
 abbrev code : Code

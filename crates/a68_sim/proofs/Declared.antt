@@ -7,7 +7,9 @@ use Rattle.a68_annot.specs.declared.annotated.Annotated.{Annotated}
 use Rattle.a68_annot.specs.declared.note.Note.{Note}
 use Rattle.a68_code.specs.declared.does.Does.TheVariants as does
 use Rattle.a68_layout.specs.Rooms.{bounds_needed}
-use Rattle.a68_elab.specs.Made.{program_of, most_bounds, tree_in}
+use Rattle.a68_elab.specs.Made.{most_bounds}
+use Rattle.a68_elab.specs.Programs.{program_of, tree_in}
+use Rattle.a68_elab.specs.Runs.{outcome}
 use Rattle.a68_elab.specs.Trees.{Tree, operation, together, phrases, range, no_trees, ◌and_tree◌, collateral, serial, Program}
 use Rattle.a68_gen.specs.Listing.{listing}
 use Rattle.a68_modes.specs.Nodes.{standard_shapes}
@@ -61,7 +63,7 @@ by_hand = record {
 }
 
 pub made_by_hand : program_of declared ≡ by_hand
-unfolding tree_in bounds_needed most_bounds
+unfolding tree_in outcome bounds_needed most_bounds
 made_by_hand = refl
 
 pub listed_by_hand : listing by_hand

@@ -17,7 +17,9 @@ use Rattle.a68_code.specs.declared.code.Code.{Code}
 use Rattle.a68_code.specs.declared.code.Instr.{Instr}
 use Rattle.a68_code.specs.declared.does.Does.{Does}
 use Rattle.a68_code.specs.declared.does.Does.TheVariants as does
-use Rattle.a68_elab.specs.Made.{program_of, tree_in, most_bounds}
+use Rattle.a68_elab.specs.Made.{most_bounds}
+use Rattle.a68_elab.specs.Programs.{program_of, tree_in}
+use Rattle.a68_elab.specs.Runs.{outcome}
 use Rattle.a68_elab.specs.Elaborations.{Elaborates, stays, silently, by_act}
 use Rattle.a68_elab.specs.Permitted.{Permitted}
 use Rattle.a68_elab.specs.Positions.{here, within, in_this, beside}
@@ -86,7 +88,7 @@ code = record {
 }
 
 translates : Translates program code
-unfolding tree_in bounds_needed most_bounds
+unfolding tree_in outcome bounds_needed most_bounds
 translates = record {
   end = 9;
   last = 10;
@@ -210,7 +212,7 @@ unset_code = record {
 }
 
 unset_translates : Translates unset_program unset_code
-unfolding tree_in bounds_needed most_bounds
+unfolding tree_in outcome bounds_needed most_bounds
 unset_translates = record {
   end = 7;
   last = 8;
@@ -287,7 +289,7 @@ newer_code = record {
 }
 
 newer_translates : Translates newer_program newer_code
-unfolding tree_in bounds_needed most_bounds
+unfolding tree_in outcome bounds_needed most_bounds
 newer_translates = record {
   end = 6;
   last = 7;
@@ -380,7 +382,7 @@ right_first =
 
 -- no elaboration of the first program has another first act than that which makes its frame
 frame_first : (t : Term) (s : Store) (e : Entry) (es : List Entry) → Elaborates program (todo program.tree standard) opening_store (e ∷ es) t s → e ≡ entry (act.Enter 1)
-unfolding does chain_of tree_in bounds_needed most_bounds
+unfolding does chain_of tree_in outcome bounds_needed most_bounds
 frame_first t s e es (silently here goes rest) = absurd (cc)
 frame_first t s e es (by_act {w = w} {act = a} {r = r} {s' = s'} here asks done rest) =
     let same : want.Enter 0 1 1 ≡ w = cc in

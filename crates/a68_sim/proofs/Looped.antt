@@ -5,7 +5,9 @@ use Rattle.a68_acts.specs.Operations.{constant, tag, bind, apply, unite, print}
 use Rattle.a68_annot.specs.declared.annotated.Annotated.{Annotated}
 use Rattle.a68_code.specs.declared.does.Does.TheVariants as does
 use Rattle.a68_layout.specs.Rooms.{bounds_needed}
-use Rattle.a68_elab.specs.Made.{program_of, most_bounds, tree_in}
+use Rattle.a68_elab.specs.Made.{most_bounds}
+use Rattle.a68_elab.specs.Programs.{program_of, tree_in}
+use Rattle.a68_elab.specs.Runs.{outcome}
 use Rattle.a68_elab.specs.Trees.{Tree, operation, phrases, loop, while_in, no_trees, ◌and_tree◌, collateral, serial, Program}
 use Rattle.a68_gen.specs.Listing.{listing}
 use Rattle.a68_modes.specs.Nodes.{standard_shapes}
@@ -54,7 +56,7 @@ by_hand = record {
 }
 
 pub made_by_hand : program_of looped ≡ by_hand
-unfolding tree_in bounds_needed most_bounds
+unfolding tree_in outcome bounds_needed most_bounds
 made_by_hand = refl
 
 -- the loop's Step is instruction 5; a test that fails goes to 24, and a loop that has no more turns to 26

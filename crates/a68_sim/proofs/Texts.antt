@@ -24,6 +24,10 @@ has_slot mode = record (has_mode mode [] mode) { slots = 1 }
 abbrev has_row : (mode row : ℕ) → Note
 has_row mode row = record (has_mode mode [] mode) { op = Some row }
 
+-- a tag or an operator that this node defines
+abbrev of_node : ℕ → Note → Note
+of_node d note = record note { definition = Some d }
+
 -- VOID, INT, BOOL and REF INT
 abbrev void : ℕ
 void = 0
@@ -49,7 +53,7 @@ five_printed = record {
   };
   modes = standard_shapes;
   notes =
-      has_mode void [] void ∷ has_slot void ∷ has_mode void [] void ∷ has_mode ref_int (Deref ∷ []) int ∷ has_mode void [] void ∷ has_mode ref_int [] void ∷ has_mode int [] int ∷ has_mode int [] void ∷ [];
+      has_mode void [] void ∷ has_slot void ∷ has_mode void [] void ∷ of_node 5 (has_mode ref_int (Deref ∷ []) int) ∷ has_mode void [] void ∷ has_mode ref_int [] void ∷ has_mode int [] int ∷ has_mode int [] void ∷ [];
   noted = refl;
 }
 
@@ -64,7 +68,7 @@ unset_printed = record {
     starts = 0 ∷ 6 ∷ 10 ∷ 11 ∷ 13 ∷ 18 ∷ 19 ∷ 20 ∷ 22 ∷ [];
   };
   modes = standard_shapes;
-  notes = has_mode void [] void ∷ has_slot void ∷ has_mode void [] void ∷ has_mode ref_int (Deref ∷ []) int ∷ has_mode void [] void ∷ has_mode ref_int [] void ∷ has_mode int [] void ∷ [];
+  notes = has_mode void [] void ∷ has_slot void ∷ has_mode void [] void ∷ of_node 5 (has_mode ref_int (Deref ∷ []) int) ∷ has_mode void [] void ∷ has_mode ref_int [] void ∷ has_mode int [] void ∷ [];
   noted = refl;
 }
 
@@ -79,7 +83,7 @@ newer_yielded = record {
     starts = 0 ∷ 6 ∷ 7 ∷ 11 ∷ 12 ∷ 14 ∷ 15 ∷ 17 ∷ [];
   };
   modes = standard_shapes;
-  notes = has_mode void [] void ∷ has_mode void [] void ∷ has_mode ref_int (Drop ∷ []) void ∷ has_slot ref_int ∷ has_mode ref_int [] ref_int ∷ has_mode ref_int [] void ∷ has_mode int [] void ∷ [];
+  notes = has_mode void [] void ∷ has_mode void [] void ∷ has_mode ref_int (Drop ∷ []) void ∷ has_slot ref_int ∷ of_node 5 (has_mode ref_int [] ref_int) ∷ has_mode ref_int [] void ∷ has_mode int [] void ∷ [];
   noted = refl;
 }
 
@@ -99,6 +103,6 @@ three_counted = record {
   };
   modes = standard_shapes;
   notes =
-      has_mode void [] void ∷ has_slot void ∷ has_mode void [] void ∷ has_mode ref_int (Deref ∷ []) int ∷ has_mode void [] void ∷ has_mode void [] void ∷ has_mode void [] void ∷ has_mode ref_int (Drop ∷ []) void ∷ has_row int 15 ∷ has_mode int [] int ∷ has_mode ref_int (Deref ∷ []) int ∷ has_mode ref_int [] ref_int ∷ has_mode bool [] void ∷ has_mode bool [] bool ∷ has_row bool 11 ∷ has_mode int [] int ∷ has_mode ref_int (Deref ∷ []) int ∷ has_mode ref_int [] void ∷ has_mode int [] int ∷ has_mode int [] void ∷ [];
+      has_mode void [] void ∷ has_slot void ∷ has_mode void [] void ∷ of_node 17 (has_mode ref_int (Deref ∷ []) int) ∷ has_mode void [] void ∷ has_mode void [] void ∷ has_mode void [] void ∷ has_mode ref_int (Drop ∷ []) void ∷ has_row int 15 ∷ has_mode int [] int ∷ of_node 17 (has_mode ref_int (Deref ∷ []) int) ∷ of_node 17 (has_mode ref_int [] ref_int) ∷ has_mode bool [] void ∷ has_mode bool [] bool ∷ has_row bool 11 ∷ has_mode int [] int ∷ of_node 17 (has_mode ref_int (Deref ∷ []) int) ∷ has_mode ref_int [] void ∷ has_mode int [] int ∷ has_mode int [] void ∷ [];
   noted = refl;
 }

@@ -2,7 +2,7 @@
 use Rattle.std.specs.Prelude.{ℕ, List}
 use Rattle.a68_base.specs.declared.limits.TheConstants.{USUAL_FUEL}
 use Rattle.a68_base.specs.declared.refusal.Refusal.{Refusal}
-use Rattle.a68_elab.specs.Made.{program_of}
+use Rattle.a68_elab.specs.Programs.{program_of}
 use Rattle.a68_elab.specs.Permitted.{Permitted}
 use Rattle.a68_gen.specs.Stretches.{Translates}
 use Rattle.a68_strand.specs.RunOf.{RunOf}
@@ -16,15 +16,15 @@ use Rattle.a68_values.specs.declared.kept.Kept.{Kept}
 
 module _ (text : List ℕ) (finish : Finish) (out notes : List ℕ) where
   pub refuses : (task : Task) (refusal : Refusal) → RefusedAs text refusal → IsRefusal refusal finish out notes → AnswersText task text finish out notes
-  refuses (run file fuel names) refusal why says = refused refusal why says
+  refuses (run file workers fuel names) refusal why says = refused refusal why says
   refuses (check file) refusal why says = unmade refusal why says
   refuses (show_code file) refusal why says = unmade refusal why says
-  refuses (make_units units) refusal why says = refused refusal why says
+  refuses (make_units units workers) refusal why says = refused refusal why says
 
   pub answers : (task : Task) (made : Made) → Compiles text made
       → ((fuel : ℕ) (kept : Kept) → Translates (program_of made.program) made.code → RunOf made.code fuel kept → Permitted (program_of made.program) fuel kept)
       → AnswersMade task made finish out notes → AnswersText task text finish out notes
-  answers (run file fuel names) made is law has = ran made is has (law fuel has.kept is.translated has.machine)
+  answers (run file workers fuel names) made is law has = ran made is has (law fuel has.kept is.translated has.machine)
   answers (check file) made is law has = compiled made is has
   answers (show_code file) made is law has = compiled made is has
-  answers (make_units units) made is law has = ran made is has (law USUAL_FUEL has.kept is.translated has.machine)
+  answers (make_units units workers) made is law has = ran made is has (law USUAL_FUEL has.kept is.translated has.machine)

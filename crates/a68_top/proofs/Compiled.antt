@@ -3,12 +3,11 @@ use Rattle.std.proofs.Common.{◌≡◌, ℕ, ◌≤◌, List, length, sym, ap, 
 use Rattle.a68_annot.specs.declared.annotated.Annotated.{Annotated}
 use Rattle.a68_base.specs.declared.refusal.Refusal.{Refusal}
 use Rattle.a68_code.specs.declared.code.Code.{Code}
-use Rattle.a68_elab.specs.Made.{program_of}
+use Rattle.a68_elab.specs.Programs.{program_of}
 use Rattle.a68_elab.specs.Trees.{Program}
-use Rattle.a68_gen.specs.Runs.{IsNotGenerated}
+use Rattle.a68_gen.specs.Refusals.{IsNotGenerated}
 use Rattle.a68_gen.specs.Stretches.{Translates}
 use Rattle.a68_gen.specs.Writing.{most}
-use Rattle.a68_runs.specs.Runs.{AllRun}
 use Rattle.a68_top.proofs.One.{Laws, same_program, compiled_late}
 use Rattle.a68_top.specs.Compiles.{Compiles, RefusedAs}
 use Rattle.a68_top.specs.declared.finish.Made.{Made}
@@ -16,11 +15,11 @@ use Rattle.a68_top.specs.declared.finish.Made.{Made}
 -- what the laws of translation say
 pub record Codes : Type 0 where
   pub code : (program : Program) (code other : Code) → Translates program code → Translates program other → other ≡ code
-  pub apart : (program : Annotated) (code : Code) (r : Refusal) → AllRun program → Translates (program_of program) code → length code.list ≤ most → IsNotGenerated program r → ⊥
+  pub apart : (program : Annotated) (code : Code) (r : Refusal) → Translates (program_of program) code → length code.list ≤ most → IsNotGenerated program r → ⊥
 
 module _ (laws : Laws) (codes : Codes) (text : List ℕ) where
   pub not_refused : (made : Made) (r : Refusal) → Compiles text made → RefusedAs text r → ⊥
-  not_refused made r c q = codes.apart made.program made.code r c.runs c.translated c.short (compiled_late laws text made.program r c.program q)
+  not_refused made r c q = codes.apart made.program made.code r c.translated c.short (compiled_late laws text made.program r c.program q)
 
   pub one_made : (a b : Made) → Compiles text a → Compiles text b → a ≡ b
   one_made a b c d =

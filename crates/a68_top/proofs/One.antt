@@ -5,9 +5,9 @@ use Rattle.std.proofs.lemmas.Option.{slice_get_within}
 use Rattle.a68_annot.specs.declared.annotated.Annotated.{Annotated}
 use Rattle.a68_base.specs.declared.refusal.Refusal.{Refusal}
 use Rattle.a68_base.specs.declared.refusal.Rule.{Rule}
-use Rattle.a68_base.specs.declared.refusal.Rule.TheVariants.{S6, X0}
+use Rattle.a68_base.specs.declared.refusal.Rule.TheVariants.{S6}
 use Rattle.a68_check.specs.Annotates.{Annotates, Refuses}
-use Rattle.a68_gen.specs.Runs.{IsNotGenerated}
+use Rattle.a68_gen.specs.Refusals.{IsNotGenerated}
 use Rattle.a68_parse.specs.Parses.{IsTree}
 use Rattle.a68_symbols.specs.Names.{Named, AreNamed}
 use Rattle.a68_symbols.specs.Symbols.{SymbolsAre, RefusalIs, Piece, piece_of}

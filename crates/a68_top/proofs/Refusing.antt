@@ -7,7 +7,7 @@ use Rattle.a68_base.specs.declared.refusal.Stop.{Stop}
 use Rattle.a68_base.specs.declared.refusal.Stop.TheVariants.{Refused, NoMemory}
 use Rattle.a68_check.specs.Annotates.{Refuses}
 use Rattle.a68_ranges.specs.Twice.{StopsBy}
-use Rattle.a68_gen.specs.Runs.{IsNotGenerated}
+use Rattle.a68_gen.specs.Refusals.{IsNotGenerated}
 use Rattle.a68_parse.specs.Parses.{Parses}
 use Rattle.a68_symbols.specs.Names.{Named, AreNamed}
 use Rattle.a68_symbols.specs.Symbols.{SymbolsAre, piece_of}

@@ -23,10 +23,10 @@ read_is (Some all) text e fits = e
 
 -- what is read of the text of a task that has a file
 one_text : (task : Task) (file text : List ℕ) → file_of task ≡ Some file → text_for task (text ∷ []) ≡ Some (read_of text)
-one_text (run f fuel names) file text e = refl
+one_text (run f workers fuel names) file text e = refl
 one_text (check f) file text e = refl
 one_text (show_code f) file text e = refl
-one_text (make_units units) file text e = absurd (cc)
+one_text (make_units units workers) file text e = absurd (cc)
 
 is_text_for : (task : Task) (under : List ℕ → Option (List ℕ)) (file text : List ℕ) → file_of task ≡ Some file → IfSome (under file) (λ all. text ≡ read_of all) → length text ≤ 1048577 → IsTextFor task under text
 is_text_for task under file text e read fits =
@@ -43,9 +43,9 @@ fetched task under file (Ok text) e read fits = is_text_for task under file text
 fetched task under file (Err error) e read fits = tt
 
 -- What is read of a text that was made is the text of its task.
-pub made : {E : Type 0} (under : List ℕ → Option (List ℕ)) (units : ℕ) (found : Result (List ℕ) E) → IfOk found (λ text. text ≡ read_of (make_text units)) → IfOk found (IsTextFor (make_units units) under)
-made under units (Ok text) e = record { texts = []; texts_are = tt; text_is = ap Some (sym e) }
-made under units (Err error) e = tt
+pub made : {E : Type 0} (under : List ℕ → Option (List ℕ)) (units workers : ℕ) (found : Result (List ℕ) E) → IfOk found (λ text. text ≡ read_of (make_text units)) → IfOk found (IsTextFor (make_units units workers) under)
+made under units workers (Ok text) e = record { texts = []; texts_are = tt; text_is = ap Some (sym e) }
+made under units workers (Err error) e = tt
 
 pub fits : (n : ℕ) (xs : List ℕ) → length (take n xs) ≤ n
 fits n xs = rw length-take (omega arith)

@@ -7,7 +7,7 @@ use Rattle.a68_annot.specs.declared.annotated.Annotated.{Annotated}
 use Rattle.a68_base.specs.declared.refusal.Refusal.{Refusal}
 use Rattle.a68_base.specs.declared.refusal.Rule.{Rule}
 use Rattle.a68_check.specs.Annotates.{Annotates, Refuses}
-use Rattle.a68_gen.specs.Runs.{IsNotGenerated}
+use Rattle.a68_gen.specs.Refusals.{IsNotGenerated}
 use Rattle.a68_parse.specs.Parses.{IsTree}
 use Rattle.a68_symbols.specs.Names.{Named}
 use Rattle.a68_symbols.specs.Symbols.{SymbolsAre, piece_of, IsRefused as IsBroken}

@@ -7,7 +7,7 @@ use Rattle.a68_base.specs.declared.refusal.Refusal.{Refusal}
 use Rattle.a68_base.specs.declared.status.Status.{Status}
 use Rattle.a68_base.specs.declared.status.Status.TheVariants.{Done, Refused, Usage, Fault, AllHalted, Spent}
 use Rattle.a68_code.specs.declared.code.Code.{Code}
-use Rattle.a68_elab.specs.Made.{program_of}
+use Rattle.a68_elab.specs.Programs.{program_of}
 use Rattle.a68_elab.specs.Permitted.{Permitted}
 use Rattle.a68_maker.specs.Making.{make_text}
 use Rattle.a68_report.specs.Lines.{usage_line, refusal_line, end_line, units_line}
@@ -65,18 +65,19 @@ run_lines EndAlone program kept = end_line kept.end
 run_lines Variables program kept = end_line kept.end ++ names_text program kept
 run_lines (Units units) program kept = end_line kept.end ++ size_line kept.end units (length kept.journal.entries)
 
--- The program has run so; the text that the run printed is on out, and its lines are on notes.
-pub record HasRun (made : Made) (fuel : ℕ) (telling : Telling) (finish : Finish) (out notes : List ℕ) : Type 0 where
+-- The program has run so, and one worker has taken its strands in a circle; the text that the run printed is on out, and its lines
+-- are on notes.
+pub record HasRun (made : Made) (workers fuel : ℕ) (telling : Telling) (finish : Finish) (out notes : List ℕ) : Type 0 where
   pub kept : Kept
   pub machine : RunOf made.code fuel kept
-  pub cyclic : Cyclic made.code kept
+  pub cyclic : workers ≡ 1 → Cyclic made.code kept
   pub says : Says finish out notes (record { status = status_of kept.end; refusal = None; made = Some made; ran = Some kept }) kept.journal.text (run_lines telling made.program kept)
 
 -- A run of a text: the text is refused, or its program has run, as the rules of the language permit.
-pub data IsRunOf (text : List ℕ) (fuel : ℕ) (telling : Telling) (finish : Finish) (out notes : List ℕ) : Type 0 where
-  refused : (refusal : Refusal) → RefusedAs text refusal → IsRefusal refusal finish out notes → IsRunOf text fuel telling finish out notes
-  ran : (made : Made) → Compiles text made → (has : HasRun made fuel telling finish out notes) → Permitted (program_of made.program) fuel has.kept
-      → IsRunOf text fuel telling finish out notes
+pub data IsRunOf (text : List ℕ) (workers fuel : ℕ) (telling : Telling) (finish : Finish) (out notes : List ℕ) : Type 0 where
+  refused : (refusal : Refusal) → RefusedAs text refusal → IsRefusal refusal finish out notes → IsRunOf text workers fuel telling finish out notes
+  ran : (made : Made) → Compiles text made → (has : HasRun made workers fuel telling finish out notes) → Permitted (program_of made.program) fuel has.kept
+      → IsRunOf text workers fuel telling finish out notes
 
 -- The program is kept and not run, and this is on out.
 abbrev pub IsKept : Made → List ℕ → Finish → List ℕ → List ℕ → Type 0
@@ -93,10 +94,10 @@ nothing code = []
 
 -- what a task owes for its text
 abbrev pub AnswersText : Task → List ℕ → Finish → List ℕ → List ℕ → Type 0
-AnswersText (run file fuel names) text finish out notes = IsRunOf text fuel (telling_of names) finish out notes
+AnswersText (run file workers fuel names) text finish out notes = IsRunOf text workers fuel (telling_of names) finish out notes
 AnswersText (check file) text finish out notes = IsMadeOf text nothing finish out notes
 AnswersText (show_code file) text finish out notes = IsMadeOf text code_text finish out notes
-AnswersText (make_units units) text finish out notes = IsRunOf text USUAL_FUEL (Units units) finish out notes
+AnswersText (make_units units workers) text finish out notes = IsRunOf text workers USUAL_FUEL (Units units) finish out notes
 
 -- as much of a program's text as is read: one byte above the limit
 abbrev pub read_of : List ℕ → List ℕ
@@ -104,8 +105,8 @@ read_of text = take MOST_READ text
 
 -- what is read of the text of a task: of the one that is made, or of the text of its file
 abbrev pub text_for : Task → List (List ℕ) → Option (List ℕ)
-text_for (make_units units) [] = Some (read_of (make_text units))
-text_for (make_units units) (text ∷ texts) = None
+text_for (make_units units workers) [] = Some (read_of (make_text units))
+text_for (make_units units workers) (text ∷ texts) = None
 text_for task (text ∷ []) = Some (read_of text)
 text_for task _ = None
 

@@ -4,12 +4,11 @@ use Rattle.a68_annot.specs.declared.annotated.Annotated.{Annotated}
 use Rattle.a68_base.specs.declared.refusal.Refusal.{Refusal}
 use Rattle.a68_base.specs.declared.refusal.Stop.TheVariants.{Refused}
 use Rattle.a68_check.specs.Annotates.{Annotates, Refuses}
-use Rattle.a68_elab.specs.Made.{program_of}
-use Rattle.a68_gen.specs.Runs.{IsNotGenerated}
+use Rattle.a68_elab.specs.Programs.{program_of}
+use Rattle.a68_gen.specs.Refusals.{IsNotGenerated}
 use Rattle.a68_gen.specs.Stretches.{Translates}
 use Rattle.a68_gen.specs.Writing.{most}
 use Rattle.a68_parse.specs.Parses.{IsTree, Parses}
-use Rattle.a68_runs.specs.Runs.{AllRun}
 use Rattle.a68_symbols.specs.Names.{Named, AreNamed}
 use Rattle.a68_symbols.specs.Symbols.{SymbolsAre, RefusalIs, piece_of}
 use Rattle.a68_top.specs.declared.finish.Made.{Made}
@@ -38,15 +37,14 @@ pub record IsProgramOf (text : List ℕ) (program : Annotated) : Type 0 where
   pub is : IsTreeOf text tree
   pub annotates : Annotates tree program
 
--- the program of the text, all of which runs, and its code, which has no more instructions than a program may have
+-- the program of the text, and its code, which has no more instructions than a program may have
 pub record Compiles (text : List ℕ) (made : Made) : Type 0 where
   pub program : IsProgramOf text made.program
-  pub runs : AllRun made.program
   pub translated : Translates (program_of made.program) made.code
   pub short : length made.code.list ≤ most
 
--- The rule that the text breaks: of symbols; of words and nesting; of the grammar; of the meaning; or, once
--- it is annotated, a form that does not run yet, or the limit of code.
+-- The rule that the text breaks: of symbols; of words and nesting; of the grammar; of the meaning; or, once it is
+-- annotated, the limit of code.
 pub data RefusedAs (text : List ℕ) (refusal : Refusal) : Type 0 where
   unlike_symbols : RefusalIs text refusal.rule refusal.place → RefusedAs text refusal
   unclassed : (found : Named) → SymbolsAre text (map piece_of found.symbols) → AreNamed text found → IsRefused found refusal.rule refusal.place → RefusedAs text refusal

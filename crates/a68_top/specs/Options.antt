@@ -5,17 +5,14 @@ use Rattle.std.specs.Str.{bytes_eq}
 use Rattle.std.specs.declared.option.Option.{Option}
 use Rattle.a68_base.specs.declared.limits.TheConstants.{MOST_FUEL}
 use Rattle.a68_denote.specs.Numbers.{int_in}
+use Rattle.a68_workers.specs.Workers.{most_workers}
 use Rattle.a68_top.specs.declared.options.Due.{Due}
 use Rattle.a68_top.specs.declared.options.Due.TheVariants.{Word, Workers, Fuel, Operand}
 use Rattle.a68_top.specs.declared.options.Found.{Found}
 
--- the fuel is one that a run may have
+-- the workers and the fuel are such as a run may have
 abbrev pub HasRange : Found → Type 0
-HasRange found = IfSome found.fuel (λ fuel. (1 ≤ fuel) × (fuel ≤ MOST_FUEL))
-
--- as many workers as a run may have
-abbrev pub most_workers : ℕ
-most_workers = 64
+HasRange found = IfSome found.workers (λ workers. (1 ≤ workers) × (workers ≤ most_workers)) × IfSome found.fuel (λ fuel. (1 ≤ fuel) × (fuel ≤ MOST_FUEL))
 
 -- a word that names a file: `-`, or one that does not begin with `-`
 abbrev pub is_operand : List ℕ → Bool

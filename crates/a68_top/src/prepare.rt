@@ -12,6 +12,7 @@ ghost use Rattle.a68_report.specs.Listing.{code_text as listing};
 ghost use Rattle.a68_top.specs.Answer.{AnswersText, IsKept, IsRefusal, HasRun, IsUsage, read_of, run_lines, size_line, telling_of};
 ghost use Rattle.a68_report.specs.Lines.{end_line};
 ghost use Rattle.a68_top.specs.Outcome.{IsAnswer, IsTextFor, Owes};
+ghost use Rattle.a68_workers.specs.Workers.{most_workers};
 ghost use Rattle.a68_world.specs.Run.{most_fuel};
 ghost use Rattle.a68_top.specs.declared.prepare.Early.TheVariants as early;
 
@@ -22,12 +23,15 @@ use a68_annot::Annotated;
 use a68_base::{MOST_READ, NoMemory, Refusal, Status, Stop, Text, USUAL_FUEL};
 use a68_code::Code;
 use a68_maker::{FEWEST_UNITS, MOST_UNITS, make_text};
-use a68_outside::{ReadStop, Shelf, read_at_most};
+use a68_outside::{Gate, ReadStop, Shelf, read_at_most};
 use a68_report::{USAGE, code_text, end_line, names_text, refusal_line, units_line};
 use a68_sim::permitted_law;
 use a68_values::{End, Kept};
-use a68_world::run;
+use a68_workers::run;
 use std::alloc::Global;
+use std::marker::Sync;
+use std::sync::Wait;
+use std::thread::Threads;
 
 /// Why nothing could be prepared.
 #[derive(Clone, Copy)]
@@ -177,26 +181,35 @@ fn told(
     Ok((out, notes))
 }
 
+// What is asked of a run: its workers, its fuel, and what it tells.
+#[derive(Clone, Copy)]
+struct Asked {
+    workers: u32,
+    fuel: u32,
+    telling: Telling,
+}
+
 // A code that was run, what its run keeps, and what that writes.
-fn finished(
+fn finished<R: Threads + Wait + Sync, G: Gate>(
+    rt: &R,
     alloc: Global,
     program: &Annotated,
     code: Code,
-    fuel: u32,
-    telling: Telling,
+    asked: Asked,
+    gate: &G,
 ) -> Result<(Code, Kept, (Text, Text)), NoMemory>
     requires valid { IsValid code }
     requires short { length code.list < 2 ^ 32 }
-    requires some_fuel { 1 ≤ fuel }
-    requires little_fuel { fuel ≤ most_fuel }
+    requires fuel { (1 ≤ asked.fuel) × (asked.fuel ≤ most_fuel) }
+    requires workers { (1 ≤ asked.workers) × (asked.workers ≤ most_workers) }
     ensures code { IfOk result (λ done. done.0 ≡ code) }
-    ensures runs { IfOk result (λ done. RunOf code fuel done.1) }
-    ensures cyclic { IfOk result (λ done. Cyclic code done.1) }
+    ensures runs { IfOk result (λ done. RunOf code asked.fuel done.1) }
+    ensures cyclic { asked.workers ≡ 1 → IfOk result (λ done. Cyclic code done.1) }
     ensures out { IfOk result (λ done. done.2.0 ≡ done.1.journal.text) }
-    ensures notes { IfOk result (λ done. done.2.1 ≡ run_lines telling program.now done.1) }
+    ensures notes { IfOk result (λ done. done.2.1 ≡ run_lines asked.telling program.now done.1) }
 {
-    let (code, kept) = run(alloc, code, fuel)?;
-    match told(alloc, telling, program, &kept) {
+    let (code, kept) = run(rt, alloc, code, asked.fuel, asked.workers, gate)?;
+    match told(alloc, asked.telling, program, &kept) {
         Ok(texts) => Ok((code, kept, texts)),
         Err(error) => {
             drop(code);
@@ -207,21 +220,22 @@ fn finished(
 }
 
 // What the run of a program owes.
-fn ran(
+fn ran<R: Threads + Wait + Sync, G: Gate>(
+    rt: &R,
     alloc: Global,
-    program: Annotated,
-    code: Code,
-    fuel: u32,
-    telling: Telling,
+    made: Made,
+    asked: Asked,
+    gate: &G,
 ) -> Result<Owed, NoMemory>
-    requires valid { IsValid code }
-    requires short { length code.list < 2 ^ 32 }
-    requires some_fuel { 1 ≤ fuel }
-    requires little_fuel { fuel ≤ most_fuel }
+    requires valid { IsValid made.code }
+    requires short { length made.code.list < 2 ^ 32 }
+    requires fuel { (1 ≤ asked.fuel) × (asked.fuel ≤ most_fuel) }
+    requires workers { (1 ≤ asked.workers) × (asked.workers ≤ most_workers) }
     ensures status { IfOk result (λ due. IsAnswer due.finish.status) }
-    ensures answer { IfOk result (λ due. HasRun (record { program = program; code = code }) fuel telling due.finish due.out due.notes) }
+    ensures answer { IfOk result (λ due. HasRun made asked.workers asked.fuel asked.telling due.finish due.out due.notes) }
 {
-    match finished(alloc, &program, code, fuel, telling) {
+    let Made { program, code } = made;
+    match finished(rt, alloc, &program, code, asked, gate) {
         Ok((code, kept, (out, notes))) => Ok(Owed {
             finish: Finish {
                 status: status_of(kept.end),
@@ -284,7 +298,13 @@ fn telling_of(names: bool) -> Telling
 }
 
 // What a command owes for the program of its text.
-fn due_made(alloc: Global, command: &Command, made: Made) -> Result<Owed, NoMemory>
+fn due_made<R: Threads + Wait + Sync, G: Gate>(
+    rt: &R,
+    alloc: Global,
+    command: &Command,
+    made: Made,
+    gate: &G,
+) -> Result<Owed, NoMemory>
     requires valid { IsValid made.code }
     requires short { length made.code.list < 2 ^ 32 }
     requires range { HasRange command.now }
@@ -292,13 +312,26 @@ fn due_made(alloc: Global, command: &Command, made: Made) -> Result<Owed, NoMemo
     ensures answer { IfOk result (λ due. AnswersMade (task_of command.now) made due.finish due.out due.notes) }
 {
     match command {
-        Command::Run { fuel, names, .. } => {
-            let Made { program, code } = made;
-            ran(alloc, program, code, *fuel, telling_of(*names))
+        Command::Run {
+            workers,
+            fuel,
+            names,
+            ..
+        } => {
+            let asked = Asked {
+                workers: *workers,
+                fuel: *fuel,
+                telling: telling_of(*names),
+            };
+            ran(rt, alloc, made, asked, gate)
         }
-        Command::Make { units } => {
-            let Made { program, code } = made;
-            ran(alloc, program, code, USUAL_FUEL, Telling::Units(*units))
+        Command::Make { units, workers } => {
+            let asked = Asked {
+                workers: *workers,
+                fuel: USUAL_FUEL,
+                telling: Telling::Units(*units),
+            };
+            ran(rt, alloc, made, asked, gate)
         }
         Command::Check { .. } => {
             let out = Text {
@@ -311,7 +344,13 @@ fn due_made(alloc: Global, command: &Command, made: Made) -> Result<Owed, NoMemo
 }
 
 // What a command owes for its text, as much of it as was read.
-fn due_for(alloc: Global, command: &Command, text: &[u8]) -> Result<Owed, NoMemory>
+fn due_for<R: Threads + Wait + Sync, G: Gate>(
+    rt: &R,
+    alloc: Global,
+    command: &Command,
+    text: &[u8],
+    gate: &G,
+) -> Result<Owed, NoMemory>
     requires length { length text.now < 2 ^ 32 }
     requires range { HasRange command.now }
     ensures status { IfOk result (λ due. IsAnswer due.finish.status) }
@@ -321,7 +360,7 @@ fn due_for(alloc: Global, command: &Command, text: &[u8]) -> Result<Owed, NoMemo
     match compile(alloc, text) {
         Err(Stop::NoMemory) => Err(NoMemory),
         Err(Stop::Refused(refusal)) => refused(alloc, refusal),
-        Ok(made) => due_made(alloc, command, made),
+        Ok(made) => due_made(rt, alloc, command, made, gate),
     }
 }
 
@@ -358,7 +397,7 @@ fn text_for<F: Shelf>(alloc: Global, command: &Command, shelf: &mut F) -> Result
     ensures no_fault { files_of (Some (task_of command.now)) ≡ [] → IsErrOf result Early.ReadFault → ⊥ }
 {
     match command {
-        Command::Make { units } => made_text(alloc, *units),
+        Command::Make { units, .. } => made_text(alloc, *units),
         Command::Run { file, .. } => fetch(alloc, file.as_str(), shelf),
         Command::Check { file } => fetch(alloc, file.as_str(), shelf),
         Command::Code { file } => fetch(alloc, file.as_str(), shelf),
@@ -366,7 +405,13 @@ fn text_for<F: Shelf>(alloc: Global, command: &Command, shelf: &mut F) -> Result
 }
 
 // What a command owes.
-fn due_of<F: Shelf>(alloc: Global, command: &Command, shelf: &mut F) -> Result<Owed, Early>
+fn due_of<R: Threads + Wait + Sync, F: Shelf, G: Gate>(
+    rt: &R,
+    alloc: Global,
+    command: &Command,
+    shelf: &mut F,
+    gate: &G,
+) -> Result<Owed, Early>
     requires may_ask { MayAskFor F.may_ask (Some (task_of command.now)) }
     requires range { HasRange command.now }
     ensures status { IfOk result (λ due. IsAnswer due.finish.status) }
@@ -380,11 +425,17 @@ fn due_of<F: Shelf>(alloc: Global, command: &Command, shelf: &mut F) -> Result<O
     ensures no_fault { files_of (Some (task_of command.now)) ≡ [] → IsErrOf result Early.ReadFault → ⊥ }
 {
     let text = text_for(alloc, command, shelf)?;
-    Ok(due_for(alloc, command, text.as_slice())?)
+    Ok(due_for(rt, alloc, command, text.as_slice(), gate)?)
 }
 
 /// Reads the words and the file, and finds what is owed. It takes all the memory that the call needs.
-pub fn prepare<F: Shelf>(alloc: Global, words: &[String], shelf: &mut F) -> Result<Owed, Early>
+pub fn prepare<R: Threads + Wait + Sync, F: Shelf, G: Gate>(
+    rt: &R,
+    alloc: Global,
+    words: &[String],
+    shelf: &mut F,
+    gate: &G,
+) -> Result<Owed, Early>
     requires { MayAskFor F.may_ask (task_in (map string_bytes words.now)) }
     ensures status { IfOk result (λ due. IsAnswer due.finish.status) }
     ensures answer { IfOk result (λ due. Owes (task_in (map string_bytes words.now))
@@ -398,6 +449,6 @@ pub fn prepare<F: Shelf>(alloc: Global, words: &[String], shelf: &mut F) -> Resu
 {
     match command_of(alloc, words)? {
         None => Ok(usage(alloc)?),
-        Some(command) => due_of(alloc, &command, shelf),
+        Some(command) => due_of(rt, alloc, &command, shelf, gate),
     }
 }

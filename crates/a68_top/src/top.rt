@@ -19,13 +19,13 @@ use std::thread::Threads;
 ///
 /// All memory is taken before the first byte is written, and nothing more is written after a write that failed.
 pub fn a68<R: Threads + Wait + Sync, F: Shelf, K: Sink, N: Sink, G: Gate>(
-    _rt: &R,
+    rt: &R,
     alloc: Global,
     words: &[String],
     shelf: &mut F,
     out: &mut K,
     notes: &mut N,
-    _gate: &G,
+    gate: &G,
 ) -> Finish
     // The shelf may be asked for the file that the words name.
     requires { MayAskFor F.may_ask (task_in (map string_bytes words.now)) }
@@ -44,7 +44,7 @@ pub fn a68<R: Threads + Wait + Sync, F: Shelf, K: Sink, N: Sink, G: Gate>(
     ensures unasked { files_of (task_in (map string_bytes words.now)) ≡ [] → F.faults shelf.new ≡ F.faults shelf.old }
     ensures no_read_fault { files_of (task_in (map string_bytes words.now)) ≡ [] → result.status ≢ Status.ReadFault }
 {
-    match prepare(alloc, words, shelf) {
+    match prepare(rt, alloc, words, shelf, gate) {
         Err(Early::NoMemory) => bare(Status::NoMemory),
         Err(Early::ReadFault) => {
             let _ = write_whole(notes, READ_FAULT.as_bytes());

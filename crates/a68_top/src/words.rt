@@ -2,8 +2,9 @@
 ghost use Rattle.std.specs.Prelude.{◌≡◌, ◌≤◌, List, ℕ, map, string_bytes, IfOk, IfSome, MatchOption, None, Some, if◌then◌else◌};
 ghost use Rattle.std.specs.Option.{option_map, option_and_then};
 ghost use Rattle.a68_top.specs.Options.{HasRange, start, steps};
-ghost use Rattle.a68_top.specs.Words.{compiled_by, fuel_or_usual, has_no_option, has_workers_alone, make_units, task_in, task_by, task_of_found, units_in};
+ghost use Rattle.a68_top.specs.Words.{compiled_by, fuel_or_usual, has_no_option, has_workers_alone, make_units, task_in, task_by, task_of_found, units_in, workers_or_one};
 ghost use Rattle.a68_maker.specs.declared.maker.TheConstants.{FEWEST_UNITS, MOST_UNITS};
+ghost use Rattle.a68_workers.specs.Workers.{most_workers};
 ghost use Rattle.a68_top.specs.Commands as commands;
 ghost use Rattle.a68_top.specs.Commands.{task_of};
 
@@ -50,6 +51,7 @@ pub enum Command {
     /// To compile the text of a file and to run it, and to tell the names where they are asked for.
     Run {
         file: FileName,
+        workers: u32,
         fuel: u32,
         names: bool,
     },
@@ -64,6 +66,7 @@ pub enum Command {
     /// To make a text with so many units, to compile it and to run it.
     Make {
         units: u32,
+        workers: u32,
     },
 }
 
@@ -76,6 +79,18 @@ fn fuel_or_usual(fuel: Option<u32>) -> u32
     match fuel {
         Some(fuel) => fuel,
         None => USUAL_FUEL,
+    }
+}
+
+// The workers of a run.
+fn workers_or_one(workers: Option<u32>) -> u32
+    requires { IfSome workers (λ workers. (1 ≤ workers) × (workers ≤ most_workers)) }
+    ensures workers { result ≡ workers_or_one workers }
+    ensures range { (1 ≤ result) × (result ≤ most_workers) }
+{
+    match workers {
+        Some(workers) => workers,
+        None => 1,
     }
 }
 
@@ -106,14 +121,19 @@ fn units_in(word: &str) -> Option<u32>
 
 // What `make` asks for.
 fn made_by(found: Found, operand: &str) -> Option<Command>
-    ensures task { option_map task_of result ≡ (if has_workers_alone found then option_map make_units (units_in operand.now) else None) }
+    requires { HasRange found }
+    ensures task { option_map task_of result
+        ≡ (if has_workers_alone found then option_map (λ units. make_units units (workers_or_one found.workers)) (units_in operand.now) else None) }
     ensures range { IfSome result commands.HasRange }
 {
     if !has_workers_alone(found) {
         return None;
     }
     match units_in(operand) {
-        Some(units) => Some(Command::Make { units }),
+        Some(units) => {
+            let workers = workers_or_one(found.workers);
+            Some(Command::Make { units, workers })
+        }
         None => None,
     }
 }
@@ -147,9 +167,15 @@ fn command_by(
 {
     if verb == "run" {
         let file = FileName::new(alloc, operand)?;
+        let workers = workers_or_one(found.workers);
         let fuel = fuel_or_usual(found.fuel);
         let names = found.names;
-        return Ok(Some(Command::Run { file, fuel, names }));
+        return Ok(Some(Command::Run {
+            file,
+            workers,
+            fuel,
+            names,
+        }));
     }
     if verb == "make" {
         return Ok(made_by(found, operand));

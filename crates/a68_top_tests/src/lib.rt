@@ -2,8 +2,14 @@
 #![tactic(auto)]
 
 #[cfg(test)]
+mod calls;
+#[cfg(test)]
+mod parallel;
+#[cfg(test)]
 mod table;
 #[cfg(test)]
 mod top;
 #[cfg(test)]
 mod words;
+#[cfg(test)]
+mod workers;

@@ -9,14 +9,19 @@ use std::process::Abort;
 // no file, and its units are told in the place of the fuel.
 fn parts(command: &Command) -> (&'static str, &str, u32) {
     match command {
-        Command::Run { file, fuel, names } => (
+        Command::Run {
+            file,
+            fuel,
+            names,
+            ..
+        } => (
             if *names { "run with names" } else { "run" },
             file.as_str(),
             *fuel,
         ),
         Command::Check { file } => ("check", file.as_str(), 0),
         Command::Code { file } => ("code", file.as_str(), 0),
-        Command::Make { units } => ("make", "", *units),
+        Command::Make { units, .. } => ("make", "", *units),
     }
 }
 

@@ -5,15 +5,17 @@ use Rattle.std.proofs.lemmas.Option.{same_Some}
 use Rattle.a68_annot.specs.declared.annotated.Annotated.{Annotated}
 use Rattle.a68_code.specs.declared.does.Does.TheVariants as does
 use Rattle.a68_base.specs.declared.refusal.Span.{Span}
-use Rattle.a68_elab.proofs.Nodes.{behind_is, defined_is, tree_of_nodes}
+use Rattle.a68_elab.proofs.Nodes.{behind_is, defined_is}
 use Rattle.a68_elab.specs.declared.sight.Sight.TheVariants as sight
-use Rattle.a68_gen.proofs.Linking.{case_is, enquiry_is, link_behind}
+use Rattle.a68_gen.proofs.Linking.{case_is, enquiry_is, link_behind, tree_misfit, tree_run}
 use Rattle.a68_elab.specs.Made as made
+use Rattle.a68_elab.specs.Programs as programs
 use Rattle.a68_elab.specs.declared.bound.Bound.{Bound}
 use Rattle.a68_elab.specs.declared.bound.Bound.TheVariants as bound
 use Rattle.a68_layout.specs.declared.types.Form.{Form}
 use Rattle.a68_elab.specs.Trees.{Tree, Test, operation, serial, while_in, unbuilt, ◌and_tree◌, count, Specs, no_specs, spec}
-use Rattle.a68_elab.specs.Made.{behind, trees_at, behind_ref, specs_of}
+use Rattle.a68_elab.specs.Made.{trees_at, behind_ref, specs_of}
+use Rattle.a68_elab.specs.Programs.{behind}
 use Rattle.a68_gen.specs.Coercing.{coercions}
 use Rattle.a68_gen.specs.Listing.{instr, limits, opens, stretch, stretches, test_stretch}
 use Rattle.a68_gen.specs.Loops.{asked, unless_at}
@@ -46,23 +48,32 @@ use Rattle.a68_gen.specs.Conforming.{conform_list, takes_of}
 use Rattle.a68_gen.specs.Stretches.{member_places}
 use mir.Val.{bool_byte}
 
+pub rows::unit-returns-then-not-runs : goal.rows::unit-returns-then-not-runs
+rows::unit-returns-then-not-runs t c =
+    let a = c.args.program.now.of.now in
+    let tree = tree_misfit a c.args.program.now.sight c.args.id c.node-node.result.now c.note-note.result.now c.node-node.ensures.is c.note-note.ensures (sym c.runs.ensures ∙ c.if-not-runs.true) in
+    let written = rw c.asks_value.ensures at c.misfit.ensures in
+    rw tree written
+
 pub rows::unit-returns-then-not-are_built : goal.rows::unit-returns-then-not-are_built
 rows::unit-returns-then-not-are_built t c =
+    let a = c.args.program.now.of.now in
     let note = c.note-note.result.now in
     let node = c.node-node.result.now in
-    let tree = tree_of_nodes c.args.program.now.of.now c.args.program.now.sight c.args.id node note c.node-node.ensures.is c.note-note.ensures in
+    let tree = tree_run a c.args.program.now.sight c.args.id node note c.node-node.ensures.is c.note-note.ensures (sym c.runs.ensures ∙ c.if-not-runs.false) in
     let built = rw c.modes.ensures at c.are_built.ensures in
-    rw (tree, coerced_unbuilt c.args.program.now.of.now.modes node.span.from note.goal note.mode note.path _ (sym built ∙ c.if-not-are_built.true)) c.unbuilt.ensures
+    rw (tree, coerced_unbuilt a.modes node.span.from note.goal note.mode note.path _ (sym built ∙ c.if-not-are_built.true)) c.unbuilt.ensures
 
 pub rows::unit-returns : goal.rows::unit-returns
 rows::unit-returns t c =
+    let a = c.args.program.now.of.now in
     let note = c.note-note.result.now in
     let node = c.node-node.result.now in
-    let tree = tree_of_nodes c.args.program.now.of.now c.args.program.now.sight c.args.id node note c.node-node.ensures.is c.note-note.ensures in
-    let path = coercions c.args.program.now.of.now.modes node.span.from note.goal note.mode note.path in
+    let tree = tree_run a c.args.program.now.sight c.args.id node note c.node-node.ensures.is c.note-note.ensures (sym c.runs.ensures ∙ c.if-not-runs.false) in
+    let path = coercions a.modes node.span.from note.goal note.mode note.path in
     let built = rw c.modes.ensures at c.are_built.ensures in
     let coerced : Writes c.construct.new.out.stop c.coerce.new.out.stop c.construct.new.out.list c.coerce.new.out.list path = rw c.modes-2.ensures at c.coerce.ensures in
-    rw (tree, coerced_list c.args.program.now.of.now.modes node.span.from note.goal note.mode (length c.args.out.now.list) note.path _ (sym built ∙ c.if-not-are_built.false))
+    rw (tree, coerced_list a.modes node.span.from note.goal note.mode (length c.args.out.now.list) note.path _ (sym built ∙ c.if-not-are_built.false))
     (and_behind c.args.out.now.stop c.construct.new.out.stop c.coerce.new.out.stop c.args.out.now.list c.construct.new.out.list c.coerce.new.out.list _ (λ n. path) c.construct.ensures coerced)
 
 pub rows::unit-construct-requires : goal.rows::unit-construct-requires
@@ -988,13 +999,13 @@ pub names::write_outside-returns : goal.names::write_outside-returns
 names::write_outside-returns t c =
     let a = c.args.program.now in
     let bytes_are : made.bytes_of a c.args.bound ≡ c.node.result.now.span = ap (λ (o : Option Node). option_map_or (λ (n : Node). n.span) o (record { from = 0; to = 0 })) c.node.ensures.is in
-    let same : made.defined_bound a sight.Here c.args.frames c.args.bound ≡ made.tree_in a (sight.Within c.args.frames c.node.result.now.span) c.args.bound =
-    defined_is a c.args.frames c.args.bound ∙ ap (λ (bytes : Span). made.tree_in a (sight.Within c.args.frames bytes) c.args.bound) bytes_are in
+    let same : programs.defined_bound a sight.Here c.args.frames c.args.bound ≡ programs.tree_in a (sight.Within c.args.frames c.node.result.now.span) c.args.bound =
+    defined_is a c.args.frames c.args.bound ∙ ap (λ (bytes : Span). programs.tree_in a (sight.Within c.args.frames bytes) c.args.bound) bytes_are in
     rw same c.unit.ensures
 
 pub names::write_outside-returns-then-bound-len : goal.names::write_outside-returns-then-bound-len
 names::write_outside-returns-then-bound-len t c =
     let a = c.args.program.now in
-    let none : made.defined_bound a sight.Here c.args.frames c.args.bound ≡ unbuilt =
+    let none : programs.defined_bound a sight.Here c.args.frames c.args.bound ≡ unbuilt =
     defined_is a c.args.frames c.args.bound ∙ none-past a (sight.Within c.args.frames (made.bytes_of a c.args.bound)) c.args.bound (omega arith) in
     rw none c.unbuilt.ensures

@@ -2,7 +2,8 @@ use Rattle.std.proofs.Common.{List, ◌≤◌, suc, ◌-◌, ◌+◌, ◌*◌, d
 use Rattle.std.specs.declared.option.Option.{Option}
 use Rattle.a68_base.specs.declared.refusal.Stop.{Stop}
 use Rattle.a68_code.specs.declared.code.Instr.{Instr}
-use Rattle.a68_elab.specs.Made.{behind, bound_trees, index_units, specs_of, trees_at}
+use Rattle.a68_elab.specs.Made.{bound_trees, index_units, specs_of, trees_at}
+use Rattle.a68_elab.specs.Programs.{behind}
 use Rattle.a68_gen.specs.Chains.{IsOpen, IsWhole, IsWithin, link_tree}
 use Rattle.a68_gen.specs.Listing.{stretches}
 use Rattle.a68_gen.specs.Views.{bound_of, extra, tree_of}

@@ -1,5 +1,6 @@
 use Rattle.std.proofs.Common.{◌≡◌, ◌++◌, drop}
-use Rattle.a68_elab.specs.Made.{behind, specs_of}
+use Rattle.a68_elab.specs.Made.{specs_of}
+use Rattle.a68_elab.specs.Programs.{behind}
 use Rattle.a68_gen.specs.Stretches.{member_places}
 use Rattle.a68_gen.specs.Views.{tree_of}
 use Rattle.a68_gen.proofs.conformity.places_for.Given as goal

@@ -1,6 +1,7 @@
 use Rattle.std.proofs.Common.{◌≡◌, ◌∙◌, ◌++◌, [], List, ℕ, drop, sym, ap}
 use Rattle.std.proofs.lemmas.List.{append-nil, drop_all}
-use Rattle.a68_elab.specs.Made.{behind, specs_of}
+use Rattle.a68_elab.specs.Made.{specs_of}
+use Rattle.a68_elab.specs.Programs.{behind}
 use Rattle.a68_gen.specs.Stretches.{wholes_of}
 use Rattle.a68_gen.proofs.Taking.{wholes_more}
 use Rattle.a68_gen.specs.Views.{tree_of}

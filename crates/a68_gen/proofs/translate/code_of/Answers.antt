@@ -4,7 +4,7 @@ use Rattle.a68_annot.specs.declared.annotated.Annotated.{Annotated}
 use Rattle.a68_builder.specs.Linking.{linked}
 use Rattle.a68_code.specs.declared.code.Code.{Code}
 use Rattle.a68_code.specs.declared.code.RoutineEntrance.{RoutineEntrance}
-use Rattle.a68_elab.specs.Made.{program_of}
+use Rattle.a68_elab.specs.Programs.{program_of}
 use Rattle.a68_gen.proofs.Generating.{is_translated, is_valid, stops_listing, written_of}
 use Rattle.a68_gen.proofs.translate.code_of.Goals as goal
 use Rattle.a68_gen.specs.Listing.{texts_entered, units_entered}

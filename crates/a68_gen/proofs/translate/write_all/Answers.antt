@@ -1,5 +1,5 @@
 use Rattle.std.proofs.Common.{ℕ, ap, ◌∙◌}
-use Rattle.a68_elab.specs.Made.{program_of}
+use Rattle.a68_elab.specs.Programs.{program_of}
 use Rattle.a68_gen.proofs.Generating.{all_written, behind_program}
 use Rattle.a68_gen.proofs.Writing.{had_not}
 use Rattle.a68_gen.proofs.translate.write_all.Goals as goal

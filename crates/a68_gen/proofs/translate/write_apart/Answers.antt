@@ -1,6 +1,6 @@
 use Rattle.std.proofs.Common.{◌+◌, List, ◌∷◌, length, drop, get_or, subst}
 use Rattle.std.specs.Prelude.{map}
-use Rattle.a68_elab.specs.Made.{program_of}
+use Rattle.a68_elab.specs.Programs.{program_of}
 use Rattle.a68_elab.specs.Trees.{Apart}
 use Rattle.a68_gen.proofs.Generating.{ApartAhead, apart_on, entered_cons, entered_inside}
 use Rattle.a68_gen.proofs.translate.write_apart.Goals as goal

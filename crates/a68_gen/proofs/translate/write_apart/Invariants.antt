@@ -1,6 +1,6 @@
 use Rattle.std.proofs.Common.{drop}
 use Rattle.std.specs.Prelude.{map}
-use Rattle.a68_elab.specs.Made.{program_of}
+use Rattle.a68_elab.specs.Programs.{program_of}
 use Rattle.a68_gen.proofs.Generating.{ApartAhead}
 use Rattle.a68_gen.proofs.translate.write_apart.Given as goal
 use Rattle.a68_gen.specs.Texts.{apart_of}

@@ -1,5 +1,5 @@
 use Rattle.std.proofs.Common.{◌≡◌, ◌≤◌, ◌-◌, drop, length}
-use Rattle.a68_runs.specs.Runs.{specs_run}
+use Rattle.a68_elab.specs.Runs.{specs_run}
 use Rattle.a68_runs.proofs.conformity.specs_run.Given as goal
 
 abbrev pub invariant-loop-at : goal.invariant-loop-at

@@ -1,5 +1,5 @@
 use Rattle.std.proofs.Common.{◌≡◌, ◌-◌, ◌∙◌, arith, length, sym}
-use Rattle.a68_runs.proofs.Unready.{phrase-passes, phrase-fails, last-phrase}
+use Rattle.a68_runs.proofs.Running.{phrase-passes, phrase-fails, last-phrase}
 use Rattle.a68_runs.proofs.outcomes.are_phrases.Goals as goal
 
 pub loop-at-preserved : goal.loop-at-preserved

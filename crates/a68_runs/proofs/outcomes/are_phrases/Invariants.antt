@@ -1,5 +1,5 @@
 use Rattle.std.proofs.Common.{◌≡◌, drop}
-use Rattle.a68_runs.specs.Runs.{are_phrases}
+use Rattle.a68_elab.specs.Runs.{are_phrases}
 use Rattle.a68_runs.proofs.outcomes.are_phrases.Given as goal
 
 -- the phrases from here on are as the whole of them

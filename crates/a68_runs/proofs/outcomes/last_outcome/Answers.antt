@@ -1,5 +1,5 @@
 use Rattle.std.proofs.Common.{◌∙◌, arith, sym}
-use Rattle.a68_runs.proofs.Unready.{last-outcome-is}
+use Rattle.a68_runs.proofs.Running.{last-outcome-is}
 use Rattle.a68_runs.proofs.outcomes.last_outcome.Goals as goal
 
 pub returns : goal.returns

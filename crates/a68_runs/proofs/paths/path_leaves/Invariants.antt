@@ -1,5 +1,5 @@
 use Rattle.std.proofs.Common.{◌≡◌, drop}
-use Rattle.a68_runs.specs.Runs.{path_leaves}
+use Rattle.a68_elab.specs.Runs.{path_leaves}
 use Rattle.a68_runs.proofs.paths.path_leaves.Given as goal
 
 -- the rest of the path leaves what the whole of it does

@@ -21,4 +21,4 @@ returns-in-Code-clause-text g c =
     fetched (task_of c.args.command.now) (g.F.Shelf.under c.args.shelf.now) c.as_str-in-Code.result.now c.fetch-in-Code.result e c.fetch-in-Code.ensures.text c.fetch-in-Code.ensures.length
 
 pub returns-in-Make-clause-text : goal.returns-in-Make-clause-text
-returns-in-Make-clause-text g c = rw c.in-Make.is (made (g.F.Shelf.under c.args.shelf.now) c.in-Make.units c.made_text.result c.made_text.ensures.text)
+returns-in-Make-clause-text g c = rw c.in-Make.is (made (g.F.Shelf.under c.args.shelf.now) c.in-Make.units _ c.made_text.result c.made_text.ensures.text)

@@ -1,5 +1,5 @@
--- The first node in the text that does not run.
-use Rattle.std.proofs.Common.{◌≡◌, ◌<◌, ◌⊎◌, ⊎_elim, inl, inr, ℕ, zero, suc, ◌+◌, ◌-◌, Bool, true, false, List, [], ◌∷◌, length, drop, get_or, refl, sym, ◌∙◌, ap, subst, arith, add-one, drop-cons, None, Some}
+-- Which nodes run.
+use Rattle.std.proofs.Common.{◌≡◌, ◌<◌, ◌⊎◌, ⊎_elim, inl, inr, ℕ, zero, suc, ◌+◌, ◌-◌, Bool, true, false, List, [], ◌∷◌, ◌++◌, length, length-append, drop, get_or, refl, sym, ◌∙◌, ap, subst, arith, add-one, drop-cons, None, Some}
 use Rattle.std.proofs.lemmas.Bool.{false≢true, ltb-true, ltb-false, cases_lt}
 use Rattle.std.proofs.lemmas.Option.{same_Some}
 use Rattle.std.specs.Prelude.{nat_lt, not, ◌&&◌, ◌||◌, if◌then◌else◌}
@@ -7,15 +7,13 @@ use Rattle.std.specs.Option.{option_and_then}
 use Rattle.std.specs.declared.option.Option.{Option}
 use Rattle.a68_annot.specs.declared.annotated.Annotated.{Annotated}
 use Rattle.a68_elab.specs.Made.{behind_proc, behind_ref, rowed_to}
-use Rattle.a68_runs.specs.Runs.{are_phrases, is_outcome, is_there, last_outcome, outcome, path_leaves, runs}
-use Rattle.a68_runs.specs.Unready.{AreThere, IsThere, IsUnreadyBefore, behind, is_earlier, one_more, value_of, with_node}
+use Rattle.a68_elab.specs.Runs.{are_phrases, is_outcome, is_there, last_outcome, outcome, path_leaves, runs}
+use Rattle.a68_runs.specs.Running.{AreThere, IsThere, behind, one_more, value_of}
 use Rattle.a68_runs.specs.declared.paths.Between.{Between}
 use Rattle.a68_modes.specs.Nodes.{shape_at, is_void}
 use Rattle.a68_modes.specs.declared.coercion.Coercion.{Coercion}
 use Rattle.a68_modes.specs.declared.coercion.Coercion.TheVariants as coercion
 use Rattle.a68_modes.specs.declared.shape.Shape.{Shape}
-use Rattle.a68_ranges.specs.Indexed.{IsLeast}
-use Rattle.a68_ranges.specs.Nodes.{place_at}
 
 -- ---- paths
 
@@ -119,7 +117,7 @@ last-phrase a wanted (x ∷ []) (suc i) e = absurd (omega arith)
 last-phrase a wanted (x ∷ (y ∷ ids)) zero e = absurd (omega arith)
 last-phrase a wanted (x ∷ (y ∷ ids)) (suc i) e = last-phrase a wanted (y ∷ ids) i (omega arith)
 
--- ---- the first one
+-- ---- which nodes run
 
 -- a node before one more is before that one, or it
 split : (i id : ℕ) → i < id + 1 → (i < id) ⊎ (i ≡ id)
@@ -128,32 +126,21 @@ split i id less = ⊎_elim (λ l. inl l) (λ ge. inr (omega arith)) (cases_lt i 
 pub there-more : (a : Annotated) (id : ℕ) → AreThere a id → IsThere a id → AreThere a (id + 1)
 there-more a id before here = λ i less. ⊎_elim (λ l. before i l) (λ e. subst (λ k. IsThere a k) (sym e) here) (split i id less)
 
-pub least-more : (a : Annotated) (found : Option ℕ) (id : ℕ) → IsLeast a.tree (IsUnreadyBefore a id) found → IsLeast a.tree (IsUnreadyBefore a (id + 1)) (with_node a found id)
-least-more a found id least = go (runs a id) refl found least
-  where
-    grown : (i : ℕ) → IsUnreadyBefore a id i → IsUnreadyBefore a (id + 1) i
-    grown i u = let less = u.0 in (omega arith, u.1)
+-- one more at the end of what a function gives
+pub each-more : (list : List Bool) (next : Bool) (f : ℕ → Bool) → ((i : ℕ) → i < length list → get_or list i false ≡ f i) → next ≡ f (length list)
+    → (i : ℕ) → i < length (list ++ next ∷ []) → get_or (list ++ next ∷ []) i false ≡ f i
+each-more [] next f each e zero less = e
+each-more [] next f each e (suc i) less = absurd (omega arith)
+each-more (x ∷ list) next f each e zero less = each 0 (omega arith)
+each-more (x ∷ list) next f each e (suc i) less = each-more list next (λ k. f (suc k)) (λ k l. each (suc k) (omega arith)) e i (omega arith)
 
-    passes : (runs a id ≡ true) → (found : Option ℕ) → IsLeast a.tree (IsUnreadyBefore a id) found → IsLeast a.tree (IsUnreadyBefore a (id + 1)) found
-    passes is None least = λ i u. ⊎_elim (λ l. least i (l, u.1)) (λ e. false≢true (sym u.1 ∙ ap (runs a) e ∙ is)) (split i id u.0)
-    passes is (Some f) least =
-        (grown f least.0, λ i u. ⊎_elim (λ l. least.1 i (l, u.1)) (λ e. absurd (false≢true (sym u.1 ∙ ap (runs a) e ∙ is))) (split i id u.0))
+-- whether each of so many nodes runs
+pub record AreRunsBefore (a : Annotated) (count : ℕ) (list : List Bool) : Type 0 where
+  pub long : length list ≡ count
+  pub each : (id : ℕ) → id < length list → get_or list id false ≡ runs a id
 
-    meets : (runs a id ≡ false) → (found : Option ℕ) → IsLeast a.tree (IsUnreadyBefore a id) found
-        → IsLeast a.tree (IsUnreadyBefore a (id + 1)) (if false || not (is_earlier a.tree found id) then found else Some id)
-    meets not_run None least =
-        ((omega arith, not_run), λ i u. ⊎_elim (λ l. absurd (least i (l, u.1))) (λ e. let same = ap (place_at a.tree) e in omega (arith, same)) (split i id u.0))
-    meets not_run (Some f) least = before (nat_lt (place_at a.tree id) (place_at a.tree f)) refl
-      where
-        before : (b : Bool) → nat_lt (place_at a.tree id) (place_at a.tree f) ≡ b → IsLeast a.tree (IsUnreadyBefore a (id + 1)) (if false || not b then Some f else Some id)
-        before true e =
-            let less = ltb-true (place_at a.tree id) (place_at a.tree f) e in
-            ((omega arith, not_run), λ i u. ⊎_elim (λ l. let le = least.1 i (l, u.1) in omega (arith, less, le)) (λ e. let same = ap (place_at a.tree) e in omega (arith, same)) (split i id u.0))
-        before false e =
-            let le = ltb-false (place_at a.tree id) (place_at a.tree f) e in
-            (grown f least.0, λ i u. ⊎_elim (λ l. least.1 i (l, u.1)) (λ e. let same = ap (place_at a.tree) e in omega (arith, le, same)) (split i id u.0))
-
-    go : (b : Bool) → runs a id ≡ b → (found : Option ℕ) → IsLeast a.tree (IsUnreadyBefore a id) found
-        → IsLeast a.tree (IsUnreadyBefore a (id + 1)) (if b || not (is_earlier a.tree found id) then found else Some id)
-    go true e found least = passes e found least
-    go false e found least = meets e found least
+pub runs-more : (a : Annotated) (id : ℕ) (old new : List Bool) (next : Bool) → AreRunsBefore a id old → new ≡ old ++ next ∷ [] → next ≡ runs a id → AreRunsBefore a (id + 1) new
+runs-more a id old new next before e is = record {
+  long = (let l = before.long in ap (λ (x : List Bool). length x) e ∙ omega (arith, length-append old (next ∷ [])));
+  each = subst (λ (x : List Bool). (i : ℕ) → i < length x → get_or x i false ≡ runs a i) (sym e) (each-more old next (runs a) before.each (is ∙ ap (runs a) (sym before.long)));
+}

@@ -1,19 +1,18 @@
 -- Inner: the headline does not rest on this file.
--- Steps on the way to the first node that does not run.
-use Rattle.std.specs.Prelude.{◌≡◌, ◌<◌, ℕ, Bool, true, false, List, length, None, Some, slice_get, not, ◌||◌, nat_lt, if◌then◌else◌}
+-- Steps on the way to which nodes run.
+use Rattle.std.specs.Prelude.{◌≡◌, ◌<◌, ℕ, Bool, true, false, List, length, None, Some, get_or, slice_get, not, if◌then◌else◌}
 use Rattle.std.specs.Option.{option_and_then}
 use Rattle.std.specs.declared.option.Option.{Option}
 use Rattle.a68_annot.specs.declared.annotated.Annotated.{Annotated}
 use Rattle.a68_annot.specs.declared.note.Note.{Note}
 use Rattle.a68_elab.specs.Made.{behind_proc, behind_ref, rowed_to, unrowed, unrowed_name}
-use Rattle.a68_runs.specs.Runs.{is_there, runs}
+use Rattle.a68_elab.specs.Runs.{is_there, runs}
 use Rattle.a68_runs.specs.declared.paths.Between.{Between}
 use Rattle.a68_modes.specs.Nodes.{shape_at, is_void}
 use Rattle.a68_modes.specs.declared.coercion.Coercion.{Coercion}
 use Rattle.a68_modes.specs.declared.coercion.Coercion.TheVariants as coercion
 use Rattle.a68_modes.specs.declared.shape.Shape.{Shape}
-use Rattle.a68_ranges.specs.Nodes.{place_at}
-use Rattle.a68_tree.specs.Trees.{Built, AllBetween}
+use Rattle.a68_tree.specs.Trees.{AllBetween}
 use Rattle.a68_tree.specs.declared.node.Node.{Node}
 
 -- a node is there and has a note, and its parts stand behind it
@@ -53,15 +52,7 @@ behind modes goal mode coercion.Drop path = Some (record { mode = 0; left = fals
 abbrev pub one_more : List Shape → (goal : ℕ) → Between → Coercion → List Coercion → Option Between
 one_more modes goal at c path = if at.left then behind modes goal at.mode c path else None
 
--- a node stands before the one that was found
-abbrev pub is_earlier : Built → (found : Option ℕ) → (id : ℕ) → Bool
-is_earlier tree None id = true
-is_earlier tree (Some other) id = nat_lt (place_at tree id) (place_at tree other)
-
--- what was found, or one node more
-abbrev pub with_node : Annotated → (found : Option ℕ) → (id : ℕ) → Option ℕ
-with_node a found id = if runs a id || not (is_earlier a.tree found id) then found else Some id
-
--- a node before this one that does not run
-abbrev pub IsUnreadyBefore : Annotated → (count id : ℕ) → Type 0
-IsUnreadyBefore a count id = (id < count) × (runs a id ≡ false)
+-- whether each node runs, by its number
+pub record AreRuns (a : Annotated) (list : List Bool) : Type 0 where
+  pub long : length list ≡ length a.tree.nodes
+  pub each : (id : ℕ) → id < length list → get_or list id false ≡ runs a id

@@ -1,5 +1,6 @@
--- Which programs run: a rule for each node by itself, of its kind, its note and what its parts leave (own).
-use Rattle.std.specs.Prelude.{◌≡◌, ◌<◌, ℕ, Bool, true, false, not, ◌&&◌, ◌||◌, ◌==◌, nat_lt, List, [], ◌∷◌, length, None, Some, slice_get, nat_eq, nat_le, if◌then◌else◌}
+-- What a node leaves: a value or none, by its kind, its note and what its parts leave; and whether that is what is asked of it
+-- (own).
+use Rattle.std.specs.Prelude.{ℕ, Bool, true, false, not, ◌&&◌, ◌||◌, ◌==◌, nat_lt, List, [], ◌∷◌, length, None, Some, slice_get, nat_eq, ◌+◌, nat_le, if◌then◌else◌}
 use Rattle.std.specs.List.{list_all}
 use Rattle.std.specs.Option.{is_some, option_map_or, option_and_then}
 use Rattle.std.specs.declared.option.Option.{Option}
@@ -7,12 +8,13 @@ use Rattle.a68_acts.specs.Operations.{is_union}
 use Rattle.a68_annot.specs.declared.annotated.Annotated.{Annotated}
 use Rattle.a68_annot.specs.declared.note.Note.{Note}
 use Rattle.a68_base.specs.declared.limits.TheConstants.{MOST_INSTRUCTIONS}
-use Rattle.a68_code.specs.Flow.{operands_of, units_in}
 use Rattle.a68_elab.specs.Constants.{value_in}
 use Rattle.a68_elab.specs.Made.{before_out, behind_heap, field_in, fields_at, first_bounds, first_goal, goal_at, form_of, behind_proc, behind_ref, begins_with, called, if_first, is_by, is_declarer, is_for, is_from, is_heap, is_one_of, is_to, is_while, items_at, only_id, out_of, parts_at, past, printers, rowed_to, spelling_of, standard_of, wholes}
 use Rattle.a68_elab.specs.declared.bound.Bound.{Bound}
 use Rattle.a68_elab.specs.declared.bound.Bound.TheVariants as bound
 use Rattle.a68_layout.specs.Rooms.{bounds_needed}
+use Rattle.a68_layout.specs.declared.types.Form.{Form}
+use Rattle.a68_layout.specs.declared.types.Form.TheVariants as form
 use Rattle.a68_modes.specs.Nodes.{shape_at, is_void}
 use Rattle.a68_modes.specs.declared.coercion.Coercion.{Coercion}
 use Rattle.a68_modes.specs.declared.coercion.Coercion.TheVariants as coercion
@@ -150,9 +152,13 @@ applies row = nat_le 1 row && nat_le row 38
 abbrev pub gives : (row : ℕ) → Bool
 gives row = not (nat_eq row 35 || nat_eq row 36)
 
+-- how many operands it has: two, and one from row 26 on
+abbrev pub operands : (row : ℕ) → ℕ
+operands row = if nat_le row 25 then 2 else 1
+
 -- on as many values as it takes (Report, 5.4.2)
 abbrev pub formula_runs : Annotated → (row : ℕ) → List ℕ → Bool
-formula_runs a row ids = applies row && are_values a (operands_of row) ids
+formula_runs a row ids = applies row && are_values a (operands row) ids
 
 -- a formula whose operator the text defines leaves what the routine yields, whose operands leave values
 abbrev pub declared_leaves : Annotated → (yields : Bool) → (definition : Option ℕ) → List ℕ → Option Bool
@@ -223,9 +229,18 @@ collateral_leaves a s ids = None
 
 -- ---- slices (Report, 5.3.2)
 
+-- one where it is there
+abbrev pub one_if : Bool → ℕ
+one_if b = if b then 1 else 0
+
+-- how many units an index that is written so has
+abbrev pub written_units : Form → ℕ
+written_units form.Subscript = 1
+written_units (form.Trimmer lower upper at) = one_if lower + (one_if upper + one_if at)
+
 -- an index has a part for each unit of its form, and these leave values
 abbrev pub is_index : Annotated → (id : ℕ) → Bool
-is_index a id = (units_in (form_of a (parts_at a id)) == length (parts_at a id)) && all_leave a true (parts_at a id)
+is_index a id = (written_units (form_of a (parts_at a id)) == length (parts_at a id)) && all_leave a true (parts_at a id)
 
 -- what is sliced leaves a value, and there is an index at least
 abbrev pub slice_runs : Annotated → List ℕ → Bool
@@ -306,8 +321,8 @@ parallel_runs a ids = nat_le 2 (length ids) && all_leave a false ids
 
 -- ---- nodes
 
--- What the construct of a node leaves before its coercions; None where it does not run yet. One row for each kind of
--- node; the others do not run yet.
+-- What the construct of a node leaves before its coercions; None where its parts do not leave
+-- what it takes of them. One row for each kind of node; the others leave nothing that is known.
 abbrev pub leaves_as : Annotated → Node → Note → NodeKind → Option Bool
 leaves_as a node note kind.Denotation = if_so (is_some (option_and_then value_in (spelling_of a node))) true
 leaves_as a node note kind.Skip = if_so (is_there a.modes note.goal) (asks_value a note)
@@ -378,19 +393,6 @@ abbrev pub agrees_at : Annotated → Option Node → Option Note → Bool
 agrees_at a (Some node) (Some note) = agrees (outcome_by a node note node.kind) (left_by a node note)
 agrees_at a _ _ = true
 
--- the node of the whole text leaves none
-abbrev pub is_whole : Annotated → (id : ℕ) → Bool
-is_whole a id = if nat_eq id 0 then is_outcome false (outcome a id) else true
-
--- a node runs
+-- a node runs: it leaves what is asked of it
 unfoldable pub runs : Annotated → (id : ℕ) → Bool
-runs a id = is_whole a id && agrees_at a (slice_get a.tree.nodes id) (slice_get a.notes id)
-
--- ---- programs
-
-abbrev pub DoesNotRun : Annotated → (id : ℕ) → Type 0
-DoesNotRun a id = (id < length a.tree.nodes) × (runs a id ≡ false)
-
--- every node of it runs
-abbrev pub AllRun : Annotated → Type 0
-AllRun a = (id : ℕ) → id < length a.tree.nodes → runs a id ≡ true
+runs a id = agrees_at a (slice_get a.tree.nodes id) (slice_get a.notes id)

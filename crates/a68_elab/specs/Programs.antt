@@ -1,0 +1,105 @@
+-- The program of an annotated tree: the trees of its nodes, and of what stands apart.
+use Rattle.std.specs.Prelude.{ℕ, zero, suc, pos, Bool, true, false, not, List, [], ◌∷◌, ◌++◌, map, slice_get, nat_eq, nat_lt, if◌then◌else◌}
+use Rattle.std.specs.Option.{option_map_or}
+use Rattle.a68_acts.specs.Operations.{constant, nil, widen, drop}
+use Rattle.a68_annot.specs.declared.annotated.Annotated.{Annotated}
+use Rattle.a68_annot.specs.declared.note.Note.{Note}
+use Rattle.a68_elab.specs.Made.{behind_all, behind_proc, bytes_of, coerced, last_id, leaf, made, mode_of, only, parts_at, seen, text_among, unit_among}
+use Rattle.a68_elab.specs.Runs.{agrees, is_outcome, left_by, outcome, outcome_by}
+use Rattle.a68_elab.specs.Trees.{serial, Tree, operation, unbuilt, Body, ParallelUnit, Apart, routine_text, parallel_unit, Program}
+use Rattle.a68_elab.specs.declared.sight.Sight.{Sight}
+use Rattle.a68_elab.specs.declared.sight.Sight.TheVariants as sight
+use Rattle.a68_modes.specs.Nodes.{shape_at, is_void}
+use Rattle.a68_tree.specs.declared.node.Node.{Node}
+use Rattle.a68_values.specs.Content.{plain}
+use Rattle.a68_values.specs.declared.plain.Plain.TheVariants as value
+
+-- a construct that meets the fault Kind, since NIL is not widened, and that leaves a value or none (own)
+abbrev pub misfit_value : (place : ℕ) → Tree
+misfit_value place = operation place widen serial (only (leaf place nil))
+
+abbrev pub misfit : (place : ℕ) → (wanted : Bool) → Tree
+misfit place true = misfit_value place
+misfit place false = operation place drop serial (only (misfit_value place))
+
+-- the construct of a node under its coercions
+abbrev pub unit : Annotated → (g : (frames id : ℕ) → Tree) (f : ℕ → Tree) → Node → Note → Tree
+unit a g f node note = coerced a.modes node.span.from note.goal note.mode note.path (made a g f node note node.kind)
+
+-- what stands for a node: its unit, where that leaves what is asked of the node; a misfit in the place of another one (own)
+abbrev pub fitting : Annotated → Node → Note → Tree → Tree
+fitting a node note t =
+    if agrees (outcome_by a node note node.kind) (left_by a node note) then t else misfit node.span.from (is_outcome true (outcome_by a node note node.kind))
+
+-- the tree of node `id` as it is seen, where the lists begin with node `base`: the parts of a node stand behind it
+abbrev pub tree_from : Annotated → Sight → (g : (frames id : ℕ) → Tree) (base : ℕ) → List Node → List Note → (id : ℕ) → Tree
+tree_from a sight g base [] notes id = unbuilt
+tree_from a sight g base (node ∷ nodes) [] id = unbuilt
+tree_from a sight g base (node ∷ nodes) (note ∷ notes) id =
+    if nat_eq id base then fitting a node note (unit a g (tree_from a sight g (suc base) nodes notes) node (seen a sight note)) else tree_from a sight g (suc base) nodes notes id
+
+-- within the bounds of a definition no mode word has bounds: what breaks this is refused, and 0 stands in its place (own)
+abbrev pub no_bound : (frames id : ℕ) → Tree
+no_bound frames id = leaf 0 (constant (plain (value.Int (pos 0))))
+
+-- the tree of a bound in the definition of a mode word that is applied so many frames further in
+abbrev pub defined_bound : Annotated → Sight → (frames id : ℕ) → Tree
+defined_bound a sight.Here frames id = tree_from a (sight.Within frames (bytes_of a id)) no_bound 0 a.tree.nodes a.notes id
+defined_bound a (sight.Within hops bytes) frames id = no_bound frames id
+
+-- the tree of a node as it is seen
+unfoldable pub tree_in : Annotated → Sight → (id : ℕ) → Tree
+tree_in a sight id = tree_from a sight (defined_bound a sight) 0 a.tree.nodes a.notes id
+
+-- the tree of a node where it is written
+abbrev pub tree_at : Annotated → (id : ℕ) → Tree
+tree_at a id = tree_in a sight.Here id
+
+-- the trees of the nodes behind a node; nothing else is looked at
+abbrev pub behind : (id : ℕ) → (ℕ → Tree) → ℕ → Tree
+behind id f i = if nat_lt id i then f i else unbuilt
+
+-- ---- programs
+
+abbrev pub place_of : Annotated → (id : ℕ) → ℕ
+place_of a id = option_map_or (λ (n : Node). n.span.from) (slice_get a.tree.nodes id) 0
+
+-- the tree of a node of which a value is asked or none, as its surroundings tell; a misfit in the place of one that leaves
+-- something else (own)
+abbrev pub asked_tree : Annotated → (wanted : Bool) → (id : ℕ) → Tree
+asked_tree a wanted id = if is_outcome wanted (outcome a id) then tree_at a id else misfit (place_of a id) wanted
+
+-- whether the body of a routine text leaves a value: where the mode of the routine is not one without a yield
+abbrev pub body_yields : Annotated → (id : ℕ) → Bool
+body_yields a id = not (is_void (shape_at a.modes (behind_proc (shape_at a.modes (mode_of a id)))))
+
+-- the body of a routine text is its last part
+abbrev pub body_of : Annotated → (id : ℕ) → Body
+body_of a id = record {
+  place = place_of a id;
+  yields = body_yields a id;
+  tree = asked_tree a (body_yields a id) (last_id (parts_at a id));
+}
+
+-- a unit of a parallel clause that begins there
+abbrev pub parallel_unit_of : Annotated → (ℕ × ℕ) → ParallelUnit
+parallel_unit_of a u = record { place = u.0; tree = asked_tree a false u.1 }
+
+-- what stands apart and begins at a byte: the unit of a parallel clause before the routine text that it is (own)
+abbrev pub apart_at : Annotated → (byte : ℕ) → List Apart
+apart_at a byte =
+    map (λ u. parallel_unit (parallel_unit_of a u)) (unit_among a byte a.tree.nodes) ++ map (λ id. routine_text (body_of a id)) (text_among byte 0 a.tree.nodes)
+
+-- what stands apart and begins before a byte, in order of text
+abbrev pub apart_before : Annotated → (byte : ℕ) → List Apart
+apart_before a zero = []
+apart_before a (suc byte) = apart_before a byte ++ apart_at a byte
+
+-- the program of an annotated tree, whose first node is that of the whole text
+abbrev pub program_of : Annotated → Program
+program_of a = record {
+  place = place_of a 0;
+  tree = asked_tree a false 0;
+  apart = apart_before a (behind_all a.tree.nodes);
+  modes = a.modes;
+}

@@ -1,0 +1,121 @@
+//! Calls of the whole over shelves and sinks in memory, and what they left.
+use crate::table::{holds, strings};
+use a68_outside::{FreeGate, MemoryShelf, MemorySink};
+use a68_top::{Finish, a68};
+use std::alloc::Global;
+use std::marker::Sync;
+use std::panic::Expect;
+use std::process::Abort;
+use std::sync::Wait;
+use std::thread::Threads;
+
+/// What is handed to a call. The shelf has the text under `f` and the text "BEGIN print(1) END" under `g`.
+#[derive(Clone, Copy)]
+pub struct Given<'a> {
+    pub words: &'a [&'a str],
+    pub text: &'a [u8],
+    pub reads_fail: &'a [u64],
+    pub room: u32,
+    pub writes_fail: &'a [u64],
+    pub notes_room: u32,
+}
+
+/// A call of `run f` where nothing fails.
+pub fn run_f(text: &str) -> Given<'_> {
+    Given {
+        words: &["run", "f"],
+        text: text.as_bytes(),
+        reads_fail: &[],
+        room: 100,
+        writes_fail: &[],
+        notes_room: 200,
+    }
+}
+
+/// A call with these words where nothing fails.
+pub fn of_words<'a>(words: &'a [&'a str], text: &'a str) -> Given<'a> {
+    Given {
+        words,
+        ..run_f(text)
+    }
+}
+
+/// What a call left.
+#[derive(Drop)]
+pub struct Left {
+    pub status: u8,
+    /// How many entries the kept journal has.
+    pub events: usize,
+    pub out: MemorySink,
+    pub notes: MemorySink,
+}
+
+fn shelf(rt: &impl Abort, alloc: Global, given: Given<'_>) -> MemoryShelf {
+    let (text, fails) = (given.text, given.reads_fail);
+    let mut shelf = MemoryShelf::new(alloc, "f", text, 4, fails).expect(rt, "memory");
+    shelf.put("g", b"BEGIN print(1) END").expect(rt, "memory");
+    shelf
+}
+
+// The number of the status, and how many entries the kept journal has.
+fn status_and_events(finish: &Finish) -> (u8, usize) {
+    match &finish.ran {
+        Some(kept) => (finish.status.number(), kept.journal.entries.items.len()),
+        None => (finish.status.number(), 0),
+    }
+}
+
+/// A call whose sinks have the room that is handed in.
+pub fn call<R: Threads + Wait + Sync + Abort>(rt: &R, alloc: Global, given: Given<'_>) -> Left {
+    let out = MemorySink::new(alloc, given.room, 4, given.writes_fail).expect(rt, "memory");
+    call_over(rt, alloc, given, out)
+}
+
+/// A call that prints to this sink.
+pub fn call_over<R: Threads + Wait + Sync + Abort>(
+    rt: &R,
+    alloc: Global,
+    given: Given<'_>,
+    mut out: MemorySink,
+) -> Left {
+    let words = strings(rt, alloc, given.words);
+    let mut shelf = shelf(rt, alloc, given);
+    let mut notes = MemorySink::new(alloc, given.notes_room, 5, &[]).expect(rt, "memory");
+    let finish = a68(
+        rt, alloc, &words, &mut shelf, &mut out, &mut notes, &FreeGate,
+    );
+    let (status, events) = status_and_events(&finish);
+    drop(finish);
+    drop(shelf);
+    drop(words);
+    Left {
+        status,
+        events,
+        out,
+        notes,
+    }
+}
+
+/// Whether a call ends with this status, and prints this.
+pub fn prints(rt: &impl Abort, left: &Left, status: u8, out: &str) {
+    holds(rt, left.status == status, "the status");
+    holds(rt, left.out.taken() == out.as_bytes(), "what is printed");
+}
+
+/// Whether a call ends with this status, and prints and notes this. How many events there were.
+pub fn answers<R: Threads + Wait + Sync + Abort>(
+    rt: &R,
+    alloc: Global,
+    given: Given<'_>,
+    status: u8,
+    texts: (&str, &str),
+) -> usize {
+    let left = call(rt, alloc, given);
+    let (out, notes) = texts;
+    prints(rt, &left, status, out);
+    let noted = left.notes.taken() == notes.as_bytes();
+    holds(rt, noted, "what is noted");
+    let events = left.events;
+    drop(left);
+    events
+}

@@ -1,0 +1,51 @@
+//! Runs by one worker.
+ghost use Rattle.std.specs.Prelude.{◌≡◌, ◌≢◌, ◌<◌, ◌+◌, length, true, None, IfOk, IfSome, IsNone, MatchBool, OnOk};
+ghost use Rattle.a68_strand.specs.Cyclic.{IsFirstBehind};
+ghost use Rattle.a68_workers.specs.Runs.{GoesFrom, TookTurns};
+ghost use Rattle.a68_world.specs.Run.{Run};
+ghost use Rattle.a68_world.specs.Turns.{IsAble, last_strand};
+
+use a68_base::NoMemory;
+use a68_outside::Gate;
+use a68_world::{Turned, World};
+use std::alloc::Global;
+
+// A turn of the first strand that can be turned. Tells whether the run goes on.
+fn turn_first(alloc: Global, world: &mut World, strand: u32) -> Result<bool, NoMemory>
+    requires { IsFirstBehind (IsAble world.old) (last_strand world.old.entries) strand }
+    ensures goes_on { GoesFrom world.old world.new }
+    ensures took { OnOk result ((first : Run) → GoesFrom first world.old → TookTurns first world.old → TookTurns first world.new) }
+    ensures acted { IfOk result (λ acted. MatchBool acted ((length world.old.entries < world.old.fuel) × (length world.new.entries ≡ length world.old.entries + 1)) (world.new.end ≢ None)) }
+{
+    let _known = world.code();
+    match world.turn(alloc, strand) {
+        Turned::Acted => Ok(true),
+        Turned::Over(_) => Ok(false),
+        // A strand that can be turned is there and has something to do.
+        Turned::NotReady => unreachable!(),
+        Turned::NoMemory => Err(NoMemory),
+    }
+}
+
+/// Turns strands until the run has ended, each time the first one that can be turned behind that of the last entry. The
+/// gate is called behind each turn. NoMemory where a turn finds no memory; the world is then as that turn left it.
+pub fn turn_rest<G: Gate>(alloc: Global, world: &mut World, gate: &G) -> Result<(), NoMemory>
+    ensures goes_on { GoesFrom world.old world.new }
+    ensures took { OnOk result (TookTurns world.old world.new) }
+    ensures ended { OnOk result (world.new.end ≢ None) }
+{
+    let mut events: u64 = 0;
+    while let Some(strand) = world.next(world.last()) {
+        let acted = turn_first(alloc, world, strand)?;
+        events = events.wrapping_add(1);
+        gate.pass(0, strand, events);
+        if !acted {
+            return Ok(());
+        }
+    }
+    // A run that has not ended, and in which no strand can be turned, has a strand that found no memory.
+    if world.end().is_none() {
+        return Err(NoMemory);
+    }
+    Ok(())
+}
