@@ -2,7 +2,7 @@
 use crate::table::{agrees, holds};
 use crate::world::valid_code;
 use a68_values::{End, Entry, FaultKind, Kept};
-use a68_world::{Turned, World, run};
+use a68_world::{Turned, World};
 use std::alloc::Global;
 use std::panic::Expect;
 use std::process::Abort;
@@ -74,11 +74,23 @@ const RUNS: &[(&str, u32, usize, End)] = &[
     (WITHIN, 99, 9, End::Done),
 ];
 
+// Turns, each time, the strand that is next behind that of the last entry.
+fn turn_in_circle(alloc: Global, world: &mut World) {
+    for _ in 0..=100 {
+        let Some(strand) = world.next(world.last()) else {
+            return;
+        };
+        let _ = world.turn(alloc, strand);
+    }
+}
+
 fn kept(rt: &impl Abort, alloc: Global, ops: &str, fuel: u32) -> Kept {
     holds(rt, 1 <= fuel, "some fuel");
     holds(rt, fuel <= 100, "little fuel");
     let code = valid_code(rt, alloc, ops);
-    let (code, kept) = run(alloc, code, fuel).expect(rt, "memory");
+    let mut world = World::start(alloc, code, fuel).expect(rt, "memory");
+    turn_in_circle(alloc, &mut world);
+    let (code, kept) = world.finish().ok().expect(rt, "an end");
     drop(code);
     kept
 }

@@ -7,7 +7,7 @@ use crate::table::{agrees, holds};
 use a68_code::Code;
 use a68_rules_tests::plain_in;
 use a68_values::{End, Entry, FaultKind, Kept, Plain};
-use a68_world::{Turned, World, run};
+use a68_world::{Turned, World};
 use std::alloc::Global;
 use std::panic::Expect;
 use std::process::Abort;
@@ -312,17 +312,6 @@ fn keeps(rt: HostRuntime) {
     );
     let (code, kept) = world.finish().ok().expect(&rt, "an end");
     drop(code);
-    is_printed(&rt, alloc, &kept);
-    drop(kept);
-}
-
-#[test]
-fn runs_in_turn(rt: HostRuntime) {
-    let alloc = rt.alloc();
-    let code = valid_code(&rt, alloc, PRINTING);
-    let (code, kept) = run(alloc, code, 7).expect(&rt, "memory");
-    drop(code);
-    holds(&rt, kept.end == End::Done, "the end");
     is_printed(&rt, alloc, &kept);
     drop(kept);
 }

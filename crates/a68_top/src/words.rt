@@ -1,5 +1,5 @@
 //! The words of the command line.
-ghost use Rattle.std.specs.Prelude.{◌≡◌, ◌≤◌, List, ℕ, map, string_bytes, IfOk, IfSome, MatchOption, None, Some, if◌then◌else◌};
+ghost use Rattle.std.specs.Prelude.{◌≡◌, ◌≤◌, List, ℕ, map, string_bytes, IfOk, IfSome, None, Some, if◌then◌else◌};
 ghost use Rattle.std.specs.Option.{option_map, option_and_then};
 ghost use Rattle.a68_top.specs.Options.{HasRange, start, steps};
 ghost use Rattle.a68_top.specs.Words.{compiled_by, fuel_or_usual, has_no_option, has_workers_alone, make_units, task_in, task_by, task_of_found, units_in, workers_or_one};

@@ -1,7 +1,6 @@
 pub mod Asked
 pub mod Beginning
 pub mod Behind
-pub mod Circling
 pub mod Doing
 pub mod Entering
 pub mod Firsts

@@ -1,4 +1,3 @@
-pub mod Circle
 pub mod Codes
 pub mod Ending
 pub mod Inside

@@ -3,7 +3,6 @@
 
 mod acts;
 mod calls;
-mod circle;
 mod deed;
 mod seat;
 mod status;
@@ -14,7 +13,6 @@ mod units;
 mod waking;
 mod world;
 
-pub use circle::run;
 pub use status::Status;
 pub use turned::Turned;
 pub use world::World;
