@@ -3,17 +3,23 @@ ghost use Rattle.std.specs.Prelude.{◌≡◌, ◌≤◌, ◌⊎◌, ℕ, List, 
 ghost use Rattle.a68_annot.specs.declared.annotated.Annotated.{Annotated};
 ghost use Rattle.a68_base.specs.declared.refusal.Refusal.{Refusal};
 ghost use Rattle.a68_base.specs.declared.refusal.Rule.TheVariants.{S6};
+ghost use Rattle.a68_strand.specs.Cyclic.{Cyclic};
+ghost use Rattle.a68_strand.specs.RunOf.{RunOf};
 ghost use Rattle.a68_top.specs.Compiles.{IsProgramOf, Compiles, RefusedAs};
 ghost use Rattle.a68_top.specs.declared.finish.Made.{Made};
+ghost use Rattle.a68_values.specs.declared.kept.Kept.{Kept};
 
 use a68_check::{annotations_are_one, annotations_begin_by};
 use a68_gen::translations_are_listings;
 use a68_parse::{symbols_are_bounded, trees_lie_in_texts};
+use a68_sim::ended_programs_do_no_more;
 use a68_symbols::symbols_are_one;
 use a68_words::classes_are_one;
+use a68_workers::one_worker_has_one_run;
 
 /// A law: a text has one answer. It is compiled or refused and never both; what it is compiled into is one program with
-/// one code; it is refused by one rule, and but for S6 at one place; and this place is a byte of the text, or its end.
+/// one code; it is refused by one rule, and but for S6 at one place; and this place is a byte of the text, or its end. With
+/// this fuel it has one run by one worker.
 pub fn answers_are_one()
     ensures refusals { (text : List ℕ) (r s : Refusal) → RefusedAs text r → RefusedAs text s
         → (r.rule ≡ s.rule) × ((r.rule ≡ S6) ⊎ (r.place ≡ s.place)) }
@@ -21,6 +27,8 @@ pub fn answers_are_one()
     ensures apart { (text : List ℕ) (made : Made) (r : Refusal) → Compiles text made → RefusedAs text r → ⊥ }
     ensures programs { (text : List ℕ) (a b : Annotated) → IsProgramOf text a → IsProgramOf text b → a ≡ b }
     ensures compiled { (text : List ℕ) (a b : Made) → Compiles text a → Compiles text b → a ≡ b }
+    ensures runs { (text : List ℕ) (made : Made) (fuel : ℕ) (a b : Kept) → Compiles text made → RunOf made.code fuel a → Cyclic made.code a
+        → RunOf made.code fuel b → Cyclic made.code b → a ≡ b }
 {
     symbols_are_one();
     classes_are_one();
@@ -28,5 +36,7 @@ pub fn answers_are_one()
     trees_lie_in_texts();
     annotations_are_one();
     annotations_begin_by();
+    ended_programs_do_no_more();
+    one_worker_has_one_run();
     translations_are_listings();
 }

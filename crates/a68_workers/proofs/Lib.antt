@@ -1,3 +1,4 @@
 pub mod Going
 pub mod Sending
+pub mod Sole
 pub mod Turning

@@ -40,7 +40,7 @@ next_then (Some m) a P Q f p = (p.0, f m.1 p.1)
 one_entry : (code : Code) (v u : World) (e : Entry) → acted code v e.strand ≡ Some (e.act, u) → Machine code v (e ∷ []) u
 one_entry code v u e next = subst (λ o. IfNext o e.act (λ behind. behind ≡ u)) (sym next) (refl, refl)
 
-machine_more : (code : Code) (w v u : World) (es : List Entry) (e : Entry) → Machine code w es v → acted code v e.strand ≡ Some (e.act, u) → Machine code w (es ++ e ∷ []) u
+pub machine_more : (code : Code) (w v u : World) (es : List Entry) (e : Entry) → Machine code w es v → acted code v e.strand ≡ Some (e.act, u) → Machine code w (es ++ e ∷ []) u
 machine_more code w v u [] e runs next = subst (λ x. Machine code x (e ∷ []) u) (sym runs) (one_entry code v u e next)
 machine_more code w v u (d ∷ es) e runs next =
     next_then (acted code w d.strand) d.act (λ b. Machine code b es v) (λ b. Machine code b (es ++ e ∷ []) u) (λ b r. machine_more code b v u es e r next) runs
@@ -229,7 +229,7 @@ one_first Such behind n m p q = by (before_or_not n m) where
   by (inr (inl e)) = e
   by (inr (inr r)) = swapped (sooner_by behind m n r)
 
-one_turn_of : (code : Code) (w : World) (before : Option ℕ) (n m : ℕ) → IsTurnOf code w before n → IsTurnOf code w before m → n ≡ m
+pub one_turn_of : (code : Code) (w : World) (before : Option ℕ) (n m : ℕ) → IsTurnOf code w before n → IsTurnOf code w before m → n ≡ m
 one_turn_of code w None n m p q = p ∙ sym q
 one_turn_of code w (Some b) n m p q = one_first (HasTurn code w) b n m p q
 
@@ -252,7 +252,7 @@ fault_free_found : (code : Code) (w : World) (n : ℕ) (o : Option State)
 fault_free_found code w n None can = refl
 fault_free_found code w n (Some st) can = fault_free_in code w n st st.stance can
 
-no_fault : (code : Code) (w : World) (n : ℕ) → CanAct code w n → fault_of w n ≡ None
+pub no_fault : (code : Code) (w : World) (n : ℕ) → CanAct code w n → fault_of w n ≡ None
 no_fault code w n can = fault_free_found code w n (slice_get w.strands n) can
 
 -- ---- the end of a run

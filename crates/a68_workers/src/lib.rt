@@ -3,8 +3,10 @@
 
 mod alone;
 mod held;
+mod laws;
 mod runs;
 mod shared;
 
 pub use held::Given;
+pub use laws::one_worker_has_one_run;
 pub use runs::{run, run_all};

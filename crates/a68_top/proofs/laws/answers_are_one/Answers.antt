@@ -1,3 +1,4 @@
+use Rattle.a68_elab.specs.Programs.{program_of}
 use Rattle.a68_top.proofs.Compiled.{Codes, not_refused, one_made}
 use Rattle.a68_top.proofs.One.{Laws, one_refusal, same_program}
 use Rattle.a68_top.proofs.Within.{Bounds, place_within}
@@ -38,4 +39,6 @@ returns c = record {
   apart = not_refused (laws c) (codes c);
   programs = same_program (laws c);
   compiled = one_made (laws c) (codes c);
+  runs = λ text made fuel a b m.
+      c.one_worker_has_one_run.ensures made.code fuel (c.ended_programs_do_no_more.ensures (program_of made.program) made.code m.translated) a b;
 }
