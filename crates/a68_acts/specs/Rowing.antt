@@ -6,8 +6,8 @@ use Rattle.std.specs.declared.option.Option.{Option}
 use Rattle.std.specs.declared.result.Result.{Result}
 use Rattle.a68_layout.specs.Views.{bounds_of, cells_seen, parts_in, part_of}
 use Rattle.a68_layout.specs.Widths.{cells_of}
-use Rattle.a68_layout.specs.declared.types.Form.{Form}
-use Rattle.a68_layout.specs.declared.types.Form.TheVariants as form
+use Rattle.a68_layout.specs.declared.types.TrimForm.{TrimForm}
+use Rattle.a68_layout.specs.declared.types.TrimForm.TheVariants as form
 use Rattle.a68_layout.specs.declared.types.Trim.{Trim}
 use Rattle.a68_layout.specs.declared.types.Trim.TheVariants as trim
 use Rattle.a68_modes.specs.declared.shape.Shape.{Shape}
@@ -66,7 +66,7 @@ trim_of lower upper at is =
 abbrev pub behind_trim : (lower upper at : Bool) → List ℤ → List ℤ
 behind_trim lower upper at is = (take_if at (take_if upper (take_if lower is).1).1).1
 
-abbrev pub trims_of : List Form → List ℤ → List Trim
+abbrev pub trims_of : List TrimForm → List ℤ → List Trim
 trims_of [] is = []
 trims_of (form.Subscript ∷ forms) (i ∷ is) = trim.At i ∷ trims_of forms is
 trims_of (form.Subscript ∷ forms) [] = []
@@ -78,16 +78,16 @@ sliced_by (plain value.Nil) trims = meets fault.Nil
 sliced_by (plain (value.Name n)) trims = asks (want.Fetch n.cell) (next.Sliced trims n.scope)
 sliced_by v trims = meets fault.Kind
 
-abbrev pub sliced_set : List Form → Content → Result (List ℤ) FaultKind → Doing
+abbrev pub sliced_set : List TrimForm → Content → Result (List ℤ) FaultKind → Doing
 sliced_set forms v (Ok is) = sliced_by v (trims_of forms is)
 sliced_set forms v (Err kind) = meets kind
 
 -- an unset primary or index comes first, then one of another kind, then NIL
-abbrev pub sliced_with : List Form → Content → Result (List ℤ) FaultKind → Doing
+abbrev pub sliced_with : List TrimForm → Content → Result (List ℤ) FaultKind → Doing
 sliced_with forms (plain value.Unset) is = meets fault.Unset
 sliced_with forms v is = sliced_set forms v is
 
-abbrev pub sliced : List Form → List Content → Doing
+abbrev pub sliced : List TrimForm → List Content → Doing
 sliced forms (v ∷ vs) = sliced_with forms v (ints_of vs)
 sliced forms [] = meets fault.Kind
 

@@ -2,7 +2,7 @@
 ghost use Rattle.std.specs.Prelude.{◌≡◌, ◌<◌, ◌≤◌, ◌++◌, ◌∷◌, [], length, map, slice_index, slice_index_or, IfOk, OnErr, MatchResult};
 ghost use Rattle.a68_base.specs.declared.limits.TheConstants.{MOST_INSTRUCTIONS};
 ghost use Rattle.a68_builder.specs.Aiming.{aimed, aimed_at, names, names_at};
-ghost use Rattle.a68_builder.specs.Linking.{entrances_in, linked, linked_does};
+ghost use Rattle.a68_builder.specs.Linking.{entrances_numbered, linked, linked_does};
 ghost use Rattle.a68_builder.specs.Stopping.{Stops};
 
 use a68_base::{MOST_INSTRUCTIONS, NoMemory};
@@ -81,7 +81,7 @@ fn entrance(units: &[u32], number: u32) -> u32
 
 // Puts the entrances of units in the place of their numbers.
 fn enter_units(numbers: &mut [u32], units: &[u32])
-    ensures { numbers.new ≡ entrances_in units.now numbers.old }
+    ensures { numbers.new ≡ entrances_numbered units.now numbers.old }
 {
     for i in 0..numbers.len() {
         numbers[i] = entrance(units, numbers[i]);

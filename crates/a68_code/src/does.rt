@@ -3,7 +3,7 @@ ghost use Rattle.std.specs.Prelude.{◌≡◌, IfOk};
 
 use crate::Places;
 use a68_base::NoMemory;
-use a68_layout::Forms;
+use a68_layout::TrimForms;
 use a68_values::Value;
 use std::alloc::Global;
 
@@ -83,7 +83,7 @@ pub enum Does {
     Store(u32),
     Apply(u32),
     Same(u32),
-    Slice(Forms),
+    Slice(TrimForms),
     Display {
         count: u32,
         mode: u32,
@@ -181,11 +181,11 @@ impl Drop for Does {
 }
 
 // Equal forms.
-fn copy_forms(alloc: Global, forms: &Forms) -> Result<Forms, NoMemory>
+fn copy_forms(alloc: Global, forms: &TrimForms) -> Result<TrimForms, NoMemory>
     ensures { IfOk result (λ copied. copied ≡ forms.now) }
 {
     let items = Vec::from_slice(alloc, &forms.items)?;
-    Ok(Forms { items })
+    Ok(TrimForms { items })
 }
 
 impl Does {

@@ -12,5 +12,5 @@ mod walk;
 
 pub use code::{Code, Instr, Instrs, RoutineEntrance, Routines};
 pub use does::Does;
-pub use operands::{operands_of, slice_takes, units_of};
+pub use operands::{operands_of, slice_takes, values_of_trims};
 pub use places::{Places, last_place};

@@ -1,10 +1,10 @@
 //! The operands of an instruction, and the values that it takes and leaves.
 ghost use Rattle.std.specs.Prelude.{◌≡◌, ◌≤◌, ◌^◌, suc, false, MatchOption};
-ghost use Rattle.a68_code.specs.Flow.{is_slice, operands_of, takes, leaves, units_in, units_of};
+ghost use Rattle.a68_code.specs.Flow.{is_slice, operands_of, takes, leaves, trim_values, values_of_trims};
 ghost use Rattle.a68_code.specs.Operands.{is_well_made};
 
 use crate::Does;
-use a68_layout::Form;
+use a68_layout::TrimForm;
 use a68_modes::Modes;
 
 /// How many values an operator is on, by its row in the table of operators.
@@ -16,33 +16,33 @@ pub fn operands_of(row: u32) -> u32
 }
 
 // How many values a slice that is written so has in a dimension.
-fn units_in(form: Form) -> usize
-    ensures { result ≡ units_in form }
+fn trim_values(form: TrimForm) -> usize
+    ensures { result ≡ trim_values form }
 {
     match form {
-        Form::Subscript => 1,
-        Form::Trimmer { lower, upper, at } => {
+        TrimForm::Subscript => 1,
+        TrimForm::Trimmer { lower, upper, at } => {
             usize::from(lower) + usize::from(upper) + usize::from(at)
         }
     }
 }
 
 /// How many values a slice that is written so has in all; none where no usize holds that.
-pub fn units_of(forms: &[Form]) -> Option<usize>
-    ensures { MatchOption result (2 ^ 64 ≤ units_of forms.now) (λ units. units ≡ units_of forms.now) }
+pub fn values_of_trims(forms: &[TrimForm]) -> Option<usize>
+    ensures { MatchOption result (2 ^ 64 ≤ values_of_trims forms.now) (λ units. units ≡ values_of_trims forms.now) }
 {
     let mut units: usize = 0;
     for form in forms {
-        units = units.checked_add(units_in(*form))?;
+        units = units.checked_add(trim_values(*form))?;
     }
     Some(units)
 }
 
 /// How many values a slice that is written so takes; none where no usize holds that.
-pub fn slice_takes(forms: &[Form]) -> Option<usize>
-    ensures { MatchOption result (2 ^ 64 ≤ suc (units_of forms.now)) (λ count. count ≡ suc (units_of forms.now)) }
+pub fn slice_takes(forms: &[TrimForm]) -> Option<usize>
+    ensures { MatchOption result (2 ^ 64 ≤ suc (values_of_trims forms.now)) (λ count. count ≡ suc (values_of_trims forms.now)) }
 {
-    let units = units_of(forms)?;
+    let units = values_of_trims(forms)?;
     units.checked_add(1)
 }
 

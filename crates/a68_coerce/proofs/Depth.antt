@@ -14,7 +14,7 @@ use Rattle.a68_equiv.proofs.Stepping.{row_of_map}
 use Rattle.a68_equiv.proofs.Grasp.{behind_below}
 use Rattle.a68_equiv.proofs.Chains.{steps, falls, counted as counted_there}
 use Rattle.a68_equiv.proofs.Meekly.{way_join}
-use Rattle.a68_coerce.specs.declared.goal.Goal.TheVariants as goal
+use Rattle.a68_coerce.specs.declared.goal.CoercionGoal.TheVariants as goal
 use Rattle.a68_coerce.specs.Goals.{row_of}
 use Rattle.a68_equiv.specs.Dimensions.{HaveDimensions}
 use Rattle.a68_coerce.specs.Below.{element_of, row_next, counted, rows_below, depth, depth_of_shape}

@@ -13,12 +13,12 @@ use Rattle.a68_equiv.specs.Unfolding.{unfolded}
 use Rattle.a68_equiv.specs.Related.{as_it_stands, Meek}
 use Rattle.a68_coerce.specs.declared.leaf.Leaf.{Leaf}
 use Rattle.a68_coerce.specs.declared.leaf.Leaf.TheVariants as leaf
-use Rattle.a68_coerce.specs.declared.goal.Goal.TheVariants as goal
+use Rattle.a68_coerce.specs.declared.goal.CoercionGoal.TheVariants as goal
 use Rattle.a68_coerce.specs.Balanced.{LeafLeads, LeafSuits, LeafForms, OthersSuit, BalancesAt, IsBalanced, FormsAt, AllSuit, SidesAt}
 use Rattle.a68_coerce.specs.Forms.{IsOfForm}
 use Rattle.a68_coerce.specs.Routes.{LeadsFirst}
-use Rattle.a68_coerce.specs.declared.form.Form.{Form}
-use Rattle.a68_coerce.specs.declared.form.Form.TheVariants as form
+use Rattle.a68_coerce.specs.declared.form.ModeForm.{ModeForm}
+use Rattle.a68_coerce.specs.declared.form.ModeForm.TheVariants as form
 use Rattle.a68_coerce.proofs.Walking.{one_end, comparable}
 use Rattle.a68_coerce.specs.Paths.{CanLead, FirmTo, IsFirst}
 use Rattle.a68_coerce.specs.Paths.FirmTo.{meekly}
@@ -71,11 +71,11 @@ one_first nodes s Holds m k j p q v w = ⊎_elim
     (λ e. let same : q ≡ p = v.first q e.0 j e.1 w.goes w.holds in one_end v.goes.0 (subst (λ (r : List Coercion). Meek nodes m r j) same w.goes.0))
     (comparable v.goes.0 w.goes.0)
 
-pub one_form : (nodes : List Shape) (s : Sort) (form : Form) (to other : Mode) (l : Leaf) → LeafForms nodes s form to l → LeafForms nodes s form other l → to ≡ other
+pub one_form : (nodes : List Shape) (s : Sort) (form : ModeForm) (to other : Mode) (l : Leaf) → LeafForms nodes s form to l → LeafForms nodes s form other l → to ≡ other
 one_form nodes s form to other (leaf.Mode m) v w = one_first nodes s (IsOfForm nodes form) (as_it_stands m) to other v.0 w.0 v.1 w.1
 one_form nodes s form to other leaf.StrongOnly v w = absurd v
 
-module _ (nodes : List Shape) (s : Sort) (form : Form) (leaves : List Leaf) (at : ℕ) (l : Leaf) where
+module _ (nodes : List Shape) (s : Sort) (form : ModeForm) (leaves : List Leaf) (at : ℕ) (l : Leaf) where
   one_leaf : (other : Leaf) → slice_get leaves at ≡ Some l → slice_get leaves at ≡ Some other → other ≡ l
   one_leaf other there here = let same : Some other ≡ Some l = sym here ∙ there in cc
 
@@ -93,7 +93,7 @@ pub all_suit : (nodes : List Shape) (to : Mode) (leaves : List Leaf) → OthersS
 all_suit nodes to leaves w k l there = w k l there (λ e. let within = slice_get_within leaves k l there in omega arith)
 
 -- one leaf has one mode of a form
-one_at : (nodes : List Shape) (s : Sort) (f : Form) (leaves : List Leaf) (i : ℕ) (to other : Mode) → FormsAt nodes s f to leaves i → FormsAt nodes s f other leaves i → to ≡ other
+one_at : (nodes : List Shape) (s : Sort) (f : ModeForm) (leaves : List Leaf) (i : ℕ) (to other : Mode) → FormsAt nodes s f to leaves i → FormsAt nodes s f other leaves i → to ≡ other
 one_at nodes s f leaves i to other v w = one_form nodes s f to other w.leaf (subst (LeafForms nodes s f to) (one_leaf nodes s f leaves i w.leaf v.leaf w.there v.there) v.leads) w.leads
 
 pub not_sided : (nodes : List Shape) (soft strong : List Leaf) (i : ℕ) (mode : Mode) → FormsAt nodes by.Soft form.Name mode soft i → (OthersSuit nodes mode strong (length strong) → ⊥) → (to : Mode) → SidesAt nodes to soft strong i → ⊥

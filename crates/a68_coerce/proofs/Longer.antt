@@ -22,13 +22,13 @@ use Rattle.a68_equiv.proofs.Stepping.{row_of_map}
 use Rattle.a68_equiv.specs.declared.steps.Steps.TheVariants.{WithinUnions}
 use Rattle.a68_equiv.proofs.Grasp.{behind_below}
 use Rattle.a68_equiv.proofs.Growing.{old_unfolded, grows, shrinks, member_in, member_out, way_below, longer, new_shape}
-use Rattle.a68_coerce.specs.declared.goal.Goal.{Goal}
-use Rattle.a68_coerce.specs.declared.goal.Goal.TheVariants as goal
+use Rattle.a68_coerce.specs.declared.goal.CoercionGoal.{CoercionGoal}
+use Rattle.a68_coerce.specs.declared.goal.CoercionGoal.TheVariants as goal
 use Rattle.a68_coerce.specs.Goals.{Reaches, IsRow, IsRowOver, IsNameOver, IsVoidGoal, is_multiple, row_of, name_of_row_of, within}
 use Rattle.a68_coerce.specs.Goals.IsRowOver.{row_mode, row_row}
 use Rattle.a68_coerce.specs.Goals.IsNameOver.{name_mode}
-use Rattle.a68_coerce.specs.declared.form.Form.{Form}
-use Rattle.a68_coerce.specs.declared.form.Form.TheVariants as form
+use Rattle.a68_coerce.specs.declared.form.ModeForm.{ModeForm}
+use Rattle.a68_coerce.specs.declared.form.ModeForm.TheVariants as form
 use Rattle.a68_coerce.specs.declared.leaf.Leaf.{Leaf}
 use Rattle.a68_coerce.specs.declared.leaf.Leaf.TheVariants as leaf
 use Rattle.a68_coerce.specs.declared.leaf.Balanced.{Balanced}
@@ -79,7 +79,7 @@ record Agree (nodes others : List Shape) (n : ℕ) : Type 0 where
   member_below : (m x : ℕ) → m < n → IsMember nodes m x → x < n
 
 -- the modes of a goal are among the first n
-abbrev AreThere : ℕ → Goal → Type 0
+abbrev AreThere : ℕ → CoercionGoal → Type 0
 AreThere n (goal.Mode m) = m.id < n
 AreThere n (goal.Row dims flex of) = of.id < n
 AreThere n (goal.Name m) = m.id < n
@@ -128,42 +128,42 @@ module _ (nodes others : List Shape) (n : ℕ) (ag : Agree nodes others n) where
     of_is = ag.equivalent (within k r.element) of (row_element k.id dims r.element r.flex_written h r.shape) g r.of_is;
   }
 
-  reaches_on : (k : Mode) (g : Goal) → k.id < n → AreThere n g → Reaches nodes k g → Reaches others k g
+  reaches_on : (k : Mode) (g : CoercionGoal) → k.id < n → AreThere n g → Reaches nodes k g → Reaches others k g
   reaches_on k (goal.Mode m) h b r = ag.equivalent k m h b r
   reaches_on k (goal.Row dims flex of) h b r = row_on k of dims flex h b r
   reaches_on k (goal.Name m) h b r = (r.0, ag.unfolds k.id h ∙ r.1, ag.equivalent (as_it_stands r.0) m (ref_there k.id r.0 h r.1) b r.2)
   reaches_on k (goal.NameOfRow dims of) h b r = (r.0, ag.unfolds k.id h ∙ r.1, row_on (as_it_stands r.0) of dims false (ref_there k.id r.0 h r.1) b r.2)
 
-  meek_to_on : (m : Mode) (g : Goal) (path : List Coercion) → m.id < n → AreThere n g → MeekTo nodes m g path → MeekTo others m g path
+  meek_to_on : (m : Mode) (g : CoercionGoal) (path : List Coercion) → m.id < n → AreThere n g → MeekTo nodes m g path → MeekTo others m g path
   meek_to_on m g path h b w = (w.0, meek_on h w.1, reaches_on w.0 g (meek_there h w.1) b w.2)
 
   member_on : (t k : Mode) → t.id < n → k.id < n → IsMemberOf nodes t k → IsMemberOf others t k
   member_on t k h g w = (w.0, ag.member t.id w.0 h w.1, ag.equivalent k (within t w.0) g (ag.member_below t.id w.0 h w.1) w.2)
 
-  void_on : (g : Goal) → AreThere n g → IsVoidGoal nodes g → IsVoidGoal others g
+  void_on : (g : CoercionGoal) → AreThere n g → IsVoidGoal nodes g → IsVoidGoal others g
   void_on (goal.Mode m) b v = ag.unfolds m.id b ∙ v
   void_on (goal.Row dims flex of) b v = v
   void_on (goal.Name m) b v = v
   void_on (goal.NameOfRow dims of) b v = v
 
-  bools_on : 12 < n → (g : Goal) → AreThere n g → IsBools nodes g → IsBools others g
+  bools_on : 12 < n → (g : CoercionGoal) → AreThere n g → IsBools nodes g → IsBools others g
   bools_on h (goal.Mode m) b w = ag.equivalent m (as_it_stands 11) b (omega arith) w
   bools_on h (goal.Row dims flex of) b w = (w.0, w.1, ag.equivalent of (as_it_stands 2) b (omega arith) w.2)
   bools_on h (goal.Name m) b w = w
   bools_on h (goal.NameOfRow dims of) b w = w
 
-  over_on : (g h : Goal) → AreThere n g → IsRowOver nodes g h → IsRowOver others g h
+  over_on : (g h : CoercionGoal) → AreThere n g → IsRowOver nodes g h → IsRowOver others g h
   over_on g h b (row_mode {n = m} {flex = f} e) = row_mode {flex = f} (ag.unfolds m.id b ∙ e)
   over_on g h b row_row = row_row
 
-  over_there : (g h : Goal) → AreThere n g → IsRowOver nodes g h → AreThere n h
+  over_there : (g h : CoercionGoal) → AreThere n g → IsRowOver nodes g h → AreThere n h
   over_there g h b (row_mode {n = m} {dims = d} {e = e} {flex = f} is) = row_there n d (flex_left m.fixed f) (within m e) (row_element m.id d e f b is)
   over_there g h b (row_row {dims = d} {flex = f} {of = o}) = row_there n d f o b
 
-  named_on : (g h : Goal) → AreThere n g → IsNameOver nodes g h → IsNameOver others g h
+  named_on : (g h : CoercionGoal) → AreThere n g → IsNameOver nodes g h → IsNameOver others g h
   named_on g h b (name_mode {n = m} {a = a} e f) = name_mode (ag.unfolds m.id b ∙ e) (ag.unfolds a (ref_there m.id a b e) ∙ f)
 
-  named_there : (g h : Goal) → AreThere n g → IsNameOver nodes g h → AreThere n h
+  named_there : (g h : CoercionGoal) → AreThere n g → IsNameOver nodes g h → AreThere n h
   named_there g h b (name_mode {n = m} {a = a} {dims = d} {e = x} e f) = name_there n d (as_it_stands x) (row_element a d x false (ref_there m.id a b e) f)
 
 -- ---- two lists that agree both ways
@@ -200,18 +200,18 @@ module _ (nodes others : List Shape) (n : ℕ) (to : Agree nodes others n) (back
         whole = w.whole;
       }
 
-  firm_on : (m : Mode) (g : Goal) (path : List Coercion) → m.id < n → AreThere n g → FirmTo nodes m g path → FirmTo others m g path
+  firm_on : (m : Mode) (g : CoercionGoal) (path : List Coercion) → m.id < n → AreThere n g → FirmTo nodes m g path → FirmTo others m g path
   firm_on m g path h b (meekly w) = meekly (meek_to_on nodes others n to m g path h b w)
   firm_on m g path h b (uniting {n = t} lacks w) = uniting (λ p v. lacks p (meek_to_on others nodes n back m (goal.Mode t) p h b v)) (united_on m t path h b w)
 
-  widened_on : 12 < n → (m : Mode) (g : Goal) (path : List Coercion) → m.id < n → AreThere n g → WidenedTo nodes m g path → WidenedTo others m g path
+  widened_on : 12 < n → (m : Mode) (g : CoercionGoal) (path : List Coercion) → m.id < n → AreThere n g → WidenedTo nodes m g path → WidenedTo others m g path
   widened_on standard m g path h b w = (bools_on nodes others n to standard g b w.0, (w.1.0, firm_on m (goal.Mode (as_it_stands 4)) w.1.0 h (omega arith) w.1.1, w.1.2))
 
-  naming_on : (m : Mode) (g : Goal) (path : List Coercion) → m.id < n → AreThere n g → NamedTo nodes m g path → NamedTo others m g path
+  naming_on : (m : Mode) (g : CoercionGoal) (path : List Coercion) → m.id < n → AreThere n g → NamedTo nodes m g path → NamedTo others m g path
   naming_on m g path h b w = (w.0, named_on nodes others n to g w.0 b w.1, (w.2.0, meek_to_on nodes others n to m w.0 w.2.0 h (named_there nodes others n to g w.0 b w.1) w.2.1, w.2.2))
 
 module _ (nodes others : List Shape) (n : ℕ) (to : Agree nodes others n) (back : Agree others nodes n) (named : AreNamed nodes n) (named_back : AreNamed others n) (long : n ≤ length others) (long_back : n ≤ length nodes) (standard : 12 < n) where
-  strong_on : (m : Mode) (g : Goal) (path : List Coercion) → m.id < n → AreThere n g → StrongTo nodes m g path → StrongTo others m g path
+  strong_on : (m : Mode) (g : CoercionGoal) (path : List Coercion) → m.id < n → AreThere n g → StrongTo nodes m g path → StrongTo others m g path
   strong_on m g path h b (nothing v x) = nothing (void_on nodes others n to g b v) (to.unfolds m.id h ∙ x)
   strong_on m g path h b (dropping v x) = dropping (void_on nodes others n to g b v) (λ y. x (back.unfolds m.id h ∙ y))
   strong_on m g path h b (firmly x v) = firmly (λ y. x (void_on others nodes n back g b y)) (firm_on nodes others n to back named long m g path h b v)
@@ -271,14 +271,14 @@ module _ (nodes others : List Shape) (n : ℕ) (to : Agree nodes others n) (back
   same_fields (Rows dims flex x) w = ap is_structure (to.unfolds x (w 0 0 (omega arith)))
   same_fields _ w = refl
 
-  same_form : (f : Form) (a : Shape) → IsWithin n a → is_of_form others f a ≡ is_of_form nodes f a
+  same_form : (f : ModeForm) (a : Shape) → IsWithin n a → is_of_form others f a ≡ is_of_form nodes f a
   same_form form.Name a w = refl
   same_form form.Row a w = ap is_row (same_named a w)
   same_form form.Structure a w = ap (has_fields others) (same_named a w) ∙ same_fields (named_or nodes a) (shape_inside a w)
   same_form form.Routine a w = refl
   same_form form.Union a w = refl
 
-  form_on : (f : Form) (k : Mode) → k.id < n → IsOfForm nodes f k → IsOfForm others f k
+  form_on : (f : ModeForm) (k : Mode) → k.id < n → IsOfForm nodes f k → IsOfForm others f k
   form_on f k h is = ap (is_of_form others f) (to.unfolds k.id h) ∙ same_form f (unfolded nodes k.id) (to.inside k.id h) ∙ is
 
   allows_on : (s : Sort) (path : List Coercion) (k : Mode) → k.id < n → Allows nodes s path k → Allows others s path k
@@ -292,7 +292,7 @@ module _ (nodes others : List Shape) (n : ℕ) (to : Agree nodes others n) (back
   way_on s m k path h w = (meek_on nodes others n to h w.0, allows_on s path k (meek_there nodes others n to h w.0) w.1)
 
 module _ (nodes others : List Shape) (n : ℕ) (to : Agree nodes others n) (back : Agree others nodes n) (named : AreNamed nodes n) (named_back : AreNamed others n) (long : n ≤ length others) (long_back : n ≤ length nodes) (standard : 12 < n) where
-  leaf_forms_on : (s : Sort) (f : Form) (t : Mode) (l : Leaf) → IsLeafBelow n l → LeafForms nodes s f t l → LeafForms others s f t l
+  leaf_forms_on : (s : Sort) (f : ModeForm) (t : Mode) (l : Leaf) → IsLeafBelow n l → LeafForms nodes s f t l → LeafForms others s f t l
   leaf_forms_on s f t (leaf.Mode m) b w = (
     w.0,
     record {
@@ -304,11 +304,11 @@ module _ (nodes others : List Shape) (n : ℕ) (to : Agree nodes others n) (back
   )
   leaf_forms_on s f t leaf.StrongOnly b w = w
 
-  form_there : (s : Sort) (f : Form) (t : Mode) (l : Leaf) → IsLeafBelow n l → LeafForms nodes s f t l → t.id < n
+  form_there : (s : Sort) (f : ModeForm) (t : Mode) (l : Leaf) → IsLeafBelow n l → LeafForms nodes s f t l → t.id < n
   form_there s f t (leaf.Mode m) b w = meek_there nodes others n to b w.1.goes.0
   form_there s f t leaf.StrongOnly b w = absurd w
 
-  forms_on : (s : Sort) (f : Form) (t : Mode) (leaves : List Leaf) (i : ℕ) → All (IsLeafBelow n) leaves → FormsAt nodes s f t leaves i → FormsAt others s f t leaves i
+  forms_on : (s : Sort) (f : ModeForm) (t : Mode) (leaves : List Leaf) (i : ℕ) → All (IsLeafBelow n) leaves → FormsAt nodes s f t leaves i → FormsAt others s f t leaves i
   forms_on s f t leaves i all w =
       let g = form_there s f t w.leaf (leaf_there n leaves i w.leaf all w.there) w.leads in
       stands_on nodes others n to back named named_back long long_back standard t leaves i (LeafForms nodes s f t) (LeafForms others s f t) g all (λ l b v. leaf_forms_on s f t l b v) w
@@ -321,7 +321,7 @@ module _ (nodes others : List Shape) (n : ℕ) (to : Agree nodes others n) (back
   )
   is_balanced_on s t leaves None g all w = λ k v. w k (balances_on others nodes n back to named_back named long_back long standard s t leaves k g all v)
 
-  is_formed_on : (s : Sort) (f : Form) (leaves : List Leaf) (found : Option Balanced) → All (IsLeafBelow n) leaves → IsFormed nodes s f leaves found → IsFormed others s f leaves found
+  is_formed_on : (s : Sort) (f : ModeForm) (leaves : List Leaf) (found : Option Balanced) → All (IsLeafBelow n) leaves → IsFormed nodes s f leaves found → IsFormed others s f leaves found
   is_formed_on s f leaves (Some b) all w = (
     forms_on nodes others n to back named named_back long long_back standard s f b.mode leaves b.leaf all w.0,
     λ k t lt v. w.1 k t lt (forms_on others nodes n back to named_back named long_back long standard s f t leaves k all v),

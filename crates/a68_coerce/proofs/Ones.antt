@@ -17,8 +17,8 @@ use Rattle.a68_equiv.specs.Ways.{AreWellFormed}
 use Rattle.a68_equiv.proofs.Chains.{steps, counted}
 use Rattle.a68_equiv.proofs.Grasp.{stays}
 use Rattle.a68_equiv.proofs.Meekly.{meek_next, shorter, id_of, inside}
-use Rattle.a68_coerce.specs.declared.goal.Goal.{Goal}
-use Rattle.a68_coerce.specs.declared.goal.Goal.TheVariants as goal
+use Rattle.a68_coerce.specs.declared.goal.CoercionGoal.{CoercionGoal}
+use Rattle.a68_coerce.specs.declared.goal.CoercionGoal.TheVariants as goal
 use Rattle.a68_coerce.specs.Goals.{Reaches, IsVoidGoal, IsRowOver, IsNameOver}
 use Rattle.a68_coerce.specs.Goals.IsRowOver.{row_mode, row_row}
 use Rattle.a68_coerce.specs.Goals.IsNameOver.{name_mode}
@@ -72,7 +72,7 @@ module _ (nodes : List Shape) where
   one_step fuel m a is = ap (λ (s : Shape). counted (steps (meek_next nodes) fuel) (id_of (meek_step s))) is
 
   -- what reaches one goal has as many steps
-  same_count : (fuel : ℕ) (k j : Mode) (g : Goal) → Reaches nodes k g → Reaches nodes j g → steps (meek_next nodes) fuel k.id ≡ steps (meek_next nodes) fuel j.id
+  same_count : (fuel : ℕ) (k j : Mode) (g : CoercionGoal) → Reaches nodes k g → Reaches nodes j g → steps (meek_next nodes) fuel k.id ≡ steps (meek_next nodes) fuel j.id
   same_count fuel k j (goal.Mode n) v w = same_steps fuel k n v ∙ sym (same_steps fuel j n w)
   same_count fuel k j (goal.Row dims flex of) v w = no_steps fuel k.id dims v.element v.flex_written v.shape ∙ sym (no_steps fuel j.id dims w.element w.flex_written w.shape)
   same_count zero k j (goal.Name n) v w = refl
@@ -121,7 +121,7 @@ module _ (nodes : List Shape) (holds : HoldsNodes nodes) (formed : AreWellFormed
   no_further : (m k j : Mode) (p r : List Coercion) → m.id < length nodes → Meek nodes m p k → Meek nodes m (p ++ r) j → steps (meek_next nodes) (length nodes) k.id ≡ steps (meek_next nodes) (length nodes) j.id → r ≡ []
   no_further m k j p r h v w same = let less = falls_by (there_on h v) (rest r v w) in no_length r (omega arith)
 
-  one_meek : (m : Mode) (g : Goal) (p q : List Coercion) → m.id < length nodes → MeekTo nodes m g p → MeekTo nodes m g q → p ≡ q
+  one_meek : (m : Mode) (g : CoercionGoal) (p q : List Coercion) → m.id < length nodes → MeekTo nodes m g p → MeekTo nodes m g q → p ≡ q
   one_meek m g p q h v w = ⊎_elim
       (λ e. let none = no_further m v.0 w.0 p e.0 h v.1 (subst (λ (x : List Coercion). Meek nodes m x w.0) e.1 w.1) (same_count nodes (length nodes) v.0 w.0 g v.2 w.2) in
       sym (e.1 ∙ ap (λ (x : List Coercion). p ++ x) none ∙ append-nil p))
@@ -144,19 +144,19 @@ module _ (nodes : List Shape) (holds : HoldsNodes nodes) (formed : AreWellFormed
       (λ e. united_whole m n p q v w (sym (v.first w.meekly e.0 w.mode e.1 w.way w.unites)))
       (comparable v.way w.way)
 
-  one_firm : (m : Mode) (g : Goal) (p q : List Coercion) → m.id < length nodes → FirmTo nodes m g p → FirmTo nodes m g q → p ≡ q
+  one_firm : (m : Mode) (g : CoercionGoal) (p q : List Coercion) → m.id < length nodes → FirmTo nodes m g p → FirmTo nodes m g q → p ≡ q
   one_firm m g p q h (meekly v) (meekly w) = one_meek m g p q h v w
   one_firm m g p q h (meekly v) (uniting lacks w) = absurd (lacks p v)
   one_firm m g p q h (uniting lacks v) (meekly w) = absurd (lacks q w)
   one_firm m g p q h (uniting {n = n} lacks v) (uniting more w) = one_united m n p q v w
 
-  one_widened : (m : Mode) (g : Goal) (p q : List Coercion) → m.id < length nodes → WidenedTo nodes m g p → WidenedTo nodes m g q → p ≡ q
+  one_widened : (m : Mode) (g : CoercionGoal) (p q : List Coercion) → m.id < length nodes → WidenedTo nodes m g p → WidenedTo nodes m g q → p ≡ q
   one_widened m g p q h v w = v.1.2 ∙ ap (λ (x : List Coercion). x ++ Widen ∷ []) (one_firm m (goal.Mode (as_it_stands 4)) v.1.0 w.1.0 h v.1.1 w.1.1) ∙ sym w.1.2
 
-  one_named : (m : Mode) (g : Goal) (p q : List Coercion) → m.id < length nodes → NamedTo nodes m g p → NamedTo nodes m g q → p ≡ q
+  one_named : (m : Mode) (g : CoercionGoal) (p q : List Coercion) → m.id < length nodes → NamedTo nodes m g p → NamedTo nodes m g q → p ≡ q
   one_named m g p q h v w =
       let same : w.0 ≡ v.0 = one_name nodes g w.0 v.0 w.1 v.1 in
-      v.2.2 ∙ ap (λ (x : List Coercion). x ++ RowUpName ∷ []) (one_meek m v.0 v.2.0 w.2.0 h v.2.1 (subst (λ (t : Goal). MeekTo nodes m t w.2.0) same w.2.1)) ∙ sym w.2.2
+      v.2.2 ∙ ap (λ (x : List Coercion). x ++ RowUpName ∷ []) (one_meek m v.0 v.2.0 w.2.0 h v.2.1 (subst (λ (t : CoercionGoal). MeekTo nodes m t w.2.0) same w.2.1)) ∙ sym w.2.2
 
   -- ---- no two rules meet
 
@@ -165,23 +165,23 @@ module _ (nodes : List Shape) (holds : HoldsNodes nodes) (formed : AreWellFormed
       let is : shape_at nodes 11 ≡ Rows 1 false 2 = sym (get_or-take 13 nodes 11 Blank (omega arith)) ∙ ap (λ (xs : List Shape). shape_at xs 11) holds.standard in
       ap (shape_at nodes) (stays nodes (length nodes) 11 (λ t e. let no : Rows 1 false 2 ≡ Same t = sym is ∙ e in cc)) ∙ is
 
-  bools_void : (g : Goal) → IsBools nodes g → IsVoidGoal nodes g → ⊥
+  bools_void : (g : CoercionGoal) → IsBools nodes g → IsVoidGoal nodes g → ⊥
   bools_void (goal.Mode n) b v = let e : Void ≡ Rows 1 false 0 = ap (constructor n.fixed) (sym v) ∙ (b 1).0 ∙ ap (constructor false) bools in cc
   bools_void (goal.Row dims flex of) b v = v
   bools_void (goal.Name n) b v = v
   bools_void (goal.NameOfRow dims of) b v = v
 
-  bools_named : (g h : Goal) → IsBools nodes g → IsNameOver nodes g h → ⊥
+  bools_named : (g h : CoercionGoal) → IsBools nodes g → IsNameOver nodes g h → ⊥
   bools_named g h b (name_mode {n = n} {a = a} f e) = let e : Ref 0 ≡ Rows 1 false 0 = ap (constructor n.fixed) (sym f) ∙ (b 1).0 ∙ ap (constructor false) bools in cc
 
-  void_row : (g h : Goal) → IsVoidGoal nodes g → IsRowOver nodes g h → ⊥
+  void_row : (g h : CoercionGoal) → IsVoidGoal nodes g → IsRowOver nodes g h → ⊥
   void_row g h v (row_mode e) = let same = sym v ∙ e in cc
   void_row g h v row_row = v
 
-  void_named : (g h : Goal) → IsVoidGoal nodes g → IsNameOver nodes g h → ⊥
+  void_named : (g h : CoercionGoal) → IsVoidGoal nodes g → IsNameOver nodes g h → ⊥
   void_named g h v (name_mode f e) = let same = sym v ∙ f in cc
 
-  one_strong : (m : Mode) (g : Goal) (p q : List Coercion) → m.id < length nodes → StrongTo nodes m g p → StrongTo nodes m g q → p ≡ q
+  one_strong : (m : Mode) (g : CoercionGoal) (p q : List Coercion) → m.id < length nodes → StrongTo nodes m g p → StrongTo nodes m g q → p ≡ q
   one_strong m g p q h (nothing v x) (nothing w y) = refl
   one_strong m g p q h (nothing v x) (dropping w y) = absurd (y x)
   one_strong m g p q h (nothing v x) (firmly y w) = absurd (y v)
@@ -211,7 +211,7 @@ module _ (nodes : List Shape) (holds : HoldsNodes nodes) (formed : AreWellFormed
   one_strong m g p q h (rowing x y f v e) (firmly z w) = absurd (x q w)
   one_strong m g p q h (rowing x y f v e) (widening z w) = absurd (y q w)
   one_strong m g p q h (rowing {h = i} {q = a} x y f v e) (rowing {h = j} {q = b} z u k w d) =
-      e ∙ ap (λ (r : List Coercion). r ++ RowUp ∷ []) (one_strong m i a b h v (subst (λ (t : Goal). StrongTo nodes m t b) (one_over nodes g j i k f) w)) ∙ sym d
+      e ∙ ap (λ (r : List Coercion). r ++ RowUp ∷ []) (one_strong m i a b h v (subst (λ (t : CoercionGoal). StrongTo nodes m t b) (one_over nodes g j i k f) w)) ∙ sym d
   one_strong m g p q h (rowing {h = i} x y f v e) (naming z w) = absurd (apart nodes g i w.0 f w.1)
   one_strong m g p q h (naming x v) (nothing w y) = absurd (void_named g v.0 w v.1)
   one_strong m g p q h (naming x v) (dropping w y) = absurd (void_named g v.0 w v.1)

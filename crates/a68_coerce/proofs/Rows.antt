@@ -8,8 +8,8 @@ use Rattle.a68_modes.specs.declared.coercion.Coercion.TheVariants.{RowUp}
 use Rattle.a68_equiv.specs.declared.mode.Mode.{Mode}
 use Rattle.a68_equiv.specs.Dimensions.{HaveDimensions}
 use Rattle.a68_equiv.specs.Unfolding.{unfolded, behind}
-use Rattle.a68_coerce.specs.declared.goal.Goal.{Goal}
-use Rattle.a68_coerce.specs.declared.goal.Goal.TheVariants as goal
+use Rattle.a68_coerce.specs.declared.goal.CoercionGoal.{CoercionGoal}
+use Rattle.a68_coerce.specs.declared.goal.CoercionGoal.TheVariants as goal
 use Rattle.a68_coerce.specs.Below.{IsGoalBelow, row_next, depth, depth_of_shape}
 use Rattle.a68_coerce.specs.Goals.{IsRowOver, IsVoidGoal}
 use Rattle.a68_coerce.specs.Paths.{No, FirmTo, WidenedTo, StrongTo}
@@ -24,7 +24,7 @@ shift q zero = refl
 shift q (suc n) = ap (λ (p : List Coercion). p ++ RowUp ∷ []) (shift q n)
 
 -- the whole goal is a row, so many dimensions up, of this goal
-pub record IsUp (nodes : List Shape) (m : Mode) (whole g : Goal) (rows : ℕ) : Type 0 where
+pub record IsUp (nodes : List Shape) (m : Mode) (whole g : CoercionGoal) (rows : ℕ) : Type 0 where
   pub leads : (q : List Coercion) → StrongTo nodes m g q → StrongTo nodes m whole (with_rows q rows)
   pub none : No (StrongTo nodes m g) → No (StrongTo nodes m whole)
   pub below : IsGoalBelow (length nodes) g
@@ -47,7 +47,7 @@ module _ (nodes : List Shape) (m : Mode) where
   pub begun : (n : Mode) → HoldsNodes nodes → HaveDimensions nodes → n.id < length nodes → IsUp nodes m (goal.Mode n) (goal.Mode n) 0
   begun n holds have h = record { leads = λ q v. v; none = λ no. no; below = h; room = let s = shallow nodes holds have n.id in omega arith }
 
-  pub up : (whole g h : Goal) (rows : ℕ) → IsUp nodes m whole g rows → (IsVoidGoal nodes g → ⊥) → No (FirmTo nodes m g) → No (WidenedTo nodes m g) → IsRowOver nodes g h → IsGoalBelow (length nodes) h → depth nodes h < depth nodes g
+  pub up : (whole g h : CoercionGoal) (rows : ℕ) → IsUp nodes m whole g rows → (IsVoidGoal nodes g → ⊥) → No (FirmTo nodes m g) → No (WidenedTo nodes m g) → IsRowOver nodes g h → IsGoalBelow (length nodes) h → depth nodes h < depth nodes g
       → IsUp nodes m whole h (rows + 1)
   up whole g h rows u nv a b e below deep = record {
     leads = λ q v. subst (λ (p : List Coercion). StrongTo nodes m whole p) (shift q rows ∙ ap (with_rows q) (sym (add-one rows))) (u.leads (q ++ RowUp ∷ []) (rowing {h = h} {q = q} a b e v refl));

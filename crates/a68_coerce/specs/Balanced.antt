@@ -1,8 +1,8 @@
 -- Balancing (Report, 3.2.1 e to g): one of the units that a choice may yield is coerced by the sort of the position, the others strongly to its mode.
 use Rattle.std.specs.Prelude.{◌≡◌, ◌≢◌, ◌<◌, ℕ, List, slice_get, Option, Some, None}
 use Rattle.a68_coerce.specs.declared.leaf.Balanced.{Balanced}
-use Rattle.a68_coerce.specs.declared.form.Form.{Form}
-use Rattle.a68_coerce.specs.declared.form.Form.TheVariants as form
+use Rattle.a68_coerce.specs.declared.form.ModeForm.{ModeForm}
+use Rattle.a68_coerce.specs.declared.form.ModeForm.TheVariants as form
 use Rattle.a68_coerce.specs.declared.leaf.Leaf.{Leaf}
 use Rattle.a68_coerce.specs.declared.leaf.Leaf.TheVariants as leaf
 use Rattle.a68_coerce.specs.Forms.{IsOfForm}
@@ -48,15 +48,15 @@ IsBalanced nodes sort to leaves None = (k : ℕ) → BalancesAt nodes sort to le
 -- ---- where no mode is known, but its form (which of several leaves is taken is own)
 
 -- the mode is the first of the form on the way of the leaf by the sort
-abbrev pub LeafForms : List Shape → Sort → Form → Mode → Leaf → Type 0
+abbrev pub LeafForms : List Shape → Sort → ModeForm → Mode → Leaf → Type 0
 LeafForms nodes s form to (leaf.Mode m) = (path : List Coercion) × IsFirst nodes s (IsOfForm nodes form) (as_it_stands m) path to
 LeafForms nodes s form to leaf.StrongOnly = ⊥
 
-abbrev pub FormsAt : List Shape → Sort → Form → Mode → List Leaf → ℕ → Type 0
+abbrev pub FormsAt : List Shape → Sort → ModeForm → Mode → List Leaf → ℕ → Type 0
 FormsAt nodes sort form to leaves i = StandsAt nodes (LeafForms nodes sort form to) to leaves i
 
 -- the first leaf with a mode of the form to which each other one leads strongly, and that mode; or none
-abbrev pub IsFormed : List Shape → Sort → Form → List Leaf → Option Balanced → Type 0
+abbrev pub IsFormed : List Shape → Sort → ModeForm → List Leaf → Option Balanced → Type 0
 IsFormed nodes sort form leaves (Some b) = FormsAt nodes sort form b.mode leaves b.leaf × ((k : ℕ) (to : Mode) → k < b.leaf → FormsAt nodes sort form to leaves k → ⊥)
 IsFormed nodes sort form leaves None = (k : ℕ) (to : Mode) → FormsAt nodes sort form to leaves k → ⊥
 

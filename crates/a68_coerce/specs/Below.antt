@@ -1,8 +1,8 @@
 -- Goals over nodes that are there.
 use Rattle.std.specs.Prelude.{◌<◌, ◌^◌, ◌+◌, ◌*◌, ℕ, zero, suc, List, Option, Some, None, length}
 use Rattle.a68_equiv.specs.Unfolding.{unfolded}
-use Rattle.a68_coerce.specs.declared.goal.Goal.{Goal}
-use Rattle.a68_coerce.specs.declared.goal.Goal.TheVariants as goal
+use Rattle.a68_coerce.specs.declared.goal.CoercionGoal.{CoercionGoal}
+use Rattle.a68_coerce.specs.declared.goal.CoercionGoal.TheVariants as goal
 use Rattle.a68_coerce.specs.declared.leaf.Leaf.{Leaf}
 use Rattle.a68_coerce.specs.declared.leaf.Leaf.TheVariants as leaf
 use Rattle.a68_coerce.specs.declared.walk.Want.{Want}
@@ -11,7 +11,7 @@ use Rattle.a68_modes.specs.declared.shape.Shape.{Shape}
 use Rattle.a68_modes.specs.declared.shape.Shape.TheVariants.{Rows}
 
 -- the modes of the goal are among the first n nodes, and a row has a dimension
-abbrev pub IsGoalBelow : ℕ → Goal → Type 0
+abbrev pub IsGoalBelow : ℕ → CoercionGoal → Type 0
 IsGoalBelow n (goal.Mode m) = m.id < n
 IsGoalBelow n (goal.Row dims flex of) = (of.id < n) × (0 < dims)
 IsGoalBelow n (goal.Name m) = m.id < n
@@ -19,8 +19,8 @@ IsGoalBelow n (goal.NameOfRow dims of) = (of.id < n) × (0 < dims)
 
 -- a form leads to no node
 abbrev pub IsWantBelow : ℕ → Want → Type 0
-IsWantBelow n (want.Goal g) = IsGoalBelow n g
-IsWantBelow n (want.Form f) = Unit {0}
+IsWantBelow n (want.CoercionGoal g) = IsGoalBelow n g
+IsWantBelow n (want.ModeForm f) = Unit {0}
 
 -- the mode of the leaf is among the first n nodes
 abbrev pub IsLeafBelow : ℕ → Leaf → Type 0
@@ -49,7 +49,7 @@ abbrev pub depth_of_shape : List Shape → Shape → ℕ
 depth_of_shape nodes (Rows dims flex e) = (rows_below nodes (length nodes) e + 1) * 2 ^ 32 + dims
 depth_of_shape nodes shape = 0
 
-abbrev pub depth : List Shape → Goal → ℕ
+abbrev pub depth : List Shape → CoercionGoal → ℕ
 depth nodes (goal.Mode n) = depth_of_shape nodes (unfolded nodes n.id)
 depth nodes (goal.Row dims flex of) = (rows_below nodes (length nodes) of.id + 1) * 2 ^ 32 + dims
 depth nodes g = 0

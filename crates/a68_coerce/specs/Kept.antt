@@ -2,7 +2,7 @@
 -- What holds of all paths, and what one node more leaves as it was.
 use Rattle.std.specs.Prelude.{◌≡◌, ◌<◌, ◌↔◌, ℕ, List, Option, length, false}
 use Rattle.std.specs.List.{All}
-use Rattle.a68_coerce.specs.declared.form.Form.{Form}
+use Rattle.a68_coerce.specs.declared.form.ModeForm.{ModeForm}
 use Rattle.a68_coerce.specs.declared.leaf.Balanced.{Balanced}
 use Rattle.a68_coerce.specs.declared.leaf.Leaf.{Leaf}
 use Rattle.a68_coerce.specs.Balanced.{IsBalanced, IsFormed, IsSided}
@@ -35,7 +35,7 @@ abbrev pub KeepBalances : (nodes after : List Shape) → Type 0
 KeepBalances nodes after = (sort : Sort) (to : Mode) (leaves : List Leaf) (found : Option ℕ) → to.id < length nodes → All (IsLeafBelow (length nodes)) leaves → IsBalanced nodes sort to leaves found ↔ IsBalanced after sort to leaves found
 
 abbrev pub KeepForms : (nodes after : List Shape) → Type 0
-KeepForms nodes after = (sort : Sort) (form : Form) (leaves : List Leaf) (found : Option Balanced) → All (IsLeafBelow (length nodes)) leaves → IsFormed nodes sort form leaves found ↔ IsFormed after sort form leaves found
+KeepForms nodes after = (sort : Sort) (form : ModeForm) (leaves : List Leaf) (found : Option Balanced) → All (IsLeafBelow (length nodes)) leaves → IsFormed nodes sort form leaves found ↔ IsFormed after sort form leaves found
 
 abbrev pub KeepSides : (nodes after : List Shape) → Type 0
 KeepSides nodes after = (soft strong : List Leaf) (found : Option Balanced) → All (IsLeafBelow (length nodes)) soft → All (IsLeafBelow (length nodes)) strong → IsSided nodes soft strong found ↔ IsSided after soft strong found

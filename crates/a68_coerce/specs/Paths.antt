@@ -1,8 +1,8 @@
 -- Paths: the coercions from one mode to another (Report, 6.1 to 6.7). In which order the rules are tried is own.
 use Rattle.std.specs.Prelude.{◌≡◌, ◌<◌, ℕ, List, [], ◌∷◌, ◌++◌, length, false, Option, Some, None}
 use Rattle.std.specs.List.{All}
-use Rattle.a68_coerce.specs.declared.goal.Goal.{Goal}
-use Rattle.a68_coerce.specs.declared.goal.Goal.TheVariants as goal
+use Rattle.a68_coerce.specs.declared.goal.CoercionGoal.{CoercionGoal}
+use Rattle.a68_coerce.specs.declared.goal.CoercionGoal.TheVariants as goal
 use Rattle.a68_coerce.specs.Goals.{Reaches, within, IsRowOver, IsNameOver, IsVoid, IsVoidGoal, is_multiple}
 use Rattle.a68_equiv.specs.declared.mode.Mode.{Mode}
 use Rattle.a68_equiv.specs.Related.{Meek, as_it_stands}
@@ -24,7 +24,7 @@ Then Leading c path = (q : List Coercion) × Leading q × (path ≡ q ++ c ∷ [
 
 -- ---- meek (6.1.1 e, 6.2, 6.3): calls of procedures without parameters and dereferencing, any number
 
-abbrev pub MeekTo : List Shape → Mode → Goal → List Coercion → Type 0
+abbrev pub MeekTo : List Shape → Mode → CoercionGoal → List Coercion → Type 0
 MeekTo nodes m g path = (k : Mode) × Meek nodes m path k × Reaches nodes k g
 
 -- ---- soft, weak: the sort allows some of the meek ways
@@ -80,35 +80,35 @@ pub record UnitedTo (nodes : List Shape) (m n : Mode) (path : List Coercion) : T
   pub node_is : IsFirstNode nodes mode node
   pub whole : path ≡ meekly ++ Unite node ∷ []
 
-pub data FirmTo (nodes : List Shape) (m : Mode) : Goal → List Coercion → Type 0 where
-  meekly : {g : Goal} {path : List Coercion} → MeekTo nodes m g path → FirmTo nodes m g path
+pub data FirmTo (nodes : List Shape) (m : Mode) : CoercionGoal → List Coercion → Type 0 where
+  meekly : {g : CoercionGoal} {path : List Coercion} → MeekTo nodes m g path → FirmTo nodes m g path
   uniting : {n : Mode} {path : List Coercion} → No (MeekTo nodes m (goal.Mode n)) → UnitedTo nodes m n path → FirmTo nodes m (goal.Mode n) path
 
 -- ---- strong (6.1.1 a, 6.5, 6.6, 6.7)
 
 -- the goal is [] BOOL, or the row of BOOL of one dimension that a row of two is a row of
-abbrev pub IsBools : List Shape → Goal → Type 0
+abbrev pub IsBools : List Shape → CoercionGoal → Type 0
 IsBools nodes (goal.Mode n) = Equivalent nodes n (as_it_stands 11)
 IsBools nodes (goal.Row dims flex of) = (dims ≡ 1) × (flex ≡ false) × Equivalent nodes of (as_it_stands 2)
 IsBools nodes g = ⊥
 
 -- firm to BITS, and widened
-abbrev pub WidenedTo : List Shape → Mode → Goal → List Coercion → Type 0
+abbrev pub WidenedTo : List Shape → Mode → CoercionGoal → List Coercion → Type 0
 WidenedTo nodes m g path = IsBools nodes g × Then (FirmTo nodes m (goal.Mode (as_it_stands 4))) Widen path
 
 -- meek to the name of an element or of a row with one dimension fewer, and rowed
-abbrev pub NamedTo : List Shape → Mode → Goal → List Coercion → Type 0
-NamedTo nodes m g path = (h : Goal) × IsNameOver nodes g h × Then (MeekTo nodes m h) RowUpName path
+abbrev pub NamedTo : List Shape → Mode → CoercionGoal → List Coercion → Type 0
+NamedTo nodes m g path = (h : CoercionGoal) × IsNameOver nodes g h × Then (MeekTo nodes m h) RowUpName path
 
 -- the first rule that leads; a goal that is a row is no name of a row
-pub data StrongTo (nodes : List Shape) (m : Mode) : Goal → List Coercion → Type 0 where
+pub data StrongTo (nodes : List Shape) (m : Mode) : CoercionGoal → List Coercion → Type 0 where
   -- to VOID: nothing from VOID, else the value is dropped
-  nothing : {g : Goal} → IsVoidGoal nodes g → IsVoid nodes m → StrongTo nodes m g []
-  dropping : {g : Goal} → IsVoidGoal nodes g → (IsVoid nodes m → ⊥) → StrongTo nodes m g (Drop ∷ [])
-  firmly : {g : Goal} {path : List Coercion} → (IsVoidGoal nodes g → ⊥) → FirmTo nodes m g path → StrongTo nodes m g path
-  widening : {g : Goal} {path : List Coercion} → No (FirmTo nodes m g) → WidenedTo nodes m g path → StrongTo nodes m g path
-  rowing : {g h : Goal} {path q : List Coercion} → No (FirmTo nodes m g) → No (WidenedTo nodes m g) → IsRowOver nodes g h → StrongTo nodes m h q → path ≡ q ++ RowUp ∷ [] → StrongTo nodes m g path
-  naming : {g : Goal} {path : List Coercion} → No (FirmTo nodes m g) → NamedTo nodes m g path → StrongTo nodes m g path
+  nothing : {g : CoercionGoal} → IsVoidGoal nodes g → IsVoid nodes m → StrongTo nodes m g []
+  dropping : {g : CoercionGoal} → IsVoidGoal nodes g → (IsVoid nodes m → ⊥) → StrongTo nodes m g (Drop ∷ [])
+  firmly : {g : CoercionGoal} {path : List Coercion} → (IsVoidGoal nodes g → ⊥) → FirmTo nodes m g path → StrongTo nodes m g path
+  widening : {g : CoercionGoal} {path : List Coercion} → No (FirmTo nodes m g) → WidenedTo nodes m g path → StrongTo nodes m g path
+  rowing : {g h : CoercionGoal} {path q : List Coercion} → No (FirmTo nodes m g) → No (WidenedTo nodes m g) → IsRowOver nodes g h → StrongTo nodes m h q → path ≡ q ++ RowUp ∷ [] → StrongTo nodes m g path
+  naming : {g : CoercionGoal} {path : List Coercion} → No (FirmTo nodes m g) → NamedTo nodes m g path → StrongTo nodes m g path
 
 -- ---- a path from a mode to another by a sort
 

@@ -2,7 +2,7 @@
 -- Paths in short, as they are looked for before any memory is taken.
 use Rattle.std.specs.Prelude.{◌≡◌, ◌<◌, ◌↔◌, ℕ, zero, suc, List, [], ◌∷◌, ◌++◌, length, Bool, true, false, Option, Some, None, slice_get}
 use Rattle.std.specs.List.{All, Contains}
-use Rattle.a68_coerce.specs.declared.goal.Goal.{Goal}
+use Rattle.a68_coerce.specs.declared.goal.CoercionGoal.{CoercionGoal}
 use Rattle.a68_coerce.specs.declared.leaf.Leaf.{Leaf}
 use Rattle.a68_coerce.specs.declared.route.Route.{Route}
 use Rattle.a68_coerce.specs.declared.route.Rowed.{Rowed}
@@ -70,10 +70,10 @@ FindsRowed nodes m Leading None = No Leading
 
 -- the route is the strong one to VOID
 abbrev pub LeadsToVoid : List Shape → Mode → Route → Type 0
-LeadsToVoid nodes m route = (g : Goal) → IsVoidGoal nodes g → StrongTo nodes m g (way_of nodes m route)
+LeadsToVoid nodes m route = (g : CoercionGoal) → IsVoidGoal nodes g → StrongTo nodes m g (way_of nodes m route)
 
 -- a strong route by the rules before rowing; or none where none of them leads
-abbrev pub FindsUnrowed : List Shape → Mode → Goal → Option Route → Type 0
+abbrev pub FindsUnrowed : List Shape → Mode → CoercionGoal → Option Route → Type 0
 FindsUnrowed nodes m g (Some route) = StrongTo nodes m g (way_of nodes m route)
 FindsUnrowed nodes m g None = (IsVoidGoal nodes g → ⊥) × No (FirmTo nodes m g) × No (WidenedTo nodes m g)
 
@@ -84,8 +84,8 @@ MayEnd _ dereferenced shape = Unit {0}
 
 -- the mode of the goal, or one of the form
 abbrev pub IsWanted : List Shape → Want → Mode → Type 0
-IsWanted nodes (want.Goal g) k = Reaches nodes k g
-IsWanted nodes (want.Form f) k = IsOfForm nodes f k
+IsWanted nodes (want.CoercionGoal g) k = Reaches nodes k g
+IsWanted nodes (want.ModeForm f) k = IsOfForm nodes f k
 
 -- the list of the members of a union
 pub record AreMembers (nodes : List Shape) (to : Mode) (xs : List ℕ) : Type 0 where

@@ -10,7 +10,7 @@ ghost use Rattle.a68_equiv.specs.Dimensions.{HaveDimensions};
 ghost use Rattle.a68_equiv.specs.Related.{as_it_stands};
 ghost use Rattle.a68_equiv.specs.Ways.{AreWellFormed};
 
-use crate::form::Form;
+use crate::form::ModeForm;
 use crate::leaf::{Balanced, Leaf};
 use crate::sorts::route;
 use crate::walk::{Want, reach};
@@ -142,7 +142,7 @@ pub fn balance_to_form(
     modes: &Modes,
     classes: &Classes,
     sort: Sort,
-    form: Form,
+    form: ModeForm,
     leaves: &[Leaf],
 ) -> Result<Option<Balanced>, NoMemory>
     requires formed { AreWellFormed modes.now }
@@ -208,7 +208,7 @@ fn sides_at(
     ensures at { IfOk result (λ found. MatchOption found ((to : Mode) → SidesAt modes.now to soft.now strong.now at → ⊥) (λ to. SidesAt modes.now to soft.now strong.now at)) }
     ensures there { IfOk result (λ found. IfSome found (λ to. to.id < length modes.now)) }
 {
-    let Some(mode) = formed_at(alloc, modes, classes, Sort::Soft, Form::Name, soft, at)? else {
+    let Some(mode) = formed_at(alloc, modes, classes, Sort::Soft, ModeForm::Name, soft, at)? else {
         return Ok(None);
     };
     if others_suit(alloc, modes, classes, strong, strong.len(), mode)? {
@@ -224,7 +224,7 @@ fn formed_at(
     modes: &Modes,
     classes: &Classes,
     sort: Sort,
-    form: Form,
+    form: ModeForm,
     leaves: &[Leaf],
     at: usize,
 ) -> Result<Option<Mode>, NoMemory>
@@ -247,7 +247,13 @@ fn formed_at(
 }
 
 /// Finds the first mode of the form on the way of the leaf by the sort.
-fn leaf_form(modes: &Modes, classes: &Classes, sort: Sort, form: Form, leaf: Leaf) -> Option<Mode>
+fn leaf_form(
+    modes: &Modes,
+    classes: &Classes,
+    sort: Sort,
+    form: ModeForm,
+    leaf: Leaf,
+) -> Option<Mode>
     requires formed { AreWellFormed modes.now }
     requires exact { AreExact modes.now classes.now.of }
     requires leaf { IsLeafBelow (length modes.now) leaf }
@@ -257,7 +263,7 @@ fn leaf_form(modes: &Modes, classes: &Classes, sort: Sort, form: Form, leaf: Lea
     match leaf {
         Leaf::Mode(from) => {
             let from = Mode::as_it_stands(from);
-            let reached = reach(modes, classes, sort, from, Want::Form(form))?;
+            let reached = reach(modes, classes, sort, from, Want::ModeForm(form))?;
             Some(reached.mode)
         }
         Leaf::StrongOnly => None,

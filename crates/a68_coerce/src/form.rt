@@ -9,7 +9,7 @@ use a68_modes::{Modes, Shape};
 
 /// What a position asks for where the mode itself is not known.
 #[derive(Clone, Copy)]
-pub enum Form {
+pub enum ModeForm {
     /// A name: the destination of an assignation, a side of an identity relation (5.2.1, 5.2.2).
     Name,
     /// A row, or the name of one: the primary of a slice (5.3.2), the operand of LWB and UPB.
@@ -23,17 +23,17 @@ pub enum Form {
 }
 
 /// Is the mode of the form?
-pub fn is_of_form(modes: &Modes, form: Form, mode: Mode) -> bool
+pub fn is_of_form(modes: &Modes, form: ModeForm, mode: Mode) -> bool
     requires { mode.id < length modes.now }
     ensures { result ≡ is_of_form modes.now form (unfolded modes.now mode.id) }
 {
     let shape = modes.shape(behind(modes, mode.id));
     match form {
-        Form::Name => is_name(shape),
-        Form::Row => is_row(behind_name(modes, shape)),
-        Form::Structure => has_fields(modes, behind_name(modes, shape)),
-        Form::Routine => is_routine(shape),
-        Form::Union => is_union(shape),
+        ModeForm::Name => is_name(shape),
+        ModeForm::Row => is_row(behind_name(modes, shape)),
+        ModeForm::Structure => has_fields(modes, behind_name(modes, shape)),
+        ModeForm::Routine => is_routine(shape),
+        ModeForm::Union => is_union(shape),
     }
 }
 

@@ -13,7 +13,7 @@ mod unite;
 mod walk;
 
 pub use balancing::{balance, balance_sides, balance_to_form};
-pub use form::Form;
+pub use form::ModeForm;
 pub use laws::{interning_keeps_paths, paths_are_one};
 pub use leaf::{Balanced, Leaf};
 pub use sorts::path;

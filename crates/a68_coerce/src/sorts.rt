@@ -8,7 +8,7 @@ ghost use Rattle.a68_equiv.specs.Related.{as_it_stands};
 ghost use Rattle.a68_equiv.specs.Ways.{AreWellFormed};
 ghost use Rattle.a68_modes.specs.Nodes.{HoldsNodes};
 
-use crate::goal::Goal;
+use crate::goal::CoercionGoal;
 use crate::route::{Route, Rowed, written};
 use crate::strong::strong;
 use crate::unite::firm;
@@ -77,7 +77,13 @@ fn onward(modes: &Modes, classes: &Classes, sort: Sort, from: Mode, to: Mode) ->
     requires to { to.id < length modes.now }
     ensures { FindsRowed modes.now from (GoesTo modes.now sort from to) result }
 {
-    let reached = reach(modes, classes, sort, from, Want::Goal(Goal::Mode(to)))?;
+    let reached = reach(
+        modes,
+        classes,
+        sort,
+        from,
+        Want::CoercionGoal(CoercionGoal::Mode(to)),
+    )?;
     let route = Route {
         meekly: reached.steps,
         last: None,
@@ -97,9 +103,9 @@ fn firmly(
     requires exact { AreExact modes.now classes.now.of }
     requires from { from.id < length modes.now }
     requires to { to.id < length modes.now }
-    ensures { IfOk result (FindsRowed modes.now from (FirmTo modes.now from (Goal.Mode to))) }
+    ensures { IfOk result (FindsRowed modes.now from (FirmTo modes.now from (CoercionGoal.Mode to))) }
 {
-    match firm(alloc, modes, classes, from, Goal::Mode(to))? {
+    match firm(alloc, modes, classes, from, CoercionGoal::Mode(to))? {
         Some(route) => Ok(Some(Rowed { route, rows: 0 })),
         None => Ok(None),
     }

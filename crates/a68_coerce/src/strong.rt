@@ -10,7 +10,7 @@ ghost use Rattle.a68_equiv.specs.Dimensions.{HaveDimensions};
 ghost use Rattle.a68_equiv.specs.Unfolding.{flex_left};
 ghost use Rattle.a68_equiv.specs.Ways.{AreWellFormed};
 
-use crate::goal::Goal;
+use crate::goal::CoercionGoal;
 use crate::route::{Route, Rowed};
 use crate::unite::firm;
 use crate::walk::meek;
@@ -20,14 +20,14 @@ use a68_modes::{Coercion, Modes, Shape};
 use std::alloc::Global;
 
 /// Gives what a row of an element is a row of.
-fn fewer(dims: u32, flex: bool, of: Mode) -> Goal
+fn fewer(dims: u32, flex: bool, of: Mode) -> CoercionGoal
     requires { 0 < dims }
     ensures { result ≡ row_of dims flex of }
 {
     if dims == 1 {
-        Goal::Mode(of)
+        CoercionGoal::Mode(of)
     } else {
-        Goal::Row {
+        CoercionGoal::Row {
             dims: dims - 1,
             flex,
             of,
@@ -36,14 +36,14 @@ fn fewer(dims: u32, flex: bool, of: Mode) -> Goal
 }
 
 /// Gives what the name of a row of an element is the name of, one dimension fewer.
-fn name_of_fewer(dims: u32, of: Mode) -> Goal
+fn name_of_fewer(dims: u32, of: Mode) -> CoercionGoal
     requires { 0 < dims }
     ensures { result ≡ name_of_row_of dims of }
 {
     if dims == 1 {
-        Goal::Name(of)
+        CoercionGoal::Name(of)
     } else {
-        Goal::NameOfRow { dims: dims - 1, of }
+        CoercionGoal::NameOfRow { dims: dims - 1, of }
     }
 }
 
@@ -55,17 +55,17 @@ fn left(fixed: bool, flex: bool) -> bool
 }
 
 /// Finds what the goal is a row of.
-fn row_over(modes: &Modes, goal: Goal) -> Option<Goal>
+fn row_over(modes: &Modes, goal: CoercionGoal) -> Option<CoercionGoal>
     requires nodes { HoldsNodes modes.now }
     requires formed { AreWellFormed modes.now }
     requires rows { HaveDimensions modes.now }
     requires goal { IsGoalBelow (length modes.now) goal }
-    ensures over { MatchOption result ((h : Goal) → IsRowOver modes.now goal h → ⊥) (IsRowOver modes.now goal) }
+    ensures over { MatchOption result ((h : CoercionGoal) → IsRowOver modes.now goal h → ⊥) (IsRowOver modes.now goal) }
     ensures below { IfSome result (IsGoalBelow (length modes.now)) }
     ensures deep { IfSome result (λ h. depth modes.now h < depth modes.now goal) }
 {
     match goal {
-        Goal::Mode(n) => match modes.shape(behind(modes, n.id)) {
+        CoercionGoal::Mode(n) => match modes.shape(behind(modes, n.id)) {
             Shape::Rows { dims, flex, of } => {
                 let element = Mode {
                     id: *of,
@@ -75,19 +75,19 @@ fn row_over(modes: &Modes, goal: Goal) -> Option<Goal>
             }
             _ => None,
         },
-        Goal::Row { dims, flex, of } => Some(fewer(dims, flex, of)),
+        CoercionGoal::Row { dims, flex, of } => Some(fewer(dims, flex, of)),
         _ => None,
     }
 }
 
 /// Finds what the name of a row without FLEX is the name of, one dimension fewer.
-fn name_over(modes: &Modes, goal: Goal) -> Option<Goal>
+fn name_over(modes: &Modes, goal: CoercionGoal) -> Option<CoercionGoal>
     requires rows { HaveDimensions modes.now }
     requires goal { IsGoalBelow (length modes.now) goal }
-    ensures over { MatchOption result ((h : Goal) → IsNameOver modes.now goal h → ⊥) (IsNameOver modes.now goal) }
+    ensures over { MatchOption result ((h : CoercionGoal) → IsNameOver modes.now goal h → ⊥) (IsNameOver modes.now goal) }
     ensures below { IfSome result (IsGoalBelow (length modes.now)) }
 {
-    let Goal::Mode(n) = goal else {
+    let CoercionGoal::Mode(n) = goal else {
         return None;
     };
     let Shape::Ref(a) = modes.shape(behind(modes, n.id)) else {
@@ -103,15 +103,15 @@ fn name_over(modes: &Modes, goal: Goal) -> Option<Goal>
 }
 
 /// Is the goal a row of BOOL of one dimension?
-fn is_bools(modes: &Modes, classes: &Classes, goal: Goal) -> bool
+fn is_bools(modes: &Modes, classes: &Classes, goal: CoercionGoal) -> bool
     requires exact { AreExact modes.now classes.now.of }
     requires goal { IsGoalBelow (length modes.now) goal }
     requires standard { 12 < length modes.now }
     ensures { IsTrue result ↔ IsBools modes.now goal }
 {
     match goal {
-        Goal::Mode(n) => classes.are_same(n, Mode::as_it_stands(11)),
-        Goal::Row { dims, flex, of } => {
+        CoercionGoal::Mode(n) => classes.are_same(n, Mode::as_it_stands(11)),
+        CoercionGoal::Row { dims, flex, of } => {
             dims == 1 && !flex && classes.are_same(of, Mode::as_it_stands(2))
         }
         _ => false,
@@ -119,7 +119,7 @@ fn is_bools(modes: &Modes, classes: &Classes, goal: Goal) -> bool
 }
 
 /// Finds the coercions from BITS to a row of BOOL.
-fn widened(modes: &Modes, classes: &Classes, from: Mode, goal: Goal) -> Option<Route>
+fn widened(modes: &Modes, classes: &Classes, from: Mode, goal: CoercionGoal) -> Option<Route>
     requires formed { AreWellFormed modes.now }
     requires nodes { HoldsNodes modes.now }
     requires exact { AreExact modes.now classes.now.of }
@@ -130,7 +130,12 @@ fn widened(modes: &Modes, classes: &Classes, from: Mode, goal: Goal) -> Option<R
     if !is_bools(modes, classes, goal) {
         return None;
     }
-    let Some(meekly) = meek(modes, classes, from, Goal::Mode(Mode::as_it_stands(4))) else {
+    let Some(meekly) = meek(
+        modes,
+        classes,
+        from,
+        CoercionGoal::Mode(Mode::as_it_stands(4)),
+    ) else {
         return None;
     };
     Some(Route {
@@ -140,7 +145,7 @@ fn widened(modes: &Modes, classes: &Classes, from: Mode, goal: Goal) -> Option<R
 }
 
 /// Finds the coercions from a name to that of a row of it.
-fn named(modes: &Modes, classes: &Classes, from: Mode, goal: Goal) -> Option<Route>
+fn named(modes: &Modes, classes: &Classes, from: Mode, goal: CoercionGoal) -> Option<Route>
     requires formed { AreWellFormed modes.now }
     requires rows { HaveDimensions modes.now }
     requires exact { AreExact modes.now classes.now.of }
@@ -170,12 +175,12 @@ fn is_void(modes: &Modes, mode: Mode) -> bool
 }
 
 /// Is the goal VOID?
-fn is_void_goal(modes: &Modes, goal: Goal) -> bool
+fn is_void_goal(modes: &Modes, goal: CoercionGoal) -> bool
     requires { IsGoalBelow (length modes.now) goal }
     ensures { IsTrue result ↔ IsVoidGoal modes.now goal }
 {
     match goal {
-        Goal::Mode(n) => is_void(modes, n),
+        CoercionGoal::Mode(n) => is_void(modes, n),
         _ => false,
     }
 }
@@ -201,7 +206,7 @@ fn unrowed(
     classes: &Classes,
     from: Mode,
     to_void: Route,
-    goal: Goal,
+    goal: CoercionGoal,
 ) -> Result<Option<Route>, NoMemory>
     requires formed { AreWellFormed modes.now }
     requires nodes { HoldsNodes modes.now }
@@ -233,10 +238,10 @@ pub fn strong(
     requires exact { AreExact modes.now classes.now.of }
     requires from { from.id < length modes.now }
     requires to { to.id < length modes.now }
-    ensures { IfOk result (FindsRowed modes.now from (StrongTo modes.now from (Goal.Mode to))) }
+    ensures { IfOk result (FindsRowed modes.now from (StrongTo modes.now from (CoercionGoal.Mode to))) }
 {
     let to_void = voided(modes, from);
-    let mut goal = Goal::Mode(to);
+    let mut goal = CoercionGoal::Mode(to);
     let mut rows = 0;
     'rowing: loop {
         if let Some(route) = unrowed(alloc, modes, classes, from, to_void, goal)? {

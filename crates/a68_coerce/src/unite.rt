@@ -9,7 +9,7 @@ ghost use Rattle.a68_equiv.specs.Classes.{AreExact};
 ghost use Rattle.a68_equiv.specs.Unfolding.{Equivalent};
 ghost use Rattle.a68_equiv.specs.Ways.{AreWellFormed};
 
-use crate::goal::Goal;
+use crate::goal::CoercionGoal;
 use crate::route::Route;
 use crate::walk::{meek, next_step};
 use a68_base::NoMemory;
@@ -156,7 +156,7 @@ pub fn firm(
     modes: &Modes,
     classes: &Classes,
     from: Mode,
-    goal: Goal,
+    goal: CoercionGoal,
 ) -> Result<Option<Route>, NoMemory>
     requires formed { AreWellFormed modes.now }
     requires exact { AreExact modes.now classes.now.of }
@@ -167,7 +167,7 @@ pub fn firm(
     if let Some(meekly) = meek(modes, classes, from, goal) {
         return Ok(Some(Route { meekly, last: None }));
     }
-    let Goal::Mode(to) = goal else {
+    let CoercionGoal::Mode(to) = goal else {
         return Ok(None);
     };
     united(alloc, modes, classes, from, to)

@@ -12,8 +12,8 @@ ghost use Rattle.a68_equiv.specs.Related.{Meek, meek_step};
 ghost use Rattle.a68_equiv.specs.Unfolding.{unfolded};
 ghost use Rattle.a68_equiv.specs.Ways.{AreWellFormed};
 
-use crate::form::{Form, is_of_form};
-use crate::goal::Goal;
+use crate::form::{ModeForm, is_of_form};
+use crate::goal::CoercionGoal;
 use a68_equiv::{Classes, Mode, behind};
 use a68_modes::{Coercion, Modes, Shape, Sort};
 
@@ -43,20 +43,20 @@ fn is_row(modes: &Modes, classes: &Classes, mode: Mode, dims: u32, flex: bool, o
 }
 
 /// Is the mode that of the goal?
-fn reaches(modes: &Modes, classes: &Classes, mode: Mode, goal: Goal) -> bool
+fn reaches(modes: &Modes, classes: &Classes, mode: Mode, goal: CoercionGoal) -> bool
     requires exact { AreExact modes.now classes.now.of }
     requires mode { mode.id < length modes.now }
     requires goal { IsGoalBelow (length modes.now) goal }
     ensures { IsTrue result ↔ Reaches modes.now mode goal }
 {
     match goal {
-        Goal::Mode(to) => classes.are_same(mode, to),
-        Goal::Row { dims, flex, of } => is_row(modes, classes, mode, dims, flex, of),
-        Goal::Name(to) => match modes.shape(behind(modes, mode.id)) {
+        CoercionGoal::Mode(to) => classes.are_same(mode, to),
+        CoercionGoal::Row { dims, flex, of } => is_row(modes, classes, mode, dims, flex, of),
+        CoercionGoal::Name(to) => match modes.shape(behind(modes, mode.id)) {
             Shape::Ref(of) => classes.are_same(Mode::as_it_stands(*of), to),
             _ => false,
         },
-        Goal::NameOfRow { dims, of } => match modes.shape(behind(modes, mode.id)) {
+        CoercionGoal::NameOfRow { dims, of } => match modes.shape(behind(modes, mode.id)) {
             Shape::Ref(row) => is_row(modes, classes, Mode::as_it_stands(*row), dims, false, of),
             _ => false,
         },
@@ -66,8 +66,8 @@ fn reaches(modes: &Modes, classes: &Classes, mode: Mode, goal: Goal) -> bool
 /// What a walk looks for.
 #[derive(Clone, Copy)]
 pub enum Want {
-    Goal(Goal),
-    Form(Form),
+    CoercionGoal(CoercionGoal),
+    ModeForm(ModeForm),
 }
 
 /// Is the mode what is looked for?
@@ -78,8 +78,8 @@ fn is_wanted(modes: &Modes, classes: &Classes, mode: Mode, want: Want) -> bool
     ensures { IsTrue result ↔ IsWanted modes.now want mode }
 {
     match want {
-        Want::Goal(goal) => reaches(modes, classes, mode, goal),
-        Want::Form(form) => is_of_form(modes, form, mode),
+        Want::CoercionGoal(goal) => reaches(modes, classes, mode, goal),
+        Want::ModeForm(form) => is_of_form(modes, form, mode),
     }
 }
 
@@ -206,14 +206,14 @@ pub fn reach(
 }
 
 /// Counts the meek coercions to a goal.
-pub fn meek(modes: &Modes, classes: &Classes, from: Mode, goal: Goal) -> Option<u32>
+pub fn meek(modes: &Modes, classes: &Classes, from: Mode, goal: CoercionGoal) -> Option<u32>
     requires formed { AreWellFormed modes.now }
     requires exact { AreExact modes.now classes.now.of }
     requires from { from.id < length modes.now }
     requires goal { IsGoalBelow (length modes.now) goal }
     ensures { FindsMeekly modes.now from (MeekTo modes.now from goal) result }
 {
-    match reach(modes, classes, Sort::Meek, from, Want::Goal(goal)) {
+    match reach(modes, classes, Sort::Meek, from, Want::CoercionGoal(goal)) {
         Some(reached) => Some(reached.steps),
         None => None,
     }

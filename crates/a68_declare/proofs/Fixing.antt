@@ -14,8 +14,8 @@ use Rattle.a68_declare.proofs.Standing.{standard_at}
 use Rattle.a68_declare.proofs.Words.{way_moved}
 use Rattle.a68_declare.specs.Clean.{UnionsHaveNoFlex}
 use Rattle.a68_declare.specs.Numbering.{HaveTwins}
-use Rattle.a68_declarers.specs.declared.form.Form.{Form}
-use Rattle.a68_declarers.specs.declared.form.Form.TheVariants as forms
+use Rattle.a68_declarers.specs.declared.form.DeclarerForm.{DeclarerForm}
+use Rattle.a68_declarers.specs.declared.form.DeclarerForm.TheVariants as forms
 use Rattle.a68_declarers.proofs.Counting.{first_is, two}
 use Rattle.a68_declarers.proofs.Shaping.{AllForms, IsLow, form_low, found_form, one_holds, last_holds, map_holds, fields_hold}
 use Rattle.a68_declarers.specs.Declarers.{form_at, is_declarer, is_field, known_forms, IsDeclarer}
@@ -69,7 +69,7 @@ module _ (tree : Built) (nodes : List Shape) (number : ℕ → Truth → ℕ) (h
   last_free : (parts : List ℕ) → IsFree (last_mode (λ e. number e true) parts)
   last_free parts = last_holds IsFree void_free (λ e. number e true) parts (λ e c. each_free e)
 
-  shape_still : (d : ℕ) (form : Form) (shape : Shape) → IsLow form → IsShapeOf tree number d true form shape → IsStill shape
+  shape_still : (d : ℕ) (form : DeclarerForm) (shape : Shape) → IsLow form → IsShapeOf tree number d true form shape → IsStill shape
   shape_still d (forms.Standard m n) shape low is = rw is (record { same = refl; parts = inr (one_holds IsFree n (inl low.1)) })
   shape_still d forms.Name shape low is = rw is (record { same = refl; parts = inl refl })
   shape_still d (forms.Row flex) shape low is = rw is (record { same = refl; parts = inr (one_holds IsFree (last_mode (λ e. number e true) (parts_at tree d)) (last_free (parts_at tree d))) })
@@ -147,7 +147,7 @@ module _ (tree : Built) (nodes : List Shape) (number : ℕ → Truth → ℕ) (h
   standard_union (suc (suc (suc (suc (suc (suc (suc (suc (suc (suc (suc (suc zero)))))))))))) h u = absurd (false≢true u)
   standard_union (suc (suc (suc (suc (suc (suc (suc (suc (suc (suc (suc (suc (suc m))))))))))))) h u = absurd (omega arith)
 
-  shape_union : (d : ℕ) (fixed : Truth) (form : Form) (shape : Shape) → IsShapeOf tree number d fixed form shape → is_union shape ≡ true → All IsFree (parts_of shape)
+  shape_union : (d : ℕ) (fixed : Truth) (form : DeclarerForm) (shape : Shape) → IsShapeOf tree number d fixed form shape → is_union shape ≡ true → All IsFree (parts_of shape)
   shape_union d fixed (forms.Standard m n) shape is u = absurd (false≢true (sym (ap is_union is) ∙ u))
   shape_union d fixed forms.Name shape is u = absurd (false≢true (sym (ap is_union is) ∙ u))
   shape_union d fixed (forms.Row flex) shape is u = absurd (false≢true (sym (ap is_union is) ∙ u))
@@ -316,7 +316,7 @@ module _ (tree : Built) (nodes : List Shape) (number : ℕ → Truth → ℕ) (h
     defined_twin (Some x) = last_twin (parts_at tree x)
 
     -- the modes of a standard declarer are twins
-    abbrev HasTwins : Form → Type 0
+    abbrev HasTwins : DeclarerForm → Type 0
     HasTwins (forms.Standard m n) = IsTwin n m
     HasTwins _ = Unit {0}
 
@@ -325,7 +325,7 @@ module _ (tree : Built) (nodes : List Shape) (number : ℕ → Truth → ℕ) (h
     known_twins =
         (inl (refl, inl (omega arith)), (inl (refl, inl (omega arith)), (inl (refl, inl (omega arith)), (inl (refl, inl (omega arith)), (inl (refl, inl (omega arith)), (inr (inl (refl, refl)), (tt, (tt, (tt, (tt, (tt, (tt, tt))))))))))))
 
-    form_akin : (d : ℕ) (form : Form) (s t : Shape) → HasTwins form → IsShapeOf tree number d true form s → IsShapeOf tree number d false form t → AreAkin s t
+    form_akin : (d : ℕ) (form : DeclarerForm) (s t : Shape) → HasTwins form → IsShapeOf tree number d true form s → IsShapeOf tree number d false form t → AreAkin s t
     form_akin d (forms.Standard m n) s t twins p q = rw (p, q) (record { same = refl; parts = inr (inr (record { plain = refl; plain_too = refl; passes = refl; pairs = (twins, tt) })) })
     form_akin d forms.Name s t twins p q = rw (p, q) (record { same = refl; parts = inl (refl, refl) })
     form_akin d (forms.Row flex) s t twins p q =

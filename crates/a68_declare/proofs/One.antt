@@ -14,8 +14,8 @@ use Rattle.a68_declarers.specs.Declarers.{form_at, is_declarer, is_field}
 use Rattle.a68_declarers.specs.Numbers.{one_if}
 use Rattle.a68_declarers.specs.Shapes.{dims_of, last_mode, front, fields, defined_mode, IsShapeOf}
 use Rattle.a68_declarers.specs.Words.{declarers_before, IsTooMany}
-use Rattle.a68_declarers.specs.declared.form.Form.{Form}
-use Rattle.a68_declarers.specs.declared.form.Form.TheVariants as forms
+use Rattle.a68_declarers.specs.declared.form.DeclarerForm.{DeclarerForm}
+use Rattle.a68_declarers.specs.declared.form.DeclarerForm.TheVariants as forms
 use Rattle.a68_equiv.specs.Unfolding.{flex_left}
 use Rattle.a68_equiv.specs.Ways.{IsWellFormed}
 use Rattle.a68_modes.specs.Nodes.{shape_at}
@@ -66,7 +66,7 @@ module _ (tree : Built) (once : (id : ℕ) → IsTwice tree id → ⊥) where
 
   module _ (number others : ℕ → Bool → ℕ) (same : (d : ℕ) (fixed : Bool) → number d fixed ≡ others d fixed) where
     -- a declarer has one shape
-    shape_one : (d : ℕ) (fixed : Bool) (form : Form) (s t : Shape) → IsShapeOf tree number d fixed form s → IsShapeOf tree others d fixed form t → s ≡ t
+    shape_one : (d : ℕ) (fixed : Bool) (form : DeclarerForm) (s t : Shape) → IsShapeOf tree number d fixed form s → IsShapeOf tree others d fixed form t → s ≡ t
     shape_one d fixed (forms.Standard m n) s t p q = p ∙ sym q
     shape_one d fixed forms.Name s t p q = p ∙ ap Ref (last_same tree (λ e. number e false) (λ e. others e false) (λ e. same e false) (parts_at tree d)) ∙ sym q
     shape_one d fixed (forms.Row flex) s t p q = p ∙ ap (λ m. Rows (dims_of (parts_at tree d)) (flex_left fixed flex) m) (last_same tree (λ e. number e fixed) (λ e. others e fixed) (λ e. same e fixed) (parts_at tree d)) ∙ sym q
@@ -255,7 +255,7 @@ module _ (tree : Built) (end : ℕ) (nodes_by : (id : ℕ) (n : Node) → slice_
   next_by [] byte h by = h
   next_by (s ∷ ss) byte h by = either_by (nat_lt byte s) s (next_start ss byte) (by 0 s refl) (next_by ss byte h (λ i x e. by (suc i) x e))
 
-  bracket_by : (form : Form) (byte : ℕ) → byte ≤ end → bracket_of form tree.starts byte ≤ end
+  bracket_by : (form : DeclarerForm) (byte : ℕ) → byte ≤ end → bracket_of form tree.starts byte ≤ end
   bracket_by (forms.Row true) byte h = next_by tree.starts byte h starts_by
   bracket_by form byte h = h
 

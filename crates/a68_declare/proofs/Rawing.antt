@@ -5,8 +5,8 @@ use Rattle.std.proofs.lemmas.Bool.Decides.{nat_tests}
 use Rattle.a68_declare.proofs.Cleaning.{blank_past}
 use Rattle.a68_declare.proofs.Standing.{standard_at}
 use Rattle.a68_declare.specs.Numbering.{AreFull}
-use Rattle.a68_declarers.specs.declared.form.Form.{Form}
-use Rattle.a68_declarers.specs.declared.form.Form.TheVariants as forms
+use Rattle.a68_declarers.specs.declared.form.DeclarerForm.{DeclarerForm}
+use Rattle.a68_declarers.specs.declared.form.DeclarerForm.TheVariants as forms
 use Rattle.a68_declarers.specs.Declarers.{form_at, IsDeclarer}
 use Rattle.a68_declarers.specs.Modes.{AreDeclared, AreOrdered}
 use Rattle.a68_declarers.specs.Shapes.{dims_of, IsShapeOf}
@@ -34,7 +34,7 @@ dims_are parts = first (nat_le (length parts) 1) refl
     first true e = (omega arith, omega arith)
     first false e = second (nat_lt 4294967295 (length parts)) refl (let l : 1 < length parts = grind (arith, nat_tests, e) in l)
 
-shape_dims : (tree : Built) (number : ℕ → Bool → ℕ) (d : ℕ) (fixed : Bool) (form : Form) (shape : Shape) → IsShapeOf tree number d fixed form shape → HasDimensions shape
+shape_dims : (tree : Built) (number : ℕ → Bool → ℕ) (d : ℕ) (fixed : Bool) (form : DeclarerForm) (shape : Shape) → IsShapeOf tree number d fixed form shape → HasDimensions shape
 shape_dims tree number d fixed (forms.Standard m n) shape is = rw is tt
 shape_dims tree number d fixed forms.Name shape is = rw is tt
 shape_dims tree number d fixed (forms.Row flex) shape is = rw is (dims_are (parts_at tree d))
@@ -43,7 +43,7 @@ shape_dims tree number d fixed forms.Union shape is = rw is tt
 shape_dims tree number d fixed forms.Procedure shape is = rw is tt
 shape_dims tree number d fixed forms.Word shape is = rw is.2 tt
 
-shape_full : (tree : Built) (number : ℕ → Bool → ℕ) (d : ℕ) (fixed : Bool) (form : Form) (shape : Shape) → IsShapeOf tree number d fixed form shape → shape ≡ Blank → ⊥
+shape_full : (tree : Built) (number : ℕ → Bool → ℕ) (d : ℕ) (fixed : Bool) (form : DeclarerForm) (shape : Shape) → IsShapeOf tree number d fixed form shape → shape ≡ Blank → ⊥
 shape_full tree number d fixed (forms.Standard m n) shape is e = let f = sym is ∙ e in cc
 shape_full tree number d fixed forms.Name shape is e = let f = sym is ∙ e in cc
 shape_full tree number d fixed (forms.Row flex) shape is e = let f = sym is ∙ e in cc

@@ -11,7 +11,7 @@ ghost use Rattle.a68_equiv.specs.Ways.{AreWellFormed};
 ghost use Rattle.a68_ranges.specs.Indexed.{IsLeast};
 
 use a68_base::NoMemory;
-use a68_declarers::{Form, Numbers, form_of, is_declarer, sooner};
+use a68_declarers::{DeclarerForm, Numbers, form_of, is_declarer, sooner};
 use a68_equiv::{Classes, among, leads};
 use a68_modes::{ModeId, Modes};
 use a68_tree::{NodeId, Tree};
@@ -127,7 +127,7 @@ fn is_wrong_union(
         return Ok(false);
     }
     match form_of(tree, id) {
-        Form::Union => {
+        DeclarerForm::Union => {
             let wrong = is_wrong(alloc, modes, classes, numbers.of(id, false))?;
             Ok(wrong)
         }

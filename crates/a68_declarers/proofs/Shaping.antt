@@ -7,8 +7,8 @@ use Rattle.std.specs.Str.{bytes_eq}
 use Rattle.std.proofs.lemmas.List.Elements.{All-map, All-push, All-cons, All-nil}
 use Rattle.std.proofs.lemmas.List.{get_or_default, get_or-take, length-take}
 use Rattle.a68_base.specs.Tables.{find}
-use Rattle.a68_declarers.specs.declared.form.Form.{Form}
-use Rattle.a68_declarers.specs.declared.form.Form.TheVariants as forms
+use Rattle.a68_declarers.specs.declared.form.DeclarerForm.{DeclarerForm}
+use Rattle.a68_declarers.specs.declared.form.DeclarerForm.TheVariants as forms
 use Rattle.a68_declarers.specs.Declarers.{known_forms, or_word, form_at, is_field}
 use Rattle.a68_declarers.specs.Shapes.{last_mode, front, fields, defined_mode, IsShapeOf}
 use Rattle.a68_modes.specs.declared.shape.Shape.{Shape}
@@ -61,16 +61,16 @@ fields_all tree mode found before i parts whole h so = sym (append_none found) �
 -- ---- the modes within a shape
 
 -- the standard modes that a word gives are there, and that without FLEX is not STRING
-abbrev pub IsLow : Form → Type 0
+abbrev pub IsLow : DeclarerForm → Type 0
 IsLow (forms.Standard m n) = (m < 13) × (n < 12)
 IsLow _ = Unit {0}
 
 -- what holds of all forms in a table and of mode words holds of the form that is found
-abbrev pub AllForms : (Form → Type 0) → List (List ℕ × Form) → Type 0
+abbrev pub AllForms : (DeclarerForm → Type 0) → List (List ℕ × DeclarerForm) → Type 0
 AllForms Holds [] = Unit {0}
 AllForms Holds (row ∷ rows) = Holds row.1 × AllForms Holds rows
 
-pub found_form : (Holds : Form → Type 0) (rows : List (List ℕ × Form)) (spelling : Option (List ℕ)) → Holds forms.Word → AllForms Holds rows → Holds (or_word (option_and_then (find rows) spelling))
+pub found_form : (Holds : DeclarerForm → Type 0) (rows : List (List ℕ × DeclarerForm)) (spelling : Option (List ℕ)) → Holds forms.Word → AllForms Holds rows → Holds (or_word (option_and_then (find rows) spelling))
 found_form Holds rows None word all = word
 found_form Holds [] (Some s) word all = word
 found_form Holds (row ∷ rows) (Some s) word all = go (bytes_eq s row.0) (found_form Holds rows (Some s) word all.1)
@@ -119,7 +119,7 @@ one_holds P m p = All-cons P m [] p (All-nil P)
 
 -- what holds of the standard modes, of the modes of declarers within and of the definition of a word, holds of each mode within
 -- the shape of a declarer
-pub shape_holds : (P : ℕ → Type 0) (tree : Built) (number : ℕ → Bool → ℕ) (d : ℕ) (fixed : Bool) (form : Form) (shape : Shape) → IsLow form → ((m : ℕ) → m < 13 → P m)
+pub shape_holds : (P : ℕ → Type 0) (tree : Built) (number : ℕ → Bool → ℕ) (d : ℕ) (fixed : Bool) (form : DeclarerForm) (shape : Shape) → IsLow form → ((m : ℕ) → m < 13 → P m)
     → ((e : ℕ) (f : Bool) → Contains (parts_at tree d) e → P (number e f))
     → ((definition : ℕ) → IsModeWordOf tree d (name_at tree d) (Some definition) → P (last_mode (λ e. number e fixed) (parts_at tree definition)))
     → IsShapeOf tree number d fixed form shape → All P (parts_of shape)
@@ -144,7 +144,7 @@ shape_holds P tree number d fixed forms.Word shape low std each word (definition
     go (Some x) of = word x of
 
 -- each mode within the shape of a declarer is there
-pub shape_within : (tree : Built) (number : ℕ → Bool → ℕ) (count d : ℕ) (fixed : Bool) (form : Form) (shape : Shape) → IsLow form → 13 ≤ count
+pub shape_within : (tree : Built) (number : ℕ → Bool → ℕ) (count d : ℕ) (fixed : Bool) (form : DeclarerForm) (shape : Shape) → IsLow form → 13 ≤ count
     → ((e : ℕ) (fixed : Bool) → number e fixed < count) → IsShapeOf tree number d fixed form shape → IsWithin count shape
 shape_within tree number count d fixed form shape low few each is =
     shape_holds (λ k. k < count) tree number d fixed form shape low (λ m h. omega arith) (λ e f c. each e f)

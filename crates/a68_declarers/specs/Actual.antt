@@ -4,8 +4,8 @@ use Rattle.std.specs.Prelude.{◌≡◌, ◌<◌, ◌⊎◌, ◌↔◌, ℕ, Boo
 use Rattle.std.specs.List.{Contains}
 use Rattle.a68_declarers.specs.declared.actual.Holders.{Holders}
 use Rattle.a68_declarers.specs.declared.actual.Holders.TheVariants as holders
-use Rattle.a68_declarers.specs.declared.form.Form.{Form}
-use Rattle.a68_declarers.specs.declared.form.Form.TheVariants as forms
+use Rattle.a68_declarers.specs.declared.form.DeclarerForm.{DeclarerForm}
+use Rattle.a68_declarers.specs.declared.form.DeclarerForm.TheVariants as forms
 use Rattle.a68_declarers.specs.Declarers.{form_at, is_mode_definition, IsDeclarer}
 use Rattle.a68_ranges.specs.Nodes.{kind_at, IsPart}
 use Rattle.a68_tree.specs.Trees.{Built}
@@ -25,7 +25,7 @@ is_holder holders.All form = has_actual form
 is_holder holders.ModeDefinitions form = is_mode_definition form
 
 -- declarers within a row and a structure are actual where these are
-abbrev pub hands_on : Form → Bool
+abbrev pub hands_on : DeclarerForm → Bool
 hands_on (forms.Row flex) = true
 hands_on forms.Structure = true
 hands_on _ = false

@@ -1,8 +1,8 @@
 -- Where bounds must stand and where they must not (Report, 4.6.1; what may not stand within those of a mode definition is own).
 use Rattle.std.specs.Prelude.{◌≡◌, ◌≢◌, ◌≤◌, ◌↔◌, ◌&&◌, ℕ, List, [], ◌∷◌, Bool, true, false, Option, Some, None, length, slice_index_or, nat_lt, if◌then◌else◌}
 use Rattle.a68_declarers.specs.declared.actual.Holders.TheVariants as holders
-use Rattle.a68_declarers.specs.declared.form.Form.{Form}
-use Rattle.a68_declarers.specs.declared.form.Form.TheVariants as forms
+use Rattle.a68_declarers.specs.declared.form.DeclarerForm.{DeclarerForm}
+use Rattle.a68_declarers.specs.declared.form.DeclarerForm.TheVariants as forms
 use Rattle.a68_declarers.specs.Actual.{IsActual, AreActual}
 use Rattle.a68_declarers.specs.Declarers.{form_at, is_word, IsDeclarer}
 use Rattle.a68_ranges.specs.Nodes.{kind_at, parts_at, place_at, IsPart, IsWithin}
@@ -58,7 +58,7 @@ abbrev pub next_start : (starts : List ℕ) → (byte : ℕ) → ℕ
 next_start [] byte = byte
 next_start (s ∷ ss) byte = if nat_lt byte s then s else next_start ss byte
 
-abbrev pub bracket_of : Form → (starts : List ℕ) → (byte : ℕ) → ℕ
+abbrev pub bracket_of : DeclarerForm → (starts : List ℕ) → (byte : ℕ) → ℕ
 bracket_of (forms.Row true) starts byte = next_start starts byte
 bracket_of _ starts byte = byte
 

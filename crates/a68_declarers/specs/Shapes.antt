@@ -2,8 +2,8 @@
 -- stands, and its mode without FLEX down to the next REF or PROC.
 use Rattle.std.specs.Prelude.{◌≡◌, ◌-◌, ◌∷◌, nat_le, nat_lt, ℕ, List, [], length, map, take, slice_get, Option, Some, None, Bool, true, false, if◌then◌else◌}
 use Rattle.std.specs.Option.{option_map_or}
-use Rattle.a68_declarers.specs.declared.form.Form.{Form}
-use Rattle.a68_declarers.specs.declared.form.Form.TheVariants as forms
+use Rattle.a68_declarers.specs.declared.form.DeclarerForm.{DeclarerForm}
+use Rattle.a68_declarers.specs.declared.form.DeclarerForm.TheVariants as forms
 use Rattle.a68_declarers.specs.Declarers.{is_field}
 use Rattle.a68_equiv.specs.Unfolding.{flex_left}
 use Rattle.a68_modes.specs.declared.shape.Shape.{Shape}
@@ -42,7 +42,7 @@ defined_mode tree mode (Some definition) = last_mode mode (parts_at tree definit
 
 -- The shape of the node of a declarer, as it stands or without its FLEX. `number` gives the nodes of the declarers within
 -- it. From the modes of members, parameters and results FLEX is taken away; a mode word is the mode of its definition.
-abbrev pub IsShapeOf : Built → (number : ℕ → Bool → ℕ) → (d : ℕ) → (fixed : Bool) → Form → Shape → Type 0
+abbrev pub IsShapeOf : Built → (number : ℕ → Bool → ℕ) → (d : ℕ) → (fixed : Bool) → DeclarerForm → Shape → Type 0
 IsShapeOf tree number d fixed (forms.Standard m n) shape = shape ≡ Same (standard_mode fixed m n)
 IsShapeOf tree number d fixed forms.Name shape = shape ≡ Ref (last_mode (λ e. number e false) (parts_at tree d))
 IsShapeOf tree number d fixed (forms.Row flex) shape = shape ≡ Rows (dims_of (parts_at tree d)) (flex_left fixed flex) (last_mode (λ e. number e fixed) (parts_at tree d))

@@ -9,7 +9,7 @@ ghost use Rattle.a68_ranges.specs.Indexed.{IsLeast};
 ghost use Rattle.a68_ranges.specs.Nodes.{kind_at, parts_at};
 
 use crate::actual::{Holders, actual};
-use crate::form::{Form, form_of, is_word};
+use crate::form::{DeclarerForm, form_of, is_word};
 use crate::reading::{follow, is_declarer, is_marked, kind_of, place_of, sooner};
 use a68_base::NoMemory;
 use a68_tree::{NodeId, NodeKind, Tree};
@@ -170,7 +170,7 @@ pub fn bracket(tree: &Tree, starts: &[u32], declarer: NodeId) -> u32
 {
     let place = place_of(tree, declarer);
     match form_of(tree, declarer) {
-        Form::Row { flex: true } => next_of(starts, place),
+        DeclarerForm::Row { flex: true } => next_of(starts, place),
         _ => place,
     }
 }

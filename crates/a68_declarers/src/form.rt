@@ -10,7 +10,7 @@ use a68_tree::{NodeId, Tree};
 
 /// What a declarer is made of (4.6.1).
 #[derive(Clone, Copy)]
-pub enum Form {
+pub enum DeclarerForm {
     /// A standard mode, by its number as it stands and without its FLEX.
     Standard {
         as_it_stands: ModeId,
@@ -34,83 +34,83 @@ pub enum Form {
 
 // The forms by the symbols that begin them.
 #[tactic(auto, unfolding(crate::specs::Declarers::known_forms))]
-fn forms() -> &'static [(&'static str, Form)]
+fn forms() -> &'static [(&'static str, DeclarerForm)]
     ensures { map (λ row. (row.0.now, row.1)) result.now ≡ known_forms }
 {
     &[
         (
             "INT",
-            Form::Standard {
+            DeclarerForm::Standard {
                 as_it_stands: 1,
                 without_flex: 1,
             },
         ),
         (
             "BOOL",
-            Form::Standard {
+            DeclarerForm::Standard {
                 as_it_stands: 2,
                 without_flex: 2,
             },
         ),
         (
             "CHAR",
-            Form::Standard {
+            DeclarerForm::Standard {
                 as_it_stands: 3,
                 without_flex: 3,
             },
         ),
         (
             "BITS",
-            Form::Standard {
+            DeclarerForm::Standard {
                 as_it_stands: 4,
                 without_flex: 4,
             },
         ),
         (
             "SEMA",
-            Form::Standard {
+            DeclarerForm::Standard {
                 as_it_stands: 5,
                 without_flex: 5,
             },
         ),
         (
             "STRING",
-            Form::Standard {
+            DeclarerForm::Standard {
                 as_it_stands: 12,
                 without_flex: 7,
             },
         ),
-        ("REF", Form::Name),
-        ("[", Form::Row { flex: false }),
-        ("FLEX", Form::Row { flex: true }),
-        ("STRUCT", Form::Structure),
-        ("UNION", Form::Union),
-        ("PROC", Form::Procedure),
+        ("REF", DeclarerForm::Name),
+        ("[", DeclarerForm::Row { flex: false }),
+        ("FLEX", DeclarerForm::Row { flex: true }),
+        ("STRUCT", DeclarerForm::Structure),
+        ("UNION", DeclarerForm::Union),
+        ("PROC", DeclarerForm::Procedure),
     ]
 }
 
 /// The form of a declarer.
-pub fn form_of(tree: &Tree, declarer: NodeId) -> Form
+pub fn form_of(tree: &Tree, declarer: NodeId) -> DeclarerForm
     requires { declarer < length tree.now.nodes }
     ensures { result ≡ form_at tree.now declarer }
 {
     let spelling = tree.spelling(tree.node(declarer).name);
     match find(forms(), spelling) {
         Some(form) => form,
-        None => Form::Word,
+        None => DeclarerForm::Word,
     }
 }
 
 /// Is it a mode word?
-pub fn is_word(form: Form) -> bool
+pub fn is_word(form: DeclarerForm) -> bool
     ensures { result ≡ declarers.is_word form }
 {
-    matches!(form, Form::Word)
+    matches!(form, DeclarerForm::Word)
 }
 
 /// Are declarers within it actual, where it is?
-pub fn hands_on(form: Form) -> bool
+pub fn hands_on(form: DeclarerForm) -> bool
     ensures { result ≡ actual.hands_on form }
 {
-    matches!(form, Form::Row { .. } | Form::Structure)
+    matches!(form, DeclarerForm::Row { .. } | DeclarerForm::Structure)
 }

@@ -14,7 +14,7 @@ mod words;
 
 pub use bounds::{bracket, wrong_bounds};
 pub use crowd::{count, crowded};
-pub use form::{Form, form_of};
+pub use form::{DeclarerForm, form_of};
 pub use numbers::{Numbers, numbers_of, twin};
 pub use raw::{add_blank, raw_modes};
 pub use reading::{follow, is_declarer, place_of, sooner};

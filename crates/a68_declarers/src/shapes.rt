@@ -6,7 +6,7 @@ ghost use Rattle.a68_declarers.specs.Shapes as shapes;
 ghost use Rattle.a68_declarers.specs.Shapes.{front, fields, defined_mode, IsShapeOf};
 ghost use Rattle.a68_ranges.specs.Tables.{AreRanges};
 
-use crate::form::{Form, form_of};
+use crate::form::{DeclarerForm, form_of};
 use crate::numbers::Numbers;
 use crate::reading::{is_field, name_of};
 use a68_base::NoMemory;
@@ -82,7 +82,7 @@ fn fields_of(
 fn word_shape(tree: &Tree, ranges: &Ranges, numbers: &Numbers, word: NodeId, fixed: bool) -> Shape
     requires there { word < length tree.now.nodes }
     requires ranges { AreRanges tree.now ranges.now }
-    ensures { IsShapeOf tree.now (number_at numbers.now) word fixed Form.Word result }
+    ensures { IsShapeOf tree.now (number_at numbers.now) word fixed DeclarerForm.Word result }
 {
     match ranges.mode_word(word, name_of(tree, word)) {
         Some(definition) => Shape::Same(last_mode(numbers, tree.parts(definition), fixed)),
@@ -105,31 +105,31 @@ pub fn shape_of(
 {
     let parts = tree.parts(declarer);
     match form_of(tree, declarer) {
-        Form::Standard {
+        DeclarerForm::Standard {
             as_it_stands,
             without_flex,
         } => Ok(Shape::Same(if fixed { without_flex } else { as_it_stands })),
-        Form::Name => Ok(Shape::Ref(last_mode(numbers, parts, false))),
-        Form::Row { flex } => Ok(Shape::Rows {
+        DeclarerForm::Name => Ok(Shape::Ref(last_mode(numbers, parts, false))),
+        DeclarerForm::Row { flex } => Ok(Shape::Rows {
             dims: dims_of(parts),
             flex: flex && !fixed,
             of: last_mode(numbers, parts, fixed),
         }),
-        Form::Structure => {
+        DeclarerForm::Structure => {
             let fields = fields_of(alloc, tree, numbers, parts, fixed)?;
             Ok(Shape::Struct(fields))
         }
-        Form::Union => {
+        DeclarerForm::Union => {
             let members = members_of(alloc, numbers, parts)?;
             Ok(Shape::Union(members))
         }
-        Form::Procedure => {
+        DeclarerForm::Procedure => {
             let params = members_of(alloc, numbers, front_of(parts))?;
             Ok(Shape::Proc {
                 params,
                 result: last_mode(numbers, parts, true),
             })
         }
-        Form::Word => Ok(word_shape(tree, ranges, numbers, declarer, fixed)),
+        DeclarerForm::Word => Ok(word_shape(tree, ranges, numbers, declarer, fixed)),
     }
 }

@@ -17,7 +17,7 @@ use Rattle.a68_elab.specs.declared.bound.Bound.TheVariants as bound
 use Rattle.a68_elab.specs.declared.sight.Sight.{Sight}
 use Rattle.a68_elab.specs.declared.sight.Sight.TheVariants as sight
 use Rattle.a68_base.specs.declared.refusal.Span.{Span}
-use Rattle.a68_elab.specs.Trees.{Tree, Trees, no_trees, ◌and_tree◌, Specs, unbuilt, Apart, routine_text, parallel_unit}
+use Rattle.a68_elab.specs.Trees.{Tree, Trees, no_trees, ◌and_tree◌, Specs, meaningless, Apart, routine_text, parallel_unit}
 use Rattle.a68_modes.specs.Nodes.{shape_at, is_void}
 use Rattle.a68_modes.specs.declared.coercion.Coercion.{Coercion}
 use Rattle.a68_modes.specs.declared.coercion.Coercion.TheVariants as coercion
@@ -29,7 +29,7 @@ use Rattle.a68_tree.specs.declared.node.Node.{Node}
 use Rattle.a68_values.specs.Content.{Content}
 
 module _ (end : ℕ) where
-  found_begins : (o : Option ℕ) (go : ℕ → Tree) → ((m : ℕ) → BeginsBy end (go m)) → BeginsBy end (option_map_or go o unbuilt)
+  found_begins : (o : Option ℕ) (go : ℕ → Tree) → ((m : ℕ) → BeginsBy end (go m)) → BeginsBy end (option_map_or go o meaningless)
   found_begins None go h = tt
   found_begins (Some m) go h = h m
 

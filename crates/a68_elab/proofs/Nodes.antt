@@ -9,17 +9,17 @@ use Rattle.a68_elab.specs.Made.{bytes_of, seen, trees_at}
 use Rattle.a68_elab.specs.Programs.{fitting, behind, defined_bound, no_bound, tree_from, tree_in, unit}
 use Rattle.a68_elab.specs.declared.sight.Sight.{Sight}
 use Rattle.a68_elab.specs.declared.sight.Sight.TheVariants as sight
-use Rattle.a68_elab.specs.Trees.{Tree, Trees, unbuilt, ◌and_tree◌}
+use Rattle.a68_elab.specs.Trees.{Tree, Trees, meaningless, ◌and_tree◌}
 use Rattle.a68_tree.specs.Trees.{AllBetween}
 use Rattle.a68_tree.specs.declared.node.Node.{Node}
 
 -- ---- the trees behind a node
 
 pub behind_is : (id i : ℕ) (f : ℕ → Tree) → id < i → behind id f i ≡ f i
-behind_is id i f less = ap (λ (b : Bool). if b then f i else unbuilt) (lt-ltb id i less)
+behind_is id i f less = ap (λ (b : Bool). if b then f i else meaningless) (lt-ltb id i less)
 
-behind_none : (id i : ℕ) (f : ℕ → Tree) → i ≤ id → behind id f i ≡ unbuilt
-behind_none id i f le = ap (λ (b : Bool). if b then f i else unbuilt) (le-ltb id i le)
+behind_none : (id i : ℕ) (f : ℕ → Tree) → i ≤ id → behind id f i ≡ meaningless
+behind_none id i f le = ap (λ (b : Bool). if b then f i else meaningless) (le-ltb id i le)
 
 -- those of nodes that all stand behind it
 pub behind_all : (id end : ℕ) (f : ℕ → Tree) (ids : List ℕ) → AllBetween id end ids → trees_at (behind id f) ids ≡ trees_at f ids
@@ -47,7 +47,7 @@ module _ (a : Annotated) (sight : Sight) (g : (frames id : ℕ) → Tree) where
       ap (λ (b : Bool). if b then fitting a node note (unit a g rest node (seen a sight note)) else rest id) (ne_eqb id base ne)
 
   -- a node before all of them
-  before_all : (base : ℕ) (nodes : List Node) (notes : List Note) (id : ℕ) → id < base → tree_from a sight g base nodes notes id ≡ unbuilt
+  before_all : (base : ℕ) (nodes : List Node) (notes : List Note) (id : ℕ) → id < base → tree_from a sight g base nodes notes id ≡ meaningless
   before_all base [] notes id less = refl
   before_all base (node ∷ nodes) [] id less = refl
   before_all base (node ∷ nodes) (note ∷ notes) id less =

@@ -15,10 +15,10 @@ use Rattle.a68_elab.specs.declared.bound.Bound.{Bound}
 use Rattle.a68_elab.specs.declared.bound.Bound.TheVariants as bound
 use Rattle.a68_elab.specs.declared.sight.Sight.{Sight}
 use Rattle.a68_elab.specs.declared.sight.Sight.TheVariants as sight
-use Rattle.a68_elab.specs.Trees.{collateral, serial, Tree, Trees, operation, together, phrases, range, choice, cases, conformity, loop, call, parallel, unbuilt, Specs, no_specs, spec, Test, no_test, while_in, no_trees, ◌and_tree◌, count, Body, ParallelUnit, Apart, routine_text, parallel_unit, Program}
+use Rattle.a68_elab.specs.Trees.{collateral, serial, Tree, Trees, operation, together, phrases, range, choice, cases, conformity, loop, call, parallel, meaningless, Specs, no_specs, spec, Test, no_test, while_in, no_trees, ◌and_tree◌, count, Body, ParallelUnit, Apart, routine_text, parallel_unit, Program}
 use Rattle.a68_layout.specs.Rooms.{bounds_needed}
-use Rattle.a68_layout.specs.declared.types.Form.{Form}
-use Rattle.a68_layout.specs.declared.types.Form.TheVariants as form
+use Rattle.a68_layout.specs.declared.types.TrimForm.{TrimForm}
+use Rattle.a68_layout.specs.declared.types.TrimForm.TheVariants as form
 use Rattle.a68_modes.specs.Nodes.{shape_at, is_void}
 use Rattle.a68_modes.specs.declared.coercion.Coercion.{Coercion}
 use Rattle.a68_modes.specs.declared.coercion.Coercion.TheVariants as coercion
@@ -39,7 +39,7 @@ all_but_last (t and_tree no_trees) = no_trees
 all_but_last (t and_tree (u and_tree ts)) = t and_tree all_but_last (u and_tree ts)
 
 abbrev pub last_tree : Trees → Tree
-last_tree no_trees = unbuilt
+last_tree no_trees = meaningless
 last_tree (t and_tree no_trees) = t
 last_tree (t and_tree (u and_tree ts)) = last_tree (u and_tree ts)
 
@@ -159,7 +159,7 @@ rowed_to modes goal (coercion.RowUpName ∷ path) = option_and_then (unrowed_nam
 rowed_to modes goal (_ ∷ path) = None
 
 -- A unit of a mode under its coercions, from the first to the last, which lead to a mode (Report, 6.1.1). A coercion begins
--- where its unit does; a rowing to a mode that is not there is not built.
+-- where its unit does; a rowing to a mode that is not there stands for none.
 abbrev pub coerced : List Shape → (place goal mode : ℕ) → List Coercion → Tree → Tree
 coerced modes place goal mode [] t = t
 coerced modes place goal mode (coercion.Deref ∷ path) t =
@@ -173,14 +173,14 @@ coerced modes place goal mode (coercion.Unite from ∷ path) t = coerced modes p
 -- BITS become a row of BOOL
 coerced modes place goal mode (coercion.Widen ∷ path) t = coerced modes place goal 11 path (operation place widen serial (only t))
 coerced modes place goal mode (coercion.RowUp ∷ path) t =
-    option_map_or (λ m. coerced modes place goal m path (operation place (row_up m) serial (only t))) (rowed_to modes goal path) unbuilt
+    option_map_or (λ m. coerced modes place goal m path (operation place (row_up m) serial (only t))) (rowed_to modes goal path) meaningless
 coerced modes place goal mode (coercion.RowUpName ∷ path) t =
-    option_map_or (λ m. coerced modes place goal m path (operation place (row_up_name m) serial (only t))) (rowed_to modes goal path) unbuilt
+    option_map_or (λ m. coerced modes place goal m path (operation place (row_up_name m) serial (only t))) (rowed_to modes goal path) meaningless
 coerced modes place goal mode (coercion.Drop ∷ path) t = coerced modes place goal 0 path (operation place drop serial (only t))
 
 -- a denotation, by its value
 abbrev pub denoted : (place : ℕ) → Option Content → Tree
-denoted place None = unbuilt
+denoted place None = meaningless
 denoted place (Some v) = operation place (constant v) serial no_trees
 
 -- the value that a tag of the standard environ stands for; a tag that is defined stands for none
@@ -315,7 +315,7 @@ variable_of new true place mode slot (declarer and_tree (source and_tree no_tree
 variable_of new true place mode slot (declarer and_tree no_trees) = operation place (bind slot) serial (only new)
 variable_of new false place mode slot (source and_tree no_trees) =
     operation place (bind slot) serial (only (operation place (store mode) serial (new and_tree only source)))
-variable_of new _ place mode slot _ = unbuilt
+variable_of new _ place mode slot _ = meaningless
 
 abbrev pub variable : Annotated → (g : (frames id : ℕ) → Tree) (f : ℕ → Tree) → (place mode slot : ℕ) → List ℕ → Tree
 variable a g f place mode slot ids =
@@ -354,7 +354,7 @@ wholes = codes "whole" ∷ []
 
 -- a call of print, write or whole of the standard environ (Report, 10.3), or of a routine (Report, 5.4.3)
 abbrev pub call_of : Annotated → (ℕ → Tree) → (place : ℕ) (yields : Bool) → List ℕ → Tree
-call_of a f place yields [] = unbuilt
+call_of a f place yields [] = meaningless
 call_of a f place yields (primary ∷ ids) =
     if is_one_of printers (called a primary) then operation place print collateral (trees_at f (items_at a ids))
     else (if is_one_of wholes (called a primary) then operation place whole collateral (trees_at f ids) else call place yields (f primary and_tree trees_at f ids))
@@ -366,17 +366,17 @@ framed place out (suc n) yields t = range place out (suc n) yields t
 
 -- a serial clause, which makes a frame where it has slots (Report, 3.2)
 abbrev pub serial_of : (place slots : ℕ) (yields : Bool) → Trees → Tree
-serial_of place slots yields no_trees = unbuilt
+serial_of place slots yields no_trees = meaningless
 serial_of place slots yields (t and_tree ts) = framed place place slots yields (phrases place (all_but_last (t and_tree ts)) (last_tree (t and_tree ts)))
 
 -- what is its only part
 abbrev pub only_of : Trees → Tree
 only_of (t and_tree no_trees) = t
-only_of _ = unbuilt
+only_of _ = meaningless
 
 -- the phrases of a serial clause in a range that is not its own
 abbrev pub phrases_of : (place : ℕ) → Trees → Tree
-phrases_of place no_trees = unbuilt
+phrases_of place no_trees = meaningless
 phrases_of place (t and_tree ts) = phrases place (all_but_last (t and_tree ts)) (last_tree (t and_tree ts))
 
 -- ---- choices
@@ -384,7 +384,7 @@ phrases_of place (t and_tree ts) = phrases place (all_but_last (t and_tree ts)) 
 -- by the node and the note of the enquiry
 abbrev pub begun_by : (f : ℕ → Tree) (out : ℕ) (yields : Bool) → Option Node → Option Note → (go : Tree → Tree) → Tree
 begun_by f out yields (Some node) (Some note) go = framed node.span.from out note.slots yields (go (phrases_of node.span.from (trees_at f node.parts)))
-begun_by f out yields _ _ go = unbuilt
+begun_by f out yields _ _ go = meaningless
 
 -- A construct that an enquiry begins. What the enquiry declares holds in all of it: the range is entered where the
 -- enquiry begins, and left at the construct (Report, 3.4.1).
@@ -395,7 +395,7 @@ with_enquiry a f out yields enquiry go = begun_by f out yields (slice_get a.tree
 abbrev pub choice_of : Annotated → (f : ℕ → Tree) (place goal : ℕ) (yields : Bool) → List ℕ → Tree
 choice_of a f place goal yields (enquiry ∷ (t ∷ [])) = with_enquiry a f place yields enquiry (λ e. choice place e (f t) (left_out place goal))
 choice_of a f place goal yields (enquiry ∷ (t ∷ (o ∷ []))) = with_enquiry a f place yields enquiry (λ e. choice place e (f t) (f o))
-choice_of a f place goal yields _ = unbuilt
+choice_of a f place goal yields _ = meaningless
 
 abbrev pub is_out : NodeKind → Bool
 is_out kind.Out = true
@@ -415,7 +415,7 @@ before_out a (id ∷ (i ∷ ids)) = id ∷ before_out a (i ∷ ids)
 
 -- a choice by a number: the enquiry, two or more units, and an Out, if any (Report, 3.4)
 abbrev pub case_of : Annotated → (f : ℕ → Tree) (place goal : ℕ) (yields : Bool) → List ℕ → Tree
-case_of a f place goal yields [] = unbuilt
+case_of a f place goal yields [] = meaningless
 case_of a f place goal yields (enquiry ∷ ids) =
     with_enquiry a f place yields enquiry (λ e. cases place e (trees_at f (before_out a ids)) (option_map_or f (out_of a ids) (left_out place goal)))
 
@@ -447,7 +447,7 @@ specs_of a f (s ∷ (part ∷ ids)) =
 specs_of a f _ = no_specs
 
 abbrev pub conformity_of : Annotated → (f : ℕ → Tree) (place goal : ℕ) (yields : Bool) → List ℕ → Tree
-conformity_of a f place goal yields [] = unbuilt
+conformity_of a f place goal yields [] = meaningless
 conformity_of a f place goal yields (enquiry ∷ ids) =
     let union = goal_at a enquiry in
     with_enquiry a f place yields enquiry
@@ -497,11 +497,11 @@ controls_of f place from by to =
 
 abbrev pub enquiry_of : (f : ℕ → Tree) → Option Node → Option Note → Test
 enquiry_of f (Some node) (Some note) = while_in node.span.from note.slots (phrases_of node.span.from (trees_at f node.parts))
-enquiry_of f _ _ = while_in 0 0 unbuilt
+enquiry_of f _ _ = while_in 0 0 meaningless
 
 abbrev pub enquiry_at : Annotated → (f : ℕ → Tree) → (clause : Option ℕ) → Test
 enquiry_at a f (Some clause) = enquiry_of f (slice_get a.tree.nodes clause) (slice_get a.notes clause)
-enquiry_at a f None = while_in 0 0 unbuilt
+enquiry_at a f None = while_in 0 0 meaningless
 
 -- WHILE, whose range also holds the body
 abbrev pub test_of : Annotated → (f : ℕ → Tree) → (test : Option ℕ) → Test
@@ -511,7 +511,7 @@ test_of a f (Some id) = enquiry_at a f (only_id (parts_at a id))
 -- a loop of these parts, as far as they are there (Report, 3.5)
 abbrev pub loop_by : Annotated → (f : ℕ → Tree) → (place : ℕ) (counts : Bool) (from by to test body : Option ℕ) → Tree
 loop_by a f place counts from by to test body =
-    loop place (controls_of f place from by to) (is_some to) counts (test_of a f test) (option_map_or f body unbuilt)
+    loop place (controls_of f place from by to) (is_some to) counts (test_of a f test) (option_map_or f body meaningless)
 
 -- FOR, FROM, BY, TO and WHILE stand in this order
 abbrev pub loop_of : Annotated → (f : ℕ → Tree) → (place : ℕ) → List ℕ → Tree
@@ -529,7 +529,7 @@ loop_of a f place ids =
 
 -- a formula whose operator the text defines: a call of the routine in its slot, on the operands (Report, 5.4.2.2)
 abbrev pub declared_formula : (place : ℕ) (yields : Bool) → Note → (definition : Option ℕ) → Trees → Tree
-declared_formula place yields note None ts = unbuilt
+declared_formula place yields note None ts = meaningless
 declared_formula place yields note (Some d) ts = call place yields (leaf place (tag note.step.hops note.step.slot) and_tree ts)
 
 -- a formula, which applies its operator to the values of its operands (Report, 5.4.2)
@@ -546,7 +546,7 @@ abbrev pub collateral_of : Shape → (place mode : ℕ) → Trees → Tree
 collateral_of shape.Void place m ts = together ts
 collateral_of (shape.Struct fields) place m ts = operation place (compose (count ts)) collateral ts
 collateral_of (shape.Rows dims flex of) place m ts = operation place (display (count ts) m) collateral ts
-collateral_of s place m ts = unbuilt
+collateral_of s place m ts = meaningless
 
 -- ---- slices (Report, 5.3.2)
 
@@ -554,13 +554,13 @@ abbrev pub has_kind : (NodeKind → Bool) → Annotated → List ℕ → Bool
 has_kind is a ids = list_any (λ id. is (kind_at a id)) ids
 
 -- how an index is written, by its parts: a subscript is a unit, and all else a trimmer
-abbrev pub form_of : Annotated → List ℕ → Form
+abbrev pub form_of : Annotated → List ℕ → TrimForm
 form_of a [] = form.Trimmer false false false
 form_of a ids =
     if has_kind is_lower a ids || (has_kind is_upper a ids || has_kind is_at a ids)
     then form.Trimmer (has_kind is_lower a ids) (has_kind is_upper a ids) (has_kind is_at a ids) else form.Subscript
 
-abbrev pub forms_of : Annotated → List ℕ → List Form
+abbrev pub forms_of : Annotated → List ℕ → List TrimForm
 forms_of a [] = []
 forms_of a (id ∷ ids) = form_of a (parts_at a id) ∷ forms_of a ids
 
@@ -571,7 +571,7 @@ index_units a (id ∷ ids) = parts_at a id ++ index_units a ids
 
 -- an element or a part of what the first of these nodes yields
 abbrev pub slice_of : Annotated → (f : ℕ → Tree) → (place : ℕ) → List ℕ → Tree
-slice_of a f place [] = unbuilt
+slice_of a f place [] = meaningless
 slice_of a f place (primary ∷ ids) = operation place (slice (forms_of a ids)) collateral (f primary and_tree trees_at f (index_units a ids))
 
 -- the place of a field among those of a structure, by the number of its tag; that behind them where there is none
@@ -715,4 +715,4 @@ made a g f node note kind.Case = case_of a f node.span.from note.goal (not (is_v
 made a g f node note kind.Conformity = conformity_of a f node.span.from note.goal (not (is_void (shape_at a.modes note.goal))) node.parts
 made a g f node note kind.Loop = loop_of a f node.span.from node.parts
 made a g f node note kind.Parallel = parallel node.span.from (numbers_of a node.parts)
-made a g f node note _ = unbuilt
+made a g f node note _ = meaningless

@@ -1,7 +1,7 @@
 -- Inner: the headline does not rest on this file.
 -- Where the constructs of a program begin.
 use Rattle.std.specs.Prelude.{ℕ, ◌≤◌, List, [], ◌∷◌}
-use Rattle.a68_elab.specs.Trees.{Tree, Trees, operation, together, phrases, range, choice, cases, conformity, loop, call, parallel, unbuilt, Specs, no_specs, spec, Test, no_test, while_in, no_trees, ◌and_tree◌, Body, ParallelUnit, Apart, routine_text, parallel_unit, Program}
+use Rattle.a68_elab.specs.Trees.{Tree, Trees, operation, together, phrases, range, choice, cases, conformity, loop, call, parallel, meaningless, Specs, no_specs, spec, Test, no_test, while_in, no_trees, ◌and_tree◌, Body, ParallelUnit, Apart, routine_text, parallel_unit, Program}
 
 -- each construct of the tree begins at this byte or before it
 abbrev mutual
@@ -16,7 +16,7 @@ abbrev mutual
   BeginsBy end (loop place controls limited counts test body) = (place ≤ end) × AllBeginBy end controls × TestBeginsBy end test × BeginsBy end body
   BeginsBy end (call place yields parts) = (place ≤ end) × AllBeginBy end parts
   BeginsBy end (parallel place numbers) = place ≤ end
-  BeginsBy end unbuilt = Unit {0}
+  BeginsBy end meaningless = Unit {0}
 
   pub AllBeginBy : (end : ℕ) → Trees → Type 0
   AllBeginBy end no_trees = Unit {0}

@@ -6,7 +6,7 @@ use Rattle.a68_annot.specs.declared.annotated.Annotated.{Annotated}
 use Rattle.a68_annot.specs.declared.note.Note.{Note}
 use Rattle.a68_elab.specs.Made.{behind_all, behind_proc, bytes_of, coerced, last_id, leaf, made, mode_of, only, parts_at, seen, text_among, unit_among}
 use Rattle.a68_elab.specs.Runs.{agrees, is_outcome, left_by, outcome, outcome_by}
-use Rattle.a68_elab.specs.Trees.{serial, Tree, operation, unbuilt, Body, ParallelUnit, Apart, routine_text, parallel_unit, Program}
+use Rattle.a68_elab.specs.Trees.{serial, Tree, operation, meaningless, Body, ParallelUnit, Apart, routine_text, parallel_unit, Program}
 use Rattle.a68_elab.specs.declared.sight.Sight.{Sight}
 use Rattle.a68_elab.specs.declared.sight.Sight.TheVariants as sight
 use Rattle.a68_modes.specs.Nodes.{shape_at, is_void}
@@ -33,8 +33,8 @@ fitting a node note t =
 
 -- the tree of node `id` as it is seen, where the lists begin with node `base`: the parts of a node stand behind it
 abbrev pub tree_from : Annotated → Sight → (g : (frames id : ℕ) → Tree) (base : ℕ) → List Node → List Note → (id : ℕ) → Tree
-tree_from a sight g base [] notes id = unbuilt
-tree_from a sight g base (node ∷ nodes) [] id = unbuilt
+tree_from a sight g base [] notes id = meaningless
+tree_from a sight g base (node ∷ nodes) [] id = meaningless
 tree_from a sight g base (node ∷ nodes) (note ∷ notes) id =
     if nat_eq id base then fitting a node note (unit a g (tree_from a sight g (suc base) nodes notes) node (seen a sight note)) else tree_from a sight g (suc base) nodes notes id
 
@@ -57,7 +57,7 @@ tree_at a id = tree_in a sight.Here id
 
 -- the trees of the nodes behind a node; nothing else is looked at
 abbrev pub behind : (id : ℕ) → (ℕ → Tree) → ℕ → Tree
-behind id f i = if nat_lt id i then f i else unbuilt
+behind id f i = if nat_lt id i then f i else meaningless
 
 -- ---- programs
 

@@ -12,7 +12,7 @@ use Rattle.a68_acts.specs.declared.want.Reply.TheVariants as reply
 use Rattle.a68_acts.specs.declared.want.Want.{Want}
 use Rattle.a68_acts.specs.declared.want.Want.TheVariants as want
 use Rattle.a68_elab.specs.Terms.{Job, operating, resuming, gathering, preceding, ending, ranged, choosing, casing, conforming, specifying, tagging, passing, chosen, limiting, counting, stepping, turning, opening, naming, indexing, ranging, testing, running, advancing, quitting, leaving, calling, entering, binding, inside, forking, joining, closing, Term, todo, part, yielded, unit_of, no_terms, ◌and_term◌, only, todos, unit_terms, values, last_of}
-use Rattle.a68_elab.specs.Trees.{Tree, operation, together, phrases, range, choice, cases, conformity, loop, call, parallel, unbuilt, Trees, no_trees, ◌and_tree◌, count, Specs, no_specs, spec, Test, no_test, while_in, Turns, depth, Body, ParallelUnit, Program, texts_of, units_of}
+use Rattle.a68_elab.specs.Trees.{Tree, operation, together, phrases, range, choice, cases, conformity, loop, call, parallel, meaningless, Trees, no_trees, ◌and_tree◌, count, Specs, no_specs, spec, Test, no_test, while_in, Turns, depth, Body, ParallelUnit, Program, texts_of, units_of}
 use Rattle.a68_acts.specs.Members.{member_of}
 use Rattle.a68_modes.specs.Nodes.{shape_at}
 use Rattle.a68_modes.specs.declared.shape.Shape.{Shape}
@@ -222,8 +222,8 @@ begin (loop place controls false counts test body) chain =
 begin (call place yields parts) chain = goes (part (calling place yields) chain (todos parts chain))
 -- a parallel clause: its strands (Report, 3.3.2)
 begin (parallel place numbers) chain = goes (part (forking place numbers) chain no_terms)
--- what is not built has no rule; no program that fits comes here (own)
-begin unbuilt chain = meets fault.Kind 0
+-- what stands for no construct has no rule; no program that fits comes here (own)
+begin meaningless chain = meets fault.Kind 0
 
 -- what a construct does whose parts at hand have yielded these values
 abbrev pub finish : Program → Job → List Environ → List Content → Then Term

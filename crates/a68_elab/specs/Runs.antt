@@ -13,8 +13,8 @@ use Rattle.a68_elab.specs.Made.{before_out, behind_heap, field_in, fields_at, fi
 use Rattle.a68_elab.specs.declared.bound.Bound.{Bound}
 use Rattle.a68_elab.specs.declared.bound.Bound.TheVariants as bound
 use Rattle.a68_layout.specs.Rooms.{bounds_needed}
-use Rattle.a68_layout.specs.declared.types.Form.{Form}
-use Rattle.a68_layout.specs.declared.types.Form.TheVariants as form
+use Rattle.a68_layout.specs.declared.types.TrimForm.{TrimForm}
+use Rattle.a68_layout.specs.declared.types.TrimForm.TheVariants as form
 use Rattle.a68_modes.specs.Nodes.{shape_at, is_void}
 use Rattle.a68_modes.specs.declared.coercion.Coercion.{Coercion}
 use Rattle.a68_modes.specs.declared.coercion.Coercion.TheVariants as coercion
@@ -234,7 +234,7 @@ abbrev pub one_if : Bool → ℕ
 one_if b = if b then 1 else 0
 
 -- how many units an index that is written so has
-abbrev pub written_units : Form → ℕ
+abbrev pub written_units : TrimForm → ℕ
 written_units form.Subscript = 1
 written_units (form.Trimmer lower upper at) = one_if lower + (one_if upper + one_if at)
 

@@ -5,7 +5,7 @@ use Rattle.std.specs.declared.option.Option.{Option}
 use Rattle.a68_acts.specs.Operations.{Operation}
 use Rattle.a68_acts.specs.declared.operation.Counter.{Counter}
 use Rattle.a68_acts.specs.declared.operation.Doing.{Doing}
-use Rattle.a68_elab.specs.Trees.{Order, collateral, serial, Tree, Trees, Specs, Turns, unbuilt, no_trees, ◌and_tree◌, ParallelUnit}
+use Rattle.a68_elab.specs.Trees.{Order, collateral, serial, Tree, Trees, Specs, Turns, meaningless, no_trees, ◌and_tree◌, ParallelUnit}
 use Rattle.a68_values.specs.Content.{Content, void}
 use Rattle.a68_values.specs.declared.chain.Environ.{Environ}
 use Rattle.a68_values.specs.declared.plain.Routine.{Routine}
@@ -99,9 +99,9 @@ abbrev pub todos : Trees → List Environ → Terms
 todos no_trees chain = no_terms
 todos (tree and_tree trees) chain = todo tree chain and_term todos trees chain
 
--- a unit, with its end behind it; one that is not built where there is none (own)
+-- a unit, with its end behind it; what stands for no construct where there is none (own)
 abbrev pub unit_term : List Environ → Option ParallelUnit → Term
-unit_term chain None = todo unbuilt chain
+unit_term chain None = todo meaningless chain
 unit_term chain (Some unit) = part (closing unit.place) chain (only (todo unit.tree chain))
 
 -- the units of these numbers, as the strands from one on

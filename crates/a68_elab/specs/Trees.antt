@@ -37,8 +37,8 @@ mutual
     call : (place : ℕ) (yields : Bool) (parts : Trees) → Tree
     -- a parallel clause: its units, by their numbers (Report, 3.3)
     parallel : (place : ℕ) (units : List ℕ) → Tree
-    -- a construct that is not built yet: no program that fits has one, and no code is its translation (own)
-    unbuilt : Tree
+    -- what stands for no construct: no program that fits has one, and no code is its translation (own)
+    meaningless : Tree
 
   pub data Trees : Type 0 where
     no_trees : Trees

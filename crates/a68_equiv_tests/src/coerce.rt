@@ -10,7 +10,7 @@ use crate::equiv::{formed, mode};
 use crate::nodes::mode_there;
 use crate::table::{agrees, cut, holds, number};
 use a68_base::find;
-use a68_coerce::{Balanced, Form, Leaf, balance, balance_sides, balance_to_form, path};
+use a68_coerce::{Balanced, Leaf, ModeForm, balance, balance_sides, balance_to_form, path};
 use a68_equiv::{Classes, all_have_dimensions, settle};
 use a68_modes::{Coercion, Modes, Path, Sort};
 use std::alloc::Global;
@@ -186,19 +186,19 @@ const SORTS: &[(&str, Sort)] = &[
     ("strong", Sort::Strong),
 ];
 
-const FORMS: &[(&str, Form)] = &[
-    ("name", Form::Name),
-    ("row", Form::Row),
-    ("structure", Form::Structure),
-    ("routine", Form::Routine),
-    ("union", Form::Union),
+const FORMS: &[(&str, ModeForm)] = &[
+    ("name", ModeForm::Name),
+    ("row", ModeForm::Row),
+    ("structure", ModeForm::Structure),
+    ("routine", ModeForm::Routine),
+    ("union", ModeForm::Union),
 ];
 
 fn sort(rt: &impl Abort, word: &str) -> Sort {
     find(SORTS, word.as_bytes()).expect(rt, "a sort")
 }
 
-fn form(rt: &impl Abort, word: &str) -> Form {
+fn form(rt: &impl Abort, word: &str) -> ModeForm {
     find(FORMS, word.as_bytes()).expect(rt, "a form")
 }
 

@@ -19,10 +19,10 @@ use Rattle.a68_elab.specs.Made.{coerced, behind_proc, behind_ref, leaf, only, ro
 use Rattle.a68_elab.specs.Programs.{tree_in}
 use Rattle.a68_elab.specs.declared.bound.Bound.{Bound}
 use Rattle.a68_elab.specs.declared.sight.Sight.{Sight}
-use Rattle.a68_elab.specs.Trees.{Tree, Trees, operation, together, collateral, serial, choice, call, unbuilt, no_trees, ◌and_tree◌, count}
+use Rattle.a68_elab.specs.Trees.{Tree, Trees, operation, together, collateral, serial, choice, call, meaningless, no_trees, ◌and_tree◌, count}
 use Rattle.a68_gen.specs.Coercing.{coercions, are_built}
 use Rattle.a68_gen.specs.Forms.{form_of}
-use Rattle.a68_gen.specs.declared.single.Form.TheVariants as form
+use Rattle.a68_gen.specs.declared.single.CollateralForm.TheVariants as form
 use Rattle.a68_gen.specs.Listing.{instr, opens, size, sizes, stretch, stretches, test_stretch}
 use Rattle.a68_gen.specs.Loops.{asked, unless_at}
 use Rattle.a68_gen.specs.Sources.{assigned_tree}
@@ -45,7 +45,7 @@ row_of place op t m = operation place (op m) serial (only t)
 -- a rowing to a mode that is there, where what is behind it is as it should be
 rowed_list : (place at : ℕ) (op : ℕ → Operation) (t : Tree) (o : Option ℕ) (built : Bool) (go : ℕ → Tree → Tree) (behind : ℕ → List Instr)
     → (built ≡ true → (m : ℕ) (u : Tree) → stretch (go m u) at ≡ stretch u at ++ behind m) → (is_some o && built) ≡ true
-    → stretch (option_map_or (λ m. go m (row_of place op t m)) o unbuilt) at
+    → stretch (option_map_or (λ m. go m (row_of place op t m)) o meaningless) at
     ≡ stretch t at ++ (instr place (does_of (op (option_map_or (λ m. m) o 0)) 1) ∷ behind (option_map_or (λ m. m) o 0))
 rowed_list place at op t None built go behind each is = absurd (false≢true is)
 rowed_list place at op t (Some m) built go behind each is = each is m (row_of place op t m) ∙ one_more (stretch t at) (behind m) (instr place (does_of (op m) 1))
@@ -74,24 +74,24 @@ coerced_list modes place goal mode at (coercion.RowUpName ∷ path) t built =
 coerced_list modes place goal mode at (coercion.Drop ∷ path) t built =
     coerced_list modes place goal 0 at path _ built ∙ one_more (stretch t at) (coercions modes place goal 0 path) (instr place does.Drop)
 
-rowed_none : (o : Option ℕ) (built : Bool) (go : ℕ → Tree) → (built ≡ false → (m : ℕ) → go m ≡ unbuilt) → (is_some o && built) ≡ false → option_map_or go o unbuilt ≡ unbuilt
+rowed_none : (o : Option ℕ) (built : Bool) (go : ℕ → Tree) → (built ≡ false → (m : ℕ) → go m ≡ meaningless) → (is_some o && built) ≡ false → option_map_or go o meaningless ≡ meaningless
 rowed_none None built go each none = refl
 rowed_none (Some m) built go each none = each none m
 
--- with others the unit is not built
-pub coerced_unbuilt : (modes : List Shape) (place goal mode : ℕ) (path : List Coercion) (t : Tree) → are_built modes goal path ≡ false → coerced modes place goal mode path t ≡ unbuilt
-coerced_unbuilt modes place goal mode [] t none = absurd (false≢true (sym none))
-coerced_unbuilt modes place goal mode (coercion.Deref ∷ path) t none = coerced_unbuilt modes place goal _ path _ none
-coerced_unbuilt modes place goal mode (coercion.Deproc ∷ path) t none = coerced_unbuilt modes place goal _ path _ none
-coerced_unbuilt modes place goal mode (coercion.Unite m ∷ path) t none = coerced_unbuilt modes place goal m path _ none
-coerced_unbuilt modes place goal mode (coercion.Widen ∷ path) t none = coerced_unbuilt modes place goal 11 path _ none
-coerced_unbuilt modes place goal mode (coercion.RowUp ∷ path) t none =
+-- with others the unit stands for no construct
+pub coerced_meaningless : (modes : List Shape) (place goal mode : ℕ) (path : List Coercion) (t : Tree) → are_built modes goal path ≡ false → coerced modes place goal mode path t ≡ meaningless
+coerced_meaningless modes place goal mode [] t none = absurd (false≢true (sym none))
+coerced_meaningless modes place goal mode (coercion.Deref ∷ path) t none = coerced_meaningless modes place goal _ path _ none
+coerced_meaningless modes place goal mode (coercion.Deproc ∷ path) t none = coerced_meaningless modes place goal _ path _ none
+coerced_meaningless modes place goal mode (coercion.Unite m ∷ path) t none = coerced_meaningless modes place goal m path _ none
+coerced_meaningless modes place goal mode (coercion.Widen ∷ path) t none = coerced_meaningless modes place goal 11 path _ none
+coerced_meaningless modes place goal mode (coercion.RowUp ∷ path) t none =
     rowed_none (rowed_to modes goal path) (are_built modes goal path) (λ m. coerced modes place goal m path (row_of place (λ n. row_up n) t m))
-    (λ b m. coerced_unbuilt modes place goal m path _ b) none
-coerced_unbuilt modes place goal mode (coercion.RowUpName ∷ path) t none =
+    (λ b m. coerced_meaningless modes place goal m path _ b) none
+coerced_meaningless modes place goal mode (coercion.RowUpName ∷ path) t none =
     rowed_none (rowed_to modes goal path) (are_built modes goal path) (λ m. coerced modes place goal m path (row_of place (λ n. row_up_name n) t m))
-    (λ b m. coerced_unbuilt modes place goal m path _ b) none
-coerced_unbuilt modes place goal mode (coercion.Drop ∷ path) t none = coerced_unbuilt modes place goal 0 path _ none
+    (λ b m. coerced_meaningless modes place goal m path _ b) none
+coerced_meaningless modes place goal mode (coercion.Drop ∷ path) t none = coerced_meaningless modes place goal 0 path _ none
 
 -- ---- parts
 
@@ -161,7 +161,7 @@ pub bound-cons : (g : (frames id : ℕ) → Tree) (f : ℕ → Tree) (place at i
 bound-cons g f place at i bounds d p = rw (add-one, drop-cons bounds i d, size_stretch (made.bound_tree g f place (get_or bounds i d)) at) refl
 
 -- a number of no node has no tree
-tree-past : (a : Annotated) (s : Sight) (g : (frames id : ℕ) → Tree) (base k : ℕ) (nodes : List Node) (notes : List Note) → base + length nodes ≤ k → programs.tree_from a s g base nodes notes k ≡ unbuilt
+tree-past : (a : Annotated) (s : Sight) (g : (frames id : ℕ) → Tree) (base k : ℕ) (nodes : List Node) (notes : List Note) → base + length nodes ≤ k → programs.tree_from a s g base nodes notes k ≡ meaningless
 tree-past a s g base k [] notes past = refl
 tree-past a s g base k (n ∷ nodes) [] past = refl
 tree-past a s g base k (n ∷ nodes) (m ∷ notes) past =
@@ -169,15 +169,15 @@ tree-past a s g base k (n ∷ nodes) (m ∷ notes) past =
     let other : k ≢ base = λ e. omega (arith, past, e) in
     ap (λ (b : Bool). if b then programs.fitting a n m (programs.unit a g f n (made.seen a s m)) else f k) (ne_eqb k base other) ∙ tree-past a s g (suc base) k nodes notes (omega (arith, past))
 
-pub none-past : (a : Annotated) (s : Sight) (k : ℕ) → length a.tree.nodes ≤ k → tree_in a s k ≡ unbuilt
+pub none-past : (a : Annotated) (s : Sight) (k : ℕ) → length a.tree.nodes ≤ k → tree_in a s k ≡ meaningless
 unfolding tree_in
 none-past a s k past = tree-past a s (programs.defined_bound a s) 0 k a.tree.nodes a.notes (omega (arith, past))
 
 -- nor has one that does not stand behind a node
-pub none-behind : (a : Annotated) (s : Sight) (id k : ℕ) → (nat_lt id k && nat_lt k (length a.tree.nodes)) ≡ false → programs.behind id (tree_in a s) k ≡ unbuilt
+pub none-behind : (a : Annotated) (s : Sight) (id k : ℕ) → (nat_lt id k && nat_lt k (length a.tree.nodes)) ≡ false → programs.behind id (tree_in a s) k ≡ meaningless
 none-behind a s id k is = go (nat_lt id k) is
   where
-    go : (b : Bool) → (b && nat_lt k (length a.tree.nodes)) ≡ false → (if b then tree_in a s k else unbuilt) ≡ unbuilt
+    go : (b : Bool) → (b && nat_lt k (length a.tree.nodes)) ≡ false → (if b then tree_in a s k else meaningless) ≡ meaningless
     go true e = none-past a s k (ltb-false k (length a.tree.nodes) e)
     go false e = refl
 
@@ -239,7 +239,7 @@ row_collateral (shape.Struct fields) place mode ts e = absurd (cc)
 row_collateral (shape.Rows dims flex of) place mode ts e = refl
 row_collateral _ place mode ts e = absurd (cc)
 
-pub other_collateral : (s : Shape) (place mode : ℕ) (ts : Trees) → form_of s ≡ form.Other → made.collateral_of s place mode ts ≡ unbuilt
+pub other_collateral : (s : Shape) (place mode : ℕ) (ts : Trees) → form_of s ≡ form.Other → made.collateral_of s place mode ts ≡ meaningless
 other_collateral shape.Void place mode ts e = absurd (cc)
 other_collateral (shape.Struct fields) place mode ts e = absurd (cc)
 other_collateral (shape.Rows dims flex of) place mode ts e = absurd (cc)
@@ -286,7 +286,7 @@ declared_plain f new true place mode slot at (a ∷ []) is e = ap (λ l. l ++ in
 declared_plain f new true place mode slot at (a ∷ (b ∷ ids)) is e = absurd (omega arith)
 
 pub declared_none : (f : ℕ → Tree) (new : Tree) (begins : Bool) (place mode slot : ℕ) (ids : List ℕ) → begins ≡ true → length ids ≢ 1 → length ids ≢ 2
-    → unbuilt ≡ made.variable_of new begins place mode slot (trees_at f ids)
+    → meaningless ≡ made.variable_of new begins place mode slot (trees_at f ids)
 declared_none f new false place mode slot ids is n m = absurd (false≢true is)
 declared_none f new true place mode slot [] is n m = refl
 declared_none f new true place mode slot (a ∷ []) is n m = absurd (n refl)
@@ -294,7 +294,7 @@ declared_none f new true place mode slot (a ∷ (b ∷ [])) is n m = absurd (m r
 declared_none f new true place mode slot (a ∷ (b ∷ (c ∷ ids))) is n m = refl
 
 pub begun_none : (f : ℕ → Tree) (new : Tree) (begins : Bool) (place mode slot : ℕ) (ids : List ℕ) → begins ≡ false → length ids ≢ 1
-    → unbuilt ≡ made.variable_of new begins place mode slot (trees_at f ids)
+    → meaningless ≡ made.variable_of new begins place mode slot (trees_at f ids)
 begun_none f new true place mode slot ids is n = absurd (false≢true (sym is))
 begun_none f new false place mode slot [] is n = refl
 begun_none f new false place mode slot (a ∷ []) is n = absurd (n refl)
@@ -328,14 +328,14 @@ pub assigned_list : (new : Tree) (place mode slot at : ℕ) (source : Tree)
 assigned_list new place mode slot at source =
     rw (size_stretch new at) (set_list (stretch new at) (stretch source (at + size new)) (instr place (does.Store mode)) (instr place (does.Bind slot)))
 
--- ---- what is not built
+-- ---- what stands for no construct
 
-pub only_none : (f : ℕ → Tree) (ids : List ℕ) → length ids ≢ 1 → unbuilt ≡ made.only_of (trees_at f ids)
+pub only_none : (f : ℕ → Tree) (ids : List ℕ) → length ids ≢ 1 → meaningless ≡ made.only_of (trees_at f ids)
 only_none f [] n = refl
 only_none f (a ∷ []) n = absurd (n refl)
 only_none f (a ∷ b ∷ ids) n = refl
 
-pub choice_none : (a : Annotated) (f : ℕ → Tree) (place goal : ℕ) (yields : Bool) (ids : List ℕ) → length ids ≢ 2 → length ids ≢ 3 → unbuilt ≡ made.choice_of a f place goal yields ids
+pub choice_none : (a : Annotated) (f : ℕ → Tree) (place goal : ℕ) (yields : Bool) (ids : List ℕ) → length ids ≢ 2 → length ids ≢ 3 → meaningless ≡ made.choice_of a f place goal yields ids
 choice_none a f place goal yields [] n m = refl
 choice_none a f place goal yields (x ∷ []) n m = refl
 choice_none a f place goal yields (x ∷ y ∷ []) n m = absurd (n refl)

@@ -6,7 +6,7 @@ use Rattle.std.specs.List.{list_all}
 use Rattle.std.specs.Prelude.{map, slice_index_or, ◌&&◌}
 use Rattle.std.specs.declared.option.Option.{Option}
 use Rattle.a68_acts.specs.Operations.{Operation, constant, skip, nil, routine, tag, make, heap, bind, deref, store, apply, same, slice, display, vacuum, compose, select, unite, row_up, row_up_name, widen, drop, print, whole}
-use Rattle.a68_builder.specs.Linking.{entrances_in, linked_does}
+use Rattle.a68_builder.specs.Linking.{entrances_numbered, linked_does}
 use Rattle.a68_gen.specs.Stretches.{AreEntrances, does_of}
 
 -- no operation is a Fork
@@ -70,7 +70,7 @@ rest true y e = e
 rest false y e = absurd (false≢true e)
 
 -- where there are units of these numbers, these are their entrances
-pub are_entrances : (units numbers : List ℕ) → IsTrue (list_all (λ n. nat_lt n (length units)) numbers) → AreEntrances units numbers (entrances_in units numbers)
+pub are_entrances : (units numbers : List ℕ) → IsTrue (list_all (λ n. nat_lt n (length units)) numbers) → AreEntrances units numbers (entrances_numbered units numbers)
 are_entrances units [] all = refl
 are_entrances units (n ∷ numbers) all =
     let less = ltb-true n (length units) (front (nat_lt n (length units)) (list_all (λ n. nat_lt n (length units)) numbers) all) in
@@ -85,7 +85,7 @@ tail-is : {x y : Option ℕ} {xs ys : List (Option ℕ)} → ◌≡◌ {A = List
 tail-is e = cc
 
 -- and no others are
-pub entrances_are : (units numbers entrances : List ℕ) → AreEntrances units numbers entrances → entrances ≡ entrances_in units numbers
+pub entrances_are : (units numbers entrances : List ℕ) → AreEntrances units numbers entrances → entrances ≡ entrances_numbered units numbers
 entrances_are units [] [] e = refl
 entrances_are units [] (x ∷ xs) e = absurd (cc)
 entrances_are units (n ∷ numbers) [] e = absurd (cc)

@@ -12,7 +12,7 @@ use Rattle.a68_code.specs.declared.does.Does.TheVariants as does
 use Rattle.a68_elab.specs.Made as made
 use Rattle.a68_elab.specs.Made.{all_but_last, before_out, behind_all, behind_heap, behind_proc, behind_ref, begins_with, called, coerced, field_in, fields_at, first_bounds, first_goal, form_of, forms_of, if_first, index_units, is_by, is_collateral, is_declarer, is_for, is_from, is_heap, is_one_of, is_out, is_routine_text, is_to, is_while, isnt, items_at, kind_at, last_id, last_tree, leaf, mode_of, new_name, only, only_id, out_of, parts_at, past, printers, rowed_to, spelling_of, standard_of, tag_of, text_among, text_number, texts_before, texts_in, trees_at, wholes}
 use Rattle.a68_elab.specs.Programs.{behind, body_of, program_of, tree_at}
-use Rattle.a68_elab.specs.Trees.{Order, serial, Tree, Trees, operation, call, unbuilt, no_trees, ◌and_tree◌, count, Specs}
+use Rattle.a68_elab.specs.Trees.{Order, serial, Tree, Trees, operation, call, meaningless, no_trees, ◌and_tree◌, count, Specs}
 use Rattle.a68_gen.specs.Fits.{Fits, AllFit, SpecsFit}
 use Rattle.a68_gen.specs.Operands.{FitsModes, FitAll, SpecsFitModes}
 use Rattle.a68_elab.specs.Runs.{if_so, is_outcome, is_row, is_there, outcome, path_leaves}
@@ -137,7 +137,7 @@ module _ (ms : List Shape) (texts units : ℕ) where
 
   -- a rowing to a mode that is there
   pub rowed-fits : (wanted : Bool) (o : Option ℕ) (left : ℕ → Option Bool) (go : ℕ → Tree) → option_and_then (λ m. if is_there ms m then left m else None) o ≡ Some wanted
-      → ((m : ℕ) → IsTrue (is_there ms m) → left m ≡ Some wanted → IsFit ms texts units wanted (go m)) → IsFit ms texts units wanted (option_map_or go o unbuilt)
+      → ((m : ℕ) → IsTrue (is_there ms m) → left m ≡ Some wanted → IsFit ms texts units wanted (go m)) → IsFit ms texts units wanted (option_map_or go o meaningless)
   rowed-fits wanted None left go e each = absurd (cc)
   rowed-fits wanted (Some m) left go e each = let p = where-so (is_there ms m) (left m) wanted e in each m p.0 p.1
 

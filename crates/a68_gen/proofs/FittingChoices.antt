@@ -10,13 +10,13 @@ use Rattle.std.specs.declared.option.Option.{Option}
 use Rattle.a68_acts.specs.Operations.{constant, skip}
 use Rattle.a68_annot.specs.declared.annotated.Annotated.{Annotated}
 use Rattle.a68_annot.specs.declared.note.Note.{Note}
-use Rattle.a68_code.specs.Flow.{units_in, units_of}
+use Rattle.a68_code.specs.Flow.{trim_values, values_of_trims}
 use Rattle.a68_elab.specs.Made as made
 use Rattle.a68_elab.specs.Made.{all_but_last, before_out, behind_all, behind_heap, behind_proc, behind_ref, begins_with, called, coerced, field_in, fields_at, first_bounds, first_goal, form_of, forms_of, if_first, index_units, is_by, is_collateral, is_declarer, is_for, is_from, is_heap, is_one_of, is_out, is_routine_text, is_to, is_while, isnt, items_at, kind_at, last_id, last_tree, leaf, mode_of, new_name, only, only_id, out_of, parts_at, past, printers, rowed_to, spelling_of, standard_of, tag_of, text_among, text_number, texts_before, texts_in, trees_at, wholes, goal_at}
 use Rattle.a68_elab.specs.Programs.{behind, body_of, program_of, tree_at}
 use Rattle.a68_elab.specs.declared.bound.Bound.{Bound}
 use Rattle.a68_elab.specs.declared.bound.Bound.TheVariants as bound
-use Rattle.a68_elab.specs.Trees.{serial, Tree, together, unbuilt, no_trees, count, Test}
+use Rattle.a68_elab.specs.Trees.{serial, Tree, together, meaningless, no_trees, count, Test}
 use Rattle.a68_gen.proofs.Constructs.{count_trees}
 use Rattle.a68_gen.specs.Fits.{TestFits}
 use Rattle.a68_gen.specs.Operands.{TestFitsModes}
@@ -24,8 +24,8 @@ use Rattle.a68_elab.specs.Runs.{all_leave, are_phrases, asks, body_runs, case_ru
 use Rattle.a68_runs.proofs.Between.{between-above}
 use Rattle.a68_runs.specs.Running.{AreThere}
 use Rattle.a68_layout.specs.Rooms.{bounds_needed}
-use Rattle.a68_layout.specs.declared.types.Form.{Form}
-use Rattle.a68_layout.specs.declared.types.Form.TheVariants as form
+use Rattle.a68_layout.specs.declared.types.TrimForm.{TrimForm}
+use Rattle.a68_layout.specs.declared.types.TrimForm.TheVariants as form
 use Rattle.a68_modes.specs.Nodes.{shape_at, is_void, HoldsNodes, standard_shapes}
 use Rattle.a68_modes.specs.declared.shape.Shape.{Shape}
 use Rattle.a68_modes.specs.declared.shape.Shape.TheVariants as shape
@@ -38,7 +38,7 @@ use Rattle.a68_gen.proofs.Fitted.{IsFit, both, first, fit-none, framed-fits, sec
 use Rattle.a68_gen.proofs.FittingParts.{all_units, AreBehind, Given, all-fit, before-fits, out-fits, phrases-fit, texts_of, before-between, specs-fit}
 
 -- how many units an index has is told alike of what is written and of the instruction
-written-is : (f : Form) → written_units f ≡ units_in f
+written-is : (f : TrimForm) → written_units f ≡ trim_values f
 written-is form.Subscript = refl
 written-is (form.Trimmer lower upper at) = refl
 
@@ -197,7 +197,7 @@ module _ (a : Annotated) (there : AreThere a (length a.tree.nodes)) (nodes : Hol
   control-fits None left_out b e n = n
   control-fits (Some p) left_out b e n = given p true b e
 
-  pub body-fits : (part : Option ℕ) → IsBehind id part → IsTrue (body_runs a part) → IsFit a.modes (texts_of a) (all_units a) false (option_map_or f part unbuilt)
+  pub body-fits : (part : Option ℕ) → IsBehind id part → IsTrue (body_runs a part) → IsFit a.modes (texts_of a) (all_units a) false (option_map_or f part meaningless)
   body-fits None b e = absurd (false≢true e)
   body-fits (Some p) b e = given p false b e
 
@@ -340,7 +340,7 @@ module _ (a : Annotated) (there : AreThere a (length a.tree.nodes)) (nodes : Hol
       between-append id (length a.tree.nodes) (parts_at a x) (index_units a ids) (between-above id x (length a.tree.nodes) (parts_at a x) b.0 (parts-behind a there x)) (units-between ids b.2)
 
   -- the indexes take as many values as they have units
-  pub units-taken : (ids : List ℕ) → IsTrue (list_all (is_index a) ids) → units_of (forms_of a ids) ≡ length (index_units a ids)
+  pub units-taken : (ids : List ℕ) → IsTrue (list_all (is_index a) ids) → values_of_trims (forms_of a ids) ≡ length (index_units a ids)
   units-taken [] e = refl
   units-taken (x ∷ ids) e =
       let here = first (is_index a x) (list_all (is_index a) ids) e in
@@ -348,8 +348,8 @@ module _ (a : Annotated) (there : AreThere a (length a.tree.nodes)) (nodes : Hol
       let one = sym (written-is (form_of a (parts_at a x)))
       ∙ eqb-true (written_units (form_of a (parts_at a x))) (length (parts_at a x))
       (first (written_units (form_of a (parts_at a x)) == length (parts_at a x)) (all_leave a true (parts_at a x)) here) in
-      sum_by-cons units_in (form_of a (parts_at a x)) (forms_of a ids)
-      ∙ ap (λ n. n + units_of (forms_of a ids)) one ∙ ap (λ n. length (parts_at a x) + n) rest ∙ sym (length-append (parts_at a x) (index_units a ids))
+      sum_by-cons trim_values (form_of a (parts_at a x)) (forms_of a ids)
+      ∙ ap (λ n. n + values_of_trims (forms_of a ids)) one ∙ ap (λ n. length (parts_at a x) + n) rest ∙ sym (length-append (parts_at a x) (index_units a ids))
 
   pub units-leave : (ids : List ℕ) → IsTrue (list_all (is_index a) ids) → IsTrue (all_leave a true (index_units a ids))
   units-leave [] e = refl
@@ -371,6 +371,6 @@ module _ (a : Annotated) (there : AreThere a (length a.tree.nodes)) (nodes : Hol
       let indexes = second (nat_lt 0 (length ids)) (list_all (is_index a) ids) behind in
       let primary = given x true b.0 (first (is_outcome true (outcome a x)) indexed e) in
       let units = all-fit a id (length a.tree.nodes) f given true (index_units a ids) (units-between ids b.2) (units-leave ids indexes) in
-      let many : units_of (forms_of a ids) ≡ count (trees_at f (index_units a ids)) = units-taken ids indexes ∙ sym (count_trees f (index_units a ids)) in
+      let many : values_of_trims (forms_of a ids) ≡ count (trees_at f (index_units a ids)) = units-taken ids indexes ∙ sym (count_trees f (index_units a ids)) in
       let well : IsTrue (nat_lt 0 (length (forms_of a ids))) = subst (λ (n : ℕ). IsTrue (nat_lt 0 n)) (sym (forms-long ids)) some in
       record { fits = (refl, ap (λ n. suc n) many, (primary.fits, units.fits)); operands = (well, (primary.operands, units.operands)) }

@@ -22,7 +22,7 @@ use Rattle.a68_code.specs.declared.does.Does.TheVariants as does
 use Rattle.a68_code.specs.declared.owner.Owner.{Owner}
 use Rattle.a68_code.specs.declared.owner.Owner.TheVariants as owner
 use Rattle.a68_elab.specs.Rows.{is_among}
-use Rattle.a68_elab.specs.Trees.{Tree, Trees, operation, together, phrases, range, choice, cases, conformity, loop, call, parallel, unbuilt, no_trees, ◌and_tree◌, count, Specs, no_specs, spec, Test, no_test, while_in, depth_of}
+use Rattle.a68_elab.specs.Trees.{Tree, Trees, operation, together, phrases, range, choice, cases, conformity, loop, call, parallel, meaningless, no_trees, ◌and_tree◌, count, Specs, no_specs, spec, Test, no_test, while_in, depth_of}
 use Rattle.a68_gen.proofs.Forward.{forward, forward_index, forward_leaves, forward_arms, forward_specs, forward_test}
 use Rattle.a68_gen.proofs.Entering.{IsUnit, each_is_unit, entrances_many}
 use Rattle.a68_gen.proofs.Members.{last_is, some_member, taken_or, members_all}
@@ -578,7 +578,7 @@ module _ (code : Code) (whose : Owner) (W : ℕ → ℕ → Type 0) (is_inside :
         here =
             next_by a b p (does.Fork s.0) base base s.4 refl (omega arith) (at_place b b base (base + 0) refl (omega arith) (subst (W b) (sym (nothing_more base g s.1)) out))
             (both_true (le-leb 2 (length s.0) many) (list_all-from_AllPass (λ to. nat_lt to (length code.list)) s.0 inside)) tt unit
-    flows g unbuilt a b s base fit into out k h x = absurd s
+    flows g meaningless a b s base fit into out k h x = absurd s
 
     pub flows_all : (g : Bool) (ts : Trees) (a b : ℕ) (s : StandAll code g ts a b) (base : ℕ) → FitAll code.modes (length code.texts) ts → ((k h : ℕ) → AllHeights code g ts a b s base k h → W k h)
         → W b (after g ts base) → (k h : ℕ) → AllHeights code g ts a b s base k h → Flows code whose W k h

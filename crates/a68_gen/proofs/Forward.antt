@@ -1,7 +1,7 @@
 -- A stretch goes forward.
 use Rattle.std.proofs.Common.{◌≡◌, ◌≤◌, ◌+◌, ℕ, zero, suc, arith, Bool, true, false, List, [], ◌∷◌}
 use Rattle.a68_code.specs.declared.code.Code.{Code}
-use Rattle.a68_elab.specs.Trees.{Tree, Trees, operation, together, phrases, range, choice, cases, conformity, loop, call, parallel, unbuilt, no_trees, ◌and_tree◌, Specs, no_specs, spec, Test, no_test, while_in, depth_of}
+use Rattle.a68_elab.specs.Trees.{Tree, Trees, operation, together, phrases, range, choice, cases, conformity, loop, call, parallel, meaningless, no_trees, ◌and_tree◌, Specs, no_specs, spec, Test, no_test, while_in, depth_of}
 use Rattle.a68_gen.specs.Stretches.{Limits, Indexes, Opens, Leaves, Stands, StandAll, StandArms, StandSpecs, Tests}
 
 pub next_is : (k m : ℕ) → k + 1 ≡ m → suc k ≡ m
@@ -49,7 +49,7 @@ mutual
   forward code g (call p yields (primary and_tree parts)) a b s =
       let x = forward_all code true (primary and_tree parts) a s.0 s.2 in let y = s.3.1 in omega arith
   forward code g (parallel p numbers) a b s = let x = s.4.1 in omega arith
-  forward code g unbuilt a b s = absurd s
+  forward code g meaningless a b s = absurd s
 
   pub forward_all : (code : Code) (g : Bool) (ts : Trees) (a b : ℕ) → StandAll code g ts a b → a ≤ b
   forward_all code g no_trees a b s = omega arith

@@ -2,7 +2,7 @@
 use Rattle.std.proofs.Common.{◌≡◌, ◌<◌, ◌≤◌, ◌⊎◌, ◌+◌, ℕ, zero, suc, arith, Bool, true, false, List, [], ◌∷◌, refl, sym, ap, ◌∙◌, subst, inl, inr, ⊎_elim}
 use Rattle.std.proofs.lemmas.Bool.{cases_lt, false≢true}
 use Rattle.a68_code.specs.declared.code.Code.{Code}
-use Rattle.a68_elab.specs.Trees.{Tree, Trees, operation, together, phrases, range, choice, cases, conformity, loop, call, parallel, unbuilt, no_trees, ◌and_tree◌, count, Specs, no_specs, spec, Test, no_test, while_in, depth_of}
+use Rattle.a68_elab.specs.Trees.{Tree, Trees, operation, together, phrases, range, choice, cases, conformity, loop, call, parallel, meaningless, no_trees, ◌and_tree◌, count, Specs, no_specs, spec, Test, no_test, while_in, depth_of}
 use Rattle.a68_gen.specs.Stretches.{Limits, Indexes, Opens, Leaves, Stands, StandAll, StandArms, StandSpecs, Tests}
 
 abbrev pub bit : Bool → ℕ
@@ -72,7 +72,7 @@ abbrev mutual
   HeightsOf code g (call p yields (primary and_tree parts)) a b s base k h =
       AllHeights code true (primary and_tree parts) a s.0 s.2 base k h ⊎ At s.0 (after true (primary and_tree parts) base) k h
   HeightsOf code g (parallel p numbers) a b s base k h = At a base k h
-  HeightsOf code g unbuilt a b s base k h = ⊥
+  HeightsOf code g meaningless a b s base k h = ⊥
 
   pub AllHeights : (code : Code) (g : Bool) (ts : Trees) (a b : ℕ) → StandAll code g ts a b → (base : ℕ) → ℕ → ℕ → Type 0
   AllHeights code g no_trees a b s base k h = ⊥
@@ -193,7 +193,7 @@ mutual
   piece code g (call p yields (primary and_tree parts)) a b s base =
       both _ _ _ _ _ (pieces code true (primary and_tree parts) a s.0 s.2 base) (one s.0 b (after true (primary and_tree parts) base) s.3.1)
   piece code g (parallel p numbers) a b s base = one a b base s.4.1
-  piece code g unbuilt a b s base = absurd s
+  piece code g meaningless a b s base = absurd s
 
   pieces : (code : Code) (g : Bool) (ts : Trees) (a b : ℕ) (s : StandAll code g ts a b) (base : ℕ) → Piece a b (AllHeights code g ts a b s base)
   pieces code g no_trees a b s base = nothing a b s
@@ -248,7 +248,7 @@ mutual
   starts code g (call p yields (primary and_tree parts)) a b s base =
       ⊎_elim (λ y. inl (inl y)) (λ e. inl (inr e)) (starts_all code true (primary and_tree parts) a s.0 s.2 base)
   starts code g (parallel p numbers) a b s base = inl (refl, refl)
-  starts code g unbuilt a b s base = absurd s
+  starts code g meaningless a b s base = absurd s
 
   pub starts_all : (code : Code) (g : Bool) (ts : Trees) (a b : ℕ) (s : StandAll code g ts a b) (base : ℕ) → AllHeights code g ts a b s base a base ⊎ ((a ≡ b) × (base ≡ after g ts base))
   starts_all code g no_trees a b s base = inr (s, refl)

@@ -10,7 +10,7 @@ use Rattle.a68_elab.specs.Made.{before_out, begun_by, case_of, choice_of, coerce
 use Rattle.a68_elab.specs.Runs.{agrees, agrees_at, is_outcome, left_by, outcome, outcome_at, outcome_by, runs}
 use Rattle.a68_elab.specs.Programs.{fitting, misfit, unit, behind, defined_bound, tree_in}
 use Rattle.a68_elab.specs.declared.sight.Sight.{Sight}
-use Rattle.a68_elab.specs.Trees.{Tree, Trees, cases, choice, unbuilt}
+use Rattle.a68_elab.specs.Trees.{Tree, Trees, cases, choice, meaningless}
 use Rattle.a68_gen.specs.Chains.{enquiry_tree, IsWithin, link_tree, other_tree}
 use Rattle.a68_gen.specs.declared.chains.Link.{Link}
 use Rattle.a68_modes.specs.Nodes.{shape_at, is_void}
@@ -73,7 +73,7 @@ tree_misfit a s id node note e f run =
 -- the tree of a node that is a choice without coercions
 pub next_tree : (program : Annotated) (s : Sight) (id : ℕ) (node : Node) (note : Note) (o : Option Link) (place goal : ℕ) (ids : List ℕ) → slice_get program.tree.nodes id ≡ Some node
     → slice_get program.notes id ≡ Some note → runs program id ≡ true → node.kind ≡ kind.Conditional → note.path ≡ [] → place ≡ node.span.from → goal ≡ note.goal → ids ≡ node.parts
-    → ((f : ℕ → Tree) → MatchOption o (choice_of program f place goal (not (is_void (shape_at program.modes goal))) ids ≡ unbuilt)
+    → ((f : ℕ → Tree) → MatchOption o (choice_of program f place goal (not (is_void (shape_at program.modes goal))) ids ≡ meaningless)
     (λ l. choice_of program f place goal (not (is_void (shape_at program.modes goal))) ids ≡ link_tree program f l))
     → IfSome o (IsWithin program) → IfSome o (λ l. l.id ≡ id) → IfSome o (λ l. tree_in program s l.id ≡ link_tree program (tree_in program s) l)
 next_tree program s id node note None place goal ids e f run is_choice bare at asked these m within same = tt

@@ -10,7 +10,7 @@ use Rattle.a68_code.specs.declared.code.Instr.{Instr}
 use Rattle.a68_code.specs.declared.code.RoutineEntrance.{RoutineEntrance}
 use Rattle.a68_code.specs.declared.does.Does.{Does}
 use Rattle.a68_code.specs.declared.does.Does.TheVariants as does
-use Rattle.a68_elab.specs.Trees.{Tree, Trees, operation, together, phrases, range, choice, cases, conformity, loop, call, parallel, unbuilt, no_trees, ◌and_tree◌, count, Specs, no_specs, spec, Test, no_test, while_in, depth_of, Apart, routine_text, parallel_unit, Program}
+use Rattle.a68_elab.specs.Trees.{Tree, Trees, operation, together, phrases, range, choice, cases, conformity, loop, call, parallel, meaningless, no_trees, ◌and_tree◌, count, Specs, no_specs, spec, Test, no_test, while_in, depth_of, Apart, routine_text, parallel_unit, Program}
 use Rattle.a68_gen.specs.Listing.{instr, limits, indexes, opens, leaves, size, sizes, spec_sizes, test_size, arm_places, spec_places, stretch, stretches, arm_stretches, spec_stretches, test_stretch, apart_stretches, text_entrances, unit_entrances, written, listing, texts_entered, units_entered}
 use Rattle.a68_gen.proofs.Entering.{entrances_are, map-behind, unlinked}
 use Rattle.a68_gen.proofs.Sizes.{size_leaves, size_stretch, size_stretches, size_arms, size_specs, size_test}
@@ -242,7 +242,7 @@ mutual
   part code gives (parallel place numbers) a b s =
       let fork = instr place (does.Fork numbers) in
       last code a b fork (s.4.0 ∙ ap (λ (es : List ℕ). Some (instr place (does.Fork es))) (entrances_are code.units numbers s.0 s.3)) s.4.1
-  part code gives unbuilt a b s = absurd s
+  part code gives meaningless a b s = absurd s
 
   all_part : (code : Code) (gives : Bool) (trees : Trees) (a b : ℕ) → StandAll code gives trees a b → Part code a (stretches trees a) b
   all_part code gives no_trees a b s = none code a b s

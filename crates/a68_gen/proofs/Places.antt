@@ -8,7 +8,7 @@ use Rattle.a68_code.specs.declared.code.Code.{Code}
 use Rattle.a68_code.specs.declared.code.Instr.{Instr}
 use Rattle.a68_code.specs.declared.does.Does.TheVariants as does
 use Rattle.a68_elab.specs.Places.{BeginsBy, AllBeginBy, SpecsBeginBy, TestBeginsBy, ApartBeginBy, ProgramBeginsBy}
-use Rattle.a68_elab.specs.Trees.{Tree, Trees, operation, together, phrases, range, choice, cases, conformity, loop, call, parallel, unbuilt, no_trees, ◌and_tree◌, count, Specs, no_specs, spec, Test, no_test, while_in, depth_of, Apart, routine_text, parallel_unit, Program}
+use Rattle.a68_elab.specs.Trees.{Tree, Trees, operation, together, phrases, range, choice, cases, conformity, loop, call, parallel, meaningless, no_trees, ◌and_tree◌, count, Specs, no_specs, spec, Test, no_test, while_in, depth_of, Apart, routine_text, parallel_unit, Program}
 use Rattle.a68_gen.specs.Listing.{instr, limits, indexes, opens, leaves, size, sizes, spec_sizes, test_size, arm_places, spec_places, stretch, stretches, arm_stretches, spec_stretches, test_stretch, apart_stretch, apart_stretches, listing, units_entered, written}
 use Rattle.a68_gen.proofs.Listed.{listed}
 use Rattle.a68_gen.specs.Stretches.{does_of, leave, member_places, wholes_of, with_last, Translates}
@@ -102,7 +102,7 @@ module _ (end : ℕ) where
     lies (call place yields (primary and_tree parts)) at b =
         lie-append (stretches (primary and_tree parts) at) (instr place (does.Call (count parts) yields) ∷ []) (all_lie (primary and_tree parts) at b.1) (b.0, tt)
     lies (parallel place numbers) at b = (b, tt)
-    lies unbuilt at b = tt
+    lies meaningless at b = tt
 
     all_lie : (trees : Trees) (at : ℕ) → AllBeginBy end trees → LieBy end (stretches trees at)
     all_lie no_trees at b = tt

@@ -1,7 +1,7 @@
 -- How long a stretch is.
 use Rattle.std.proofs.Common.{◌≡◌, ℕ, zero, suc, ◌+◌, Bool, true, false, List, [], ◌∷◌, ◌++◌, length, refl, ap, arith, length-append}
 use Rattle.a68_code.specs.declared.does.Does.TheVariants as does
-use Rattle.a68_elab.specs.Trees.{Tree, Trees, operation, together, phrases, range, choice, cases, conformity, loop, call, parallel, unbuilt, no_trees, ◌and_tree◌, count, Specs, no_specs, spec, Test, no_test, while_in, depth_of, Apart, routine_text, parallel_unit}
+use Rattle.a68_elab.specs.Trees.{Tree, Trees, operation, together, phrases, range, choice, cases, conformity, loop, call, parallel, meaningless, no_trees, ◌and_tree◌, count, Specs, no_specs, spec, Test, no_test, while_in, depth_of, Apart, routine_text, parallel_unit}
 use Rattle.a68_gen.specs.Listing.{instr, limits, indexes, opens, leaves, size, sizes, spec_sizes, test_size, arm_places, spec_places, stretch, stretches, arm_stretches, spec_stretches, test_stretch, apart_size, apart_stretch, apart_stretches}
 use Rattle.a68_gen.specs.Stretches.{does_of, leave, member_places, wholes_of, with_last}
 
@@ -80,7 +80,7 @@ mutual
       let s = size_stretches (primary and_tree parts) at in
       omega (arith, length-append (stretches (primary and_tree parts) at) (instr place (does.Call (count parts) yields) ∷ []))
   size_stretch (parallel place numbers) at = refl
-  size_stretch unbuilt at = refl
+  size_stretch meaningless at = refl
 
   pub size_stretches : (trees : Trees) (at : ℕ) → length (stretches trees at) ≡ sizes trees
   size_stretches no_trees at = refl

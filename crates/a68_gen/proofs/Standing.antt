@@ -1,13 +1,13 @@
 -- A tree's instructions stand where they were listed.
 use Rattle.std.proofs.Common.{◌≡◌, ℕ, zero, suc, ◌+◌, Bool, true, false, List, [], ◌∷◌, ◌++◌, length, refl, sym, ◌∙◌, ap, subst, arith, length-append, Some, slice_get}
 use Rattle.std.specs.Prelude.{map}
-use Rattle.a68_builder.specs.Linking.{entrances_in, linked, linked_does}
+use Rattle.a68_builder.specs.Linking.{entrances_numbered, linked, linked_does}
 use Rattle.a68_code.specs.declared.code.Code.{Code}
 use Rattle.a68_code.specs.declared.code.Instr.{Instr}
 use Rattle.a68_code.specs.declared.code.RoutineEntrance.{RoutineEntrance}
 use Rattle.a68_code.specs.declared.does.Does.{Does}
 use Rattle.a68_code.specs.declared.does.Does.TheVariants as does
-use Rattle.a68_elab.specs.Trees.{Tree, Trees, operation, together, phrases, range, choice, cases, conformity, loop, call, parallel, unbuilt, no_trees, ◌and_tree◌, count, Specs, no_specs, spec, Test, no_test, while_in, depth_of, Apart, routine_text, parallel_unit, Program}
+use Rattle.a68_elab.specs.Trees.{Tree, Trees, operation, together, phrases, range, choice, cases, conformity, loop, call, parallel, meaningless, no_trees, ◌and_tree◌, count, Specs, no_specs, spec, Test, no_test, while_in, depth_of, Apart, routine_text, parallel_unit, Program}
 use Rattle.a68_gen.specs.Listing.{instr, limits, indexes, opens, leaves, size, sizes, spec_sizes, test_size, arm_places, spec_places, stretch, stretches, arm_stretches, spec_stretches, test_stretch, apart_stretch, apart_stretches, text_entrances, unit_entrances, written, texts_entered, units_entered}
 use Rattle.a68_gen.specs.Fits.{Fits, AllFit, SpecsFit, TestFits, ApartFits}
 use Rattle.a68_gen.specs.Stretches.{does_of, leave, Has, Limits, Indexes, Opens, Leaves, Stands, StandAll, StandArms, StandSpecs, Tests, StandApart, member_places, wholes_of, with_last, Translates}
@@ -289,8 +289,8 @@ mutual
         (holds-head i [] (holds-on n ps (i ∷ []) (size_stretches (primary and_tree parts) at) h), e),
       )
   stands code gives (parallel place numbers) at f h =
-      (entrances_in code.units numbers, f.0, f.1, are_entrances code.units numbers f.2, (holds-head (instr place (does.Fork numbers)) [] h, refl))
-  stands code gives unbuilt at f h = absurd f
+      (entrances_numbered code.units numbers, f.0, f.1, are_entrances code.units numbers f.2, (holds-head (instr place (does.Fork numbers)) [] h, refl))
+  stands code gives meaningless at f h = absurd f
 
   pub all_stand : (code : Code) (gives : Bool) (trees : Trees) (at : ℕ) → AllFit code.modes (length code.units) gives trees → Holds code at (stretches trees at) → StandAll code gives trees at (at + sizes trees)
   all_stand code gives no_trees at f h = omega arith

@@ -4,7 +4,7 @@ use Rattle.std.specs.Prelude.{◌≡◌, ◌≤◌, ℕ, Bool, IsTrue, true, fal
 use Rattle.std.specs.List.{list_all}
 use Rattle.a68_acts.specs.Operations.{leaves}
 use Rattle.a68_code.specs.Flow.{takes}
-use Rattle.a68_elab.specs.Trees.{Tree, Trees, operation, together, phrases, range, choice, cases, conformity, loop, call, parallel, unbuilt, Specs, no_specs, spec, Test, no_test, while_in, no_trees, ◌and_tree◌, count, Apart, routine_text, parallel_unit}
+use Rattle.a68_elab.specs.Trees.{Tree, Trees, operation, together, phrases, range, choice, cases, conformity, loop, call, parallel, meaningless, Specs, no_specs, spec, Test, no_test, while_in, no_trees, ◌and_tree◌, count, Apart, routine_text, parallel_unit}
 use Rattle.a68_gen.specs.Stretches.{does_of}
 use Rattle.a68_acts.specs.Members.{members_of}
 use Rattle.a68_modes.specs.Nodes.{shape_at}
@@ -29,7 +29,7 @@ abbrev mutual
   Fits modes units gives (call place yields no_trees) = ⊥
   Fits modes units gives (call place yields (primary and_tree parts)) = (gives ≡ yields) × AllFit modes units true (primary and_tree parts)
   Fits modes units gives (parallel place numbers) = (gives ≡ false) × (2 ≤ length numbers) × IsTrue (list_all (λ n. nat_lt n units) numbers)
-  Fits modes units gives unbuilt = ⊥
+  Fits modes units gives meaningless = ⊥
 
   pub AllFit : List Shape → (units : ℕ) → (gives : Bool) → Trees → Type 0
   AllFit modes units gives no_trees = Unit {0}

@@ -5,7 +5,7 @@ use Rattle.a68_code.specs.declared.code.Instr.{Instr}
 use Rattle.a68_code.specs.declared.code.RoutineEntrance.{RoutineEntrance}
 use Rattle.a68_code.specs.declared.does.Does.{Does}
 use Rattle.a68_code.specs.declared.does.Does.TheVariants as does
-use Rattle.a68_elab.specs.Trees.{Tree, Trees, operation, together, phrases, range, choice, cases, conformity, loop, call, parallel, unbuilt, no_trees, ◌and_tree◌, count, Specs, no_specs, spec, Test, no_test, while_in, depth_of, Apart, routine_text, parallel_unit, Program}
+use Rattle.a68_elab.specs.Trees.{Tree, Trees, operation, together, phrases, range, choice, cases, conformity, loop, call, parallel, meaningless, no_trees, ◌and_tree◌, count, Specs, no_specs, spec, Test, no_test, while_in, depth_of, Apart, routine_text, parallel_unit, Program}
 use Rattle.a68_gen.specs.Stretches.{does_of, leave, member_places, wholes_of, with_last}
 
 -- an instruction keeps the place of its construct
@@ -47,7 +47,7 @@ abbrev mutual
   size (call place yields no_trees) = 0
   size (call place yields (primary and_tree parts)) = sizes (primary and_tree parts) + 1
   size (parallel place numbers) = 1
-  size unbuilt = 0
+  size meaningless = 0
 
   pub sizes : Trees → ℕ
   sizes no_trees = 0
@@ -116,8 +116,8 @@ abbrev mutual
   stretch (call place yields (primary and_tree parts)) at = stretches (primary and_tree parts) at ++ instr place (does.Call (count parts) yields) ∷ []
   -- Fork, which names the units by their numbers
   stretch (parallel place numbers) at = instr place (does.Fork numbers) ∷ []
-  -- what is not built has none
-  stretch unbuilt at = []
+  -- what stands for no construct has none
+  stretch meaningless at = []
 
   -- those of trees, one behind the other
   pub stretches : Trees → (at : ℕ) → List Instr

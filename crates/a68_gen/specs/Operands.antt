@@ -2,7 +2,7 @@
 -- Trees whose operations have operands that the instructions may have.
 use Rattle.std.specs.Prelude.{⊤, ℕ, IsTrue, List, [], ◌∷◌, length, nat_lt}
 use Rattle.a68_code.specs.Operands.{is_well_made}
-use Rattle.a68_elab.specs.Trees.{Tree, Trees, operation, together, phrases, range, choice, cases, conformity, loop, call, parallel, unbuilt, Specs, no_specs, spec, Test, no_test, while_in, no_trees, ◌and_tree◌, count, Apart, routine_text, parallel_unit}
+use Rattle.a68_elab.specs.Trees.{Tree, Trees, operation, together, phrases, range, choice, cases, conformity, loop, call, parallel, meaningless, Specs, no_specs, spec, Test, no_test, while_in, no_trees, ◌and_tree◌, count, Apart, routine_text, parallel_unit}
 use Rattle.a68_gen.specs.Stretches.{does_of}
 use Rattle.a68_modes.specs.declared.shape.Shape.{Shape}
 
@@ -21,7 +21,7 @@ abbrev mutual
   FitsModes modes texts (loop place controls limited counts test body) = FitAll modes texts controls × TestFitsModes modes texts test × FitsModes modes texts body
   FitsModes modes texts (call place yields parts) = FitAll modes texts parts
   FitsModes modes texts (parallel place numbers) = ⊤
-  FitsModes modes texts unbuilt = ⊥
+  FitsModes modes texts meaningless = ⊥
 
   pub FitAll : List Shape → (texts : ℕ) → Trees → Type 0
   FitAll modes texts no_trees = ⊤

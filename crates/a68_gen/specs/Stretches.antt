@@ -9,7 +9,7 @@ use Rattle.a68_code.specs.declared.does.Does.{Does}
 use Rattle.a68_code.specs.declared.does.Does.TheVariants as does
 use Rattle.a68_elab.specs.Rows.{is_among}
 use Rattle.a68_modes.specs.Nodes.{shape_at}
-use Rattle.a68_elab.specs.Trees.{Tree, Trees, operation, together, phrases, range, choice, cases, conformity, loop, call, parallel, unbuilt, no_trees, ◌and_tree◌, count, Specs, no_specs, spec, Test, no_test, while_in, depth_of, Apart, routine_text, parallel_unit, Program}
+use Rattle.a68_elab.specs.Trees.{Tree, Trees, operation, together, phrases, range, choice, cases, conformity, loop, call, parallel, meaningless, no_trees, ◌and_tree◌, count, Specs, no_specs, spec, Test, no_test, while_in, depth_of, Apart, routine_text, parallel_unit, Program}
 
 -- the instruction of an operation on so many values
 abbrev pub does_of : Operation → ℕ → Does
@@ -136,8 +136,8 @@ abbrev mutual
   -- Fork, which names the entrances of the units; these stand apart
   Stands code gives (parallel place numbers) a b =
       (entrances : List ℕ) × (gives ≡ false) × (2 ≤ length numbers) × AreEntrances code.units numbers entrances × Has code place (does.Fork entrances) a b
-  -- what is not built stands nowhere
-  Stands code gives unbuilt a b = ⊥
+  -- what stands for no construct stands nowhere
+  Stands code gives meaningless a b = ⊥
 
   -- the stretches of trees, one behind the other
   pub StandAll : Code → (gives : Bool) → Trees → (a b : ℕ) → Type 0

@@ -13,7 +13,7 @@ ghost use Rattle.a68_modes.specs.Nodes.{shape_at, is_void};
 ghost use Rattle.a68_tree.specs.Trees.{AllBetween};
 
 use crate::rows::operation;
-use crate::single::unbuilt;
+use crate::single::meaningless;
 use crate::view::{View, hops};
 use crate::writer::Writer;
 use a68_annot::Note;
@@ -78,7 +78,7 @@ fn declared_formula(
 {
     match note.definition {
         Some(_) => applied(alloc, program, id, parts, place, note, out),
-        None => unbuilt(out),
+        None => meaningless(out),
     }
 }
 
@@ -162,7 +162,7 @@ pub fn call(
         (length out.old.list)) }
 {
     if parts.len() == 0 {
-        unbuilt(out);
+        meaningless(out);
         return;
     }
     let name = called(program.of.annotated(), parts[0]);

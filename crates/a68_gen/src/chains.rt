@@ -72,7 +72,7 @@ pub fn link_of(
     goal: ModeId,
 ) -> Option<Link>
     requires { AllBetween id (length program.now.of.now.tree.nodes) parts.now }
-    ensures tree { (f : ℕ → Tree) → MatchOption result (choice_of program.now.of.now f place goal (not (is_void (shape_at program.now.of.now.modes goal))) parts.now ≡ trees.unbuilt)
+    ensures tree { (f : ℕ → Tree) → MatchOption result (choice_of program.now.of.now f place goal (not (is_void (shape_at program.now.of.now.modes goal))) parts.now ≡ trees.meaningless)
         (λ link. choice_of program.now.of.now f place goal (not (is_void (shape_at program.now.of.now.modes goal))) parts.now ≡ link_tree program.now.of.now f link) }
     ensures within { IfSome result (IsWithin program.now.of.now) }
     ensures node { IfSome result (λ link. link.id ≡ id) }

@@ -16,7 +16,7 @@ use crate::chains::{Link, link_of, next_link};
 use crate::emit::zeros;
 use crate::ends::{Opened, close_all, keep, keep_open, shut};
 use crate::rows::{unit, write_part};
-use crate::single::unbuilt;
+use crate::single::meaningless;
 use crate::turns::enquire;
 use crate::view::View;
 use crate::writer::Writer;
@@ -135,7 +135,7 @@ pub fn conditional(
 {
     match link_of(program, id, parts, place, goal) {
         Some(first) => chain(alloc, program, first, out),
-        None => unbuilt(out),
+        None => meaningless(out),
     }
 }
 
@@ -248,7 +248,7 @@ pub fn case(
         (not (is_void (shape_at program.now.of.now.modes goal))) parts.now) (length out.old.list)) }
 {
     if parts.len() == 0 {
-        unbuilt(out);
+        meaningless(out);
         return;
     }
     let enquiry = parts[0];

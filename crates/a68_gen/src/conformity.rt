@@ -22,7 +22,7 @@ use crate::choices::otherwise;
 use crate::emit::zeros;
 use crate::ends::{keep, shut};
 use crate::rows::write_part;
-use crate::single::unbuilt;
+use crate::single::meaningless;
 use crate::turns::enquire;
 use crate::view::View;
 use crate::writer::Writer;
@@ -386,7 +386,7 @@ pub fn conformity(
         (not (is_void (shape_at program.now.of.now.modes goal))) parts.now) (length out.old.list)) }
 {
     if parts.len() == 0 {
-        unbuilt(out);
+        meaningless(out);
         return;
     }
     let enquiry = parts[0];

@@ -56,7 +56,7 @@ pub fn limit(place: u32, is_limited: bool, out: &mut Writer)
 }
 
 /// Step 0 Turn; with FOR Step 0 Turn Enter 1 Index Bind 0.
-pub fn turn(place: u32, counts: bool, out: &mut Writer)
+pub fn loop_turn(place: u32, counts: bool, out: &mut Writer)
     ensures { Wrote out.old out.new (instr place (Does.Step 0) ∷ instr place Does.Turn ∷ listing.indexes counts place) }
 {
     out.emit(place, Does::Step(0));

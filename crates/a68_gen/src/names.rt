@@ -15,7 +15,7 @@ ghost use Rattle.a68_tree.specs.Trees.{AllBetween};
 use crate::emit::push_int;
 use crate::numbered::Numbered;
 use crate::rows::{unit, write_part};
-use crate::single::{is_heap, new_does, unbuilt};
+use crate::single::{is_heap, meaningless, new_does};
 use crate::view::View;
 use crate::writer::Writer;
 use a68_annot::Note;
@@ -34,7 +34,7 @@ fn stands_behind(program: &View, id: NodeId, other: NodeId) -> bool
     id < other && other < count
 }
 
-// A bound that is written: [bound]. One that does not stand behind its construct is not built. No annotated tree has one.
+// A bound that is written: [bound]. One that does not stand behind its construct stands for none. No annotated tree has one.
 #[cycle(units)]
 fn write_written(alloc: Global, program: &View, id: NodeId, bound: NodeId, out: &mut Writer)
     ensures { Wrote out.old out.new (stretch (behind id (tree_of program.now) bound) (length out.old.list)) }
@@ -42,7 +42,7 @@ fn write_written(alloc: Global, program: &View, id: NodeId, bound: NodeId, out: 
     if stands_behind(program, id, bound) {
         write_part(alloc, program, id, bound, out);
     } else {
-        unbuilt(out);
+        meaningless(out);
     }
 }
 
@@ -52,7 +52,7 @@ fn write_outside(alloc: Global, program: &Numbered, frames: u32, bound: NodeId, 
     ensures { Wrote out.old out.new (stretch (programs.defined_bound program.now sights.Here frames bound) (length out.old.list)) }
 {
     if bound >= program.len() {
-        unbuilt(out);
+        meaningless(out);
         return;
     }
     let bytes = program.node(bound).span;
@@ -224,7 +224,7 @@ fn begun(
         (trees_at (behind id (tree_of program.now)) parts.now)) (length out.old.list)) }
 {
     if parts.len() != 1 {
-        unbuilt(out);
+        meaningless(out);
         return;
     }
     assigned(
@@ -256,7 +256,7 @@ fn declared(
         return;
     }
     if parts.len() != 2 {
-        unbuilt(out);
+        meaningless(out);
         return;
     }
     assigned(

@@ -12,7 +12,7 @@ ghost use Rattle.a68_modes.specs.Nodes.{shape_at};
 ghost use Rattle.a68_tree.specs.Trees.{AllBetween};
 
 use crate::rows::{all, last, operation, write_part};
-use crate::single::{Form, field, form_at, forms_of, mode_in_front, unbuilt};
+use crate::single::{CollateralForm, field, form_at, forms_of, meaningless, mode_in_front};
 use crate::view::View;
 use crate::writer::Writer;
 use a68_annot::Note;
@@ -86,10 +86,10 @@ pub fn collateral(
         (length out.old.list)) }
 {
     match form_at(program, note.goal) {
-        Form::Void => all(alloc, program, id, parts, out),
-        Form::Structure => structure(alloc, program, id, parts, place, out),
-        Form::Row => row(alloc, program, id, parts, place, note.goal, out),
-        Form::Other => unbuilt(out),
+        CollateralForm::Void => all(alloc, program, id, parts, out),
+        CollateralForm::Structure => structure(alloc, program, id, parts, place, out),
+        CollateralForm::Row => row(alloc, program, id, parts, place, note.goal, out),
+        CollateralForm::Other => meaningless(out),
     }
 }
 
@@ -152,7 +152,7 @@ pub fn slice(
     ensures { Wrote out.old out.new (stretch (made.slice_of program.now.of.now (behind id (tree_of program.now)) place parts.now) (length out.old.list)) }
 {
     if parts.len() == 0 {
-        unbuilt(out);
+        meaningless(out);
         return;
     }
     let indexes = &parts[1..];

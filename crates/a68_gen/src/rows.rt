@@ -18,7 +18,7 @@ use crate::conformity::conformity;
 use crate::names::{generator, variable};
 use crate::parallel::parallel;
 use crate::parts::{collateral, selection, slice};
-use crate::single::{denotation, leave, misfit, nothing, same, store, tag, unbuilt};
+use crate::single::{denotation, leave, meaningless, misfit, nothing, same, store, tag};
 use crate::turns::repeat;
 use crate::view::View;
 use crate::writer::Writer;
@@ -40,7 +40,7 @@ pub fn unit(alloc: Global, program: &View, id: NodeId, out: &mut Writer)
         return;
     }
     if !are_built(program.of.modes(), note) {
-        unbuilt(out);
+        meaningless(out);
         return;
     }
     construct(alloc, program, id, node, note, out);
@@ -121,7 +121,7 @@ fn construct(alloc: Global, program: &View, id: NodeId, node: &Node, note: &Note
         NodeKind::Conformity => conformity(alloc, program, id, parts, place, note.goal, out),
         NodeKind::Loop => repeat(alloc, program, id, parts, place, out),
         NodeKind::Parallel => parallel(alloc, program, id, parts, place, out),
-        _ => unbuilt(out),
+        _ => meaningless(out),
     }
 }
 
@@ -161,7 +161,7 @@ pub fn last(alloc: Global, program: &View, id: NodeId, parts: &[NodeId], out: &m
     ensures { Wrote out.old out.new (stretch (made.last_tree (trees_at (behind id (tree_of program.now)) parts.now)) (length out.old.list)) }
 {
     if parts.len() == 0 {
-        unbuilt(out);
+        meaningless(out);
         return;
     }
     write_part(alloc, program, id, parts[parts.len() - 1], out);
@@ -202,7 +202,7 @@ fn serial(
         (trees_at (behind id (tree_of program.now)) parts.now)) (length out.old.list)) }
 {
     if parts.len() == 0 {
-        unbuilt(out);
+        meaningless(out);
         return;
     }
     if note.slots == 0 {
@@ -221,7 +221,7 @@ fn only(alloc: Global, program: &View, id: NodeId, parts: &[NodeId], out: &mut W
     ensures { Wrote out.old out.new (stretch (made.only_of (trees_at (behind id (tree_of program.now)) parts.now)) (length out.old.list)) }
 {
     if parts.len() != 1 {
-        unbuilt(out);
+        meaningless(out);
         return;
     }
     write_part(alloc, program, id, parts[0], out);

@@ -16,7 +16,7 @@ use crate::writer::Writer;
 use a68_annot::{Annotated, Note};
 use a68_base::NoMemory;
 use a68_code::Does;
-use a68_layout::{Form as SliceForm, Forms};
+use a68_layout::{TrimForm, TrimForms};
 use a68_modes::{ModeId, Shape};
 use a68_runs::{
     behind_ref, field_in, fields_at, first_goal, form_of as slice_form, is_one_of, parts_at,
@@ -26,9 +26,9 @@ use a68_tree::{Node, NodeId};
 use a68_values::Value;
 use std::alloc::Global;
 
-/// Writes nothing for a construct that is not built. No annotated tree has one.
-pub fn unbuilt(_out: &mut Writer)
-    ensures { Wrote _out.old _out.new (stretch trees.unbuilt (length _out.old.list)) }
+/// Writes nothing for what stands for no construct. No annotated tree has one.
+pub fn meaningless(_out: &mut Writer)
+    ensures { Wrote _out.old _out.new (stretch trees.meaningless (length _out.old.list)) }
 {}
 
 /// Writes what meets the fault Kind, and leaves a value or none as is asked: Nil Widen; with Drop where it is none.
@@ -53,7 +53,7 @@ fn denoted(place: u32, value: Option<Value>, out: &mut Writer)
 {
     match value {
         Some(value) => out.emit(place, Does::Push(value)),
-        None => unbuilt(out),
+        None => meaningless(out),
     }
 }
 
@@ -101,7 +101,7 @@ pub fn leave(program: &View, note: &Note) -> Does
 }
 
 /// What a mode is, as far as a collateral clause asks.
-pub enum Form {
+pub enum CollateralForm {
     Void,
     Structure,
     Row,
@@ -109,17 +109,17 @@ pub enum Form {
 }
 
 /// What a mode is: VOID, a structure, a row, or none of these.
-pub fn form_at(program: &View, mode: ModeId) -> Form
+pub fn form_at(program: &View, mode: ModeId) -> CollateralForm
     ensures { result ≡ form_of (shape_at program.now.of.now.modes mode) }
 {
     if mode >= program.of.modes().len() {
-        return Form::Other;
+        return CollateralForm::Other;
     }
     match program.of.modes().shape(mode) {
-        Shape::Void => Form::Void,
-        Shape::Struct(_) => Form::Structure,
-        Shape::Rows { .. } => Form::Row,
-        _ => Form::Other,
+        Shape::Void => CollateralForm::Void,
+        Shape::Struct(_) => CollateralForm::Structure,
+        Shape::Rows { .. } => CollateralForm::Row,
+        _ => CollateralForm::Other,
     }
 }
 
@@ -186,11 +186,7 @@ pub fn new_does(in_heap: bool, mode: ModeId, bounds: u32) -> Does
 }
 
 // Adds how indexes are written.
-fn add_forms(
-    program: &Annotated,
-    ids: &[NodeId],
-    forms: &mut Vec<SliceForm>,
-) -> Result<(), NoMemory>
+fn add_forms(program: &Annotated, ids: &[NodeId], forms: &mut Vec<TrimForm>) -> Result<(), NoMemory>
     ensures { OnOk result (forms.new.items ≡ forms.old.items ++ made.forms_of program.now ids.now) }
 {
     for id in ids {
@@ -200,10 +196,10 @@ fn add_forms(
 }
 
 /// How the indexes of a slice are written.
-pub fn forms_of(alloc: Global, program: &View, ids: &[NodeId]) -> Result<Forms, NoMemory>
+pub fn forms_of(alloc: Global, program: &View, ids: &[NodeId]) -> Result<TrimForms, NoMemory>
     ensures { IfOk result (λ forms. forms ≡ made.forms_of program.now.of.now ids.now) }
 {
     let mut items = Vec::new(alloc);
     add_forms(program.of.annotated(), ids, &mut items)?;
-    Ok(Forms { items })
+    Ok(TrimForms { items })
 }

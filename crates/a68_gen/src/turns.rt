@@ -13,9 +13,9 @@ ghost use Rattle.a68_runs.specs.Loops.{AreWithin};
 ghost use Rattle.a68_tree.specs.Trees.{AllBetween};
 
 use crate::emit::push_int;
-use crate::loops::{depth, leave_frames, limit, open, turn};
+use crate::loops::{depth, leave_frames, limit, loop_turn, open};
 use crate::rows::{all, write_part};
-use crate::single::unbuilt;
+use crate::single::meaningless;
 use crate::view::View;
 use crate::writer::Writer;
 use a68_code::Does;
@@ -87,7 +87,7 @@ fn ask(alloc: Global, program: &View, id: NodeId, clause: Option<NodeId>, out: &
             let parts = program.of.parts(clause);
             enquire(alloc, program, id, parts, place, slots, out)
         }
-        None => unbuilt(out),
+        None => meaningless(out),
     }
 }
 
@@ -118,11 +118,11 @@ fn test(
 #[cycle(units)]
 fn body(alloc: Global, program: &View, id: NodeId, part: Option<NodeId>, out: &mut Writer)
     requires { IfSome part (λ p. (id < p) × (p < length program.now.of.now.tree.nodes)) }
-    ensures { Wrote out.old out.new (stretch (option_map_or (behind id (tree_of program.now)) part trees.unbuilt) (length out.old.list)) }
+    ensures { Wrote out.old out.new (stretch (option_map_or (behind id (tree_of program.now)) part trees.meaningless) (length out.old.list)) }
 {
     match part {
         Some(part) => write_part(alloc, program, id, part, out),
-        None => unbuilt(out),
+        None => meaningless(out),
     }
 }
 
@@ -144,7 +144,7 @@ pub fn repeat(
     let frames = depth(program, &parts);
     count(alloc, program, id, &parts, place, out);
     let step = out.len();
-    turn(place, parts.counts, out);
+    loop_turn(place, parts.counts, out);
     let unless = test(alloc, program, id, parts.test, place, out);
     body(alloc, program, id, parts.body, out);
     leave_frames(place, frames, out);

@@ -4,7 +4,7 @@ use Rattle.std.specs.Prelude.{◌↔◌, IsTrue, is_some, slice_index_or}
 use Rattle.std.specs.List.{Contains}
 use Rattle.std.proofs.lemmas.Bool.{false≢true}
 use Rattle.a68_coerce.specs.Balanced.{BalancesAt, FormsAt, IsBalanced, IsFormed}
-use Rattle.a68_coerce.specs.declared.form.Form.TheVariants as form
+use Rattle.a68_coerce.specs.declared.form.ModeForm.TheVariants as form
 use Rattle.a68_coerce.specs.declared.leaf.Balanced.{Balanced}
 use Rattle.a68_coerce.specs.declared.leaf.Leaf.{Leaf}
 use Rattle.a68_declare.specs.Outcome.{ByNode}

@@ -7,7 +7,7 @@ use Rattle.a68_coerce.specs.Balanced.{LeafLeads, LeafSuits, BalancesAt, IsFormed
 use Rattle.a68_coerce.specs.Below.{IsLeafBelow}
 use Rattle.a68_coerce.specs.Kept.{InterningKeeps, KeepForms, KeepPaths}
 use Rattle.a68_coerce.specs.Paths.{Leads}
-use Rattle.a68_coerce.specs.declared.form.Form.TheVariants as form
+use Rattle.a68_coerce.specs.declared.form.ModeForm.TheVariants as form
 use Rattle.a68_coerce.specs.declared.leaf.Balanced.{Balanced}
 use Rattle.a68_coerce.specs.declared.leaf.Leaf.{Leaf}
 use Rattle.a68_coerce.specs.declared.leaf.Leaf.TheVariants as leaf

@@ -2,7 +2,7 @@
 use Rattle.std.specs.Prelude.{◌≡◌, ◌≢◌, ◌<◌, ℕ, suc, List, [], ◌∷◌, length, slice_get, Option, Some, None, true}
 use Rattle.std.specs.List.{Contains}
 use Rattle.a68_coerce.specs.Balanced.{BalancesAt, IsFormed}
-use Rattle.a68_coerce.specs.declared.form.Form.TheVariants as form
+use Rattle.a68_coerce.specs.declared.form.ModeForm.TheVariants as form
 use Rattle.a68_coerce.specs.declared.leaf.Balanced.{Balanced}
 use Rattle.a68_coerce.specs.declared.leaf.Leaf.{Leaf}
 use Rattle.a68_declare.specs.Outcome.{ByNode}

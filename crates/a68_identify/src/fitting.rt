@@ -9,7 +9,7 @@ ghost use Rattle.a68_equiv.specs.Ways.{AreWellFormed};
 ghost use Rattle.a68_identify.specs.Identified.{AllFit, OperandFits};
 
 use a68_base::NoMemory;
-use a68_coerce::{Form, Leaf, balance, balance_to_form};
+use a68_coerce::{Leaf, ModeForm, balance, balance_to_form};
 use a68_equiv::Classes;
 use a68_modes::{ModeId, Modes, Sort};
 use std::alloc::Global;
@@ -52,7 +52,7 @@ fn fits_every_row(
     requires few { length leaves.now < 2 ^ 32 }
     ensures { IfOk result (λ fits. IsTrue fits ↔ OperandFits modes.now leaves.now 0) }
 {
-    let found = balance_to_form(alloc, modes, classes, Sort::Weak, Form::Row, leaves)?;
+    let found = balance_to_form(alloc, modes, classes, Sort::Weak, ModeForm::Row, leaves)?;
     Ok(found.is_some())
 }
 

@@ -21,5 +21,5 @@ pub use cells::{cells_of, end_of, fields_width};
 pub use needs::takes_bounds;
 pub use plans::{plan, plan_elements, plan_for};
 pub use rows::new_row;
-pub use types::{Form, Forms, LayoutStop, Plan, Trim, Trims};
+pub use types::{LayoutStop, Plan, Trim, TrimForm, TrimForms, Trims};
 pub use views::{cells_seen, element, part_of, view};

@@ -57,7 +57,7 @@ pub struct Plan {
 
 /// How a slice is written in a dimension.
 #[derive(Clone, Copy, PartialEq, Eq)]
-pub enum Form {
+pub enum TrimForm {
     Subscript,
     /// Which of lower bound, upper bound and new lower bound are there.
     Trimmer { lower: bool, upper: bool, at: bool },
@@ -65,15 +65,15 @@ pub enum Form {
 
 /// How a slice is written, a form for each dimension.
 #[derive(Drop)]
-pub struct Forms {
-    pub items: Vec<Form>,
+pub struct TrimForms {
+    pub items: Vec<TrimForm>,
 }
 
-impl Model for Forms {
+impl Model for TrimForms {
     ghost use Rattle.std.specs.Prelude.{List};
-    ghost use Rattle.a68_layout.specs.declared.types.Form.{Form};
+    ghost use Rattle.a68_layout.specs.declared.types.TrimForm.{TrimForm};
 
-    ghost Value = { List Form };
+    ghost Value = { List TrimForm };
 
     ghost view = { λ forms. forms.items.items };
 }

@@ -16,7 +16,7 @@ use std::process::Abort;
 
 // The names of instructions.
 #[derive(Clone, Copy)]
-enum Form {
+enum InstrName {
     Push,
     Skip,
     Tag,
@@ -50,88 +50,88 @@ enum Form {
     End,
 }
 
-const FORMS: &[(&str, Form)] = &[
-    ("Push", Form::Push),
-    ("Skip", Form::Skip),
-    ("Tag", Form::Tag),
-    ("Enter", Form::Enter),
-    ("Leave", Form::Leave),
-    ("Bind", Form::Bind),
-    ("Make", Form::Make),
-    ("Deref", Form::Deref),
-    ("Store", Form::Store),
-    ("Apply", Form::Apply),
-    ("Drop", Form::Drop),
-    ("Print", Form::Print),
-    ("Jump", Form::Jump),
-    ("Unless", Form::Unless),
-    ("Counter", Form::Counter),
-    ("Step", Form::Step),
-    ("Turn", Form::Turn),
-    ("Advance", Form::Advance),
-    ("Forget", Form::Forget),
-    ("Index", Form::Index),
-    ("Nil", Form::Nil),
-    ("Heap", Form::Heap),
-    ("Same", Form::Same),
-    ("Compose", Form::Compose),
-    ("Select", Form::Select),
-    ("Unite", Form::Unite),
-    ("Whole", Form::Whole),
-    ("Call", Form::Call),
-    ("Return", Form::Return),
-    ("Close", Form::Close),
-    ("End", Form::End),
+const INSTR_NAMES: &[(&str, InstrName)] = &[
+    ("Push", InstrName::Push),
+    ("Skip", InstrName::Skip),
+    ("Tag", InstrName::Tag),
+    ("Enter", InstrName::Enter),
+    ("Leave", InstrName::Leave),
+    ("Bind", InstrName::Bind),
+    ("Make", InstrName::Make),
+    ("Deref", InstrName::Deref),
+    ("Store", InstrName::Store),
+    ("Apply", InstrName::Apply),
+    ("Drop", InstrName::Drop),
+    ("Print", InstrName::Print),
+    ("Jump", InstrName::Jump),
+    ("Unless", InstrName::Unless),
+    ("Counter", InstrName::Counter),
+    ("Step", InstrName::Step),
+    ("Turn", InstrName::Turn),
+    ("Advance", InstrName::Advance),
+    ("Forget", InstrName::Forget),
+    ("Index", InstrName::Index),
+    ("Nil", InstrName::Nil),
+    ("Heap", InstrName::Heap),
+    ("Same", InstrName::Same),
+    ("Compose", InstrName::Compose),
+    ("Select", InstrName::Select),
+    ("Unite", InstrName::Unite),
+    ("Whole", InstrName::Whole),
+    ("Call", InstrName::Call),
+    ("Return", InstrName::Return),
+    ("Close", InstrName::Close),
+    ("End", InstrName::End),
 ];
 
-fn instruction(form: Form, one: u32, two: u32) -> Does {
+fn instruction(form: InstrName, one: u32, two: u32) -> Does {
     match form {
-        Form::Push => Does::Push(Value::of(Plain::Int(one as i64))),
-        Form::Skip => Does::Skip(one),
-        Form::Tag => Does::Tag {
+        InstrName::Push => Does::Push(Value::of(Plain::Int(one as i64))),
+        InstrName::Skip => Does::Skip(one),
+        InstrName::Tag => Does::Tag {
             hops: one,
             slot: two,
         },
-        Form::Enter => Does::Enter(one),
-        Form::Leave => Does::Leave(one),
-        Form::Bind => Does::Bind(one),
-        Form::Make => Does::Make {
+        InstrName::Enter => Does::Enter(one),
+        InstrName::Leave => Does::Leave(one),
+        InstrName::Bind => Does::Bind(one),
+        InstrName::Make => Does::Make {
             mode: one,
             bounds: two,
         },
-        Form::Deref => Does::Deref(one),
-        Form::Store => Does::Store(one),
-        Form::Apply => Does::Apply(one),
-        Form::Drop => Does::Drop,
-        Form::Print => Does::Print(one),
-        Form::Jump => Does::Jump(one),
-        Form::Unless => Does::Unless(one),
-        Form::Counter => Does::Counter,
-        Form::Step => Does::Step(one),
-        Form::Turn => Does::Turn,
-        Form::Advance => Does::Advance(one),
-        Form::Forget => Does::Forget,
-        Form::Index => Does::Index,
-        Form::Nil => Does::Nil,
-        Form::Heap => Does::Heap {
+        InstrName::Deref => Does::Deref(one),
+        InstrName::Store => Does::Store(one),
+        InstrName::Apply => Does::Apply(one),
+        InstrName::Drop => Does::Drop,
+        InstrName::Print => Does::Print(one),
+        InstrName::Jump => Does::Jump(one),
+        InstrName::Unless => Does::Unless(one),
+        InstrName::Counter => Does::Counter,
+        InstrName::Step => Does::Step(one),
+        InstrName::Turn => Does::Turn,
+        InstrName::Advance => Does::Advance(one),
+        InstrName::Forget => Does::Forget,
+        InstrName::Index => Does::Index,
+        InstrName::Nil => Does::Nil,
+        InstrName::Heap => Does::Heap {
             mode: one,
             bounds: two,
         },
-        Form::Same => Does::Same(one),
-        Form::Compose => Does::Compose(one),
-        Form::Select => Does::Select {
+        InstrName::Same => Does::Same(one),
+        InstrName::Compose => Does::Compose(one),
+        InstrName::Select => Does::Select {
             mode: one,
             field: two,
         },
-        Form::Unite => Does::Unite(one),
-        Form::Whole => Does::Whole,
-        Form::Call => Does::Call {
+        InstrName::Unite => Does::Unite(one),
+        InstrName::Whole => Does::Whole,
+        InstrName::Call => Does::Call {
             count: one,
             gives: two == 1,
         },
-        Form::Return => Does::Return,
-        Form::Close => Does::Close,
-        Form::End => Does::End,
+        InstrName::Return => Does::Return,
+        InstrName::Close => Does::Close,
+        InstrName::End => Does::End,
     }
 }
 
@@ -188,7 +188,7 @@ fn does(rt: &impl Abort, alloc: Global, op: &str) -> Does {
             distance,
         };
     }
-    let form = find(FORMS, name.as_bytes()).expect(rt, "an instruction");
+    let form = find(INSTR_NAMES, name.as_bytes()).expect(rt, "an instruction");
     instruction(form, number(rt, one), number(rt, two))
 }
 

@@ -2,9 +2,9 @@
 //! its numbers.
 use crate::table::{cut, holds, number};
 use a68_check::annotate;
-use a68_code::{Does, Instr, units_of};
+use a68_code::{Does, Instr, values_of_trims};
 use a68_gen::generate;
-use a68_layout::Form;
+use a68_layout::TrimForm;
 use a68_parse::{parse, symbols_are_bounded};
 use a68_symbols::symbols;
 use a68_tree::Tree;
@@ -223,8 +223,8 @@ fn constant(value: &Value) -> (&'static str, u32, u32) {
 }
 
 // Names a slice, with the numbers of its indexes and of their units.
-fn sliced(forms: &[Form]) -> (&'static str, u32, u32) {
-    let units = units_of(forms).unwrap_or(0);
+fn sliced(forms: &[TrimForm]) -> (&'static str, u32, u32) {
+    let units = values_of_trims(forms).unwrap_or(0);
     (
         "Slice",
         u32::try_from(forms.len()).unwrap_or(0),

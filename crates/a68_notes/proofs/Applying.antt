@@ -4,8 +4,8 @@ use Rattle.std.specs.Prelude.{slice_index_or}
 use Rattle.a68_declare.proofs.One.{word_one}
 use Rattle.a68_declarers.proofs.There.{definition_there}
 use Rattle.a68_declarers.specs.Declarers.{form_at}
-use Rattle.a68_declarers.specs.declared.form.Form.{Form}
-use Rattle.a68_declarers.specs.declared.form.Form.TheVariants as forms
+use Rattle.a68_declarers.specs.declared.form.DeclarerForm.{DeclarerForm}
+use Rattle.a68_declarers.specs.declared.form.DeclarerForm.TheVariants as forms
 use Rattle.a68_frames.specs.Frames.{frames_of, has_slot}
 use Rattle.a68_frames.specs.Tables.{AreFrames, Tables}
 use Rattle.a68_notes.specs.Notes.{definition_of, target_of, HasFrames, IsDefinitionOf, IsDistance, IsStep, IsStepOf, IsWordOf}
@@ -64,7 +64,7 @@ one_distance tree n (Some d) s t p q =
     p.4 ∙ ap (λ k. distance k p.1) (one_count tree n p.0 q.0 p.2 q.2) ∙ ap (λ k. distance q.0 k) (one_count tree d p.1 q.1 p.3 q.3) ∙ sym q.4
 
 module _ (tree : Built) (once : (id : ℕ) → IsTwice tree id → ⊥) where
-  one_word : (n : ℕ) (form : Form) (x y : Option ℕ) → IsWordOf tree n form x → IsWordOf tree n form y → x ≡ y
+  one_word : (n : ℕ) (form : DeclarerForm) (x y : Option ℕ) → IsWordOf tree n form x → IsWordOf tree n form y → x ≡ y
   one_word n forms.Word x y p q = word_one tree once n (name_at tree n) x y p q
   one_word n _ x y p q = p ∙ sym q
 

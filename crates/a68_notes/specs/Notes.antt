@@ -7,8 +7,8 @@ use Rattle.a68_coerce.specs.declared.leaf.Leaf.{Leaf}
 use Rattle.a68_coerce.specs.declared.leaf.Leaf.TheVariants as leaf
 use Rattle.a68_declare.specs.Outcome.{ByNode}
 use Rattle.a68_declarers.specs.Declarers.{form_at}
-use Rattle.a68_declarers.specs.declared.form.Form.{Form}
-use Rattle.a68_declarers.specs.declared.form.Form.TheVariants as forms
+use Rattle.a68_declarers.specs.declared.form.DeclarerForm.{DeclarerForm}
+use Rattle.a68_declarers.specs.declared.form.DeclarerForm.TheVariants as forms
 use Rattle.a68_definitions.specs.Defined.{fixed_mode_at, mode_at, part_number}
 use Rattle.a68_equiv.specs.Related.{as_it_stands}
 use Rattle.a68_frames.specs.Frames.{frames_of, has_slot, slots_in, IsFirstWay}
@@ -101,7 +101,7 @@ definition_of tree tags n found kind.Tag = in_text (length tree.nodes) (slice_in
 definition_of tree tags n found form = applied_operator found form
 
 -- a mode word stands for its definition in a surrounding range (Report, 4.8); no other declarer stands for one
-abbrev pub IsWordOf : Built → (n : ℕ) → Form → Option ℕ → Type 0
+abbrev pub IsWordOf : Built → (n : ℕ) → DeclarerForm → Option ℕ → Type 0
 IsWordOf tree n forms.Word definition = IsModeWordOf tree n (name_at tree n) definition
 IsWordOf tree n _ definition = definition ≡ None
 

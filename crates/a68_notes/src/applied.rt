@@ -13,7 +13,7 @@ ghost use Rattle.a68_tree.specs.Trees.{Built};
 
 use crate::field::definition_of;
 use crate::step::{step_of, target_of};
-use a68_declarers::{Form, form_of};
+use a68_declarers::{DeclarerForm, form_of};
 use a68_definitions::Tags;
 use a68_frames::{FrameMap, has_slot};
 use a68_ranges::Ranges;
@@ -43,13 +43,13 @@ fn word_definition(tree: &Tree, ranges: &Ranges, node: NodeId) -> Option<NodeId>
     ensures there { IsBelow (length tree.now.nodes) result }
 {
     match form_of(tree, node) {
-        Form::Word => ranges.mode_word(node, name_of(tree, node)),
-        Form::Standard { .. }
-        | Form::Name
-        | Form::Row { .. }
-        | Form::Structure
-        | Form::Union
-        | Form::Procedure => None,
+        DeclarerForm::Word => ranges.mode_word(node, name_of(tree, node)),
+        DeclarerForm::Standard { .. }
+        | DeclarerForm::Name
+        | DeclarerForm::Row { .. }
+        | DeclarerForm::Structure
+        | DeclarerForm::Union
+        | DeclarerForm::Procedure => None,
     }
 }
 

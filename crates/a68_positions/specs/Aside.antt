@@ -1,6 +1,6 @@
 -- The one mode that a node has to find, beyond those that are given, before it can say what it asks of its parts.
 use Rattle.std.specs.Prelude.{◌≡◌, ◌-◌, ℕ, List, nat_eq, nat_lt, Some, if◌then◌else◌}
-use Rattle.a68_coerce.specs.declared.form.Form.TheVariants as form
+use Rattle.a68_coerce.specs.declared.form.ModeForm.TheVariants as form
 use Rattle.a68_definitions.specs.Defined.{part_from_end}
 use Rattle.a68_equiv.specs.Related.{without_flex}
 use Rattle.a68_identify.specs.declared.identified.Identified.{Identified}
@@ -68,7 +68,7 @@ mode_or_void _ = 0
 
 -- the row, or name of one, to which the units of a part are weakly balanced
 abbrev pub IsAnyRow : Known → List Shape → List Yielding → (part : ℕ) → ℕ → Type 0
-IsAnyRow k nodes ys part m = (found : Finding) × IsFound k.tree nodes k.of ys part (sought.Part by.Weak (want.Form form.Row) part) found × (m ≡ mode_or_void found)
+IsAnyRow k nodes ys part m = (found : Finding) × IsFound k.tree nodes k.of ys part (sought.Part by.Weak (want.ModeForm form.Row) part) found × (m ≡ mode_or_void found)
 
 -- the mode that is set aside, among modes that may grow by it; VOID where none is
 abbrev pub IsSetAside : Known → List Shape → List Yielding → Aside → List Shape → ℕ → Type 0

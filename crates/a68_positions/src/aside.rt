@@ -9,7 +9,7 @@ ghost use Rattle.a68_yields.specs.Below.{AreAhead, AreUnitsBelow, IsFindingBelow
 
 use crate::position::Position;
 use a68_base::NoMemory;
-use a68_coerce::Form;
+use a68_coerce::ModeForm;
 use a68_declare::NodeModes;
 use a68_definitions::{kind_of, part_from_end, parts_of};
 use a68_identify::Identified;
@@ -129,7 +129,7 @@ pub fn set_aside(
         Aside::WithoutFlex(mode) => Ok(modes.without_flex(mode)),
         Aside::Row { dims, flex, of } => modes.row_of(alloc, dims, flex, of),
         Aside::AnyRow(part) => {
-            let row = Want::Form(Form::Row);
+            let row = Want::ModeForm(ModeForm::Row);
             let found = part_found(alloc, tree, modes, of, yields, part, Sort::Weak, row, part)?;
             Ok(mode_or_void(found))
         }

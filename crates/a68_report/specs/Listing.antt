@@ -6,8 +6,8 @@ use Rattle.a68_code.specs.declared.code.Code.{Code}
 use Rattle.a68_code.specs.declared.code.Instr.{Instr}
 use Rattle.a68_code.specs.declared.does.Does.{Does}
 use Rattle.a68_code.specs.declared.does.Does.TheVariants.{Push, Skip, Nil, Routine, Tag, Enter, Leave, Bind, Make, Heap, Deref, Store, Apply, Same, Slice, Display, Vacuum, Compose, Select, Unite, RowUp, RowUpName, Widen, Drop, Print, Whole, Call, Return, Jump, Unless, Case, Member, Counter, Index, Step, Turn, Advance, Forget, Fork, Close, End}
-use Rattle.a68_layout.specs.declared.types.Form.{Form}
-use Rattle.a68_layout.specs.declared.types.Form.TheVariants as form
+use Rattle.a68_layout.specs.declared.types.TrimForm.{TrimForm}
+use Rattle.a68_layout.specs.declared.types.TrimForm.TheVariants as form
 use Rattle.a68_report.specs.Constants.{constant}
 use Rattle.a68_report.specs.Names.{name_of}
 use Rattle.a68_report.specs.Put.{behind, number, listed}
@@ -23,11 +23,11 @@ letter true byte = byte ∷ []
 letter false byte = []
 
 -- how a slice is written in a dimension: I for a subscript, and T for a trimmer, with L, U and A for the units that it has
-abbrev pub form_text : Form → List ℕ
+abbrev pub form_text : TrimForm → List ℕ
 form_text form.Subscript = codes "I"
 form_text (form.Trimmer lower upper at) = codes "T" ++ letter lower 76 ++ letter upper 85 ++ letter at 65
 
-abbrev pub forms_text : List Form → List ℕ
+abbrev pub forms_text : List TrimForm → List ℕ
 forms_text [] = []
 forms_text (f ∷ fs) = behind (form_text f) ++ forms_text fs
 

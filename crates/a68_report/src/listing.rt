@@ -1,7 +1,7 @@
 //! The listing of a code.
 ghost use Rattle.std.specs.Prelude.{◌≡◌, ◌++◌, IfOk, OnOk};
 ghost use Rattle.a68_code.specs.declared.does.Does.TheVariants.{Member, Routine, Slice};
-ghost use Rattle.a68_layout.specs.declared.types.Form.TheVariants as form;
+ghost use Rattle.a68_layout.specs.declared.types.TrimForm.TheVariants as form;
 ghost use Rattle.a68_report.specs.Listing as spec;
 ghost use Rattle.a68_report.specs.Put.{behind, number};
 
@@ -10,7 +10,7 @@ use crate::name::name_of;
 use crate::put::{put, put_behind, put_digits, put_list, put_number};
 use a68_base::{NoMemory, Text};
 use a68_code::{Code, Does, Instr, Places};
-use a68_layout::{Form, Forms};
+use a68_layout::{TrimForm, TrimForms};
 use std::alloc::Global;
 
 // Puts two numbers.
@@ -53,17 +53,17 @@ fn put_trimmer(text: &mut Text, lower: bool, upper: bool, at: bool) -> Result<()
 }
 
 // Puts how a slice is written in a dimension.
-fn put_form(text: &mut Text, form: Form) -> Result<(), NoMemory>
+fn put_form(text: &mut Text, form: TrimForm) -> Result<(), NoMemory>
     ensures { OnOk result (text.new ≡ text.old ++ behind (spec.form_text form)) }
 {
     match form {
-        Form::Subscript => put_behind(text, b"I"),
-        Form::Trimmer { lower, upper, at } => put_trimmer(text, lower, upper, at),
+        TrimForm::Subscript => put_behind(text, b"I"),
+        TrimForm::Trimmer { lower, upper, at } => put_trimmer(text, lower, upper, at),
     }
 }
 
 // Puts how a slice is written.
-fn put_forms(text: &mut Text, forms: &[Form]) -> Result<(), NoMemory>
+fn put_forms(text: &mut Text, forms: &[TrimForm]) -> Result<(), NoMemory>
     ensures { OnOk result (text.new ≡ text.old ++ spec.forms_text forms.now) }
 {
     for form in forms {
@@ -73,7 +73,7 @@ fn put_forms(text: &mut Text, forms: &[Form]) -> Result<(), NoMemory>
 }
 
 // Puts the operands of a slice.
-fn put_slice(text: &mut Text, forms: &Forms) -> Result<(), NoMemory>
+fn put_slice(text: &mut Text, forms: &TrimForms) -> Result<(), NoMemory>
     ensures { OnOk result (text.new ≡ text.old ++ spec.operands (Slice forms.now)) }
 {
     put_number(text, forms.items.len() as u64)?;

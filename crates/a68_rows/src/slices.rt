@@ -2,13 +2,13 @@
 ghost use Rattle.std.specs.Prelude.{◌≡◌, ◌≤◌, ◌∷◌, [], List, drop, length, Ok, IfOk, IfSome, MatchOption, OnOk};
 ghost use Rattle.a68_acts.specs.Rowing as rowing;
 ghost use Rattle.a68_layout.specs.Views as views;
-ghost use Rattle.a68_layout.specs.declared.types.Form.{Form};
+ghost use Rattle.a68_layout.specs.declared.types.TrimForm.{TrimForm};
 
 use crate::ints::ints_of;
 use crate::naming::names_row;
 use a68_acts::{Doing, Next, Want};
 use a68_base::NoMemory;
-use a68_layout::{Form, Forms, LayoutStop, Trim, Trims, part_of, view};
+use a68_layout::{LayoutStop, Trim, TrimForm, TrimForms, Trims, part_of, view};
 use a68_ops::OpStop;
 use a68_values::{Bounds, Descriptor, FaultKind, Name, Plain, Value, ValueNode, Values};
 use std::alloc::Global;
@@ -41,23 +41,23 @@ fn trimmer(lower: bool, upper: bool, at: bool, ints: &[i64], from: usize) -> (Tr
 
 // The subscript or trimmer that is written so with the integers from a place on, and the place behind those; none where
 // there is no integer for a subscript.
-fn trim_from(form: Form, ints: &[i64], from: usize) -> Option<(Trim, usize)>
+fn trim_from(form: TrimForm, ints: &[i64], from: usize) -> Option<(Trim, usize)>
     requires { from ≤ length ints.now }
-    ensures trims { (forms : List Form) → MatchOption result (rowing.trims_of (form ∷ forms) (drop from ints.now) ≡ [])
+    ensures trims { (forms : List TrimForm) → MatchOption result (rowing.trims_of (form ∷ forms) (drop from ints.now) ≡ [])
         (λ found. rowing.trims_of (form ∷ forms) (drop from ints.now) ≡ found.0 ∷ rowing.trims_of forms (drop found.1 ints.now)) }
     ensures within { IfSome result (λ found. found.1 ≤ length ints.now) }
 {
     match form {
-        Form::Subscript => {
+        TrimForm::Subscript => {
             let int = *ints.get(from)?;
             Some((Trim::At(int), from + 1))
         }
-        Form::Trimmer { lower, upper, at } => Some(trimmer(lower, upper, at, ints, from)),
+        TrimForm::Trimmer { lower, upper, at } => Some(trimmer(lower, upper, at, ints, from)),
     }
 }
 
 // The subscripts and trimmers that are written so, with these integers, put where there are none.
-fn add_trims(forms: &[Form], ints: &[i64], trims: &mut Vec<Trim>) -> Result<(), NoMemory>
+fn add_trims(forms: &[TrimForm], ints: &[i64], trims: &mut Vec<Trim>) -> Result<(), NoMemory>
     requires { trims.old.items ≡ [] }
     ensures { OnOk result (trims.new.items ≡ rowing.trims_of forms.now ints.now) }
 {
@@ -73,7 +73,7 @@ fn add_trims(forms: &[Form], ints: &[i64], trims: &mut Vec<Trim>) -> Result<(), 
 }
 
 // The subscripts and trimmers that are written so, with these integers.
-fn trims_of(alloc: Global, forms: &Forms, ints: &[i64]) -> Result<Trims, NoMemory>
+fn trims_of(alloc: Global, forms: &TrimForms, ints: &[i64]) -> Result<Trims, NoMemory>
     ensures { IfOk result (λ trims. trims ≡ rowing.trims_of forms.now ints.now) }
 {
     let mut items = Vec::with_capacity(alloc, forms.items.len())?;
@@ -127,7 +127,7 @@ fn sliced_by(alloc: Global, primary: &Value, trims: Trims) -> Result<Doing, NoMe
 // The same of a primary that is set.
 fn sliced_set(
     alloc: Global,
-    forms: &Forms,
+    forms: &TrimForms,
     primary: &Value,
     indexes: &[Value],
 ) -> Result<Doing, NoMemory>
@@ -146,7 +146,7 @@ fn sliced_set(
 
 /// An element or a part of the first of these values, a row or the name of one, by the subscripts and trimmers that are
 /// written so with the others.
-pub fn sliced(alloc: Global, forms: &Forms, values: &[Value]) -> Result<Doing, NoMemory>
+pub fn sliced(alloc: Global, forms: &TrimForms, values: &[Value]) -> Result<Doing, NoMemory>
     ensures { IfOk result (λ doing. doing ≡ rowing.sliced forms.now values.now) }
 {
     let Some((primary, indexes)) = values.split_first() else {

@@ -3,7 +3,7 @@ use crate::modes::add;
 use crate::structures::{Acts, Told, does};
 use crate::table::agrees;
 use a68_acts::Doing;
-use a68_layout::{Form, Forms};
+use a68_layout::{TrimForm, TrimForms};
 use a68_modes::{ModeId, Modes, Shape};
 use a68_perform::{applied_to_one, applied_to_two};
 use a68_rows::{displayed, rowed, sliced, vacuous};
@@ -82,28 +82,34 @@ fn ab(rt: &impl Abort, alloc: Global) -> Value {
     }
 }
 
-const SUBSCRIPT: Form = Form::Subscript;
+const SUBSCRIPT: TrimForm = TrimForm::Subscript;
 
-const WHOLE: Form = Form::Trimmer {
+const WHOLE: TrimForm = TrimForm::Trimmer {
     lower: false,
     upper: false,
     at: false,
 };
 
-const PART: Form = Form::Trimmer {
+const PART: TrimForm = TrimForm::Trimmer {
     lower: true,
     upper: true,
     at: false,
 };
 
-const MOVED: Form = Form::Trimmer {
+const MOVED: TrimForm = TrimForm::Trimmer {
     lower: true,
     upper: true,
     at: true,
 };
 
 // What comes of a slice of a value.
-fn slice(rt: &impl Abort, alloc: Global, forms: &[Form], primary: Value, indices: &[i64]) -> Doing {
+fn slice(
+    rt: &impl Abort,
+    alloc: Global,
+    forms: &[TrimForm],
+    primary: Value,
+    indices: &[i64],
+) -> Doing {
     let mut items = vec![in alloc; primary].expect(rt, "memory");
     for index in indices {
         items.push(int(*index)).expect(rt, "memory");
@@ -113,7 +119,7 @@ fn slice(rt: &impl Abort, alloc: Global, forms: &[Form], primary: Value, indices
     for form in forms {
         items.push(*form).expect(rt, "memory");
     }
-    let forms = Forms { items };
+    let forms = TrimForms { items };
     let doing = sliced(alloc, &forms, &values.items);
     drop(values);
     drop(forms);
@@ -121,7 +127,7 @@ fn slice(rt: &impl Abort, alloc: Global, forms: &[Form], primary: Value, indices
 }
 
 /// Slices of the row [2:3, 1:3] of 1 to 6, their units, and what comes of them.
-const SLICED: &[(&[Form], &[i64], &str)] = &[
+const SLICED: &[(&[TrimForm], &[i64], &str)] = &[
     (&[SUBSCRIPT, SUBSCRIPT], &[2, 1], "Int(1)"),
     (&[SUBSCRIPT, SUBSCRIPT], &[3, 2], "Int(5)"),
     (&[SUBSCRIPT, SUBSCRIPT], &[1, 1], "Bounds"),
@@ -153,7 +159,7 @@ fn slices_of_values(rt: HostRuntime) {
 }
 
 /// Slices of a name of a row [1:3] whose elements begin at cell 30, and what comes of them.
-const NAMED: &[(&[Form], &[i64], Acts, &str)] = &[
+const NAMED: &[(&[TrimForm], &[i64], Acts, &str)] = &[
     (
         &[SUBSCRIPT],
         &[3],

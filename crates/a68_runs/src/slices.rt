@@ -7,7 +7,7 @@ ghost use Rattle.a68_elab.specs.Runs as runs;
 use crate::nodes::{kind_at, parts_at};
 use crate::outcomes::{all_leave, leaves};
 use a68_annot::Annotated;
-use a68_layout::Form;
+use a68_layout::TrimForm;
 use a68_tree::{NodeId, NodeKind};
 
 // Is there a lower bound among these nodes?
@@ -38,26 +38,26 @@ fn has_at(program: &Annotated, parts: &[NodeId]) -> bool
 }
 
 /// How an index with these parts is written: a subscript is a unit, and all else a trimmer.
-pub fn form_of(program: &Annotated, parts: &[NodeId]) -> Form
+pub fn form_of(program: &Annotated, parts: &[NodeId]) -> TrimForm
     ensures { result ≡ made.form_of program.now parts.now }
 {
     let lower = has_lower(program, parts);
     let upper = has_upper(program, parts);
     let at = has_at(program, parts);
     if parts.len() == 0 || lower || upper || at {
-        Form::Trimmer { lower, upper, at }
+        TrimForm::Trimmer { lower, upper, at }
     } else {
-        Form::Subscript
+        TrimForm::Subscript
     }
 }
 
 // How many units an index that is written so has.
-fn written_units(form: Form) -> usize
+fn written_units(form: TrimForm) -> usize
     ensures { result ≡ runs.written_units form }
 {
     match form {
-        Form::Subscript => 1,
-        Form::Trimmer { lower, upper, at } => {
+        TrimForm::Subscript => 1,
+        TrimForm::Trimmer { lower, upper, at } => {
             usize::from(lower) + usize::from(upper) + usize::from(at)
         }
     }

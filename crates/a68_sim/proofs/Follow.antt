@@ -11,7 +11,7 @@ use Rattle.a68_code.specs.declared.does.Does.TheVariants as does
 use Rattle.a68_elab.specs.Positions.{within, OpensIn, in_this, past}
 use Rattle.a68_elab.specs.Rows.{meets, acts, within_frame, body_in}
 use Rattle.a68_elab.specs.Terms.{only, Job, operating, resuming, gathering, preceding, ending, ranged, choosing, casing, conforming, specifying, tagging, passing, chosen, limiting, counting, stepping, turning, opening, naming, indexing, ranging, testing, running, advancing, quitting, leaving, calling, entering, binding, inside, forking, joining, closing, Term, todo, part, yielded, unit_of, Terms, no_terms, ◌and_term◌, todos, order_of}
-use Rattle.a68_elab.specs.Trees.{Tree, Trees, operation, together, phrases, range, choice, cases, conformity, loop, call, parallel, unbuilt, Turns, no_trees, ◌and_tree◌, count, Order, Body, Program, texts_of}
+use Rattle.a68_elab.specs.Trees.{Tree, Trees, operation, together, phrases, range, choice, cases, conformity, loop, call, parallel, meaningless, Turns, no_trees, ◌and_tree◌, count, Order, Body, Program, texts_of}
 use Rattle.a68_gen.specs.Stretches.{Has, Stands, StandAll, member_places, wholes_of, leave}
 use Rattle.a68_sim.proofs.Conforming.{conforming_done, specifying_done, tagging_done, passing_done}
 use Rattle.a68_sim.proofs.Calling.{calling_done, entering_done, binding_one, inside_done}
@@ -186,7 +186,7 @@ module _ (program : Program) (code : Code) (same : code.modes ≡ program.modes)
         let z = s.stands in
         progress_row program code _ _ _ st refl
         (moved _ _ st _ (s.state ∙ ap (λ x. idle s.a base x) (sym s.chain)) (forking_done program code b base home g p numbers c s.a [] (z.1, s.chain, z.0, z.3, z.4)))
-    tree_progress unbuilt c b base home g st s = absurd s.stands
+    tree_progress meaningless c b base home g st s = absurd s.stands
 
     -- parts that are reached, behind those that have yielded
     trees_progress : (trees : Trees) (job : Job) (ch : List Environ) (acc : List Content) (a k b : ℕ) (base : List Item) (home : List Environ) (g : Bool) (st : State)

@@ -23,7 +23,7 @@ use Rattle.a68_acts.specs.declared.want.Want.TheVariants as want
 use Rattle.a68_layout.specs.Rooms.{planned, planned_for, planned_elements}
 use Rattle.a68_layout.specs.Views.{bounds_of, cells_seen, new_row, parts_in, part_of, view}
 use Rattle.a68_layout.specs.Widths.{most_cells, cells_of}
-use Rattle.a68_layout.specs.declared.types.Form.{Form}
+use Rattle.a68_layout.specs.declared.types.TrimForm.{TrimForm}
 use Rattle.a68_layout.specs.declared.types.Plan.{Plan}
 use Rattle.a68_layout.specs.declared.types.Trim.{Trim}
 use Rattle.a68_modes.specs.Nodes.{shape_at, is_plain, is_void}
@@ -294,15 +294,15 @@ sliced_by-forkless (plain value.Nil) trims = refl
 sliced_by-forkless (plain (value.Name n)) trims = refl
 sliced_by-forkless _ trims = refl
 
-set-forkless : (forms : List Form) (v : Content) (is : Result (List ℤ) FaultKind) → Forkless (rowing.sliced_set forms v is)
+set-forkless : (forms : List TrimForm) (v : Content) (is : Result (List ℤ) FaultKind) → Forkless (rowing.sliced_set forms v is)
 set-forkless forms v (Ok is) = sliced_by-forkless v (rowing.trims_of forms is)
 set-forkless forms v (Err why) = refl
 
-with-forkless : (forms : List Form) (v : Content) (is : Result (List ℤ) FaultKind) → Forkless (rowing.sliced_with forms v is)
+with-forkless : (forms : List TrimForm) (v : Content) (is : Result (List ℤ) FaultKind) → Forkless (rowing.sliced_with forms v is)
 with-forkless forms (plain value.Unset) is = refl
 with-forkless forms v is = set-forkless forms v is
 
-sliced-forkless : (forms : List Form) (vs : List Content) → Forkless (rowing.sliced forms vs)
+sliced-forkless : (forms : List TrimForm) (vs : List Content) → Forkless (rowing.sliced forms vs)
 sliced-forkless forms [] = refl
 sliced-forkless forms (v ∷ vs) = with-forkless forms v (rowing.ints_of vs)
 

@@ -1,6 +1,6 @@
 //! What a strand shows of itself.
 ghost use Rattle.std.specs.Prelude.{◌≡◌, ℕ};
-ghost use Rattle.a68_strand.specs.Bodies.{StaysWhereAsking, units_in, waiting_in};
+ghost use Rattle.a68_strand.specs.Bodies.{StaysWhereAsking, units_awaited_in, waiting_in};
 
 use crate::body::About;
 use crate::{Ask, Waiting};
@@ -8,8 +8,8 @@ use a68_acts::Want;
 use std::mem;
 
 // The units that are waited for, the first one and how many; none where no units are.
-fn units_in(waiting: &Waiting) -> (u32, usize)
-    ensures { result ≡ units_in waiting.now }
+fn units_awaited_in(waiting: &Waiting) -> (u32, usize)
+    ensures { result ≡ units_awaited_in waiting.now }
 {
     match waiting {
         Waiting::Units { first, count } => (*first, *count),
@@ -46,9 +46,9 @@ impl About {
 
     /// The units that are waited for.
     pub fn units(&self) -> (u32, usize)
-        ensures { result ≡ units_in self.now.waiting }
+        ensures { result ≡ units_awaited_in self.now.waiting }
     {
-        units_in(&self.waiting)
+        units_awaited_in(&self.waiting)
     }
 
     /// Takes out what is done with the reply.

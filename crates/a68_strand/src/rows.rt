@@ -6,7 +6,7 @@ ghost use Rattle.a68_modes.specs.Nodes.{shape_at};
 ghost use Rattle.a68_modes.specs.declared.shape.Shape.{Shape};
 ghost use Rattle.a68_acts.specs.Operations as operations;
 ghost use Rattle.a68_acts.specs.Rowing as rowing;
-ghost use Rattle.a68_code.specs.Flow.{units_of};
+ghost use Rattle.a68_code.specs.Flow.{values_of_trims};
 ghost use Rattle.a68_strand.specs.Bodies.{state_of, stance_of, StaysWhereAsking};
 ghost use Rattle.a68_strand.specs.Machine.{operates};
 
@@ -16,14 +16,14 @@ use crate::{Ask, Stance};
 use a68_acts::Doing;
 use a68_base::NoMemory;
 use a68_code::slice_takes;
-use a68_layout::Forms;
+use a68_layout::TrimForms;
 use a68_modes::{ModeId, Modes};
 use a68_rows::{displayed, rowed, rowed_name, sliced, vacuous, widened};
 use a68_values::{FaultKind, Values};
 use std::alloc::Global;
 
 // A slice of values, the latest of which comes first.
-fn sliced_of(alloc: Global, forms: &Forms, latest_first: Values) -> Result<Doing, NoMemory>
+fn sliced_of(alloc: Global, forms: &TrimForms, latest_first: Values) -> Result<Doing, NoMemory>
     ensures { IfOk result (λ doing. doing ≡ rowing.sliced forms.now (reverse latest_first)) }
 {
     let mut values = latest_first;
@@ -35,7 +35,7 @@ fn sliced_of(alloc: Global, forms: &Forms, latest_first: Values) -> Result<Doing
 // Slice, on so many values.
 fn slice_values(
     alloc: Global,
-    forms: &Forms,
+    forms: &TrimForms,
     count: usize,
     body: &mut Body,
     about: &mut About,
@@ -53,8 +53,8 @@ fn slice_values(
 }
 
 // How many values a slice takes; none where there are fewer.
-fn takes_within(forms: &Forms, most: usize) -> Option<usize>
-    ensures { MatchOption result (most < suc (units_of forms.now)) (λ count. count ≡ suc (units_of forms.now)) }
+fn takes_within(forms: &TrimForms, most: usize) -> Option<usize>
+    ensures { MatchOption result (most < suc (values_of_trims forms.now)) (λ count. count ≡ suc (values_of_trims forms.now)) }
 {
     let Some(count) = slice_takes(&forms.items) else {
         return None;
@@ -68,13 +68,13 @@ fn takes_within(forms: &Forms, most: usize) -> Option<usize>
 /// Slice.
 pub fn slice(
     alloc: Global,
-    forms: &Forms,
+    forms: &TrimForms,
     body: &mut Body,
     about: &mut About,
 ) -> Result<(), NoMemory>
     requires at { body.old.at < 2 ^ 32 - 1 }
     requires idle { about.old.ask ≡ Ask.NoMemory }
-    ensures state { (modes : List Shape) → OnOk result (state_of body.new (stance_of about.new) ≡ operates modes (state_of body.old Stance.Idle) (operations.slice forms.now) (suc (units_of forms.now))) }
+    ensures state { (modes : List Shape) → OnOk result (state_of body.new (stance_of about.new) ≡ operates modes (state_of body.old Stance.Idle) (operations.slice forms.now) (suc (values_of_trims forms.now))) }
     ensures stays { OnOk result (StaysWhereAsking about.new.ask body.old.at body.new.at) }
 {
     let most = body.stack.len();

@@ -1,8 +1,8 @@
 -- What the front of a text gives is one.
 use Rattle.std.proofs.Common.{◌≡◌, ℕ, ◌-◌, ◌≤◌, List, [], ◌∷◌, ◌++◌, length, slice_index, take, refl, sym, ap, subst, ◌∙◌, inl, inr, arith}
 use Rattle.a68_denote.specs.Strings.{IsQuoted}
-use Rattle.a68_symbols.specs.declared.form.Form.{Form}
-use Rattle.a68_symbols.specs.declared.form.Form.TheVariants.{Layout, SharpComment, WordComment, OpenComment, Word, Tag, Number, Quoted, OpenString, Mark}
+use Rattle.a68_symbols.specs.declared.form.StretchForm.{StretchForm}
+use Rattle.a68_symbols.specs.declared.form.StretchForm.TheVariants.{Layout, SharpComment, WordComment, OpenComment, Word, Tag, Number, Quoted, OpenString, Mark}
 use Rattle.a68_symbols.specs.declared.form.Given.{Given}
 use Rattle.a68_symbols.specs.Forms.{Is, IsRun, IsSharpComment, IsOpenComment, IsWordComment, IsOpenString, Longest}
 use Rattle.a68_symbols.specs.Gives.{gives}
@@ -32,7 +32,7 @@ no_string text n q i =
       | inr same ↦ let f = same.1 in cc
     ]
 
-one_form : (f g : Form) (text : List ℕ) (n : ℕ) → n ≤ length text → start_of g ≡ start_of f → Is f text n → Is g text n → g ≡ f
+one_form : (f g : StretchForm) (text : List ℕ) (n : ℕ) → n ≤ length text → start_of g ≡ start_of f → Is f text n → Is g text n → g ≡ f
 one_form Layout Layout text n le e i j = refl
 one_form SharpComment SharpComment text n le e i j = refl
 one_form SharpComment OpenComment text n le e i j = absurd (no_sharp text n i j)
@@ -51,13 +51,13 @@ one_form OpenString OpenString text n le e i j = refl
 one_form Mark Mark text n le e i j = refl
 one_form _ _ text n le e i j = cc
 
-same_length : (text : List ℕ) (f g : Form) (n m : ℕ) → Longest text f n → Longest text g m → m ≡ n
+same_length : (text : List ℕ) (f g : StretchForm) (n m : ℕ) → Longest text f n → Longest text g m → m ≡ n
 same_length text f g n m a b =
     let up : n ≤ m = b.longest f n a.within a.is in
     let down : m ≤ n = a.longest g m b.within b.is in
     omega arith
 
-same_form : (text : List ℕ) (f g : Form) (n m : ℕ) → Longest text f n → Longest text g m → g ≡ f
+same_form : (text : List ℕ) (f g : StretchForm) (n m : ℕ) → Longest text f n → Longest text g m → g ≡ f
 same_form text f g n m a b =
     let here : Is g text n = subst (λ (k : ℕ). Is g text k) (same_length text f g n m a b) b.is in
     one_form f g text n a.within (one_start (start_of f) (start_of g) (slice_index text 0) (begins f text n a.is) (begins g text m b.is)) a.is here
@@ -69,7 +69,7 @@ one_front (front_is {f = f} {n = n} l e) (front_none some none) = absurd (none f
 one_front {text} (front_is {f = f} {n = n} l e) (front_is {f = f'} {n = m} l' e') =
     let long = same_length text f f' n m l l' in
     let form = same_form text f f' n m l l' in
-    (sym e' ∙ ap (λ (k : Form). gives k (take m text)) form ∙ ap (λ (k : ℕ). gives f (take k text)) long ∙ e, long)
+    (sym e' ∙ ap (λ (k : StretchForm). gives k (take m text)) form ∙ ap (λ (k : ℕ). gives f (take k text)) long ∙ e, long)
 
 pub no_front : {g : Given} {n : ℕ} → Front [] g n → ⊥
 no_front (front_none some none) = omega arith

@@ -2,8 +2,8 @@
 use Rattle.std.proofs.Common.{◌≡◌, ◌≢◌, ℕ, zero, suc, ◌+◌, ◌-◌, ◌<◌, ◌≤◌, Bool, true, false, List, [], ◌∷◌, length, slice_index, take, refl, inl, inr, arith}
 use Rattle.std.proofs.lemmas.Bool.{cases_lt}
 use Rattle.std.proofs.lemmas.Bool.Decides.{nat_tests}
-use Rattle.a68_symbols.specs.declared.form.Form.{Form}
-use Rattle.a68_symbols.specs.declared.form.Form.TheVariants.{Layout, SharpComment, WordComment, OpenComment, Word, Tag, Number, Quoted, OpenString, Mark}
+use Rattle.a68_symbols.specs.declared.form.StretchForm.{StretchForm}
+use Rattle.a68_symbols.specs.declared.form.StretchForm.TheVariants.{Layout, SharpComment, WordComment, OpenComment, Word, Tag, Number, Quoted, OpenString, Mark}
 use Rattle.a68_symbols.specs.Bytes.{is_layout, is_capital, is_small, is_digit, in_word, in_tag, ends_tag}
 use Rattle.a68_symbols.specs.Words.{is_opener}
 use Rattle.a68_symbols.specs.Forms.{Is, IsRun, IsSharpComment, IsWordComment, IsWholeWord, Longest, NoForm, Each}
@@ -20,7 +20,7 @@ sharp_longest text n b r = longest_of SharpComment text (n + 1) is (omega (arith
     is : IsSharpComment text (n + 1)
     is = record { two = omega (arith, r.low); opens = b; inside = λ k low high. r.inside k low (omega arith); closes = last }
 
-    own : (g : Form) → start_of g ≡ start_of SharpComment → (m : ℕ) → m ≤ length text → Is g text m → m ≤ n + 1
+    own : (g : StretchForm) → start_of g ≡ start_of SharpComment → (m : ℕ) → m ≤ length text → Is g text m → m ≤ n + 1
     own SharpComment e m le i = elim (cases_lt (n + 1) m) [ inl lt ↦ absurd (i.inside n r.low (omega arith) r.is) | inr ge ↦ ge ]
     own OpenComment e m le i = elim (cases_lt n m) [ inl lt ↦ absurd (i.inside n r.low lt r.is) | inr ge ↦ omega arith ]
     own _ e m le i = cc
@@ -68,7 +68,7 @@ word_longest text n w none = longest_of Word text n is w.within own
       ends = w.goes_on (n - 1) (omega arith) (omega (arith, w.some));
     }
 
-    own : (g : Form) → start_of g ≡ start_of Word → (m : ℕ) → m ≤ length text → Is g text m → m ≤ n
+    own : (g : StretchForm) → start_of g ≡ start_of Word → (m : ℕ) → m ≤ length text → Is g text m → m ≤ n
     own Word e m le i = word_most text n m w le i
     own WordComment e m le i = absurd (none m i)
     own _ e m le i = cc
@@ -87,7 +87,7 @@ comment_longest text n at w opener r = longest_of WordComment text (at + n) is r
     is : IsWordComment text (at + n)
     is = record { width = n; opens = w; opener = opener; at = at; behind = r.behind; closes = r.closes; first = r.first; whole = refl }
 
-    own : (g : Form) → start_of g ≡ start_of WordComment → (m : ℕ) → m ≤ length text → Is g text m → m ≤ at + n
+    own : (g : StretchForm) → start_of g ≡ start_of WordComment → (m : ℕ) → m ≤ length text → Is g text m → m ≤ at + n
     own Word e m le i = let most = word_most text n m w le i in omega (arith, most)
     own WordComment e m le i =
         let e = one_width text n i.width w i.opens in
@@ -119,14 +119,14 @@ digit_also b e = grind (arith, nat_tests)
 pub tag_longest : (text : List ℕ) (n : ℕ) → is_small (slice_index text 0) ≡ true → IsLongestTag text n → Longest text Tag n
 tag_longest text n b r = longest_of Tag text n (run_is is_small text n small_also b r) r.within own
   where
-    own : (g : Form) → start_of g ≡ start_of Tag → (m : ℕ) → m ≤ length text → Is g text m → m ≤ n
+    own : (g : StretchForm) → start_of g ≡ start_of Tag → (m : ℕ) → m ≤ length text → Is g text m → m ≤ n
     own Tag e m le i = run_own is_small text n r m le i
     own _ e m le i = cc
 
 pub number_longest : (text : List ℕ) (n : ℕ) → is_digit (slice_index text 0) ≡ true → IsLongestTag text n → Longest text Number n
 number_longest text n b r = longest_of Number text n (run_is is_digit text n digit_also b r) r.within own
   where
-    own : (g : Form) → start_of g ≡ start_of Number → (m : ℕ) → m ≤ length text → Is g text m → m ≤ n
+    own : (g : StretchForm) → start_of g ≡ start_of Number → (m : ℕ) → m ≤ length text → Is g text m → m ≤ n
     own Number e m le i = run_own is_digit text n r m le i
     own _ e m le i = cc
 
@@ -135,14 +135,14 @@ number_longest text n b r = longest_of Number text n (run_is is_digit text n dig
 pub layout_longest : (text : List ℕ) → 0 < length text → is_layout (slice_index text 0) ≡ true → Longest text Layout 1
 layout_longest text some b = longest_of Layout text 1 (refl, b) (omega arith) own
   where
-    own : (g : Form) → start_of g ≡ start_of Layout → (m : ℕ) → m ≤ length text → Is g text m → m ≤ 1
+    own : (g : StretchForm) → start_of g ≡ start_of Layout → (m : ℕ) → m ≤ length text → Is g text m → m ≤ 1
     own Layout e m le i = omega (arith, i.0)
     own _ e m le i = cc
 
 pub mark_longest : (text : List ℕ) (n : ℕ) → 0 < n → IsLongestMark text n → Longest text Mark n
 mark_longest text n some r = longest_of Mark text n (elim r.is [ inl e ↦ absurd (omega (arith, e)) | inr is ↦ is ]) r.within own
   where
-    own : (g : Form) → start_of g ≡ start_of Mark → (m : ℕ) → m ≤ length text → Is g text m → m ≤ n
+    own : (g : StretchForm) → start_of g ≡ start_of Mark → (m : ℕ) → m ≤ length text → Is g text m → m ≤ n
     own Mark e m le i = elim (cases_lt n m) [ inl lt ↦ absurd (r.longest m lt le i) | inr ge ↦ ge ]
     own _ e m le i = cc
 

@@ -5,8 +5,8 @@ use Rattle.std.proofs.lemmas.Bool.{cases_lt, eqb-true, eqb-false}
 use Rattle.std.proofs.lemmas.List.{length-append, length-take, length-drop, take_more, take-append-drop}
 use Rattle.a68_base.proofs.Slices.{rest_at}
 use Rattle.a68_denote.specs.Strings.{IsQuoted}
-use Rattle.a68_symbols.specs.declared.form.Form.{Form}
-use Rattle.a68_symbols.specs.declared.form.Form.TheVariants.{Quoted, OpenString}
+use Rattle.a68_symbols.specs.declared.form.StretchForm.{StretchForm}
+use Rattle.a68_symbols.specs.declared.form.StretchForm.TheVariants.{Quoted, OpenString}
 use Rattle.a68_symbols.specs.Forms.{Is, IsOpenString, Longest}
 use Rattle.a68_symbols.specs.Runs.{item_width, AreItems}
 use Rattle.a68_symbols.proofs.Starts.{start_of, longest_of}
@@ -78,7 +78,7 @@ module _ (text : List ℕ) (n : ℕ) (some : 0 < length text) (b : slice_index t
         },
       )
 
-      own : (g : Form) → start_of g ≡ start_of Quoted → (m : ℕ) → m ≤ length text → Is g text m → m ≤ n + 1
+      own : (g : StretchForm) → start_of g ≡ start_of Quoted → (m : ℕ) → m ≤ length text → Is g text m → m ≤ n + 1
       own Quoted e m le i = elim (quoted_of m le i) [ inl most ↦ omega (arith, most) | inr one ↦ omega (arith, one.0) ]
       own OpenString e m le i = omega (arith, open_of m le i)
       own _ e m le i = cc
@@ -95,7 +95,7 @@ module _ (text : List ℕ) (n : ℕ) (some : 0 < length text) (b : slice_index t
       is : IsOpenString text n
       is = record { items = take (n - 1) (drop 1 text); bytes = r.bytes; stand_for = r.stand_for; spelled = spelled; whole = whole }
 
-      own : (g : Form) → start_of g ≡ start_of OpenString → (m : ℕ) → m ≤ length text → Is g text m → m ≤ n
+      own : (g : StretchForm) → start_of g ≡ start_of OpenString → (m : ℕ) → m ≤ length text → Is g text m → m ≤ n
       own Quoted e m le i = elim (quoted_of m le i) [
         | inl most ↦ most
         | inr one ↦

@@ -3,8 +3,8 @@ use Rattle.std.proofs.Common.{◌≡◌, ℕ, zero, suc, ◌<◌, ◌≤◌, Boo
 use Rattle.std.specs.Prelude.{nat_eq}
 use Rattle.std.proofs.lemmas.Bool.{cases_lt}
 use Rattle.std.proofs.lemmas.Bool.Decides.{nat_tests}
-use Rattle.a68_symbols.specs.declared.form.Form.{Form}
-use Rattle.a68_symbols.specs.declared.form.Form.TheVariants.{Layout, SharpComment, WordComment, OpenComment, Word, Tag, Number, Quoted, OpenString, Mark}
+use Rattle.a68_symbols.specs.declared.form.StretchForm.{StretchForm}
+use Rattle.a68_symbols.specs.declared.form.StretchForm.TheVariants.{Layout, SharpComment, WordComment, OpenComment, Word, Tag, Number, Quoted, OpenString, Mark}
 use Rattle.a68_symbols.specs.Bytes.{is_layout, is_capital, is_small, is_digit}
 use Rattle.a68_symbols.specs.Marks.{is_mark, is_lone, begins_operator}
 use Rattle.a68_symbols.specs.Forms.{Is, Longest}
@@ -19,7 +19,7 @@ pub data Start : Type 0 where
   at_quote : Start
   at_mark : Start
 
-abbrev pub start_of : Form → Start
+abbrev pub start_of : StretchForm → Start
 start_of Layout = at_layout
 start_of SharpComment = at_sharp
 start_of OpenComment = at_sharp
@@ -122,7 +122,7 @@ quote_first text more zero e = cc
 quote_first [] more (suc n) e = cc
 quote_first (a ∷ text) more (suc n) e = cc
 
-pub begins : (f : Form) (text : List ℕ) (n : ℕ) → Is f text n → Begins (start_of f) (slice_index text 0)
+pub begins : (f : StretchForm) (text : List ℕ) (n : ℕ) → Is f text n → Begins (start_of f) (slice_index text 0)
 begins Layout text n i = layout_range _ i.1
 begins SharpComment text n i = i.opens
 begins OpenComment text n i = i.opens
@@ -135,8 +135,8 @@ begins OpenString text n i = quote_first text _ n i.spelled
 begins Mark text n i = mark_bytes _ (mark_first text n i)
 
 -- longest among the forms of its beginning is longest
-pub longest_of : (f : Form) (text : List ℕ) (n : ℕ) → Is f text n → n ≤ length text
-    → ((g : Form) → start_of g ≡ start_of f → (m : ℕ) → m ≤ length text → Is g text m → m ≤ n) → Longest text f n
+pub longest_of : (f : StretchForm) (text : List ℕ) (n : ℕ) → Is f text n → n ≤ length text
+    → ((g : StretchForm) → start_of g ≡ start_of f → (m : ℕ) → m ≤ length text → Is g text m → m ≤ n) → Longest text f n
 longest_of f text n is within own = record {
   is = is;
   within = within;
@@ -147,7 +147,7 @@ take_some : (text more : List ℕ) (b n : ℕ) → take n text ≡ b ∷ more �
 take_some text more b zero e = cc
 take_some text more b (suc n) e = omega arith
 
-pub is_some : (f : Form) (text : List ℕ) (n : ℕ) → Is f text n → 0 < n
+pub is_some : (f : StretchForm) (text : List ℕ) (n : ℕ) → Is f text n → 0 < n
 is_some Layout text n i = omega (arith, i.0)
 is_some SharpComment text n i = omega (arith, i.two)
 is_some OpenComment text n i = i.some

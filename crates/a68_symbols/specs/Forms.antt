@@ -1,8 +1,8 @@
 -- The forms that stretches of a text can have: symbols, layout, comments and pragmats; and those that have no end.
 use Rattle.std.specs.Prelude.{◌≡◌, ◌≢◌, ℕ, ◌+◌, ◌-◌, ◌<◌, ◌≤◌, ◌⊎◌, Bool, true, false, List, ◌∷◌, length, slice_index, take, drop}
 use Rattle.a68_denote.specs.Strings.{StandFor, IsQuoted}
-use Rattle.a68_symbols.specs.declared.form.Form.{Form}
-use Rattle.a68_symbols.specs.declared.form.Form.TheVariants.{Layout, SharpComment, WordComment, OpenComment, Word, Tag, Number, Quoted, OpenString, Mark}
+use Rattle.a68_symbols.specs.declared.form.StretchForm.{StretchForm}
+use Rattle.a68_symbols.specs.declared.form.StretchForm.TheVariants.{Layout, SharpComment, WordComment, OpenComment, Word, Tag, Number, Quoted, OpenString, Mark}
 use Rattle.a68_symbols.specs.Bytes.{is_layout, is_capital, is_small, is_digit, in_word, in_tag, ends_tag}
 use Rattle.a68_symbols.specs.Words.{is_opener}
 use Rattle.a68_symbols.specs.Marks.{is_mark}
@@ -66,7 +66,7 @@ pub record IsOpenString (text : List ℕ) (n : ℕ) : Type 0 where
   pub whole : (n ≡ length text) ⊎ (slice_index text n ≡ 10)
 
 -- the first n bytes of the text are of that form
-abbrev pub Is : Form → List ℕ → ℕ → Type 0
+abbrev pub Is : StretchForm → List ℕ → ℕ → Type 0
 Is Layout text n = (n ≡ 1) × (is_layout (slice_index text 0) ≡ true)
 Is SharpComment text n = IsSharpComment text n
 Is WordComment text n = IsWordComment text n
@@ -79,11 +79,11 @@ Is OpenString text n = IsOpenString text n
 Is Mark text n = is_mark (take n text) ≡ true
 
 -- the longest stretch from the front of the text that has a form
-pub record Longest (text : List ℕ) (f : Form) (n : ℕ) : Type 0 where
+pub record Longest (text : List ℕ) (f : StretchForm) (n : ℕ) : Type 0 where
   pub is : Is f text n
   pub within : n ≤ length text
-  pub longest : (g : Form) (m : ℕ) → m ≤ length text → Is g text m → m ≤ n
+  pub longest : (g : StretchForm) (m : ℕ) → m ≤ length text → Is g text m → m ≤ n
 
 -- no stretch from the front of the text has a form
 abbrev pub NoForm : List ℕ → Type 0
-NoForm text = (g : Form) (m : ℕ) → m ≤ length text → Is g text m → ⊥
+NoForm text = (g : StretchForm) (m : ℕ) → m ≤ length text → Is g text m → ⊥

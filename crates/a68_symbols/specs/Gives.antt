@@ -3,8 +3,8 @@ use Rattle.std.specs.Prelude.{ℕ, List, if◌then◌else◌}
 use Rattle.std.specs.Option.{is_some}
 use Rattle.a68_base.specs.declared.refusal.Rule.TheVariants.{S1, S3, S5}
 use Rattle.a68_denote.specs.Numbers.{int_in, bits_in}
-use Rattle.a68_symbols.specs.declared.form.Form.{Form}
-use Rattle.a68_symbols.specs.declared.form.Form.TheVariants as forms
+use Rattle.a68_symbols.specs.declared.form.StretchForm.{StretchForm}
+use Rattle.a68_symbols.specs.declared.form.StretchForm.TheVariants as forms
 use Rattle.a68_symbols.specs.declared.form.Given.{Given}
 use Rattle.a68_symbols.specs.declared.form.Given.TheVariants.{Nothing, Symbol, Broken}
 use Rattle.a68_symbols.specs.declared.symbol.SymbolKind.TheVariants.{Word, Tag, Number, BitsNumber, Quoted, Mark}
@@ -19,7 +19,7 @@ word_gives s = if is_opener s then Broken S1 else (if is_left_out s then Broken 
 abbrev pub number_gives : List ℕ → Given
 number_gives s = if is_some (int_in s) then Symbol Number else (if is_some (bits_in s) then Symbol BitsNumber else Broken S5)
 
-abbrev pub gives : Form → List ℕ → Given
+abbrev pub gives : StretchForm → List ℕ → Given
 gives forms.Layout s = Nothing
 gives forms.SharpComment s = Nothing
 gives forms.WordComment s = Nothing

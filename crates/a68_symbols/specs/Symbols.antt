@@ -5,7 +5,7 @@ use Rattle.a68_base.specs.declared.refusal.Rule.{Rule}
 use Rattle.a68_base.specs.declared.refusal.Rule.TheVariants.{S2, L1, L2}
 use Rattle.a68_base.specs.declared.refusal.Stop.{Stop}
 use Rattle.a68_base.specs.declared.refusal.Stop.TheVariants.{Refused, NoMemory}
-use Rattle.a68_symbols.specs.declared.form.Form.{Form}
+use Rattle.a68_symbols.specs.declared.form.StretchForm.{StretchForm}
 use Rattle.a68_symbols.specs.declared.form.Given.{Given}
 use Rattle.a68_symbols.specs.declared.form.Given.TheVariants as given
 use Rattle.a68_symbols.specs.declared.symbol.SymbolKind.{SymbolKind}
@@ -27,7 +27,7 @@ piece_of s = record { kind = s.kind; span = s.span }
 -- stretch has a form.
 pub data Front : List ℕ → Given → ℕ → Type 0 where
   front_none : {text : List ℕ} → 0 < length text → NoForm text → Front text (given.Broken S2) 0
-  front_is : {text : List ℕ} {g : Given} {f : Form} {n : ℕ} → Longest text f n → gives f (take n text) ≡ g → Front text g n
+  front_is : {text : List ℕ} {g : Given} {f : StretchForm} {n : ℕ} → Longest text f n → gives f (take n text) ≡ g → Front text g n
 
 -- The text, which begins at byte `at` behind `before` symbols, is cut into longest stretches, to its end, and these
 -- give the symbols. Layout, comments and pragmats give none.

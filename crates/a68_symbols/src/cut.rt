@@ -9,7 +9,7 @@ ghost use Rattle.a68_symbols.specs.Symbols.{Answers, Collects, HasSymbols, IsRef
 
 use crate::Symbols;
 use crate::collector::Collector;
-use crate::form::{Form, Given};
+use crate::form::{Given, StretchForm};
 use crate::judge::judge;
 use crate::stretch::longest;
 use a68_base::{MOST_BYTES, MOST_SYMBOLS, Refusal, Rule, Span, Stop};
@@ -25,7 +25,7 @@ fn refused(rule: Rule, place: u32) -> Stop
 fn keep(
     alloc: Global,
     found: &mut Collector,
-    form: Form,
+    form: StretchForm,
     stretch: &[u8],
     span: Span,
 ) -> Result<(), Stop>

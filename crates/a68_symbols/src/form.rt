@@ -4,7 +4,7 @@ use a68_base::Rule;
 
 /// The forms that a stretch of a text can have (Report, 8 and 9).
 #[derive(Clone, Copy, PartialEq, Eq)]
-pub enum Form {
+pub enum StretchForm {
     /// One byte of layout.
     Layout,
     /// A comment between two `#`.

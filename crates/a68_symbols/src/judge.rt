@@ -6,7 +6,7 @@ ghost use Rattle.a68_symbols.specs.Words as words;
 use crate::SymbolKind;
 use crate::bytes::without_layout;
 use crate::comments::is_opener;
-use crate::form::{Form, Given};
+use crate::form::{Given, StretchForm};
 use a68_base::{NoMemory, Rule, is_listed};
 use a68_denote::{bits_of, int_of};
 use std::alloc::Global;
@@ -47,19 +47,21 @@ fn judge_number(spelling: &[u8]) -> Given
 }
 
 /// What a stretch of that form gives.
-pub fn judge(alloc: Global, form: Form, stretch: &[u8]) -> Result<Given, NoMemory>
+pub fn judge(alloc: Global, form: StretchForm, stretch: &[u8]) -> Result<Given, NoMemory>
     ensures { IfOk result (λ given. given ≡ specs.gives form stretch.now) }
 {
     match form {
-        Form::Layout | Form::SharpComment | Form::WordComment => Ok(Given::Nothing),
-        Form::OpenComment | Form::OpenString => Ok(Given::Broken(Rule::S1)),
-        Form::Word => Ok(judge_word(stretch)),
-        Form::Tag => Ok(Given::Symbol(SymbolKind::Tag)),
-        Form::Number => {
+        StretchForm::Layout | StretchForm::SharpComment | StretchForm::WordComment => Ok(
+            Given::Nothing,
+        ),
+        StretchForm::OpenComment | StretchForm::OpenString => Ok(Given::Broken(Rule::S1)),
+        StretchForm::Word => Ok(judge_word(stretch)),
+        StretchForm::Tag => Ok(Given::Symbol(SymbolKind::Tag)),
+        StretchForm::Number => {
             let spelling = without_layout(alloc, stretch)?;
             Ok(judge_number(&spelling))
         }
-        Form::Quoted => Ok(Given::Symbol(SymbolKind::Quoted)),
-        Form::Mark => Ok(Given::Symbol(SymbolKind::Mark)),
+        StretchForm::Quoted => Ok(Given::Symbol(SymbolKind::Quoted)),
+        StretchForm::Mark => Ok(Given::Symbol(SymbolKind::Mark)),
     }
 }

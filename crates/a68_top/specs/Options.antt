@@ -6,8 +6,8 @@ use Rattle.std.specs.declared.option.Option.{Option}
 use Rattle.a68_base.specs.declared.limits.TheConstants.{MOST_FUEL}
 use Rattle.a68_denote.specs.Numbers.{int_in}
 use Rattle.a68_workers.specs.Workers.{most_workers}
-use Rattle.a68_top.specs.declared.options.Due.{Due}
-use Rattle.a68_top.specs.declared.options.Due.TheVariants.{Word, Workers, Fuel, Operand}
+use Rattle.a68_top.specs.declared.options.NextWord.{NextWord}
+use Rattle.a68_top.specs.declared.options.NextWord.TheVariants.{Word, Workers, Fuel, Operand}
 use Rattle.a68_top.specs.declared.options.Found.{Found}
 
 -- the workers and the fuel are such as a run may have
@@ -70,7 +70,7 @@ any_word found at word =
     else (if bytes_eq word (codes "--names") then with_names found
     else (if is_operand word then with_file found at else joined found word))))
 
-abbrev pub by_due : Due → Found → (at : ℕ) → List ℕ → Option Found
+abbrev pub by_due : NextWord → Found → (at : ℕ) → List ℕ → Option Found
 by_due Word found at word = any_word found at word
 by_due Workers found at word = workers_in found word
 by_due Fuel found at word = fuel_in found word

@@ -12,7 +12,7 @@ const MOST_WORKERS: u32 = 64;
 
 /// What the next word is.
 #[derive(Clone, Copy)]
-pub enum Due {
+pub enum NextWord {
     /// An option or an operand.
     Word,
     /// The number of workers.
@@ -26,7 +26,7 @@ pub enum Due {
 /// What the words give so far.
 #[derive(Clone, Copy)]
 pub struct Found {
-    pub due: Due,
+    pub due: NextWord,
     /// The number of the word that names the file.
     pub file: Option<usize>,
     pub workers: Option<u32>,
@@ -67,7 +67,7 @@ fn workers_in(found: Found, word: &[u8]) -> Option<Found>
 {
     match number_in(MOST_WORKERS, word) {
         Some(workers) if found.workers.is_none() => Some(Found {
-            due: Due::Word,
+            due: NextWord::Word,
             workers: Some(workers),
             ..found
         }),
@@ -83,7 +83,7 @@ fn fuel_in(found: Found, word: &[u8]) -> Option<Found>
 {
     match number_in(MOST_FUEL, word) {
         Some(fuel) if found.fuel.is_none() => Some(Found {
-            due: Due::Word,
+            due: NextWord::Word,
             fuel: Some(fuel),
             ..found
         }),
@@ -152,19 +152,19 @@ fn any_word(found: Found, at: usize, word: &str) -> Option<Found>
 {
     if word == "--" {
         return Some(Found {
-            due: Due::Operand,
+            due: NextWord::Operand,
             ..found
         });
     }
     if word == "--workers" {
         return Some(Found {
-            due: Due::Workers,
+            due: NextWord::Workers,
             ..found
         });
     }
     if word == "--fuel" {
         return Some(Found {
-            due: Due::Fuel,
+            due: NextWord::Fuel,
             ..found
         });
     }
@@ -185,10 +185,10 @@ fn step(found: Found, at: usize, word: &str) -> Option<Found>
     ensures range { IfSome result HasRange }
 {
     match found.due {
-        Due::Word => any_word(found, at, word),
-        Due::Workers => workers_in(found, word.as_bytes()),
-        Due::Fuel => fuel_in(found, word.as_bytes()),
-        Due::Operand => with_file(found, at),
+        NextWord::Word => any_word(found, at, word),
+        NextWord::Workers => workers_in(found, word.as_bytes()),
+        NextWord::Fuel => fuel_in(found, word.as_bytes()),
+        NextWord::Operand => with_file(found, at),
     }
 }
 
@@ -198,7 +198,7 @@ pub fn found_in(words: &[String]) -> Option<Found>
     ensures range { IfSome result HasRange }
 {
     let mut found = Found {
-        due: Due::Word,
+        due: NextWord::Word,
         file: None,
         workers: None,
         fuel: None,

@@ -2,13 +2,13 @@
 ghost use Rattle.std.specs.Prelude.{◌≡◌, ◌≤◌, List, ℕ, map, string_bytes, IfOk, IfSome, None, Some, if◌then◌else◌};
 ghost use Rattle.std.specs.Option.{option_map, option_and_then};
 ghost use Rattle.a68_top.specs.Options.{HasRange, start, steps};
-ghost use Rattle.a68_top.specs.Words.{compiled_by, fuel_or_usual, has_no_option, has_workers_alone, make_units, task_in, task_by, task_of_found, units_in, workers_or_one};
+ghost use Rattle.a68_top.specs.Words.{compiled_by, fuel_or_usual, has_no_option, has_workers_alone, make_units, task_in, task_by, task_of_found, unit_count_in, workers_or_one};
 ghost use Rattle.a68_maker.specs.declared.maker.TheConstants.{FEWEST_UNITS, MOST_UNITS};
 ghost use Rattle.a68_workers.specs.Workers.{most_workers};
 ghost use Rattle.a68_top.specs.Commands as commands;
 ghost use Rattle.a68_top.specs.Commands.{task_of};
 
-use crate::options::{Due, Found, found_in, number_in};
+use crate::options::{Found, NextWord, found_in, number_in};
 use a68_base::{MOST_FUEL, NoMemory, USUAL_FUEL};
 use a68_maker::{FEWEST_UNITS, MOST_UNITS};
 use std::alloc::Global;
@@ -109,8 +109,8 @@ fn has_workers_alone(found: Found) -> bool
 }
 
 // The number of units that a text may have.
-fn units_in(word: &str) -> Option<u32>
-    ensures units { result ≡ units_in word.now }
+fn unit_count_in(word: &str) -> Option<u32>
+    ensures units { result ≡ unit_count_in word.now }
     ensures range { IfSome result (λ units. (FEWEST_UNITS ≤ units) × (units ≤ MOST_UNITS)) }
 {
     match number_in(MOST_UNITS, word.as_bytes()) {
@@ -123,13 +123,13 @@ fn units_in(word: &str) -> Option<u32>
 fn made_by(found: Found, operand: &str) -> Option<Command>
     requires { HasRange found }
     ensures task { option_map task_of result
-        ≡ (if has_workers_alone found then option_map (λ units. make_units units (workers_or_one found.workers)) (units_in operand.now) else None) }
+        ≡ (if has_workers_alone found then option_map (λ units. make_units units (workers_or_one found.workers)) (unit_count_in operand.now) else None) }
     ensures range { IfSome result commands.HasRange }
 {
     if !has_workers_alone(found) {
         return None;
     }
-    match units_in(operand) {
+    match unit_count_in(operand) {
         Some(units) => {
             let workers = workers_or_one(found.workers);
             Some(Command::Make { units, workers })
@@ -198,8 +198,8 @@ fn command_in(
     ensures range { IfOk result (λ command. IfSome command commands.HasRange) }
 {
     match found.due {
-        Due::Workers | Due::Fuel => return Ok(None),
-        Due::Word | Due::Operand => {}
+        NextWord::Workers | NextWord::Fuel => return Ok(None),
+        NextWord::Word | NextWord::Operand => {}
     }
     match found.file {
         None => Ok(None),

@@ -21,7 +21,7 @@ use Rattle.a68_acts.specs.declared.want.Want.TheVariants as want
 use Rattle.a68_layout.specs.Rooms.{planned, planned_for, planned_elements}
 use Rattle.a68_layout.specs.Views.{bounds_of, cells_seen, new_row, parts_in, part_of, view}
 use Rattle.a68_layout.specs.Widths.{most_cells, cells_of, width_of, width_of_fields}
-use Rattle.a68_layout.specs.declared.types.Form.{Form}
+use Rattle.a68_layout.specs.declared.types.TrimForm.{TrimForm}
 use Rattle.a68_layout.specs.declared.types.Plan.{Plan}
 use Rattle.a68_layout.specs.declared.types.Trim.{Trim}
 use Rattle.a68_modes.specs.Nodes.{shape_at, is_plain, is_void}
@@ -243,15 +243,15 @@ sliced_by-below n (plain value.Nil) trims = tt
 sliced_by-below n (plain (value.Name m)) trims = tt
 sliced_by-below n v trims = tt
 
-sliced_set-below : (n : ℕ) (forms : List Form) (v : Content) (o : Result (List ℤ) FaultKind) → DoingBelow n (sliced_set forms v o)
+sliced_set-below : (n : ℕ) (forms : List TrimForm) (v : Content) (o : Result (List ℤ) FaultKind) → DoingBelow n (sliced_set forms v o)
 sliced_set-below n forms v (Ok is) = sliced_by-below n v (trims_of forms is)
 sliced_set-below n forms v (Err why) = tt
 
-sliced_with-below : (n : ℕ) (forms : List Form) (v : Content) (o : Result (List ℤ) FaultKind) → DoingBelow n (sliced_with forms v o)
+sliced_with-below : (n : ℕ) (forms : List TrimForm) (v : Content) (o : Result (List ℤ) FaultKind) → DoingBelow n (sliced_with forms v o)
 sliced_with-below n forms (plain value.Unset) o = tt
 sliced_with-below n forms v o = sliced_set-below n forms v o
 
-sliced-below : (n : ℕ) (forms : List Form) (vs : List Content) → DoingBelow n (sliced forms vs)
+sliced-below : (n : ℕ) (forms : List TrimForm) (vs : List Content) → DoingBelow n (sliced forms vs)
 sliced-below n forms [] = tt
 sliced-below n forms (v ∷ vs) = sliced_with-below n forms v (ints_of vs)
 

@@ -9,7 +9,7 @@ use Rattle.a68_acts.specs.declared.want.Reply.TheVariants as reply
 use Rattle.a68_code.specs.declared.code.Code.{Code}
 use Rattle.a68_strand.proofs.Waking.{woken_still, woken_closed}
 use Rattle.a68_strand.specs.Machine.{State, settle, replied, replied_in}
-use Rattle.a68_strand.specs.Runs.{has_closed, units_of, is_closed, all_closed, woken, woken_in}
+use Rattle.a68_strand.specs.Runs.{has_closed, awaited_units, is_closed, all_closed, woken, woken_in}
 use Rattle.a68_strand.specs.Strands.{standing, awaits}
 use Rattle.a68_strand.specs.declared.ask.Ask.{Ask}
 use Rattle.a68_strand.specs.declared.ask.Ask.TheVariants as ask
@@ -59,7 +59,7 @@ one_closed seats m i all here_ = ap (λ b. b && all_closed_at seats (suc m) i) h
 -- ---- what is due
 
 -- a strand that shows units waits for them
-units-stance : (m : Stance) (f c : ℕ) → units_of m ≡ Some (f, c) → m ≡ Waits f c
+units-stance : (m : Stance) (f c : ℕ) → awaited_units m ≡ Some (f, c) → m ≡ Waits f c
 units-stance Idle f c e = absurd (cc)
 units-stance (Asking want x) f c e = absurd (cc)
 units-stance (Failed why) f c e = absurd (cc)
@@ -85,13 +85,13 @@ pub record Due (seats : List Seat) (strand : Strand) : Type 0 where
   pub waits : (standing strand).stance ≡ Waits first count
   pub closed : all_closed_at seats first count ≡ true
 
-due-strand : (seats : List Seat) (strand : Strand) (o : Option (ℕ × ℕ)) → units_of (standing strand).stance ≡ o
+due-strand : (seats : List Seat) (strand : Strand) (o : Option (ℕ × ℕ)) → awaited_units (standing strand).stance ≡ o
     → option_map_or (λ (units : ℕ × ℕ). all_closed_at seats units.0 units.1) o false ≡ true → Due seats strand
 due-strand seats strand None e t = absurd (false≢true t)
 due-strand seats strand (Some (f, c)) e t = record { first = f; count = c; waits = units-stance (standing strand).stance f c e; closed = t }
 
 pub due_home : (seats : List Seat) (strand : Strand) → due_in seats (seat.Home strand) ≡ true → Due seats strand
-due_home seats strand t = due-strand seats strand (units_of (standing strand).stance) refl t
+due_home seats strand t = due-strand seats strand (awaited_units (standing strand).stance) refl t
 
 pub due_is : (seats : List Seat) (n : ℕ) → due_at seats n ≡ true → (strand : Strand) × (slice_get seats n ≡ Some (seat.Home strand)) × Due seats strand
 due_is seats n t = by (slice_get seats n) refl t
@@ -112,7 +112,7 @@ due_awaits seats n x t e =
 pub not_due : (seats : List Seat) (n f c : ℕ) (strand : Strand) → slice_get seats n ≡ Some (seat.Home strand) → due_at seats n ≡ false → (standing strand).stance ≡ Waits f c
     → all_closed_at seats f c ≡ false
 not_due seats n f c strand there t waits =
-    sym (ap (λ (m : Stance). option_map_or (λ (units : ℕ × ℕ). all_closed_at seats units.0 units.1) (units_of m) false) waits) ∙ sym (ap (λ o. option_map_or (due_in seats) o false) there) ∙ t
+    sym (ap (λ (m : Stance). option_map_or (λ (units : ℕ × ℕ). all_closed_at seats units.0 units.1) (awaited_units m) false) waits) ∙ sym (ap (λ o. option_map_or (due_in seats) o false) there) ∙ t
 
 -- ---- the strands as they are woken
 

@@ -16,7 +16,7 @@ use Rattle.a68_code.specs.contracts.code.Code as code
 use Rattle.a68_code.specs.contracts.code.Instr as instr
 use Rattle.a68_code.specs.contracts.code.Instrs as instrs
 use Rattle.a68_code.specs.contracts.does.Does as does
-use Rattle.a68_layout.proofs.types.Forms.TheSendSync as forms
+use Rattle.a68_layout.proofs.types.TrimForms.TheSendSync as forms
 use Rattle.a68_layout.proofs.types.Plan.TheSendSync as plan
 use Rattle.a68_layout.proofs.types.Trims.TheSendSync as trims
 use Rattle.a68_modes.proofs.modes.Modes.TheSendSync as modes

@@ -8,7 +8,7 @@ use Rattle.a68_code.specs.declared.code.Code.{Code}
 use Rattle.a68_store.specs.Acts.{has_to_wait}
 use Rattle.a68_strand.specs.Machine.{State, ask_of, beginning}
 use Rattle.a68_strand.specs.Machine as machine
-use Rattle.a68_strand.specs.Runs.{has_closed, units_of}
+use Rattle.a68_strand.specs.Runs.{has_closed, awaited_units}
 use Rattle.a68_strand.specs.Strands.{standing, HasSettled}
 use Rattle.a68_strand.specs.declared.ask.Ask.{Ask}
 use Rattle.a68_strand.specs.declared.ask.Ask.TheVariants as ask
@@ -103,7 +103,7 @@ all_closed_at seats first zero = true
 all_closed_at seats first (suc n) = closed_at seats first && all_closed_at seats (suc first) n
 
 abbrev pub due_in : List Seat → Seat → Bool
-due_in seats (seat.Home strand) = option_map_or (λ (units : ℕ × ℕ). all_closed_at seats units.0 units.1) (units_of (standing strand).stance) false
+due_in seats (seat.Home strand) = option_map_or (λ (units : ℕ × ℕ). all_closed_at seats units.0 units.1) (awaited_units (standing strand).stance) false
 due_in seats seat.Spent = false
 
 -- whether a strand waits for units that have all closed

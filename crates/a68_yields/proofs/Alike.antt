@@ -3,8 +3,8 @@ use Rattle.std.proofs.Common.{◌≡◌, ◌<◌, ◌≤◌, ◌++◌, ◌∷◌
 use Rattle.std.proofs.lemmas.Bool.{cases_lt}
 use Rattle.a68_coerce.proofs.Leaves.{one_form}
 use Rattle.a68_coerce.specs.Balanced.{FormsAt, IsFormed, IsSided, LeafForms}
-use Rattle.a68_coerce.specs.declared.form.Form.{Form}
-use Rattle.a68_coerce.specs.declared.form.Form.TheVariants as form
+use Rattle.a68_coerce.specs.declared.form.ModeForm.{ModeForm}
+use Rattle.a68_coerce.specs.declared.form.ModeForm.TheVariants as form
 use Rattle.a68_coerce.specs.declared.leaf.Balanced.{Balanced}
 use Rattle.a68_coerce.specs.declared.leaf.Leaf.{Leaf}
 use Rattle.a68_declare.specs.Outcome.{ByNode}
@@ -70,7 +70,7 @@ module _ (tree : Built) (ys : List Yielding) where
 -- ---- balancing
 
 module _ (nodes : List Shape) where
-  form_at_one : (s : Sort) (f : Form) (leaves : List Leaf) (i : ℕ) (to other : Mode) → FormsAt nodes s f to leaves i → FormsAt nodes s f other leaves i → to ≡ other
+  form_at_one : (s : Sort) (f : ModeForm) (leaves : List Leaf) (i : ℕ) (to other : Mode) → FormsAt nodes s f to leaves i → FormsAt nodes s f other leaves i → to ≡ other
   form_at_one s f leaves i to other v w =
       let e : Some v.leaf ≡ Some w.leaf = sym v.there ∙ w.there in
       let same : v.leaf ≡ w.leaf = cc in
@@ -80,7 +80,7 @@ module _ (nodes : List Shape) where
   first_place : (i j : ℕ) → (i < j → ⊥) → (j < i → ⊥) → i ≡ j
   first_place i j p q = ⊎_elim (λ lt. absurd (p lt)) (λ le. ⊎_elim (λ lt. absurd (q lt)) (λ ge. omega arith) (cases_lt j i)) (cases_lt i j)
 
-  formed_one : (s : Sort) (f : Form) (leaves : List Leaf) (b c : Balanced) → IsFormed nodes s f leaves (Some b) → IsFormed nodes s f leaves (Some c) → b.mode ≡ c.mode
+  formed_one : (s : Sort) (f : ModeForm) (leaves : List Leaf) (b c : Balanced) → IsFormed nodes s f leaves (Some b) → IsFormed nodes s f leaves (Some c) → b.mode ≡ c.mode
   formed_one s f leaves b c v w =
       let same = first_place b.leaf c.leaf (λ lt. w.1 b.leaf b.mode lt v.0) (λ lt. v.1 c.leaf c.mode lt w.0) in
       form_at_one s f leaves c.leaf b.mode c.mode (subst (FormsAt nodes s f b.mode leaves) same v.0) w.0
@@ -99,9 +99,9 @@ module _ (nodes : List Shape) where
     mode_found_one s (want.Mode m) leaves (Some x) (Some y) p q = ap (λ i. Some i) (p.0 ∙ sym q.0)
     mode_found_one s (want.Mode m) leaves (Some x) None p q = absurd (q p.1 p.2.0)
     mode_found_one s (want.Mode m) leaves None (Some y) p q = absurd (p q.1 q.2.0)
-    mode_found_one s (want.Form f) leaves (Some x) (Some y) p q = node_at_one p.0.mode q.0.mode x y (formed_one s f leaves p.0 q.0 p.1 q.1) p.2 q.2
-    mode_found_one s (want.Form f) leaves (Some x) None p q = absurd (q p.0.leaf p.0.mode p.1.0)
-    mode_found_one s (want.Form f) leaves None (Some y) p q = absurd (p q.0.leaf q.0.mode q.1.0)
+    mode_found_one s (want.ModeForm f) leaves (Some x) (Some y) p q = node_at_one p.0.mode q.0.mode x y (formed_one s f leaves p.0 q.0 p.1 q.1) p.2 q.2
+    mode_found_one s (want.ModeForm f) leaves (Some x) None p q = absurd (q p.0.leaf p.0.mode p.1.0)
+    mode_found_one s (want.ModeForm f) leaves None (Some y) p q = absurd (p q.0.leaf q.0.mode q.1.0)
 
     is_sided : (soft strong : List Leaf) (b : Balanced) → IsSided nodes soft strong (Some b) → IsSided nodes soft strong None → ⊥
     is_sided soft strong b v none = none b.leaf b.mode v.0
@@ -184,7 +184,7 @@ module _ (tree : Built) (nodes : List Shape) (of : ByNode) (ys : List Yielding) 
   mode_there : (s : Sort) (w : Want) (leaves : List Leaf) (found : Option ℕ) → IsWantBelow (length nodes) w → IsModeFound nodes s w leaves found → IsFindingBelow (length nodes) (finding.Mode found)
   mode_there s w leaves None below is = tt
   mode_there s (want.Mode m) leaves (Some x) below is = subst (λ i. i < length nodes) (sym is.0) below
-  mode_there s (want.Form f) leaves (Some x) below is = is.2.there
+  mode_there s (want.ModeForm f) leaves (Some x) below is = is.2.there
 
   name_there : (left right : List Leaf) (found : Option ℕ) → IsNameFound nodes left right found → IsFindingBelow (length nodes) (finding.Mode found)
   name_there left right None is = tt

@@ -55,7 +55,7 @@ AreCollected tree ys ns old new false = (leaves : List Leaf) → AllHaveLeaves t
 -- what is looked for is among the first n modes
 abbrev pub IsWantBelow : ℕ → Want → Type 0
 IsWantBelow n (want.Mode m) = m < n
-IsWantBelow n (want.Form f) = Unit {0}
+IsWantBelow n (want.ModeForm f) = Unit {0}
 
 abbrev pub IsSoughtBelow : ℕ → Sought → Type 0
 IsSoughtBelow n (sought.Part by w p) = IsWantBelow n w

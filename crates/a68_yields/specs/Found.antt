@@ -25,8 +25,8 @@ use Rattle.a68_yields.specs.declared.yielding.Yielding.{Yielding}
 abbrev pub IsModeFound : List Shape → Sort → Want → List Leaf → Option ℕ → Type 0
 IsModeFound nodes sort (want.Mode m) leaves (Some x) = (x ≡ m) × (i : ℕ) × IsBalanced nodes sort (as_it_stands m) leaves (Some i)
 IsModeFound nodes sort (want.Mode m) leaves None = IsBalanced nodes sort (as_it_stands m) leaves None
-IsModeFound nodes sort (want.Form f) leaves (Some x) = (b : Balanced) × IsFormed nodes sort f leaves (Some b) × IsNode nodes b.mode x
-IsModeFound nodes sort (want.Form f) leaves None = IsFormed nodes sort f leaves None
+IsModeFound nodes sort (want.ModeForm f) leaves (Some x) = (b : Balanced) × IsFormed nodes sort f leaves (Some b) × IsNode nodes b.mode x
+IsModeFound nodes sort (want.ModeForm f) leaves None = IsFormed nodes sort f leaves None
 
 -- the name of an identity relation: first one that the left side leads to softly, else one that the right side does
 abbrev pub IsNameFound : List Shape → (left right : List Leaf) → Option ℕ → Type 0

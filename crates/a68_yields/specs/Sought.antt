@@ -1,6 +1,6 @@
 -- What a node asks of its parts, whatever is asked of it (Report, 6.1.1, and the clauses of chapters 3 to 5).
 use Rattle.std.specs.Prelude.{ℕ, List, [], ◌∷◌, Option, Some, None, Bool, true, false, if◌then◌else◌}
-use Rattle.a68_coerce.specs.declared.form.Form.TheVariants as form
+use Rattle.a68_coerce.specs.declared.form.ModeForm.TheVariants as form
 use Rattle.a68_definitions.specs.Tags.{called_by}
 use Rattle.a68_modes.specs.declared.coercion.Sort.{Sort}
 use Rattle.a68_modes.specs.declared.coercion.Sort.TheVariants as by
@@ -25,11 +25,11 @@ asks_by kind.To = Some (by.Meek, want.Mode 1)
 asks_by kind.Lower = Some (by.Meek, want.Mode 1)
 asks_by kind.Upper = Some (by.Meek, want.Mode 1)
 asks_by kind.At = Some (by.Meek, want.Mode 1)
-asks_by kind.Conformity = Some (by.Meek, want.Form form.Union)
-asks_by kind.Assignation = Some (by.Soft, want.Form form.Name)
-asks_by kind.Selection = Some (by.Weak, want.Form form.Structure)
-asks_by kind.Slice = Some (by.Weak, want.Form form.Row)
-asks_by kind.Call = Some (by.Meek, want.Form form.Routine)
+asks_by kind.Conformity = Some (by.Meek, want.ModeForm form.Union)
+asks_by kind.Assignation = Some (by.Soft, want.ModeForm form.Name)
+asks_by kind.Selection = Some (by.Weak, want.ModeForm form.Structure)
+asks_by kind.Slice = Some (by.Weak, want.ModeForm form.Row)
+asks_by kind.Call = Some (by.Meek, want.ModeForm form.Routine)
 asks_by _ = None
 
 -- a subscript is an index of one unit; a trimmer has a Lower, an Upper, an At, or nothing (5.3.2.1)

@@ -11,7 +11,7 @@ use crate::leaves::leaves_of;
 use crate::sought::{Sought, Want};
 use crate::yielding::{Finding, Yielding};
 use a68_base::NoMemory;
-use a68_coerce::{Form, Leaf, balance, balance_sides, balance_to_form};
+use a68_coerce::{Leaf, ModeForm, balance, balance_sides, balance_to_form};
 use a68_declare::NodeModes;
 use a68_identify::{Identified, identify};
 use a68_mode_table::ModeTable;
@@ -46,12 +46,12 @@ fn form_found(
     alloc: Global,
     modes: &ModeTable,
     sort: Sort,
-    form: Form,
+    form: ModeForm,
     leaves: &[Leaf],
 ) -> Result<Option<ModeId>, NoMemory>
     requires leaves { All (IsLeafBelow (length modes.now)) leaves.now }
     requires few { length leaves.now < 2 ^ 32 }
-    ensures found { IfOk result (IsModeFound modes.now sort (Want.Form form) leaves.now) }
+    ensures found { IfOk result (IsModeFound modes.now sort (Want.ModeForm form) leaves.now) }
     ensures there { IfOk result (λ found. IfSome found (λ m. m < length modes.now)) }
 {
     let found = balance_to_form(alloc, modes.modes(), modes.classes(), sort, form, leaves)?;
@@ -77,7 +77,7 @@ fn wanted(
 {
     match want {
         Want::Mode(mode) => mode_found(alloc, modes, sort, mode, leaves),
-        Want::Form(form) => form_found(alloc, modes, sort, form, leaves),
+        Want::ModeForm(form) => form_found(alloc, modes, sort, form, leaves),
     }
 }
 

@@ -2,7 +2,7 @@
 ghost use Rattle.std.specs.Prelude.{◌≡◌, ◌<◌, length};
 ghost use Rattle.a68_yields.specs.Sought as specs;
 
-use a68_coerce::Form;
+use a68_coerce::ModeForm;
 use a68_definitions::{Tags, called_by, kind_of, parts_of};
 use a68_modes::{ModeId, Sort};
 use a68_tree::{NodeId, NodeKind, Tree};
@@ -11,7 +11,7 @@ use a68_tree::{NodeId, NodeKind, Tree};
 #[derive(Clone, Copy)]
 pub enum Want {
     Mode(ModeId),
-    Form(Form),
+    ModeForm(ModeForm),
 }
 
 /// What is looked for at a node, before anything is known of its own position.
@@ -41,11 +41,11 @@ fn asks_by(kind: NodeKind) -> Option<(Sort, Want)>
         | NodeKind::Lower
         | NodeKind::Upper
         | NodeKind::At => Some((Sort::Meek, Want::Mode(1))),
-        NodeKind::Conformity => Some((Sort::Meek, Want::Form(Form::Union))),
-        NodeKind::Assignation => Some((Sort::Soft, Want::Form(Form::Name))),
-        NodeKind::Selection => Some((Sort::Weak, Want::Form(Form::Structure))),
-        NodeKind::Slice => Some((Sort::Weak, Want::Form(Form::Row))),
-        NodeKind::Call => Some((Sort::Meek, Want::Form(Form::Routine))),
+        NodeKind::Conformity => Some((Sort::Meek, Want::ModeForm(ModeForm::Union))),
+        NodeKind::Assignation => Some((Sort::Soft, Want::ModeForm(ModeForm::Name))),
+        NodeKind::Selection => Some((Sort::Weak, Want::ModeForm(ModeForm::Structure))),
+        NodeKind::Slice => Some((Sort::Weak, Want::ModeForm(ModeForm::Row))),
+        NodeKind::Call => Some((Sort::Meek, Want::ModeForm(ModeForm::Routine))),
         _ => None,
     }
 }

@@ -12,8 +12,8 @@ use Rattle.a68_elab.specs.Made as made
 use Rattle.a68_elab.specs.Programs as programs
 use Rattle.a68_elab.specs.declared.bound.Bound.{Bound}
 use Rattle.a68_elab.specs.declared.bound.Bound.TheVariants as bound
-use Rattle.a68_layout.specs.declared.types.Form.{Form}
-use Rattle.a68_elab.specs.Trees.{Tree, Test, operation, serial, while_in, unbuilt, ◌and_tree◌, count, Specs, no_specs, spec}
+use Rattle.a68_layout.specs.declared.types.TrimForm.{TrimForm}
+use Rattle.a68_elab.specs.Trees.{Tree, Test, operation, serial, while_in, meaningless, ◌and_tree◌, count, Specs, no_specs, spec}
 use Rattle.a68_elab.specs.Made.{trees_at, behind_ref, specs_of}
 use Rattle.a68_elab.specs.Programs.{behind}
 use Rattle.a68_gen.specs.Coercing.{coercions}
@@ -28,7 +28,7 @@ use Rattle.a68_modes.specs.declared.shape.Shape.{Shape}
 use Rattle.a68_gen.specs.Chains.{enquiry_tree, Finishes, IsOpen, IsWhole, link_tree, other_tree, shuts}
 use Rattle.a68_gen.specs.declared.ends.Opened.{Opened}
 use Rattle.a68_gen.proofs.Chaining.{open_more}
-use Rattle.a68_gen.proofs.Constructs.{coerced_list, coerced_unbuilt, part-cons, one_part, rest_parts, some_parts, definition_whole, last_is, count_trees, new_does, new_list, count_bounds, bound-cons, none-behind, none-past, stands-behind, index-units-next, slice_list, plain_serial, framed_serial, declared_plain, declared_none, begun_none, begun_tree, declared_tree, assigned_list, applied_list, call_list, void_collateral, structure_collateral, row_collateral, other_collateral, select_whole, only_none, control_list, three_list, phrases_whole, asked_whole, unless_stands, test_is}
+use Rattle.a68_gen.proofs.Constructs.{coerced_list, coerced_meaningless, part-cons, one_part, rest_parts, some_parts, definition_whole, last_is, count_trees, new_does, new_list, count_bounds, bound-cons, none-behind, none-past, stands-behind, index-units-next, slice_list, plain_serial, framed_serial, declared_plain, declared_none, begun_none, begun_tree, declared_tree, assigned_list, applied_list, call_list, void_collateral, structure_collateral, row_collateral, other_collateral, select_whole, only_none, control_list, three_list, phrases_whole, asked_whole, unless_stands, test_is}
 use Rattle.a68_runs.proofs.Between.{between-each, between-above}
 use Rattle.a68_gen.proofs.Numbering.{ArmsAhead, arm_end, arm_writes, arms_on, case_framed, case_writes}
 use Rattle.a68_gen.proofs.Ordered.{all-before}
@@ -62,7 +62,7 @@ rows::unit-returns-then-not-are_built t c =
     let node = c.node-node.result.now in
     let tree = tree_run a c.args.program.now.sight c.args.id node note c.node-node.ensures.is c.note-note.ensures (sym c.runs.ensures ∙ c.if-not-runs.false) in
     let built = rw c.modes.ensures at c.are_built.ensures in
-    rw (tree, coerced_unbuilt a.modes node.span.from note.goal note.mode note.path _ (sym built ∙ c.if-not-are_built.true)) c.unbuilt.ensures
+    rw (tree, coerced_meaningless a.modes node.span.from note.goal note.mode note.path _ (sym built ∙ c.if-not-are_built.true)) c.meaningless.ensures
 
 pub rows::unit-returns : goal.rows::unit-returns
 rows::unit-returns t c =
@@ -156,7 +156,7 @@ rows::last-write_part-requires t c =
     (omega arith, b)
 
 pub rows::last-returns-then-parts-eq0 : goal.rows::last-returns-then-parts-eq0
-rows::last-returns-then-parts-eq0 t c = rw (nil_from_length c.args.parts.now (omega arith)) c.unbuilt.ensures
+rows::last-returns-then-parts-eq0 t c = rw (nil_from_length c.args.parts.now (omega arith)) c.meaningless.ensures
 
 pub rows::last-returns : goal.rows::last-returns
 rows::last-returns t c =
@@ -239,8 +239,8 @@ names::begun-returns-then-parts-ne1 t c =
     let f = behind c.args.id (tree_of v) in
     let mode = behind_ref (shape_at a.modes c.args.note.now.mode) in
     let new = named a (bound_of v) f c.args.in_heap c.args.place mode c.args.parts.now in
-    subst (λ (u : Tree). Writes c.args.out.now.stop c.unbuilt.new._out.stop c.args.out.now.list c.unbuilt.new._out.list (stretch u (length c.args.out.now.list)))
-    (begun_none f new false c.args.place mode c.args.note.now.step.slot c.args.parts.now refl (λ e. absurd (omega arith))) c.unbuilt.ensures
+    subst (λ (u : Tree). Writes c.args.out.now.stop c.meaningless.new._out.stop c.args.out.now.list c.meaningless.new._out.list (stretch u (length c.args.out.now.list)))
+    (begun_none f new false c.args.place mode c.args.note.now.step.slot c.args.parts.now refl (λ e. absurd (omega arith))) c.meaningless.ensures
 
 pub names::begun-assigned-requires : goal.names::begun-assigned-requires
 names::begun-assigned-requires t c =
@@ -288,8 +288,8 @@ names::declared-returns-then-parts-ne2 t c =
     let f = behind c.args.id (tree_of v) in
     let mode = behind_ref (shape_at a.modes c.args.note.now.mode) in
     let new = named a (bound_of v) f c.args.in_heap c.args.place mode c.args.parts.now in
-    subst (λ (u : Tree). Writes c.args.out.now.stop c.unbuilt.new._out.stop c.args.out.now.list c.unbuilt.new._out.list (stretch u (length c.args.out.now.list)))
-    (declared_none f new true c.args.place mode c.args.note.now.step.slot c.args.parts.now refl (λ e. absurd (omega arith)) (λ e. absurd (omega arith))) c.unbuilt.ensures
+    subst (λ (u : Tree). Writes c.args.out.now.stop c.meaningless.new._out.stop c.args.out.now.list c.meaningless.new._out.list (stretch u (length c.args.out.now.list)))
+    (declared_none f new true c.args.place mode c.args.note.now.step.slot c.args.parts.now refl (λ e. absurd (omega arith)) (λ e. absurd (omega arith))) c.meaningless.ensures
 
 pub names::declared-returns : goal.names::declared-returns
 names::declared-returns t c =
@@ -354,7 +354,7 @@ parts::collateral-returns-in-Other t c =
     let ts = trees_at (behind c.args.id (tree_of c.args.program.now)) c.args.parts.now in
     let m = c.args.note.now.goal in
     let is = other_collateral (shape_at c.args.program.now.of.now.modes m) c.args.place m ts (sym c.form_at.ensures ∙ c.in-Other.is) in
-    rw is c.unbuilt.ensures
+    rw is c.meaningless.ensures
 
 pub parts::write_indexes-write_index-requires : goal.parts::write_indexes-write_index-requires
 parts::write_indexes-write_index-requires t c =
@@ -399,7 +399,7 @@ parts::selection-returns-in-Ok t c =
     c.mode_in_front-mode.ensures by_field
 
 pub rows::serial-returns-then-parts-eq0 : goal.rows::serial-returns-then-parts-eq0
-rows::serial-returns-then-parts-eq0 t c = rw (nil_from_length c.args.parts.now (omega arith)) c.unbuilt.ensures
+rows::serial-returns-then-parts-eq0 t c = rw (nil_from_length c.args.parts.now (omega arith)) c.meaningless.ensures
 
 pub rows::serial-returns-then-note-eq0 : goal.rows::serial-returns-then-note-eq0
 rows::serial-returns-then-note-eq0 t c =
@@ -431,7 +431,7 @@ rows::serial-returns t c =
     rw some (writes-as w0.stop w3.stop w0.list w3.list _ _ (framed_serial place note.slots (length w0.list) (if yields then 1 else 0) yields first rest (λ e. absurd (omega arith)) refl) w03)
 
 pub rows::only-returns-then-parts-ne1 : goal.rows::only-returns-then-parts-ne1
-rows::only-returns-then-parts-ne1 t c = rw (← only_none (behind c.args.id (tree_of c.args.program.now)) c.args.parts.now (λ e. absurd (omega arith))) c.unbuilt.ensures
+rows::only-returns-then-parts-ne1 t c = rw (← only_none (behind c.args.id (tree_of c.args.program.now)) c.args.parts.now (λ e. absurd (omega arith))) c.meaningless.ensures
 
 pub rows::only-returns : goal.rows::only-returns
 rows::only-returns t c = rw (one_part c.args.parts.now (omega arith)) c.write_part.ensures
@@ -545,7 +545,7 @@ choices::conditional-returns-in-Some t c =
     subst (λ (u : Tree). Writes c.args.out.now.stop c.chain.new.out.stop c.args.out.now.list c.chain.new.out.list (stretch u (length c.args.out.now.list))) (sym same) c.chain.ensures
 
 pub choices::conditional-returns-in-None : goal.choices::conditional-returns-in-None
-choices::conditional-returns-in-None t c = rw (c.in-None.ensures.tree (behind c.args.id (tree_of c.args.program.now))) c.unbuilt.ensures
+choices::conditional-returns-in-None t c = rw (c.in-None.ensures.tree (behind c.args.id (tree_of c.args.program.now))) c.meaningless.ensures
 
 pub choices::write_arm-returns-clause-writes : goal.choices::write_arm-returns-clause-writes
 choices::write_arm-returns-clause-writes t c =
@@ -735,7 +735,7 @@ turns::repeat-returns t c =
     let l = c.loop_parts-parts.result in
     let w0 = c.args.out.now in
     let w1 = c.count.new.out in
-    let w2 = c.turn.new.out in
+    let w2 = c.loop_turn.new.out in
     let w3 = c.test-unless.new.out in
     let w4 = c.body.new.out in
     let w5 = c.leave_frames.new.out in
@@ -747,9 +747,9 @@ turns::repeat-returns t c =
     let w11 = c.emit-3.new.self in
     let all = loop_all w0.stop w1.stop w2.stop w3.stop w4.stop w5.stop w6.stop w7.stop w8.stop w9.stop w10.stop w11.stop
     w0.list w1.list w2.list w3.list w4.list w5.list w6.list w7.list w8.list w9.list w10.list w11.list
-    f c.args.place l.from l.by l.to l.counts (made.test_of c.args.program.now.of.now f l.test) (option_map_or f l.body unbuilt)
+    f c.args.place l.from l.by l.to l.counts (made.test_of c.args.program.now.of.now f l.test) (option_map_or f l.body meaningless)
     c.len-step.result (c.len-quit.result + 2) (c.len-quit.result + 2 + c.depth-frames.result) c.depth-frames.result c.test-unless.result
-    c.count.ensures c.len-step.ensures.long c.turn.ensures c.test-unless.ensures.writes c.test-unless.ensures.unless c.body.ensures (c.depth-frames.ensures.frames f) c.leave_frames.ensures
+    c.count.ensures c.len-step.ensures.long c.loop_turn.ensures c.test-unless.ensures.writes c.test-unless.ensures.unless c.body.ensures (c.depth-frames.ensures.frames f) c.leave_frames.ensures
     (ap (λ n. n + 2) c.len-quit.ensures.long) refl c.patch.ensures.list c.patch.ensures.stop c.patch_some.ensures.list c.patch_some.ensures.stop
     c.emit.ensures c.emit-2.ensures c.leave_frames-2.ensures c.emit-3.ensures in
     let is : made.loop_of c.args.program.now.of.now f c.args.place c.args.parts.now ≡ made.loop_by c.args.program.now.of.now f c.args.place l.counts l.from l.by l.to l.test l.body =
@@ -758,7 +758,7 @@ turns::repeat-returns t c =
     subst (λ (u : Tree). Writes w0.stop w11.stop w0.list w11.list (stretch u (length w0.list))) (sym is) all
 
 pub parts::slice-returns-then-parts-eq0 : goal.parts::slice-returns-then-parts-eq0
-parts::slice-returns-then-parts-eq0 t c = rw (nil_from_length c.args.parts.now (omega arith)) c.unbuilt.ensures
+parts::slice-returns-then-parts-eq0 t c = rw (nil_from_length c.args.parts.now (omega arith)) c.meaningless.ensures
 
 pub parts::slice-write_part-requires : goal.parts::slice-write_part-requires
 parts::slice-write_part-requires t c =
@@ -781,7 +781,7 @@ parts::slice-returns t c =
     let is : take (length ids - 1) (drop 1 ids) ≡ drop 1 ids = take_all (length ids - 1) (drop 1 ids) (omega (arith, length-drop 1 ids)) in
     let slice_of : List Instr = instr place (does.Slice (made.forms_of a (drop 1 ids))) ∷ [] in
     let last : Writes w2.stop w3.stop w2.list w3.list slice_of =
-    subst (λ (l : List Form). Writes w2.stop w3.stop w2.list w3.list (instr place (does.Slice l) ∷ [])) (c.in-Ok.ensures ∙ ap (λ (l : List ℕ). made.forms_of a l) is) c.emit.ensures in
+    subst (λ (l : List TrimForm). Writes w2.stop w3.stop w2.list w3.list (instr place (does.Slice l) ∷ [])) (c.in-Ok.ensures ∙ ap (λ (l : List ℕ). made.forms_of a l) is) c.emit.ensures in
     let units : Writes w1.stop w2.stop w1.list w2.list (stretches (trees_at f (made.index_units a (drop 1 ids))) (length w1.list)) =
     subst (λ (l : List ℕ). Writes w1.stop w2.stop w1.list w2.list (stretches (trees_at f (made.index_units a l)) (length w1.list))) is c.write_indexes.ensures in
     let w13 = and_behind w1.stop w2.stop w3.stop w1.list w2.list w3.list (stretches (trees_at f (made.index_units a (drop 1 ids))) (length w1.list)) (λ n. slice_of) units last in
@@ -811,7 +811,7 @@ names::write_written-write_part-requires t c =
 
 pub names::write_written-returns-else-stands_behind : goal.names::write_written-returns-else-stands_behind
 names::write_written-returns-else-stands_behind t c =
-    rw (none-behind c.args.program.now.of.now c.args.program.now.sight c.args.id c.args.bound (sym c.stands_behind.ensures ∙ c.if-stands_behind.false)) c.unbuilt.ensures
+    rw (none-behind c.args.program.now.of.now c.args.program.now.sight c.args.id c.args.bound (sym c.stands_behind.ensures ∙ c.if-stands_behind.false)) c.meaningless.ensures
 
 kept_of : (b : Bool) (n : ℕ) → n ≡ bool_byte b → n ≡ (if b then 1 else 0)
 kept_of true n e = e
@@ -1006,6 +1006,6 @@ names::write_outside-returns t c =
 pub names::write_outside-returns-then-bound-len : goal.names::write_outside-returns-then-bound-len
 names::write_outside-returns-then-bound-len t c =
     let a = c.args.program.now in
-    let none : programs.defined_bound a sight.Here c.args.frames c.args.bound ≡ unbuilt =
+    let none : programs.defined_bound a sight.Here c.args.frames c.args.bound ≡ meaningless =
     defined_is a c.args.frames c.args.bound ∙ none-past a (sight.Within c.args.frames (made.bytes_of a c.args.bound)) c.args.bound (omega arith) in
-    rw none c.unbuilt.ensures
+    rw none c.meaningless.ensures

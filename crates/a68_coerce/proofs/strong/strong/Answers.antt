@@ -1,4 +1,4 @@
-use Rattle.a68_coerce.specs.declared.goal.Goal.TheVariants as form
+use Rattle.a68_coerce.specs.declared.goal.CoercionGoal.TheVariants as form
 use Rattle.a68_coerce.specs.Paths.StrongTo.{naming}
 use Rattle.a68_coerce.proofs.Orders.{no_named}
 use Rattle.a68_coerce.proofs.Rows.{begun, up}

@@ -1,5 +1,5 @@
 use Rattle.a68_coerce.specs.Below.{depth}
-use Rattle.a68_coerce.specs.declared.goal.Goal.TheVariants as form
+use Rattle.a68_coerce.specs.declared.goal.CoercionGoal.TheVariants as form
 use Rattle.a68_coerce.proofs.Rows.{IsUp}
 use Rattle.a68_coerce.proofs.strong.strong.Given as goal
 

@@ -1,7 +1,7 @@
 use Rattle.std.proofs.Common.{[], ◌∷◌}
 use Rattle.a68_code.specs.declared.does.Does.TheVariants as does
 use Rattle.a68_gen.proofs.Writing.{and_behind}
-use Rattle.a68_gen.proofs.loops.turn.Goals as goal
+use Rattle.a68_gen.proofs.loops.loop_turn.Goals as goal
 use Rattle.a68_gen.specs.Listing.{instr}
 
 pub returns-else-counts : goal.returns-else-counts
