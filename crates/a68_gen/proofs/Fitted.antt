@@ -11,12 +11,11 @@ use Rattle.a68_code.specs.Operands.{is_well_made}
 use Rattle.a68_code.specs.declared.does.Does.TheVariants as does
 use Rattle.a68_elab.specs.Made as made
 use Rattle.a68_elab.specs.Made.{all_but_last, before_out, behind_all, behind_heap, behind_proc, behind_ref, begins_with, called, coerced, field_in, fields_at, first_bounds, first_goal, form_of, forms_of, if_first, index_units, is_by, is_collateral, is_declarer, is_for, is_from, is_heap, is_one_of, is_out, is_routine_text, is_to, is_while, isnt, items_at, kind_at, last_id, last_tree, leaf, mode_of, new_name, only, only_id, out_of, parts_at, past, printers, rowed_to, spelling_of, standard_of, tag_of, text_among, text_number, texts_before, texts_in, trees_at, wholes}
-use Rattle.a68_elab.specs.Programs.{behind, body_of, program_of, tree_at}
 use Rattle.a68_elab.specs.Trees.{Order, serial, Tree, Trees, operation, call, meaningless, no_trees, ◌and_tree◌, count, Specs}
 use Rattle.a68_gen.specs.Fits.{Fits, AllFit, SpecsFit}
 use Rattle.a68_gen.specs.Operands.{FitsModes, FitAll, SpecsFitModes}
 use Rattle.a68_elab.specs.Runs.{if_so, is_outcome, is_row, is_there, outcome, path_leaves}
-use Rattle.a68_gen.specs.Stretches.{does_of}
+use Rattle.a68_emit.specs.Stretches.{does_of}
 use Rattle.a68_layout.proofs.Shaping.{no-shape}
 use Rattle.a68_modes.specs.Nodes.{shape_at, is_void}
 use Rattle.a68_modes.specs.declared.coercion.Coercion.{Coercion}

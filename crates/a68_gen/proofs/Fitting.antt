@@ -18,13 +18,13 @@ use Rattle.a68_elab.specs.Programs.{asked_tree, body_yields, fitting, misfit, pl
 use Rattle.a68_elab.specs.declared.sight.Sight.{Sight}
 use Rattle.a68_elab.specs.declared.sight.Sight.TheVariants as sight
 use Rattle.a68_elab.specs.Trees.{collateral, serial, Tree, Apart, routine_text, parallel_unit}
-use Rattle.a68_gen.proofs.Ordered.{all-before}
-use Rattle.a68_gen.proofs.Entering.{index-is, map-long}
+use Rattle.a68_emit.proofs.Ordered.{all-before}
+use Rattle.a68_emit.proofs.Entering.{index-is, map-long}
 use Rattle.a68_gen.specs.Fits.{ApartFits}
 use Rattle.a68_gen.specs.Operands.{ApartFitsModes}
-use Rattle.a68_elab.specs.Runs.{agrees, all_leave, are_phrases, are_values, asks_value, call_leaves, case_runs, choice_runs, if_so, is_outcome, is_row, is_there, last_outcome, leaves_as, left_by, loop_runs, parallel_runs, new_runs, outcome, outcome_at, outcome_by, path_leaves, proc_yields, refers, runs, selects, slice_runs, variable_runs, yields_value, conformity_runs}
-use Rattle.a68_runs.proofs.Between.{between-above, between-each}
-use Rattle.a68_runs.specs.Running.{AreThere, IsThere}
+use Rattle.a68_elab.specs.Runs.{agrees, all_leave, are_phrases, are_values, asks_value, call_leaves, case_runs, choice_runs, if_so, is_outcome, is_row, is_there, last_outcome, leaves_as, left_by, loop_runs, parallel_runs, new_runs, outcome, outcome_at, outcome_by, path_leaves, proc_yields, refers, selects, slice_runs, variable_runs, yields_value, conformity_runs}
+use Rattle.a68_parts.proofs.Between.{between-above, between-each}
+use Rattle.a68_runs.specs.Running.{AreThere}
 use Rattle.a68_modes.specs.Nodes.{shape_at, HoldsNodes}
 use Rattle.a68_modes.specs.declared.shape.Shape.{Shape}
 use Rattle.a68_tree.specs.Trees.{AllBetween}
@@ -33,7 +33,7 @@ use Rattle.a68_tree.specs.declared.kind.NodeKind.TheVariants as kind
 use Rattle.a68_tree.specs.declared.node.Node.{Node}
 use Rattle.a68_values.specs.Content.{plain}
 use Rattle.a68_values.specs.declared.plain.Plain.TheVariants as value
-use Rattle.a68_gen.proofs.Fitted.{IsFit, both, coerced-fits, denoted-fits, first, fit-none, is-wanted, negated-fits, routine-fits, row-there, second, so-holds, so-is, tag-fits, then-is, wanted-is}
+use Rattle.a68_gen.proofs.Fitted.{IsFit, both, coerced-fits, denoted-fits, first, fit-none, negated-fits, routine-fits, row-there, second, so-holds, so-is, tag-fits, then-is, wanted-is}
 use Rattle.a68_gen.proofs.FittingParts.{all_units, Given, GivenBounds, all-fit, behind-between, call-by, collateral-fits, definition-fits, formula-fits, last-fits, named-fits, only-fits, selection-fits, serial-fits, texts_of, values-fit, variable-fits}
 use Rattle.a68_gen.proofs.FittingChoices.{case-fits, choice-fits, first-bounds-behind, loop-fits, nothing-fits, parts-behind, slice-fits, conformity-fits}
 

@@ -13,15 +13,14 @@ use Rattle.a68_annot.specs.declared.note.Note.{Note}
 use Rattle.a68_code.specs.Flow.{trim_values, values_of_trims}
 use Rattle.a68_elab.specs.Made as made
 use Rattle.a68_elab.specs.Made.{all_but_last, before_out, behind_all, behind_heap, behind_proc, behind_ref, begins_with, called, coerced, field_in, fields_at, first_bounds, first_goal, form_of, forms_of, if_first, index_units, is_by, is_collateral, is_declarer, is_for, is_from, is_heap, is_one_of, is_out, is_routine_text, is_to, is_while, isnt, items_at, kind_at, last_id, last_tree, leaf, mode_of, new_name, only, only_id, out_of, parts_at, past, printers, rowed_to, spelling_of, standard_of, tag_of, text_among, text_number, texts_before, texts_in, trees_at, wholes, goal_at}
-use Rattle.a68_elab.specs.Programs.{behind, body_of, program_of, tree_at}
 use Rattle.a68_elab.specs.declared.bound.Bound.{Bound}
 use Rattle.a68_elab.specs.declared.bound.Bound.TheVariants as bound
 use Rattle.a68_elab.specs.Trees.{serial, Tree, together, meaningless, no_trees, count, Test}
-use Rattle.a68_gen.proofs.Constructs.{count_trees}
+use Rattle.a68_constructs.proofs.Constructs.{count_trees}
 use Rattle.a68_gen.specs.Fits.{TestFits}
 use Rattle.a68_gen.specs.Operands.{TestFitsModes}
 use Rattle.a68_elab.specs.Runs.{all_leave, are_phrases, asks, body_runs, case_runs, choice_runs, control_runs, enquiry_runs, is_index, is_outcome, written_units, is_there, loop_by_runs, loop_runs, out_runs, outcome, slice_runs, test_runs, conformity_runs, specs_run}
-use Rattle.a68_runs.proofs.Between.{between-above}
+use Rattle.a68_parts.proofs.Between.{between-above}
 use Rattle.a68_runs.specs.Running.{AreThere}
 use Rattle.a68_layout.specs.Rooms.{bounds_needed}
 use Rattle.a68_layout.specs.declared.types.TrimForm.{TrimForm}

@@ -13,14 +13,13 @@ use Rattle.a68_code.specs.Flow.{operands_of, takes}
 use Rattle.a68_code.specs.Operands.{is_well_made}
 use Rattle.a68_elab.specs.Made as made
 use Rattle.a68_elab.specs.Made.{all_but_last, before_out, behind_all, behind_heap, behind_proc, behind_ref, begins_with, called, coerced, field_in, fields_at, first_bounds, first_goal, form_of, forms_of, if_first, index_units, is_by, is_collateral, is_declarer, is_for, is_from, is_heap, is_one_of, is_out, is_routine_text, is_to, is_while, isnt, items_at, kind_at, last_id, last_tree, leaf, mode_of, new_name, only, only_id, out_of, parts_at, past, printers, rowed_to, spelling_of, standard_of, tag_of, text_among, text_number, texts_before, texts_in, units_in, trees_at, wholes, has_tag, spec_mode, specs_of}
-use Rattle.a68_elab.specs.Programs.{behind, body_of, program_of, tree_at}
 use Rattle.a68_elab.specs.declared.bound.Bound.{Bound}
 use Rattle.a68_elab.specs.declared.bound.Bound.TheVariants as bound
 use Rattle.a68_elab.specs.Trees.{Order, collateral, serial, Tree, operation, call, ◌and_tree◌, count, Specs}
-use Rattle.a68_gen.proofs.Conforming.{spec_is}
-use Rattle.a68_gen.proofs.Constructs.{count_trees}
+use Rattle.a68_emit.proofs.Taking.{spec_is}
+use Rattle.a68_constructs.proofs.Constructs.{count_trees}
 use Rattle.a68_elab.specs.Runs.{all_leave, applies, are_phrases, are_values, bounds_run, collateral_leaves, declared_leaves, declared_runs, formula_leaves, formula_runs, gives, if_so, is_bounding, is_outcome, is_row, last_outcome, new_runs, only_outcome, out_runs, outcome, refers, routine_runs, selects, source_runs, variable_runs, specs_run}
-use Rattle.a68_gen.specs.Stretches.{does_of}
+use Rattle.a68_emit.specs.Stretches.{does_of}
 use Rattle.a68_layout.specs.Rooms.{bounds_needed}
 use Rattle.a68_modes.specs.Nodes.{shape_at, is_void}
 use Rattle.a68_modes.specs.declared.shape.Shape.{Shape}

@@ -24,11 +24,11 @@ use Rattle.a68_code.specs.declared.owner.Owner.TheVariants as owner
 use Rattle.a68_elab.specs.Rows.{is_among}
 use Rattle.a68_elab.specs.Trees.{Tree, Trees, operation, together, phrases, range, choice, cases, conformity, loop, call, parallel, meaningless, no_trees, ◌and_tree◌, count, Specs, no_specs, spec, Test, no_test, while_in, depth_of}
 use Rattle.a68_gen.proofs.Forward.{forward, forward_index, forward_leaves, forward_arms, forward_specs, forward_test}
-use Rattle.a68_gen.proofs.Entering.{IsUnit, each_is_unit, entrances_many}
+use Rattle.a68_emit.proofs.Entering.{IsUnit, each_is_unit, entrances_many}
 use Rattle.a68_gen.proofs.Members.{last_is, some_member, taken_or, members_all}
 use Rattle.a68_gen.proofs.Heights.{bit, after, after_true, after_false, At, LimitHeights, IndexHeights, OpenHeights, LeaveHeights, HeightsOf, AllHeights, ArmHeights, SpecHeights, TestHeights, nothing_more, starts, starts_all, starts_limit, starts_index, starts_leave, starts_test}
 use Rattle.a68_gen.specs.Operands.{FitsModes, FitAll, SpecsFitModes, TestFitsModes}
-use Rattle.a68_gen.specs.Stretches.{Has, Limits, Indexes, Opens, Leaves, Stands, StandAll, StandArms, StandSpecs, Tests, place_for, member_places, wholes_of, with_last, does_of, leave}
+use Rattle.a68_emit.specs.Stretches.{Has, Limits, Indexes, Opens, Leaves, Stands, StandAll, StandArms, StandSpecs, Tests, place_for, member_places, wholes_of, with_last, does_of, leave}
 use Rattle.a68_modes.specs.Nodes.{shape_at, is_void}
 use Rattle.a68_modes.specs.declared.shape.Shape.{Shape}
 

@@ -2,7 +2,7 @@
 use Rattle.std.proofs.Common.{◌≡◌, ◌≤◌, ◌+◌, ℕ, zero, suc, arith, Bool, true, false, List, [], ◌∷◌}
 use Rattle.a68_code.specs.declared.code.Code.{Code}
 use Rattle.a68_elab.specs.Trees.{Tree, Trees, operation, together, phrases, range, choice, cases, conformity, loop, call, parallel, meaningless, no_trees, ◌and_tree◌, Specs, no_specs, spec, Test, no_test, while_in, depth_of}
-use Rattle.a68_gen.specs.Stretches.{Limits, Indexes, Opens, Leaves, Stands, StandAll, StandArms, StandSpecs, Tests}
+use Rattle.a68_emit.specs.Stretches.{Limits, Indexes, Opens, Leaves, Stands, StandAll, StandArms, StandSpecs, Tests}
 
 pub next_is : (k m : ℕ) → k + 1 ≡ m → suc k ≡ m
 next_is k m e = omega arith

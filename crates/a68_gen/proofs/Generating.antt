@@ -15,20 +15,20 @@ use Rattle.a68_elab.specs.Made.{behind_all, last_id, parts_at, text_among, texts
 use Rattle.a68_elab.specs.Programs.{apart_before, asked_tree, body_of, body_yields, parallel_unit_of, place_of, program_of}
 use Rattle.a68_elab.specs.Trees.{Apart, Program, bodies, routine_text, parallel_unit, units}
 use Rattle.a68_gen.specs.Fits.{Fits, ApartFits}
-use Rattle.a68_gen.specs.Listing.{apart_size, apart_stretch, apart_stretches, instr, listing, size, stretch, text_entrances, texts_entered, unit_entrances, units_entered, written}
+use Rattle.a68_emit.specs.Listing.{apart_size, apart_stretch, apart_stretches, instr, listing, size, stretch, text_entrances, texts_entered, unit_entrances, units_entered, written}
 use Rattle.a68_gen.specs.Operands.{FitsModes, ApartFitsModes}
-use Rattle.a68_gen.specs.Texts.{AreInside, apart_of, node_of, pair_of}
-use Rattle.a68_gen.specs.declared.entered.Entered.{Entered}
-use Rattle.a68_gen.specs.declared.entered.UnitNode.{UnitNode}
-use Rattle.a68_gen.specs.Stretches.{Translates}
-use Rattle.a68_gen.specs.Writing.{Stops, Writes, places, ran_out}
-use Rattle.a68_gen.proofs.Numbering.{kept_before}
+use Rattle.a68_emit.specs.Texts.{AreInside, apart_of, node_of, pair_of}
+use Rattle.a68_emit.specs.declared.entered.Entered.{Entered}
+use Rattle.a68_emit.specs.declared.entered.UnitNode.{UnitNode}
+use Rattle.a68_emit.specs.Stretches.{Translates}
+use Rattle.a68_emit.specs.Writing.{Stops, Writes, places, ran_out}
+use Rattle.a68_constructs.proofs.Numbering.{kept_before}
 use Rattle.a68_gen.proofs.Listed.{texts_listed}
-use Rattle.a68_gen.proofs.Sizes.{size_one, size_stretch}
+use Rattle.a68_emit.proofs.Sizes.{size_one, size_stretch}
 use Rattle.a68_gen.proofs.Standing.{translated}
 use Rattle.a68_gen.proofs.Validity.{valid}
 use Rattle.a68_tree.specs.declared.node.Node.{Node}
-use Rattle.a68_gen.proofs.Writing.{and_behind, had_not, is_written, stops-places, writes-as}
+use Rattle.a68_emit.proofs.Writing.{and_behind, had_not, is_written, stops-places, writes-as}
 
 -- ---- what stands apart
 

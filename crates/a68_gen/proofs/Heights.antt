@@ -3,7 +3,7 @@ use Rattle.std.proofs.Common.{◌≡◌, ◌<◌, ◌≤◌, ◌⊎◌, ◌+◌,
 use Rattle.std.proofs.lemmas.Bool.{cases_lt, false≢true}
 use Rattle.a68_code.specs.declared.code.Code.{Code}
 use Rattle.a68_elab.specs.Trees.{Tree, Trees, operation, together, phrases, range, choice, cases, conformity, loop, call, parallel, meaningless, no_trees, ◌and_tree◌, count, Specs, no_specs, spec, Test, no_test, while_in, depth_of}
-use Rattle.a68_gen.specs.Stretches.{Limits, Indexes, Opens, Leaves, Stands, StandAll, StandArms, StandSpecs, Tests}
+use Rattle.a68_emit.specs.Stretches.{Limits, Indexes, Opens, Leaves, Stands, StandAll, StandArms, StandSpecs, Tests}
 
 abbrev pub bit : Bool → ℕ
 bit true = 1

@@ -1,7 +1,3 @@
-pub mod Chaining
-pub mod Conforming
-pub mod Constructs
-pub mod Entering
 pub mod Fitted
 pub mod Fitting
 pub mod FittingChoices
@@ -10,17 +6,9 @@ pub mod Flowing
 pub mod Forward
 pub mod Generating
 pub mod Heights
-pub mod Jumping
-pub mod Linking
 pub mod Listed
 pub mod Members
-pub mod Numbering
-pub mod Ordered
-pub mod Patching
 pub mod Places
 pub mod Refusing
-pub mod Sizes
 pub mod Standing
-pub mod Taking
 pub mod Validity
-pub mod Writing

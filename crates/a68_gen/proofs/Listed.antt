@@ -11,11 +11,11 @@ use Rattle.a68_code.specs.declared.code.RoutineEntrance.{RoutineEntrance}
 use Rattle.a68_code.specs.declared.does.Does.{Does}
 use Rattle.a68_code.specs.declared.does.Does.TheVariants as does
 use Rattle.a68_elab.specs.Trees.{Tree, Trees, operation, together, phrases, range, choice, cases, conformity, loop, call, parallel, meaningless, no_trees, ◌and_tree◌, count, Specs, no_specs, spec, Test, no_test, while_in, depth_of, Apart, routine_text, parallel_unit, Program}
-use Rattle.a68_gen.specs.Listing.{instr, limits, indexes, opens, leaves, size, sizes, spec_sizes, test_size, arm_places, spec_places, stretch, stretches, arm_stretches, spec_stretches, test_stretch, apart_stretches, text_entrances, unit_entrances, written, listing, texts_entered, units_entered}
-use Rattle.a68_gen.proofs.Entering.{entrances_are, map-behind, unlinked}
-use Rattle.a68_gen.proofs.Sizes.{size_leaves, size_stretch, size_stretches, size_arms, size_specs, size_test}
-use Rattle.a68_gen.specs.Stretches.{does_of, leave, Limits, Indexes, Opens, Leaves, Stands, StandAll, StandArms, StandSpecs, Tests, StandApart, member_places, wholes_of, with_last, Translates}
-use Rattle.a68_gen.specs.Writing.{IsTooLong, most, places}
+use Rattle.a68_emit.specs.Listing.{instr, limits, indexes, opens, leaves, size, sizes, spec_sizes, test_size, arm_places, spec_places, stretch, stretches, arm_stretches, spec_stretches, test_stretch, apart_stretches, text_entrances, unit_entrances, written, listing, texts_entered, units_entered}
+use Rattle.a68_emit.proofs.Entering.{entrances_are, map-behind, unlinked}
+use Rattle.a68_emit.proofs.Sizes.{size_leaves, size_stretch, size_stretches, size_arms, size_specs, size_test}
+use Rattle.a68_emit.specs.Stretches.{does_of, leave, Limits, Indexes, Opens, Leaves, Stands, StandAll, StandArms, StandSpecs, Tests, StandApart, member_places, wholes_of, with_last, Translates}
+use Rattle.a68_emit.specs.Writing.{IsTooLong, most, places}
 use Rattle.a68_modes.specs.declared.shape.Shape.{Shape}
 
 -- these instructions stand in the code from a up to b, with the entrances of units in the place of their numbers

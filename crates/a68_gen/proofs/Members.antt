@@ -6,7 +6,7 @@ use Rattle.std.specs.List.{All}
 use Rattle.std.specs.Prelude.{if◌then◌else◌}
 use Rattle.a68_code.specs.Flow.{last_place}
 use Rattle.a68_elab.specs.Trees.{Specs}
-use Rattle.a68_gen.specs.Stretches.{member_places, place_for}
+use Rattle.a68_emit.specs.Stretches.{member_places, place_for}
 
 -- the last place is that for none
 pub last_is : (members : List ℕ) (specs : Specs) (ps : List ℕ) (none : ℕ) → last_place (member_places members specs ps none) ≡ none

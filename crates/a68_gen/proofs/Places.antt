@@ -9,10 +9,10 @@ use Rattle.a68_code.specs.declared.code.Instr.{Instr}
 use Rattle.a68_code.specs.declared.does.Does.TheVariants as does
 use Rattle.a68_elab.specs.Places.{BeginsBy, AllBeginBy, SpecsBeginBy, TestBeginsBy, ApartBeginBy, ProgramBeginsBy}
 use Rattle.a68_elab.specs.Trees.{Tree, Trees, operation, together, phrases, range, choice, cases, conformity, loop, call, parallel, meaningless, no_trees, ◌and_tree◌, count, Specs, no_specs, spec, Test, no_test, while_in, depth_of, Apart, routine_text, parallel_unit, Program}
-use Rattle.a68_gen.specs.Listing.{instr, limits, indexes, opens, leaves, size, sizes, spec_sizes, test_size, arm_places, spec_places, stretch, stretches, arm_stretches, spec_stretches, test_stretch, apart_stretch, apart_stretches, listing, units_entered, written}
+use Rattle.a68_emit.specs.Listing.{instr, limits, indexes, opens, leaves, size, sizes, spec_sizes, test_size, arm_places, spec_places, stretch, stretches, arm_stretches, spec_stretches, test_stretch, apart_stretch, apart_stretches, listing, units_entered, written}
 use Rattle.a68_gen.proofs.Listed.{listed}
-use Rattle.a68_gen.specs.Stretches.{does_of, leave, member_places, wholes_of, with_last, Translates}
-use Rattle.a68_gen.specs.Writing.{IsTooLong, most, places}
+use Rattle.a68_emit.specs.Stretches.{does_of, leave, member_places, wholes_of, with_last, Translates}
+use Rattle.a68_emit.specs.Writing.{IsTooLong, most, places}
 
 -- the construct of each instruction begins at this byte or before it
 abbrev LieBy : (end : ℕ) → List Instr → Type 0

@@ -1,7 +1,7 @@
 -- Programs of which no code is made.
 use Rattle.std.proofs.Common.{◌≡◌, ◌≤◌, ℕ, List, length, sym, ◌∙◌, ap, subst, Some, slice_get}
 use Rattle.std.proofs.lemmas.Option.{same_Some}
-use Rattle.std.specs.Prelude.{Ok, Err, IfOk, IfErr}
+use Rattle.std.specs.Prelude.{Ok, Err, IfErr}
 use Rattle.std.specs.declared.result.Result.{Result}
 use Rattle.a68_annot.specs.declared.annotated.Annotated.{Annotated}
 use Rattle.a68_base.specs.declared.refusal.Refusal.{Refusal}
@@ -14,10 +14,10 @@ use Rattle.a68_elab.proofs.Beginning.{program_begins}
 use Rattle.a68_elab.specs.Programs.{program_of}
 use Rattle.a68_gen.proofs.Listed.{listed, not_short}
 use Rattle.a68_gen.proofs.Places.{refused_by}
-use Rattle.a68_gen.specs.Listing.{listing}
+use Rattle.a68_emit.specs.Listing.{listing}
 use Rattle.a68_gen.specs.Refusals.{IsNotGenerated}
-use Rattle.a68_gen.specs.Stretches.{Translates}
-use Rattle.a68_gen.specs.Writing.{IsTooLong, Stops, most}
+use Rattle.a68_emit.specs.Stretches.{Translates}
+use Rattle.a68_emit.specs.Writing.{IsTooLong, Stops, most}
 use Rattle.a68_ranges.specs.Twice.{StopsBy}
 use Rattle.a68_tree.specs.declared.node.Node.{Node}
 

@@ -8,24 +8,16 @@ use Rattle.a68_code.specs.declared.code.RoutineEntrance.{RoutineEntrance}
 use Rattle.a68_code.specs.declared.does.Does.{Does}
 use Rattle.a68_code.specs.declared.does.Does.TheVariants as does
 use Rattle.a68_elab.specs.Trees.{Tree, Trees, operation, together, phrases, range, choice, cases, conformity, loop, call, parallel, meaningless, no_trees, ◌and_tree◌, count, Specs, no_specs, spec, Test, no_test, while_in, depth_of, Apart, routine_text, parallel_unit, Program}
-use Rattle.a68_gen.specs.Listing.{instr, limits, indexes, opens, leaves, size, sizes, spec_sizes, test_size, arm_places, spec_places, stretch, stretches, arm_stretches, spec_stretches, test_stretch, apart_stretch, apart_stretches, text_entrances, unit_entrances, written, texts_entered, units_entered}
+use Rattle.a68_emit.specs.Listing.{instr, limits, indexes, opens, leaves, size, sizes, spec_sizes, test_size, arm_places, spec_places, stretch, stretches, arm_stretches, spec_stretches, test_stretch, apart_stretch, apart_stretches, text_entrances, unit_entrances, written, texts_entered, units_entered}
 use Rattle.a68_gen.specs.Fits.{Fits, AllFit, SpecsFit, TestFits, ApartFits}
-use Rattle.a68_gen.specs.Stretches.{does_of, leave, Has, Limits, Indexes, Opens, Leaves, Stands, StandAll, StandArms, StandSpecs, Tests, StandApart, member_places, wholes_of, with_last, Translates}
-use Rattle.a68_gen.proofs.Entering.{are_entrances, get-map, map-long, unlinked}
-use Rattle.a68_gen.proofs.Sizes.{apart_sizes, size_apart, size_leaves, size_one, size_stretch, size_stretches, size_arms, size_specs, size_test}
+use Rattle.a68_emit.specs.Stretches.{does_of, leave, Has, Limits, Indexes, Opens, Leaves, Stands, StandAll, StandArms, StandSpecs, Tests, StandApart, member_places, wholes_of, with_last, Translates}
+use Rattle.a68_emit.proofs.Fronts.{get-behind, get-front}
+use Rattle.a68_emit.proofs.Entering.{are_entrances, get-map, map-long, unlinked}
+use Rattle.a68_emit.proofs.Sizes.{apart_sizes, size_apart, size_leaves, size_one, size_stretch, size_stretches, size_arms, size_specs, size_test}
 
 -- the instructions stand in the code from a place on, with the entrances of units in the place of their numbers
 pub record Holds (code : Code) (at : ℕ) (list : List Instr) : Type 0 where
   pub each : (k : ℕ) (i : Instr) → slice_get list k ≡ Some i → slice_get code.list (at + k) ≡ Some (linked code.units i)
-
-pub get-front : {X : Type 0} (xs ys : List X) (k : ℕ) (x : X) → slice_get xs k ≡ Some x → slice_get (xs ++ ys) k ≡ Some x
-get-front [] ys k x p = absurd (cc)
-get-front (z ∷ xs) ys zero x p = p
-get-front (z ∷ xs) ys (suc k) x p = get-front xs ys k x p
-
-pub get-behind : {X : Type 0} (xs ys : List X) (k : ℕ) → slice_get (xs ++ ys) (length xs + k) ≡ slice_get ys k
-get-behind [] ys k = let e : 0 + k ≡ k = omega arith in rw e refl
-get-behind (z ∷ xs) ys k = let e : suc (length xs) + k ≡ suc (length xs + k) = omega arith in rw e (get-behind xs ys k)
 
 -- a list that stands is one front that stands, and one rest
 pub holds-front : {code : Code} {at : ℕ} (xs ys : List Instr) → Holds code at (xs ++ ys) → Holds code at xs

@@ -24,11 +24,11 @@ use Rattle.a68_code.specs.declared.does.Does.TheVariants as does
 use Rattle.a68_code.specs.declared.owner.Owner.{Owner}
 use Rattle.a68_code.specs.declared.owner.Owner.TheVariants as owner
 use Rattle.a68_elab.specs.Trees.{Tree, Apart, routine_text, parallel_unit, Program}
-use Rattle.a68_gen.proofs.Entering.{IsUnit}
+use Rattle.a68_emit.proofs.Entering.{IsUnit}
 use Rattle.a68_gen.proofs.Flowing.{Flows, flows, bit_is, no_fork, none, no_way, only}
 use Rattle.a68_gen.proofs.Heights.{At, HeightsOf, Piece, bit, both, nothing, nothing_more, one, piece, starts}
 use Rattle.a68_gen.specs.Operands.{FitsModes, ApartFitsModes}
-use Rattle.a68_gen.specs.Stretches.{Has, Stands, StandApart, Translates}
+use Rattle.a68_emit.specs.Stretches.{Has, Stands, StandApart, Translates}
 
 -- ---- what stands apart
 

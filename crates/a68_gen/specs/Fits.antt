@@ -5,7 +5,7 @@ use Rattle.std.specs.List.{list_all}
 use Rattle.a68_acts.specs.Operations.{leaves}
 use Rattle.a68_code.specs.Flow.{takes}
 use Rattle.a68_elab.specs.Trees.{Tree, Trees, operation, together, phrases, range, choice, cases, conformity, loop, call, parallel, meaningless, Specs, no_specs, spec, Test, no_test, while_in, no_trees, ◌and_tree◌, count, Apart, routine_text, parallel_unit}
-use Rattle.a68_gen.specs.Stretches.{does_of}
+use Rattle.a68_emit.specs.Stretches.{does_of}
 use Rattle.a68_acts.specs.Members.{members_of}
 use Rattle.a68_modes.specs.Nodes.{shape_at}
 use Rattle.a68_modes.specs.declared.shape.Shape.{Shape}

@@ -1,16 +1,3 @@
-pub mod Chains
-pub mod Coercing
-pub mod Conforming
 pub mod Fits
-pub mod Forms
-pub mod Listing
-pub mod Loops
-pub mod Numbers
 pub mod Operands
 pub mod Refusals
-pub mod Sources
-pub mod Stretches
-pub mod Texts
-pub mod Views
-pub mod Writers
-pub mod Writing

@@ -3,7 +3,7 @@
 use Rattle.std.specs.Prelude.{⊤, ℕ, IsTrue, List, [], ◌∷◌, length, nat_lt}
 use Rattle.a68_code.specs.Operands.{is_well_made}
 use Rattle.a68_elab.specs.Trees.{Tree, Trees, operation, together, phrases, range, choice, cases, conformity, loop, call, parallel, meaningless, Specs, no_specs, spec, Test, no_test, while_in, no_trees, ◌and_tree◌, count, Apart, routine_text, parallel_unit}
-use Rattle.a68_gen.specs.Stretches.{does_of}
+use Rattle.a68_emit.specs.Stretches.{does_of}
 use Rattle.a68_modes.specs.declared.shape.Shape.{Shape}
 
 -- The instruction of each operation in the tree is well made. No such instruction names a place, so it does not matter how

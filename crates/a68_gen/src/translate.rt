@@ -10,28 +10,25 @@ ghost use Rattle.a68_elab.specs.Programs.{asked_tree, body_of, body_yields, para
 ghost use Rattle.a68_elab.specs.Places.{ProgramBeginsBy};
 ghost use Rattle.a68_elab.specs.Trees.{Program, routine_text, parallel_unit};
 ghost use Rattle.a68_gen.specs.Fits.{Fits, ApartFits};
-ghost use Rattle.a68_gen.specs.Listing.{apart_stretch, apart_stretches, instr, listing, stretch, text_entrances, texts_entered, unit_entrances, units_entered, written};
+ghost use Rattle.a68_emit.specs.Listing.{apart_stretch, apart_stretches, instr, listing, stretch, text_entrances, texts_entered, unit_entrances, units_entered, written};
 ghost use Rattle.a68_gen.specs.Operands.{FitsModes, ApartFitsModes};
 ghost use Rattle.a68_gen.specs.Refusals.{IsNotGenerated};
-ghost use Rattle.a68_gen.specs.Stretches.{Translates};
-ghost use Rattle.a68_gen.specs.Texts.{apart_of, node_of, pair_of};
-ghost use Rattle.a68_gen.specs.Writers.{Wrote};
-ghost use Rattle.a68_gen.specs.Writing.{IsTooLong, Stops, most, ran_out};
+ghost use Rattle.a68_emit.specs.Stretches.{Translates};
+ghost use Rattle.a68_emit.specs.Texts.{apart_of, node_of, pair_of};
+ghost use Rattle.a68_emit.specs.Writers.{Wrote};
+ghost use Rattle.a68_emit.specs.Writing.{IsTooLong, Stops, most, ran_out};
 ghost use Rattle.a68_ranges.specs.Twice.{StopsBy};
 ghost use Rattle.a68_runs.specs.Running.{AreRuns};
 ghost use Rattle.a68_tree.specs.declared.node.Node.{Node};
 
-use crate::entered::{Entered, UnitNode};
-use crate::numbered::Numbered;
-use crate::rows::unit;
-use crate::single::misfit;
-use crate::view::View;
-use crate::writer::Writer;
 use a68_annot::Annotated;
 use a68_base::Stop;
 use a68_code::{Code, Does, Places, RoutineEntrance, Routines};
+use a68_constructs::unit;
 use a68_elab::Sight;
-use a68_runs::{behind_proc, leaves, which_run};
+use a68_emit::{Entered, Numbered, UnitNode, View, Writer, misfit};
+use a68_parts::behind_proc;
+use a68_runs::{leaves, which_run};
 use a68_tree::NodeId;
 use std::alloc::Global;
 

@@ -1,12 +1,6 @@
-//! Tests of codes, stores, stacks, strands and runs, by hand.
+//! Tests of stacks, stores, strands and runs, by hand.
 #![tactic(auto)]
 
-#[cfg(test)]
-mod builder;
-#[cfg(test)]
-mod code;
-#[cfg(test)]
-mod codes;
 #[cfg(test)]
 mod parallel;
 #[cfg(test)]

@@ -1,9 +1,9 @@
 //! What is put on a stack and taken off it.
 use crate::table::holds;
 use a68_acts::Counter;
-use a68_rules_tests::plain;
 use a68_stack::{Item, Stack};
 use a68_values::{Plain, Value};
+use a68_values_tests::plain;
 use std::alloc::Global;
 use std::panic::Expect;
 use std::process::Abort;

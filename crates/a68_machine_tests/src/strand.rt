@@ -1,16 +1,17 @@
 //! Strands of small codes, told their replies by hand.
 ghost use Rattle.std.specs.Prelude.{◌≡◌, IsTrue};
 ghost use Rattle.a68_stack.specs.Room.{has_room};
-ghost use Rattle.a68_strand.specs.Room.{brings_room};
+ghost use Rattle.a68_instructions.specs.Room.{brings_room};
 ghost use Rattle.a68_strand.specs.Strands.{wants};
 
-use crate::codes::{code_of, code_over, modes_with_pair};
 use crate::table::{agrees, cut, holds};
 use a68_acts::Reply;
 use a68_base::find;
 use a68_code::Code;
+use a68_code_tests::{code_of, code_over, modes_with_pair};
+use a68_instructions::{Ask, PlainReply};
 use a68_rules_tests::act;
-use a68_strand::{Ask, PlainReply, Strand};
+use a68_strand::Strand;
 use a68_values::{Chain, Environ, Held, Name, Plain};
 use std::alloc::Global;
 use std::panic::Expect;
@@ -120,7 +121,7 @@ fn goes_on(
 
 // The same for a strand at the beginning of a code.
 fn run(rt: &impl Abort, alloc: Global, ops: &str, acts: &str, end: &str) {
-    let code = code_of(rt, alloc, ops);
+    let code = code_of(alloc, ops).expect(rt, "a code");
     let mut strand = begun(rt, alloc, &code);
     goes_on(rt, alloc, &code, &mut strand, acts, end);
     drop(strand);
@@ -130,7 +131,7 @@ fn run(rt: &impl Abort, alloc: Global, ops: &str, acts: &str, end: &str) {
 #[test]
 fn prints(rt: HostRuntime) {
     let alloc = rt.alloc();
-    let code = code_of(&rt, alloc, "Push 3, Print 1, End");
+    let code = code_of(alloc, "Push 3, Print 1, End").expect(&rt, "a code");
     let mut strand = begun(&rt, alloc, &code);
     holds(&rt, strand.number() == 0, "the first strand");
     holds(&rt, strand.place() == 1, "where it begins");
@@ -299,7 +300,8 @@ fn calls_no_other_value(rt: HostRuntime) {
 
 // A run over the standard modes and STRUCT (INT x, y), which is 13; REF 13 is 14.
 fn run_with_pair(rt: &impl Abort, alloc: Global, ops: &str, acts: &str, end: &str) {
-    let code = code_over(rt, alloc, modes_with_pair(rt, alloc), ops);
+    let modes = modes_with_pair(alloc).expect(rt, "modes");
+    let code = code_over(alloc, modes, ops).expect(rt, "a code");
     let mut strand = begun(rt, alloc, &code);
     goes_on(rt, alloc, &code, &mut strand, acts, end);
     drop(strand);

@@ -2,11 +2,11 @@
 ghost use Rattle.std.specs.Prelude.{◌<◌, ◌^◌, length};
 ghost use Rattle.a68_code.specs.Valid.{IsValid};
 
-use crate::codes::code_of;
 use crate::table::{agrees, holds};
 use a68_code::Code;
-use a68_rules_tests::plain_in;
+use a68_code_tests::code_of;
 use a68_values::{End, Entry, FaultKind, Kept, Plain};
+use a68_values_tests::plain_in;
 use a68_world::{Turned, World};
 use std::alloc::Global;
 use std::panic::Expect;
@@ -237,7 +237,7 @@ pub fn valid_code(rt: &impl Abort, alloc: Global, ops: &str) -> Code
     ensures valid { IsValid result }
     ensures short { length result.list < 2 ^ 32 }
 {
-    let code = code_of(rt, alloc, ops);
+    let code = code_of(alloc, ops).expect(rt, "a code");
     let valid = code.valid(alloc).expect(rt, "memory");
     holds(rt, valid, "a valid code");
     holds(rt, code.list.items.len() < 100, "a short code");

@@ -1,5 +1,4 @@
 //! Operations on rows and on the names of rows, by hand.
-use crate::modes::add;
 use crate::structures::{Acts, Told, does};
 use crate::table::agrees;
 use a68_acts::Doing;
@@ -9,6 +8,7 @@ use a68_perform::{applied_to_one, applied_to_two};
 use a68_rows::{displayed, rowed, sliced, vacuous};
 use a68_steps::assigned_parts;
 use a68_values::{Bounds, Name, Plain, Value, ValueNode, Values};
+use a68_values_tests::modes::add;
 use std::alloc::Global;
 use std::panic::Expect;
 use std::process::Abort;
@@ -27,12 +27,12 @@ fn row_of_ints(dims: u32, flex: bool) -> Shape {
     Shape::Rows { dims, flex, of: 1 }
 }
 
-fn modes(rt: &impl Abort, alloc: Global) -> Modes {
-    let mut modes = Modes::new(alloc).expect(rt, "memory");
-    add(rt, alloc, &mut modes, row_of_ints(1, false));
-    add(rt, alloc, &mut modes, row_of_ints(2, false));
-    add(rt, alloc, &mut modes, row_of_ints(1, true));
-    modes
+fn modes(alloc: Global) -> Option<Modes> {
+    let mut modes = Modes::new(alloc).ok()?;
+    add(alloc, &mut modes, row_of_ints(1, false))?;
+    add(alloc, &mut modes, row_of_ints(2, false))?;
+    add(alloc, &mut modes, row_of_ints(1, true))?;
+    Some(modes)
 }
 
 const NAME: Name = Name { cell: 7, scope: 3 };
@@ -149,7 +149,7 @@ const SLICED: &[(&[TrimForm], &[i64], &str)] = &[
 #[test]
 fn slices_of_values(rt: HostRuntime) {
     let alloc = rt.alloc();
-    let modes = modes(&rt, alloc);
+    let modes = modes(alloc).expect(&rt, "modes");
     for (forms, indices, told) in SLICED {
         let primary = row(&rt, alloc, &[(2, 3), (1, 3)], 6);
         let doing = slice(&rt, alloc, forms, primary, indices);
@@ -186,7 +186,7 @@ const NAMED: &[(&[TrimForm], &[i64], Acts, &str)] = &[
 #[test]
 fn slices_of_names(rt: HostRuntime) {
     let alloc = rt.alloc();
-    let modes = modes(&rt, alloc);
+    let modes = modes(alloc).expect(&rt, "modes");
     for (forms, indices, acts, told) in NAMED {
         let doing = slice(&rt, alloc, forms, name(), indices);
         does(&rt, alloc, &modes, doing, acts, told);
@@ -201,7 +201,7 @@ fn slices_of_names(rt: HostRuntime) {
 #[test]
 fn displays(rt: HostRuntime) {
     let alloc = rt.alloc();
-    let modes = modes(&rt, alloc);
+    let modes = modes(alloc).expect(&rt, "modes");
     let list = displayed(alloc, &modes, LIST, ints(&rt, alloc, 5, 2)).expect(&rt, "memory");
     does(&rt, alloc, &modes, list, &[], "[1:2](Int(5) Int(6))");
     let rows = vec![in alloc;
@@ -231,7 +231,7 @@ fn displays(rt: HostRuntime) {
 #[test]
 fn rowing(rt: HostRuntime) {
     let alloc = rt.alloc();
-    let modes = modes(&rt, alloc);
+    let modes = modes(alloc).expect(&rt, "modes");
     let list = rowed(alloc, &modes, LIST, int(5)).expect(&rt, "memory");
     does(&rt, alloc, &modes, list, &[], "[1:1](Int(5))");
     let table = rowed(alloc, &modes, TABLE, row(&rt, alloc, &[(3, 4)], 2)).expect(&rt, "memory");
@@ -259,7 +259,7 @@ const RENEWED: Acts = &[
 #[test]
 fn rows_are_assigned(rt: HostRuntime) {
     let alloc = rt.alloc();
-    let modes = modes(&rt, alloc);
+    let modes = modes(alloc).expect(&rt, "modes");
     let yielded = "Name(Name { cell: 7, scope: 3 })";
     for (mode, acts, told) in [
         (LIST, KEPT, yielded),
@@ -287,7 +287,7 @@ const GROWN: Acts = &[
 #[test]
 fn texts_grow(rt: HostRuntime) {
     let alloc = rt.alloc();
-    let modes = modes(&rt, alloc);
+    let modes = modes(alloc).expect(&rt, "modes");
     let (left, right) = (name(), ab(&rt, alloc));
     let doing = applied_to_two(alloc, 1, &left, &right).expect(&rt, "memory");
     drop((left, right));
@@ -309,7 +309,7 @@ const BOUNDS: &[(u32, i64, &str)] = &[
 #[test]
 fn bounds_of_rows(rt: HostRuntime) {
     let alloc = rt.alloc();
-    let modes = modes(&rt, alloc);
+    let modes = modes(alloc).expect(&rt, "modes");
     for (operator, dimension, told) in BOUNDS {
         let (left, right) = (int(*dimension), row(&rt, alloc, &[(2, 3), (1, 3)], 6));
         let doing = applied_to_two(alloc, *operator, &left, &right).expect(&rt, "memory");

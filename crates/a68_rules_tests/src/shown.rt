@@ -1,15 +1,11 @@
 //! Values, acts and operations in words.
 use a68_acts::{Doing, Next, Want};
 use a68_layout::Plan;
-use a68_values::{Bounds, Descriptor, Dim, Held, Plain, Value, ValueNode, Values};
+use a68_values::{Bounds, Descriptor, Held, Plain, Value, ValueNode, Values};
+use a68_values_tests::{plain, plain_in, tell_row};
 use std::alloc::Global;
 use std::fmt::Debug;
 use std::string::String;
-
-/// A value that fits one cell; Unset where it is none.
-pub fn plain(value: &Value) -> Plain {
-    value.plain().unwrap_or(Plain::Unset)
-}
 
 // Makes a text grow by bounds, as a declarer writes them.
 fn tell_bounds(text: &mut String, bounds: &Bounds) -> Option<()> {
@@ -64,14 +60,6 @@ fn yielded(alloc: Global, value: &Value) -> Option<String> {
     let mut text = String::new(alloc);
     tell(&mut text, value)?;
     Some(text)
-}
-
-/// What a cell holds, where it is a plain value.
-pub fn plain_in(held: &Held) -> Option<Plain> {
-    match held {
-        Held::Plain(plain) => Some(*plain),
-        _ => None,
-    }
 }
 
 // An act that prints nothing: its name, its numbers, and the value that it is given.
@@ -139,23 +127,8 @@ fn printing(alloc: Global, bytes: &[u8]) -> Option<String> {
     format!(in alloc; "Print {text:?}").ok()
 }
 
-// Makes a text grow by a row in the store: the cell of its first element, and the bounds and the stride of each dimension.
-fn tell_row(text: &mut String, row: &Descriptor) -> Option<()> {
-    let base = row.base;
-    write!(text, " at {base}").ok()?;
-    for dim in &row.dims.items {
-        let Dim {
-            lower,
-            upper,
-            stride,
-        } = *dim;
-        write!(text, " {lower}:{upper}/{stride}").ok()?;
-    }
-    Some(())
-}
-
 fn assigning_row(alloc: Global, cell: u32, row: &Descriptor) -> Option<String> {
-    let mut text = format!(in alloc; "Assign {cell} row").ok()?;
+    let mut text = format!(in alloc; "Assign {cell} row ").ok()?;
     tell_row(&mut text, row)?;
     Some(text)
 }
@@ -166,6 +139,7 @@ fn making(alloc: Global, cells: &[Held]) -> Option<String> {
     let mut text = format!(in alloc; "Make {count}").ok()?;
     if count == 1 {
         if let Held::Rows(row) = &cells[0] {
+            text.push(' ').ok()?;
             tell_row(&mut text, row)?;
         }
     }

@@ -1,11 +1,11 @@
 //! The acts of fetching and of assigning values of structures and unions, and what is made of such values, by hand.
-use crate::modes::{BOX, DEEP, EITHER, INT, LINK, NAMED, POINT, REF_BOX, modes};
 use crate::table::{agrees, holds};
 use a68_acts::{Doing, Reply};
 use a68_modes::{ModeId, Modes};
 use a68_perform::{making, member_of, resumed, united};
 use a68_steps::{assigned, assigned_parts, composed, fetched_parts, selected, skipped};
 use a68_values::{Descriptor, Dim, Dims, FaultKind, Held, Name, Plain, Value, ValueNode, Values};
+use a68_values_tests::modes::{BOX, DEEP, EITHER, INT, LINK, NAMED, POINT, REF_BOX, modes};
 use std::alloc::Global;
 use std::panic::Expect;
 use std::process::Abort;
@@ -148,7 +148,7 @@ const FETCHED: &[(ModeId, Acts, &str)] = &[
 #[test]
 fn what_names_refer_to(rt: HostRuntime) {
     let alloc = rt.alloc();
-    let modes = modes(&rt, alloc);
+    let modes = modes(alloc).expect(&rt, "modes");
     for (mode, acts, last) in FETCHED {
         let begun = fetched_parts(alloc, &modes, *mode, NAME).expect(&rt, "memory");
         does(&rt, alloc, &modes, begun, acts, last);
@@ -160,7 +160,7 @@ fn what_names_refer_to(rt: HostRuntime) {
 #[test]
 fn a_name_beyond_all_cells(rt: HostRuntime) {
     let alloc = rt.alloc();
-    let modes = modes(&rt, alloc);
+    let modes = modes(alloc).expect(&rt, "modes");
     let last = Name {
         cell: 4_194_303,
         scope: 0,
@@ -238,7 +238,7 @@ fn assigns(
 #[test]
 fn fields_are_assigned_in_order(rt: HostRuntime) {
     let alloc = rt.alloc();
-    let modes = modes(&rt, alloc);
+    let modes = modes(alloc).expect(&rt, "modes");
     let value = point(&rt, alloc, 1, 2);
     assigns(&rt, alloc, &modes, POINT, value, POINT_ACTS, YIELD);
     let value = whole(&rt, alloc, &modes);
@@ -257,7 +257,7 @@ const UNSET_ACTS: Acts = &[("Assign 7 Unset", Told::Go)];
 #[test]
 fn unions_are_assigned(rt: HostRuntime) {
     let alloc = rt.alloc();
-    let modes = modes(&rt, alloc);
+    let modes = modes(alloc).expect(&rt, "modes");
     let five = unite(&rt, alloc, &modes, INT, int(5));
     assigns(&rt, alloc, &modes, EITHER, five, INT_ACTS, YIELD);
     let unset = Value::of(Plain::Unset);
@@ -269,7 +269,7 @@ fn unions_are_assigned(rt: HostRuntime) {
 #[test]
 fn scopes_of_whole_values(rt: HostRuntime) {
     let alloc = rt.alloc();
-    let modes = modes(&rt, alloc);
+    let modes = modes(alloc).expect(&rt, "modes");
     let newer = Value::of(Plain::Name(Name { cell: 9, scope: 4 }));
     let value = pair(&rt, alloc, int(1), newer);
     assigns(&rt, alloc, &modes, LINK, value, &[], "Scope");
@@ -280,7 +280,7 @@ fn scopes_of_whole_values(rt: HostRuntime) {
 #[test]
 fn values_of_another_kind(rt: HostRuntime) {
     let alloc = rt.alloc();
-    let modes = modes(&rt, alloc);
+    let modes = modes(alloc).expect(&rt, "modes");
     assigns(&rt, alloc, &modes, POINT, int(1), &[], "Kind");
     let value = pair(
         &rt,
@@ -301,7 +301,7 @@ fn values_of_another_kind(rt: HostRuntime) {
 #[test]
 fn names_first(rt: HostRuntime) {
     let alloc = rt.alloc();
-    let modes = modes(&rt, alloc);
+    let modes = modes(alloc).expect(&rt, "modes");
     for (name, told) in [
         (Plain::Unset, "Unset"),
         (Plain::Nil, "Nil"),
@@ -328,7 +328,7 @@ const NEW: &[(ModeId, &str, &str)] = &[
 #[test]
 fn new_names_and_skip(rt: HostRuntime) {
     let alloc = rt.alloc();
-    let modes = modes(&rt, alloc);
+    let modes = modes(alloc).expect(&rt, "modes");
     for (mode, named, value) in NEW {
         let doing = making(alloc, &modes, *mode, 0, &[]).expect(&rt, "memory");
         does(&rt, alloc, &modes, doing, &[], named);
@@ -349,7 +349,7 @@ const SELECTED: &[(u32, &str)] = &[
 #[test]
 fn names_of_fields(rt: HostRuntime) {
     let alloc = rt.alloc();
-    let modes = modes(&rt, alloc);
+    let modes = modes(alloc).expect(&rt, "modes");
     for (field, told) in SELECTED {
         let doing = selected(alloc, &modes, REF_BOX, *field, Value::of(Plain::Name(NAME))).expect(
             &rt, "memory",
@@ -366,7 +366,7 @@ fn names_of_fields(rt: HostRuntime) {
 #[test]
 fn fields_of_values(rt: HostRuntime) {
     let alloc = rt.alloc();
-    let modes = modes(&rt, alloc);
+    let modes = modes(alloc).expect(&rt, "modes");
     let value = whole(&rt, alloc, &modes);
     let doing = selected(alloc, &modes, BOX, 1, value).expect(&rt, "memory");
     does(&rt, alloc, &modes, doing, &[], "(Int(1) Int(2))");
@@ -379,7 +379,7 @@ fn fields_of_values(rt: HostRuntime) {
 #[test]
 fn structures_of_values(rt: HostRuntime) {
     let alloc = rt.alloc();
-    let modes = modes(&rt, alloc);
+    let modes = modes(alloc).expect(&rt, "modes");
     for (count, told) in [(2, "(Int(1) Int(2))"), (3, "Kind")] {
         let items = vec![in alloc; int(1), int(2)].expect(&rt, "memory");
         let doing = composed(count, Values { items });
@@ -398,7 +398,7 @@ const MEMBERS: &[(ModeId, Result<usize, FaultKind>)] = &[
 #[test]
 fn members(rt: HostRuntime) {
     let alloc = rt.alloc();
-    let modes = modes(&rt, alloc);
+    let modes = modes(alloc).expect(&rt, "modes");
     for (mode, expected) in MEMBERS {
         let value = unite(&rt, alloc, &modes, *mode, int(5));
         let member = member_of(&modes, EITHER, &value);

@@ -5,7 +5,7 @@ use Rattle.std.specs.Option.{option_and_then}
 use Rattle.std.specs.declared.option.Option.{Option}
 use Rattle.a68_annot.specs.declared.annotated.Annotated.{Annotated}
 use Rattle.a68_annot.specs.declared.note.Note.{Note}
-use Rattle.a68_elab.specs.Made.{behind_proc, behind_ref, rowed_to, unrowed, unrowed_name}
+use Rattle.a68_elab.specs.Made.{behind_proc, behind_ref, rowed_to}
 use Rattle.a68_elab.specs.Runs.{is_there, runs}
 use Rattle.a68_runs.specs.declared.paths.Between.{Between}
 use Rattle.a68_modes.specs.Nodes.{shape_at, is_void}
@@ -26,12 +26,6 @@ pub record IsThere (a : Annotated) (id : ℕ) : Type 0 where
 -- the first nodes are there, so many of them
 abbrev pub AreThere : Annotated → (count : ℕ) → Type 0
 AreThere a count = (id : ℕ) → id < count → IsThere a id
-
--- the mode before a rowing to a mode; none before another coercion
-abbrev pub before : List Shape → (mode : Option ℕ) → Coercion → Option ℕ
-before modes m coercion.RowUp = option_and_then (unrowed modes) m
-before modes m coercion.RowUpName = option_and_then (unrowed_name modes) m
-before modes m _ = None
 
 -- a value of a mode that is there
 abbrev pub value_of : List Shape → (mode : ℕ) → Option Between

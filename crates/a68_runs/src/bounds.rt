@@ -9,13 +9,13 @@ ghost use Rattle.a68_runs.specs.Bounds as bounds_so_far;
 ghost use Rattle.a68_elab.specs.Runs as runs;
 ghost use Rattle.a68_tree.specs.Trees.{AllBetween};
 
-use crate::nodes::{behind_ref, is_one_of, kind_at, last_id, mode_at, parts_at};
 use crate::outcomes::leaves;
 use a68_annot::Annotated;
 use a68_base::{MOST_INSTRUCTIONS, NoMemory};
 use a68_elab::Bound;
 use a68_layout::takes_bounds;
 use a68_modes::ModeId;
+use a68_parts::{behind_ref, is_one_of, kind_at, last_id, mode_at, parts_at};
 use a68_tree::{NodeId, NodeKind};
 use std::alloc::Global;
 

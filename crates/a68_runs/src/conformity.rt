@@ -4,11 +4,11 @@ ghost use Rattle.a68_elab.specs.Made as made;
 ghost use Rattle.a68_elab.specs.Runs as runs;
 ghost use Rattle.a68_tree.specs.Trees.{AllBetween};
 
-use crate::nodes::{before_out, out_of};
 use crate::outcomes::leaves;
 use crate::runs::{asks, out_runs};
 use a68_annot::Annotated;
 use a68_modes::ModeId;
+use a68_parts::{before_out, out_of};
 use a68_tree::NodeId;
 
 // The mode that is asked of a node.

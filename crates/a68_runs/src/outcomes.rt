@@ -6,11 +6,9 @@ ghost use Rattle.a68_elab.specs.Made as made;
 ghost use Rattle.a68_elab.specs.Runs as runs;
 ghost use Rattle.a68_modes.specs.Nodes.{shape_at};
 
-use crate::constants::standard_of;
-use crate::loops::only_id;
-use crate::nodes::{behind_proc, behind_ref};
 use a68_annot::{Annotated, Note};
 use a68_modes::{ModeId, Modes, Shape};
+use a68_parts::{behind_proc, behind_ref, only_id, standard_of};
 use a68_tree::{Node, NodeId, NodeKind};
 
 /// Is a value asked of a node?

@@ -5,11 +5,10 @@ ghost use Rattle.a68_elab.specs.Made as made;
 ghost use Rattle.a68_elab.specs.Runs as runs;
 ghost use Rattle.a68_runs.specs.Running as running;
 
-use crate::nodes::{behind_proc, behind_ref};
 use crate::outcomes::is_there;
-use crate::rowing::rowed_to;
 use a68_annot::Note;
 use a68_modes::{Coercion, ModeId, Modes};
+use a68_parts::{behind_proc, behind_ref, rowed_to};
 
 /// What stands between two coercions: the mode behind the first, and whether a value is left.
 #[derive(Clone, Copy)]

@@ -4,20 +4,13 @@ ghost use Rattle.std.specs.Option.{is_some, option_and_then};
 ghost use Rattle.a68_elab.specs.Constants as constants;
 ghost use Rattle.a68_elab.specs.Made as made;
 ghost use Rattle.a68_elab.specs.Runs as runs;
-ghost use Rattle.a68_runs.specs.Loops.{AreWithin};
+ghost use Rattle.a68_parts.specs.Loops.{AreWithin};
 ghost use Rattle.a68_runs.specs.Running.{AreRuns, AreThere, IsThere};
 ghost use Rattle.a68_modes.specs.Nodes.{HoldsNodes, shape_at};
 ghost use Rattle.a68_tree.specs.Trees.{AllBetween};
 
 use crate::bounds::new_runs;
 use crate::conformity::conformity_runs;
-use crate::constants::{is_quoted, truths};
-use crate::fields::{field_in, fields_at, first_goal};
-use crate::loops::{LoopParts, loop_parts, only_id};
-use crate::nodes::{
-    before_out, begins_in_heap, begins_with_declarer, behind_heap, called, is_one_of, items_at,
-    out_of, printers, wholes,
-};
 use crate::outcomes::{
     all_leave, are_phrases, are_values, asks_value, if_so, is_outcome, is_row, is_there,
     last_outcome, leaves, only_outcome, outcome, outcome_by, parallel_runs, proc_yields, refers,
@@ -30,6 +23,11 @@ use a68_base::{NoMemory, find};
 use a68_code::operands_of;
 use a68_denote::{bits_of, int_of};
 use a68_modes::{ModeId, Shape};
+use a68_parts::{
+    LoopParts, before_out, begins_in_heap, begins_with_declarer, behind_heap, called, field_in,
+    fields_at, first_goal, is_one_of, is_quoted, items_at, loop_parts, only_id, out_of, printers,
+    truths, wholes,
+};
 use a68_tree::{Node, NodeId, NodeKind};
 use std::alloc::Global;
 

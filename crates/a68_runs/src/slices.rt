@@ -4,10 +4,10 @@ ghost use Rattle.std.specs.List.{list_all};
 ghost use Rattle.a68_elab.specs.Made as made;
 ghost use Rattle.a68_elab.specs.Runs as runs;
 
-use crate::nodes::{kind_at, parts_at};
 use crate::outcomes::{all_leave, leaves};
 use a68_annot::Annotated;
 use a68_layout::TrimForm;
+use a68_parts::{kind_at, parts_at};
 use a68_tree::{NodeId, NodeKind};
 
 // Is there a lower bound among these nodes?

@@ -10,9 +10,9 @@ use Rattle.a68_code.specs.declared.code.Instr.{Instr}
 use Rattle.a68_code.specs.declared.does.Does.{Does}
 use Rattle.a68_code.specs.declared.does.Does.TheVariants as does
 use Rattle.a68_elab.specs.Rows.{Then, goes, acts, meets}
-use Rattle.a68_strand.specs.Machine.{State, stack_of, exec, at_end, does_one, silently, told_by, place_at}
-use Rattle.a68_strand.specs.declared.ask.Stance.{Stance}
-use Rattle.a68_strand.specs.declared.ask.Stance.TheVariants.{Idle, Asking, Failed}
+use Rattle.a68_instructions.specs.Machine.{State, stack_of, exec, at_end, does_one, silently, told_by, place_at}
+use Rattle.a68_instructions.specs.declared.ask.Stance.{Stance}
+use Rattle.a68_instructions.specs.declared.ask.Stance.TheVariants.{Idle, Asking, Failed}
 use Rattle.a68_stack.specs.Values.{callers}
 use Rattle.a68_stack.specs.declared.stack.Item.{Item}
 use Rattle.a68_values.specs.declared.chain.Environ.{Environ}

@@ -6,13 +6,13 @@ use Rattle.std.proofs.lemmas.Option.{same_Some}
 use Rattle.a68_code.specs.declared.code.Code.{Code}
 use Rattle.a68_elab.specs.Terms.{Term, todo, part, closing, only, unit_of, unit_term, unit_terms, Terms, no_terms, ◌and_term◌}
 use Rattle.a68_elab.specs.Trees.{ParallelUnit, Program, units_of}
-use Rattle.a68_gen.specs.Stretches.{AreEntrances}
+use Rattle.a68_emit.specs.Stretches.{AreEntrances}
 use Rattle.a68_sim.proofs.Family.{QuietAll, all_still, all_on, all_first, all_behind, quiet_at, single, Kins, no_kins, ◌and_kin◌, how_many, times_all, LiveAll}
 use Rattle.a68_sim.proofs.Finishing.{unit_end, works}
 use Rattle.a68_sim.proofs.Lists.{same}
 use Rattle.a68_sim.proofs.Routines.{TextsStand, FoundUnit, UnitAt}
 use Rattle.a68_sim.proofs.Settling.{Comes, settles}
-use Rattle.a68_strand.specs.Machine.{State, beginning, settle}
+use Rattle.a68_instructions.specs.Machine.{State, beginning, settle}
 use Rattle.a68_values.specs.declared.chain.Environ.{Environ}
 
 -- how often a number is among so many, from the first one on

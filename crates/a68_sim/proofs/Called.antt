@@ -14,7 +14,7 @@ use Rattle.a68_elab.specs.Permitted.{Permitted}
 use Rattle.a68_elab.specs.Positions.{here, within, in_this, beside}
 use Rattle.a68_elab.specs.Terms.{todo, yielded}
 use Rattle.a68_elab.specs.Trees.{Tree, operation, phrases, range, choice, call, no_trees, ◌and_tree◌, collateral, serial, routine_text, Program}
-use Rattle.a68_gen.specs.Stretches.{Translates}
+use Rattle.a68_emit.specs.Stretches.{Translates}
 use Rattle.a68_layout.specs.Rooms.{bounds_needed, planned}
 use Rattle.a68_layout.specs.Widths.{cells_of}
 use Rattle.a68_modes.specs.Nodes.{standard_shapes}
@@ -22,11 +22,11 @@ use Rattle.a68_sim.proofs.Examples.{instr, entry, whole, digit_text, printed_dig
 use Rattle.a68_sim.proofs.Whole.{law}
 use Rattle.a68_stack.specs.declared.stack.Item.TheVariants as item
 use Rattle.a68_strand.specs.Ends as run
-use Rattle.a68_strand.specs.Machine.{State, stack_of, settle}
+use Rattle.a68_instructions.specs.Machine.{State, stack_of, settle}
 use Rattle.a68_strand.specs.RunOf.{RunOf}
-use Rattle.a68_strand.specs.Runs.{World, IfNext, acted}
-use Rattle.a68_strand.specs.declared.ask.Stance.TheVariants.{Idle, Asking, Failed}
-use Rattle.a68_strand.specs.declared.ask.Waiting.TheVariants as waiting
+use Rattle.a68_exec.specs.Runs.{World, IfNext, acted}
+use Rattle.a68_instructions.specs.declared.ask.Stance.TheVariants.{Idle, Asking, Failed}
+use Rattle.a68_instructions.specs.declared.ask.Waiting.TheVariants as waiting
 use Rattle.a68_values.specs.Content.{Content, void, plain}
 use Rattle.a68_values.specs.declared.act.Act.TheVariants as act
 use Rattle.a68_values.specs.declared.act.FaultKind.TheVariants as fault

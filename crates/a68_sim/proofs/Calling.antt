@@ -24,13 +24,13 @@ use Rattle.a68_sim.proofs.Jobs.{Done, row_done, two_or_more, misled_sim}
 use Rattle.a68_sim.proofs.Quiet.{Progress, moves_on, moves_act, moves_fault}
 use Rattle.a68_sim.proofs.Relation.{push, count_terms, Sim, yields, left, onto, size, pops_left, count_yields}
 use Rattle.a68_sim.proofs.Routines.{TextsStand, yields_of, called_entrance}
-use Rattle.a68_strand.specs.Machine.{State, enters_body, begins_body, binds, into_routine, exec, fails, told_by, asks_for}
-use Rattle.a68_strand.specs.Machine as machine
+use Rattle.a68_instructions.specs.Machine.{State, enters_body, begins_body, binds, into_routine, exec, fails, told_by, asks_for}
+use Rattle.a68_instructions.specs.Machine as machine
 use Rattle.a68_stack.specs.Values.{pop_values}
-use Rattle.a68_strand.specs.Unbound.{Unbound}
-use Rattle.a68_strand.specs.declared.ask.Stance.{Stance}
-use Rattle.a68_strand.specs.declared.ask.Stance.TheVariants.{Asking}
-use Rattle.a68_strand.specs.declared.ask.Waiting.TheVariants as waiting
+use Rattle.a68_instructions.specs.Unbound.{Unbound}
+use Rattle.a68_instructions.specs.declared.ask.Stance.{Stance}
+use Rattle.a68_instructions.specs.declared.ask.Stance.TheVariants.{Asking}
+use Rattle.a68_instructions.specs.declared.ask.Waiting.TheVariants as waiting
 use Rattle.a68_stack.specs.declared.stack.Item.{Item}
 use Rattle.a68_stack.specs.declared.stack.Item.TheVariants as item
 use Rattle.a68_values.specs.Content.{Content, scope_of}

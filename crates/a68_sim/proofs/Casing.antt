@@ -11,16 +11,16 @@ use Rattle.a68_code.specs.declared.code.Code.{Code}
 use Rattle.a68_code.specs.declared.does.Does.TheVariants as does
 use Rattle.a68_elab.specs.Permitted.{Permitted}
 use Rattle.a68_elab.specs.Trees.{Tree, operation, cases, loop, no_test, no_trees, ◌and_tree◌, collateral, serial, Program}
-use Rattle.a68_gen.specs.Stretches.{Translates}
+use Rattle.a68_emit.specs.Stretches.{Translates}
 use Rattle.a68_modes.specs.Nodes.{standard_shapes}
 use Rattle.a68_sim.proofs.Examples.{instr, entry, whole, digit_text, printed_digit, not_ended}
 use Rattle.a68_sim.proofs.Whole.{law}
 use Rattle.a68_strand.specs.Ends as run
-use Rattle.a68_strand.specs.Machine.{State, stack_of, settle}
+use Rattle.a68_instructions.specs.Machine.{State, stack_of, settle}
 use Rattle.a68_strand.specs.RunOf.{RunOf}
-use Rattle.a68_strand.specs.Runs.{World, IfNext, acted}
-use Rattle.a68_strand.specs.declared.ask.Stance.TheVariants.{Idle, Asking, Failed}
-use Rattle.a68_strand.specs.declared.ask.Waiting.TheVariants as waiting
+use Rattle.a68_exec.specs.Runs.{World, IfNext, acted}
+use Rattle.a68_instructions.specs.declared.ask.Stance.TheVariants.{Idle, Asking, Failed}
+use Rattle.a68_instructions.specs.declared.ask.Waiting.TheVariants as waiting
 use Rattle.a68_values.specs.declared.act.Act.TheVariants as act
 use Rattle.a68_values.specs.declared.act.FaultKind.TheVariants as fault
 use Rattle.a68_values.specs.declared.kept.End.TheVariants as ends

@@ -22,7 +22,7 @@ use Rattle.a68_elab.specs.Terms.{conforming, specifying, tagging, passing, range
 use Rattle.a68_elab.specs.Trees.{Tree, Specs, no_specs, spec, Program}
 use Rattle.a68_gen.proofs.Forward.{next_is, forward, forward_specs}
 use Rattle.a68_gen.proofs.Members.{last_is}
-use Rattle.a68_gen.specs.Stretches.{Stands, StandSpecs, place_for, whole_for, member_places, wholes_of}
+use Rattle.a68_emit.specs.Stretches.{Stands, StandSpecs, place_for, whole_for, member_places, wholes_of}
 use Rattle.a68_modes.specs.Nodes.{shape_at}
 use Rattle.a68_modes.specs.declared.shape.Shape.{Shape}
 use Rattle.a68_sim.proofs.Asking.{idle, seen, ask, at_instr, place_is, does_is, is_inside}
@@ -31,9 +31,9 @@ use Rattle.a68_sim.proofs.Quiet.{Progress, moves_on, moves_act, moves_fault}
 use Rattle.a68_sim.proofs.Relation.{members_in, Sim, yields}
 use Rattle.a68_stack.specs.declared.stack.Item.{Item}
 use Rattle.a68_stack.specs.declared.stack.Item.TheVariants as item
-use Rattle.a68_strand.specs.Machine.{State, follows, fails, goes_to, asks_for, does_leave, kept_of, leaves_at, to_member, told_by}
-use Rattle.a68_strand.specs.declared.ask.Stance.TheVariants.{Asking}
-use Rattle.a68_strand.specs.declared.ask.Waiting.TheVariants as waiting
+use Rattle.a68_instructions.specs.Machine.{State, follows, fails, goes_to, asks_for, does_leave, kept_of, leaves_at, to_member, told_by}
+use Rattle.a68_instructions.specs.declared.ask.Stance.TheVariants.{Asking}
+use Rattle.a68_instructions.specs.declared.ask.Waiting.TheVariants as waiting
 use Rattle.a68_values.specs.Content.{Content, plain, united}
 use Rattle.a68_values.specs.declared.act.FaultKind.{FaultKind}
 use Rattle.a68_values.specs.declared.act.FaultKind.TheVariants as fault

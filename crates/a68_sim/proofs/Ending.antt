@@ -26,11 +26,11 @@ use Rattle.a68_sim.proofs.Settling.{Yields, SettledIn}
 use Rattle.a68_sim.proofs.Worlds.{next_acts, Joint}
 use Rattle.a68_strand.specs.Ends.{HasEnded, fault_in, fault_of, CanAct}
 use Rattle.a68_strand.specs.Ends as run
-use Rattle.a68_strand.specs.Machine.{State, told_by, place_at}
-use Rattle.a68_strand.specs.Runs.{World, IfNext, acted}
-use Rattle.a68_strand.specs.declared.ask.Stance.{Stance}
-use Rattle.a68_strand.specs.declared.ask.Stance.TheVariants.{Idle, Asking, Failed, Waits, Closed}
-use Rattle.a68_strand.specs.declared.ask.Waiting.{Waiting}
+use Rattle.a68_instructions.specs.Machine.{State, told_by, place_at}
+use Rattle.a68_exec.specs.Runs.{World, IfNext, acted}
+use Rattle.a68_instructions.specs.declared.ask.Stance.{Stance}
+use Rattle.a68_instructions.specs.declared.ask.Stance.TheVariants.{Idle, Asking, Failed, Waits, Closed}
+use Rattle.a68_instructions.specs.declared.ask.Waiting.{Waiting}
 use Rattle.a68_values.specs.declared.act.Act.{Act}
 use Rattle.a68_values.specs.declared.act.Entry.{Entry}
 use Rattle.a68_values.specs.declared.act.FaultKind.{FaultKind}

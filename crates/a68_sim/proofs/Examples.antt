@@ -25,16 +25,16 @@ use Rattle.a68_elab.specs.Permitted.{Permitted}
 use Rattle.a68_elab.specs.Positions.{here, within, in_this, beside}
 use Rattle.a68_elab.specs.Terms.{Term, todo, yielded}
 use Rattle.a68_elab.specs.Trees.{Tree, operation, no_trees, ◌and_tree◌, collateral, Program}
-use Rattle.a68_gen.specs.Stretches.{Translates}
+use Rattle.a68_emit.specs.Stretches.{Translates}
 use Rattle.a68_modes.specs.Nodes.{standard_shapes}
 use Rattle.a68_sim.proofs.Texts.{five_printed, unset_printed, newer_yielded}
 use Rattle.a68_sim.proofs.Whole.{law}
 use Rattle.a68_strand.specs.Ends as run
-use Rattle.a68_strand.specs.Machine.{State, stack_of, settle}
+use Rattle.a68_instructions.specs.Machine.{State, stack_of, settle}
 use Rattle.a68_strand.specs.RunOf.{RunOf}
-use Rattle.a68_strand.specs.Runs.{World, IfNext, acted}
-use Rattle.a68_strand.specs.declared.ask.Stance.TheVariants.{Idle, Asking, Failed}
-use Rattle.a68_strand.specs.declared.ask.Waiting.TheVariants as waiting
+use Rattle.a68_exec.specs.Runs.{World, IfNext, acted}
+use Rattle.a68_instructions.specs.declared.ask.Stance.TheVariants.{Idle, Asking, Failed}
+use Rattle.a68_instructions.specs.declared.ask.Waiting.TheVariants as waiting
 use Rattle.a68_values.specs.Content.{Content, plain}
 use Rattle.a68_values.specs.declared.act.Act.{Act}
 use Rattle.a68_values.specs.declared.act.Act.TheVariants as act

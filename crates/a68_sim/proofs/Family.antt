@@ -13,8 +13,8 @@ use Rattle.a68_sim.proofs.Finishing.{Finish, unit_end, EndsAt, Works}
 use Rattle.a68_sim.proofs.Lists.{same, same_self, same_other, same_is}
 use Rattle.a68_sim.proofs.Quiet.{Quiet, still, quietly, Hole}
 use Rattle.a68_sim.proofs.Settling.{Settled}
-use Rattle.a68_strand.specs.Machine.{State}
-use Rattle.a68_strand.specs.declared.ask.Stance.TheVariants.{Idle, Waits}
+use Rattle.a68_instructions.specs.Machine.{State}
+use Rattle.a68_instructions.specs.declared.ask.Stance.TheVariants.{Idle, Waits}
 use Rattle.a68_values.specs.Content.{void}
 use Rattle.a68_values.specs.declared.act.Entry.{Entry}
 use Rattle.a68_values.specs.declared.chain.Environ.{Environ}

@@ -8,11 +8,11 @@ use Rattle.a68_code.specs.declared.code.Instr.{Instr}
 use Rattle.a68_elab.specs.Places.{ProgramBeginsBy}
 use Rattle.a68_elab.specs.Trees.{Program}
 use Rattle.a68_gen.proofs.Places.{code_begins_by}
-use Rattle.a68_gen.specs.Stretches.{Translates}
+use Rattle.a68_emit.specs.Stretches.{Translates}
 use Rattle.a68_strand.specs.Ends.{EndsWith, done, fault, all_halted, spent}
-use Rattle.a68_strand.specs.Machine.{place_at}
+use Rattle.a68_instructions.specs.Machine.{place_at}
 use Rattle.a68_strand.specs.RunOf.{RunOf}
-use Rattle.a68_strand.specs.Runs.{World}
+use Rattle.a68_exec.specs.Runs.{World}
 use Rattle.a68_values.specs.declared.act.Entry.{Entry}
 use Rattle.a68_values.specs.declared.act.FaultKind.{FaultKind}
 use Rattle.a68_values.specs.declared.kept.End.{End}

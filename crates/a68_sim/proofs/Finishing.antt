@@ -21,12 +21,12 @@ use Rattle.a68_sim.proofs.Forks.{close_tells}
 use Rattle.a68_sim.proofs.Quiet.{Quiet, still, quiet_in, Hole, moves_in, open_here, Kept, simply, Progress, moves, finishes, progress_after}
 use Rattle.a68_sim.proofs.Relation.{Pose, ready, midst, enters, binds_from, posed, pose_of, parts_give, inner, DoesParts, Sim, push}
 use Rattle.a68_sim.proofs.Routines.{TextsStand}
-use Rattle.a68_strand.specs.Runs.{is_passive}
-use Rattle.a68_strand.specs.Machine.{State, asks_for, told_by, follows, enters_body, begins_body, binds, next_state, silently}
-use Rattle.a68_strand.specs.Unbound.{Unbound}
-use Rattle.a68_strand.specs.declared.ask.Stance.{Stance}
-use Rattle.a68_strand.specs.declared.ask.Stance.TheVariants.{Asking, Waits, Closed}
-use Rattle.a68_strand.specs.declared.ask.Waiting.TheVariants as waiting
+use Rattle.a68_exec.specs.Runs.{is_passive}
+use Rattle.a68_instructions.specs.Machine.{State, asks_for, told_by, follows, enters_body, begins_body, binds, next_state, silently}
+use Rattle.a68_instructions.specs.Unbound.{Unbound}
+use Rattle.a68_instructions.specs.declared.ask.Stance.{Stance}
+use Rattle.a68_instructions.specs.declared.ask.Stance.TheVariants.{Asking, Waits, Closed}
+use Rattle.a68_instructions.specs.declared.ask.Waiting.TheVariants as waiting
 use Rattle.a68_stack.specs.declared.stack.Item.{Item}
 use Rattle.a68_values.specs.Content.{Content, void}
 use Rattle.a68_values.specs.declared.chain.Environ.{Environ}

@@ -12,7 +12,7 @@ use Rattle.a68_elab.specs.Positions.{within, OpensIn, in_this, past}
 use Rattle.a68_elab.specs.Rows.{meets, acts, within_frame, body_in}
 use Rattle.a68_elab.specs.Terms.{only, Job, operating, resuming, gathering, preceding, ending, ranged, choosing, casing, conforming, specifying, tagging, passing, chosen, limiting, counting, stepping, turning, opening, naming, indexing, ranging, testing, running, advancing, quitting, leaving, calling, entering, binding, inside, forking, joining, closing, Term, todo, part, yielded, unit_of, Terms, no_terms, ◌and_term◌, todos, order_of}
 use Rattle.a68_elab.specs.Trees.{Tree, Trees, operation, together, phrases, range, choice, cases, conformity, loop, call, parallel, meaningless, Turns, no_trees, ◌and_tree◌, count, Order, Body, Program, texts_of}
-use Rattle.a68_gen.specs.Stretches.{Has, Stands, StandAll, member_places, wholes_of, leave}
+use Rattle.a68_emit.specs.Stretches.{Has, Stands, StandAll, member_places, wholes_of, leave}
 use Rattle.a68_sim.proofs.Conforming.{conforming_done, specifying_done, tagging_done, passing_done}
 use Rattle.a68_sim.proofs.Calling.{calling_done, entering_done, binding_one, inside_done}
 use Rattle.a68_sim.proofs.Forking.{forking_done}
@@ -22,9 +22,9 @@ use Rattle.a68_sim.proofs.Jobs.{Done, row_done, misled_sim, operating_done, resu
 use Rattle.a68_sim.proofs.Routines.{TextsStand, Found}
 use Rattle.a68_sim.proofs.Quiet.{still, quiet_in, Hole, moves_in, Progress, moves, finishes, progress_after, progress_row, moves_act, moves_fault}
 use Rattle.a68_sim.proofs.Relation.{Pose, pose_of, ready, count_terms, AllTodo, posed, parts_give, inner, OperationAt, LoopAt, Tail, Begins, DoesParts, Sim, yields, left, does_yields, does_todos, does_first, same_count, count_yields, left_none, todos_all, count_todos}
-use Rattle.a68_strand.specs.Machine.{State, asks_for, begins_body, told_by}
-use Rattle.a68_strand.specs.declared.ask.Stance.TheVariants.{Asking}
-use Rattle.a68_strand.specs.declared.ask.Waiting.TheVariants as waiting
+use Rattle.a68_instructions.specs.Machine.{State, asks_for, begins_body, told_by}
+use Rattle.a68_instructions.specs.declared.ask.Stance.TheVariants.{Asking}
+use Rattle.a68_instructions.specs.declared.ask.Waiting.TheVariants as waiting
 use Rattle.a68_stack.specs.declared.stack.Item.{Item}
 use Rattle.a68_stack.specs.declared.stack.Item.TheVariants as item
 use Rattle.a68_values.specs.Content.{Content}

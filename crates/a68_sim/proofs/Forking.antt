@@ -14,15 +14,15 @@ use Rattle.a68_elab.specs.Rows.{acts, joins as joined_by}
 use Rattle.a68_elab.specs.Terms.{forking, Term, part, no_terms}
 use Rattle.a68_elab.specs.Trees.{Program, units_of}
 use Rattle.a68_gen.proofs.Forward.{next_is}
-use Rattle.a68_gen.specs.Stretches.{AreEntrances}
+use Rattle.a68_emit.specs.Stretches.{AreEntrances}
 use Rattle.a68_sim.proofs.Asking.{idle, at_instr, place_is, is_inside}
 use Rattle.a68_sim.proofs.Forks.{fork_tells, same_forks}
 use Rattle.a68_sim.proofs.Jobs.{Done, row_done, on_bare}
 use Rattle.a68_sim.proofs.Quiet.{still, open_here, Kept, joins, moves}
 use Rattle.a68_sim.proofs.Relation.{push, Sim, yields}
-use Rattle.a68_strand.specs.Machine.{State, asks_for, told_by}
-use Rattle.a68_strand.specs.declared.ask.Stance.TheVariants.{Asking}
-use Rattle.a68_strand.specs.declared.ask.Waiting.TheVariants as waiting
+use Rattle.a68_instructions.specs.Machine.{State, asks_for, told_by}
+use Rattle.a68_instructions.specs.declared.ask.Stance.TheVariants.{Asking}
+use Rattle.a68_instructions.specs.declared.ask.Waiting.TheVariants as waiting
 use Rattle.a68_stack.specs.declared.stack.Item.{Item}
 use Rattle.a68_values.specs.Content.{void}
 use Rattle.a68_values.specs.declared.chain.Environ.{Environ}

@@ -18,11 +18,11 @@ use Rattle.a68_sim.proofs.Quiet.{ActsNext, has_open}
 use Rattle.a68_sim.proofs.Settling.{Yields, SettledIn}
 use Rattle.a68_strand.proofs.Waking.{IsCalm}
 use Rattle.a68_strand.specs.Ends.{CanAct, fault_in, fault_of}
-use Rattle.a68_strand.specs.Machine.{State, told_by, place_at}
-use Rattle.a68_strand.specs.Runs.{World, has_closed, is_closed, all_closed, acts_in, after}
-use Rattle.a68_strand.specs.declared.ask.Stance.{Stance}
-use Rattle.a68_strand.specs.declared.ask.Stance.TheVariants.{Idle, Asking, Failed, Waits, Closed}
-use Rattle.a68_strand.specs.declared.ask.Waiting.{Waiting}
+use Rattle.a68_instructions.specs.Machine.{State, told_by, place_at}
+use Rattle.a68_exec.specs.Runs.{World, has_closed, is_closed, all_closed, acts_in, after}
+use Rattle.a68_instructions.specs.declared.ask.Stance.{Stance}
+use Rattle.a68_instructions.specs.declared.ask.Stance.TheVariants.{Idle, Asking, Failed, Waits, Closed}
+use Rattle.a68_instructions.specs.declared.ask.Waiting.{Waiting}
 use Rattle.a68_values.specs.Content.{Content}
 use Rattle.a68_values.specs.declared.chain.Environ.{Environ}
 

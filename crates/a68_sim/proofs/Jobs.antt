@@ -22,7 +22,7 @@ use Rattle.a68_elab.specs.Rows.{in_turn, goes, acts, meets, goes_with, counted, 
 use Rattle.a68_elab.specs.Rows as rows
 use Rattle.a68_elab.specs.Terms.{Job, operating, resuming, gathering, ending, ranged, choosing, casing, chosen, limiting, counting, stepping, turning, opening, naming, indexing, ranging, testing, running, advancing, quitting, leaving, Term, todo, part, yielded, no_terms, ◌and_term◌, only}
 use Rattle.a68_elab.specs.Trees.{Tree, Trees, no_trees, ◌and_tree◌, count, Order, Test, no_test, while_in, Turns, depth, depth_of, Program}
-use Rattle.a68_gen.specs.Stretches.{Indexes, Leaves, Has, Stands, StandArms, Tests, with_last, does_of, leave}
+use Rattle.a68_emit.specs.Stretches.{Indexes, Leaves, Has, Stands, StandArms, Tests, with_last, does_of, leave}
 use Rattle.a68_modes.specs.declared.shape.Shape.{Shape}
 use Rattle.a68_ops.specs.Applied.{applied}
 use Rattle.a68_ops.specs.Yields.{Yield}
@@ -32,10 +32,10 @@ use Rattle.a68_sim.proofs.Forks.{start_forkless}
 use Rattle.a68_sim.proofs.Operating.{exec_of, not_end, operation_begins, operation_goes_on}
 use Rattle.a68_sim.proofs.Quiet.{progress_row, still, quietly, outwards, Progress, moves, finishes, moves_on, moves_act, moves_fault}
 use Rattle.a68_sim.proofs.Relation.{drops, bit_of, pose_of, ready, push, callers_left, count_terms, posed, parts_give, inner, LoopAt, Tail, Sim, yields, left, onto, size, values_yields, pops_left, count_yields, left_none, does_yields}
-use Rattle.a68_strand.specs.Machine.{leaves_at, does_leave, State, exec, follows, fails, goes_on, goes_to, branches, chooses as goes_by, with_counter, told_by, asks_for}
+use Rattle.a68_instructions.specs.Machine.{leaves_at, does_leave, State, exec, follows, fails, goes_on, goes_to, branches, chooses as goes_by, with_counter, told_by, asks_for}
 use Rattle.a68_stack.specs.Values.{pop_values}
-use Rattle.a68_strand.specs.declared.ask.Stance.TheVariants.{Asking}
-use Rattle.a68_strand.specs.declared.ask.Waiting.TheVariants as waiting
+use Rattle.a68_instructions.specs.declared.ask.Stance.TheVariants.{Asking}
+use Rattle.a68_instructions.specs.declared.ask.Waiting.TheVariants as waiting
 use Rattle.a68_stack.specs.declared.stack.Item.{Item}
 use Rattle.a68_stack.specs.declared.stack.Item.TheVariants as item
 use Rattle.a68_values.specs.Content.{Content, void, plain, scope_of}

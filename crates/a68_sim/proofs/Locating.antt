@@ -11,8 +11,8 @@ use Rattle.a68_sim.proofs.Family.{Kin, single, parent, Kins, no_kins, ◌and_kin
 use Rattle.a68_sim.proofs.Finishing.{Finish, unit_end, EndsAt}
 use Rattle.a68_sim.proofs.Lists.{same, same_self, same_other, same_is}
 use Rattle.a68_sim.proofs.Settling.{Settled}
-use Rattle.a68_strand.specs.Machine.{State}
-use Rattle.a68_strand.specs.declared.ask.Stance.TheVariants.{Waits}
+use Rattle.a68_instructions.specs.Machine.{State}
+use Rattle.a68_instructions.specs.declared.ask.Stance.TheVariants.{Waits}
 use Rattle.a68_values.specs.declared.chain.Environ.{Environ}
 
 module _ (program : Program) (code : Code) (sts : List State) (x : ℕ) (st : State) where

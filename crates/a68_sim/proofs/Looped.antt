@@ -9,7 +9,7 @@ use Rattle.a68_elab.specs.Made.{most_bounds}
 use Rattle.a68_elab.specs.Programs.{program_of, tree_in}
 use Rattle.a68_elab.specs.Runs.{outcome}
 use Rattle.a68_elab.specs.Trees.{Tree, operation, phrases, loop, while_in, no_trees, ◌and_tree◌, collateral, serial, Program}
-use Rattle.a68_gen.specs.Listing.{listing}
+use Rattle.a68_emit.specs.Listing.{listing}
 use Rattle.a68_modes.specs.Nodes.{standard_shapes}
 use Rattle.a68_modes.specs.declared.coercion.Coercion.TheVariants.{Unite}
 use Rattle.a68_sim.proofs.Examples.{instr, whole}

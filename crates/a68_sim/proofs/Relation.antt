@@ -13,12 +13,12 @@ use Rattle.a68_code.specs.declared.does.Does.{Does}
 use Rattle.a68_code.specs.declared.does.Does.TheVariants as does
 use Rattle.a68_elab.specs.Terms.{Job, operating, resuming, gathering, preceding, ending, ranged, choosing, casing, conforming, specifying, tagging, passing, chosen, limiting, counting, stepping, turning, opening, naming, indexing, ranging, testing, running, advancing, quitting, leaving, calling, entering, binding, inside, forking, joining, closing, Term, todo, part, yielded, unit_of, Terms, no_terms, ◌and_term◌, todos, values}
 use Rattle.a68_elab.specs.Trees.{Tree, Turns, depth, Trees, no_trees, ◌and_tree◌, count}
-use Rattle.a68_gen.specs.Stretches.{AreEntrances, Indexes, Leaves, Has, Stands, StandAll, StandArms, StandSpecs, Tests, member_places, wholes_of, with_last, does_of, leave}
+use Rattle.a68_emit.specs.Stretches.{AreEntrances, Indexes, Leaves, Has, Stands, StandAll, StandArms, StandSpecs, Tests, member_places, wholes_of, with_last, does_of, leave}
 use Rattle.a68_modes.specs.Nodes.{shape_at}
 use Rattle.a68_sim.proofs.Asking.{idle}
 use Rattle.a68_sim.proofs.Forks.{is_fork}
 use Rattle.a68_sim.proofs.Quiet.{outwards}
-use Rattle.a68_strand.specs.Machine.{State, follows, enters_body, binds}
+use Rattle.a68_instructions.specs.Machine.{State, follows, enters_body, binds}
 use Rattle.a68_stack.specs.Values.{callers, pop_values}
 use Rattle.a68_stack.specs.declared.stack.Item.{Item}
 use Rattle.a68_stack.specs.declared.stack.Item.TheVariants as item

@@ -15,10 +15,10 @@ use Rattle.a68_sim.proofs.Lists.{same_is, get_map}
 use Rattle.a68_sim.proofs.Routines.{TextsStand}
 use Rattle.a68_sim.proofs.Settling.{SettledIn, Settled, Comes, settles}
 use Rattle.a68_strand.proofs.Waking.{woken_still}
-use Rattle.a68_strand.specs.Machine.{State, next_state, settle}
-use Rattle.a68_strand.specs.Runs.{has_closed, is_closed, all_closed, woken, woken_in}
-use Rattle.a68_strand.specs.declared.ask.Stance.{Stance}
-use Rattle.a68_strand.specs.declared.ask.Stance.TheVariants.{Idle, Asking, Failed, Waits, Closed}
+use Rattle.a68_instructions.specs.Machine.{State, next_state, settle}
+use Rattle.a68_exec.specs.Runs.{has_closed, is_closed, all_closed, woken, woken_in}
+use Rattle.a68_instructions.specs.declared.ask.Stance.{Stance}
+use Rattle.a68_instructions.specs.declared.ask.Stance.TheVariants.{Idle, Asking, Failed, Waits, Closed}
 use Rattle.a68_values.specs.Content.{Content, void}
 use Rattle.a68_values.specs.declared.chain.Environ.{Environ}
 

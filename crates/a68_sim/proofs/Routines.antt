@@ -9,7 +9,7 @@ use Rattle.a68_code.specs.declared.code.Code.{Code}
 use Rattle.a68_code.specs.declared.code.RoutineEntrance.{RoutineEntrance}
 use Rattle.a68_code.specs.declared.does.Does.TheVariants as does
 use Rattle.a68_elab.specs.Trees.{Apart, routine_text, parallel_unit, Body, bodies, ParallelUnit, Program, texts_of, units, units_of}
-use Rattle.a68_gen.specs.Stretches.{Stands, StandApart, Translates}
+use Rattle.a68_emit.specs.Stretches.{Stands, StandApart, Translates}
 use Rattle.a68_values.specs.Content.{Content, plain}
 use Rattle.a68_values.specs.declared.plain.Plain.TheVariants as value
 use Rattle.a68_values.specs.declared.plain.Routine.{Routine}

@@ -18,11 +18,11 @@ use Rattle.a68_sim.proofs.Asking.{seen_in, seen, Forth}
 use Rattle.a68_sim.proofs.Finishing.{Finish, program_end, unit_end, EndsAt, Works, Closes, never_waits, closes, works, closed, work_progress, no_step}
 use Rattle.a68_sim.proofs.Quiet.{Quiet, still, quiet_on, IsOpen, Follows, Progress, moves, finishes, Moves}
 use Rattle.a68_sim.proofs.Routines.{TextsStand}
-use Rattle.a68_strand.proofs.Settled as rest
-use Rattle.a68_strand.specs.Machine.{settle, State, Stack, at_end, does_one, silently, settle_in, steps, goes_on, goes_to, told_by, place_at}
+use Rattle.a68_exec.proofs.Settled as rest
+use Rattle.a68_instructions.specs.Machine.{settle, State, Stack, at_end, does_one, silently, settle_in, steps, goes_on, goes_to, told_by, place_at}
 use Rattle.a68_stack.specs.Values.{callers, top_counter}
-use Rattle.a68_strand.specs.declared.ask.Stance.{Stance}
-use Rattle.a68_strand.specs.declared.ask.Stance.TheVariants.{Idle, Asking, Failed, Waits, Closed}
+use Rattle.a68_instructions.specs.declared.ask.Stance.{Stance}
+use Rattle.a68_instructions.specs.declared.ask.Stance.TheVariants.{Idle, Asking, Failed, Waits, Closed}
 use Rattle.a68_values.specs.Content.{Content}
 use Rattle.a68_values.specs.declared.chain.Environ.{Environ}
 

@@ -8,14 +8,14 @@ use Rattle.a68_code.specs.declared.code.Code.{Code}
 use Rattle.a68_code.specs.declared.does.Does.TheVariants as does
 use Rattle.a68_elab.specs.Permitted.{Permitted}
 use Rattle.a68_elab.specs.Trees.{Tree, operation, phrases, loop, while_in, no_trees, ◌and_tree◌, serial, Program}
-use Rattle.a68_gen.specs.Stretches.{Translates}
+use Rattle.a68_emit.specs.Stretches.{Translates}
 use Rattle.a68_modes.specs.Nodes.{standard_shapes}
 use Rattle.a68_sim.proofs.Examples.{instr, entry, whole}
 use Rattle.a68_sim.proofs.Whole.{law}
 use Rattle.a68_strand.specs.Ends as run
-use Rattle.a68_strand.specs.Machine.{State, stack_of, settle}
+use Rattle.a68_instructions.specs.Machine.{State, stack_of, settle}
 use Rattle.a68_strand.specs.RunOf.{RunOf}
-use Rattle.a68_strand.specs.declared.ask.Stance.TheVariants.{Idle}
+use Rattle.a68_instructions.specs.declared.ask.Stance.TheVariants.{Idle}
 use Rattle.a68_values.specs.Content.{Content, plain}
 use Rattle.a68_values.specs.declared.act.Act.TheVariants as act
 use Rattle.a68_values.specs.declared.act.Entry.{Entry}

@@ -11,7 +11,7 @@ use Rattle.a68_elab.specs.Elaborations.{Elaborates, stays, silently, by_act}
 use Rattle.a68_elab.specs.Permitted.{Permitted}
 use Rattle.a68_elab.specs.Terms.{Term, todo}
 use Rattle.a68_elab.specs.Trees.{Program}
-use Rattle.a68_gen.specs.Stretches.{Translates}
+use Rattle.a68_emit.specs.Stretches.{Translates}
 use Rattle.a68_sim.proofs.Ending.{ends_too}
 use Rattle.a68_sim.proofs.Family.{QuietIn, in_elaborates, quiet_at, how_many, Kin, single, parent, number, times, Lives}
 use Rattle.a68_sim.proofs.Finishing.{Finish, program_end, EndsAt}
@@ -19,15 +19,15 @@ use Rattle.a68_sim.proofs.Lists.{same_most, same_other, same_self}
 use Rattle.a68_sim.proofs.Routines.{TextsStand, texts_stand}
 use Rattle.a68_sim.proofs.Settling.{Comes, settles}
 use Rattle.a68_sim.proofs.Worlds.{next_acts, Joint, steps}
-use Rattle.a68_strand.proofs.Alive.{active}
-use Rattle.a68_strand.proofs.Settled.{settle_rests}
+use Rattle.a68_exec.proofs.Alive.{active}
+use Rattle.a68_exec.proofs.Settled.{settle_rests}
 use Rattle.a68_strand.proofs.Waking.{IsCalm}
 use Rattle.a68_strand.specs.Ends.{HasEnded, CanAct}
-use Rattle.a68_strand.specs.Machine.{State, beginning, settle, next_state}
+use Rattle.a68_instructions.specs.Machine.{State, beginning, settle, next_state}
 use Rattle.a68_strand.specs.RunOf.{RunOf}
-use Rattle.a68_strand.specs.Runs.{World, Machine, opening, acted, acts_in, all_closed, is_passive}
-use Rattle.a68_strand.specs.declared.ask.Stance.{Stance}
-use Rattle.a68_strand.specs.declared.ask.Stance.TheVariants.{Idle, Waits, Closed}
+use Rattle.a68_exec.specs.Runs.{World, Machine, opening, acted, acts_in, all_closed, is_passive}
+use Rattle.a68_instructions.specs.declared.ask.Stance.{Stance}
+use Rattle.a68_instructions.specs.declared.ask.Stance.TheVariants.{Idle, Waits, Closed}
 use Rattle.a68_values.specs.declared.act.Entry.{Entry}
 use Rattle.a68_values.specs.declared.chain.Environ.{Environ}
 use Rattle.a68_values.specs.declared.kept.Kept.{Kept}

@@ -30,14 +30,14 @@ use Rattle.a68_sim.proofs.Quiet.{ActsNext, Kept, simply, joins, Joins, opens_at,
 use Rattle.a68_sim.proofs.Rousing.{Woke, wake}
 use Rattle.a68_sim.proofs.Routines.{TextsStand}
 use Rattle.a68_sim.proofs.Settling.{SettledIn, Comes, settles}
-use Rattle.a68_strand.proofs.Settled.{settle_rests, settle_still}
+use Rattle.a68_exec.proofs.Settled.{settle_rests, settle_still}
 use Rattle.a68_strand.proofs.Waking.{IsCalm, calm_after, begun_goes, woken_still}
-use Rattle.a68_strand.specs.Machine.{State, beginning, settle, next_state, follows, leaves_at, told_by, replied, replied_in, place_at}
-use Rattle.a68_strand.specs.Runs.{World, begun, woken, strands_after, acts_in, acted, after, IfNext}
-use Rattle.a68_strand.specs.declared.ask.Stance.{Stance}
-use Rattle.a68_strand.specs.declared.ask.Stance.TheVariants.{Idle, Asking, Failed, Waits, Closed}
-use Rattle.a68_strand.specs.declared.ask.Waiting.{Waiting}
-use Rattle.a68_strand.specs.declared.ask.Waiting.TheVariants as waiting
+use Rattle.a68_instructions.specs.Machine.{State, beginning, settle, next_state, follows, leaves_at, told_by, replied, replied_in, place_at}
+use Rattle.a68_exec.specs.Runs.{World, begun, woken, strands_after, acts_in, acted, after, IfNext}
+use Rattle.a68_instructions.specs.declared.ask.Stance.{Stance}
+use Rattle.a68_instructions.specs.declared.ask.Stance.TheVariants.{Idle, Asking, Failed, Waits, Closed}
+use Rattle.a68_instructions.specs.declared.ask.Waiting.{Waiting}
+use Rattle.a68_instructions.specs.declared.ask.Waiting.TheVariants as waiting
 use Rattle.a68_stack.specs.declared.stack.Item.{Item}
 use Rattle.a68_values.specs.Content.{void}
 use Rattle.a68_values.specs.declared.act.Act.{Act}

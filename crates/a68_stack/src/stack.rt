@@ -3,7 +3,7 @@ ghost use Rattle.std.specs.Prelude.{◌≡◌, [], ◌∷◌, ◌++◌, None, So
 ghost use Rattle.std.specs.Option.{option_map};
 ghost use Rattle.a68_values.specs.Content.{Content, plain, scope_of};
 ghost use Rattle.a68_stack.specs.declared.stack.Item.{Item};
-ghost use Rattle.a68_stack.specs.Values.{callers, is_caller, plain_in, pop_values, top_counter, top_plain, top_two, top_value};
+ghost use Rattle.a68_stack.specs.Values.{callers, is_caller, plain_in, pop_values, top_counter, top_plain, top_three, top_two, top_value};
 
 use crate::Caller;
 use a68_acts::Counter;
@@ -150,6 +150,17 @@ impl Stack {
         item
     }
 
+    /// The plain value on top; none where another item is on top, or none is.
+    #[inline(always)]
+    pub fn plain(&self) -> Option<Plain>
+        ensures { result ≡ top_plain self.now }
+    {
+        match self.items.last() {
+            Some(item) => plain_in(item),
+            None => None,
+        }
+    }
+
     /// Takes the topmost item off where it is a plain value; elsewhere the stack stays.
     #[inline(always)]
     pub fn take_plain(&mut self) -> Option<Plain>
@@ -160,9 +171,9 @@ impl Stack {
         Some(held)
     }
 
-    // The two topmost items, the lower one first; none where they are not both plain values.
+    /// The two topmost items, the lower one first; none where they are not both plain values.
     #[inline(always)]
-    fn two_plain(&self) -> Option<(Plain, Plain)>
+    pub fn two_plain(&self) -> Option<(Plain, Plain)>
         ensures { MatchOption result (top_two self.now ≡ None) (λ two. (rest : List Item) × (self.now ≡ Item.Value (plain two.1) ∷ Item.Value (plain two.0) ∷ rest)) }
     {
         let [.., below, topmost] = self.items.as_slice() else {
@@ -170,6 +181,20 @@ impl Stack {
         };
         match (plain_in(below), plain_in(topmost)) {
             (Some(left), Some(right)) => Some((left, right)),
+            _ => None,
+        }
+    }
+
+    /// The three topmost items, the lowest one first; none where they are not all plain values.
+    #[inline(always)]
+    pub fn three_plain(&self) -> Option<(Plain, Plain, Plain)>
+        ensures { MatchOption result (top_three self.now ≡ None) (λ three. (rest : List Item) × (self.now ≡ Item.Value (plain three.2) ∷ Item.Value (plain three.1) ∷ Item.Value (plain three.0) ∷ rest)) }
+    {
+        let [.., lowest, below, topmost] = self.items.as_slice() else {
+            return None;
+        };
+        match (plain_in(lowest), plain_in(below), plain_in(topmost)) {
+            (Some(first), Some(second), Some(third)) => Some((first, second, third)),
             _ => None,
         }
     }

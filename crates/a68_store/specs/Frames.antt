@@ -4,6 +4,7 @@ use Rattle.std.specs.Prelude.{◌≡◌, ◌<◌, ℕ, List, None, Some, map, sl
 use Rattle.std.specs.Option.{option_and_then}
 use Rattle.std.specs.declared.option.Option.{Option}
 use Rattle.a68_values.specs.Content.{Content, as_plain}
+use Rattle.a68_values.specs.declared.held.Descriptor.{Descriptor}
 use Rattle.a68_values.specs.declared.held.Held.{Held}
 use Rattle.a68_values.specs.declared.held.Held.TheVariants as held
 use Rattle.a68_values.specs.declared.plain.Plain.{Plain}
@@ -38,3 +39,8 @@ plain_bound _ = None
 abbrev pub plain_held : Option Held → Option Plain
 plain_held (Some (held.Plain p)) = Some p
 plain_held _ = None
+
+-- the row that a cell holds
+abbrev pub row_held : Option Held → Option Descriptor
+row_held (Some (held.Rows d)) = Some d
+row_held _ = None

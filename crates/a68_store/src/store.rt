@@ -1,10 +1,11 @@
 //! The store.
-ghost use Rattle.std.specs.Prelude.{◌≡◌, ◌<◌, ◌≤◌, ◌+◌, ◌-◌, ◌^◌, [], true, pos, int_lt, nat_lt, None, Some, length, map, replicate, slice_get, slice_set, vec_len, IfOk, IfSome, OnOk};
+ghost use Rattle.std.specs.Prelude.{◌≡◌, ◌<◌, ◌≤◌, ◌+◌, ◌-◌, ◌^◌, ◌∷◌, [], true, pos, int_lt, nat_lt, None, Some, length, map, replicate, slice_get, slice_set, vec_len, IfOk, IfSome, MatchBool, OnErr, OnOk};
 ghost use Rattle.std.specs.Option.{option_copied, option_map_or};
 ghost use Rattle.a68_acts.specs.Does.{count_held, count_in, does, did, refused, with_count};
-ghost use Rattle.a68_acts.specs.Store.{most_strands, opening_store};
+ghost use Rattle.a68_acts.specs.Store.{chain_of, counted, most_counted, most_strands, opening_store};
 ghost use Rattle.a68_store.specs.Acts.{DoesAct, has_to_wait};
-ghost use Rattle.a68_store.specs.Frames.{HasSlot, frame_of, plain_bound, plain_held, slot_in};
+ghost use Rattle.a68_store.specs.Frames.{HasSlot, frame_of, plain_bound, plain_held, row_held, slot_in};
+ghost use Rattle.a68_values.specs.Content.{plain};
 
 use crate::chains::chain_behind;
 use crate::frame::Frame;
@@ -14,7 +15,9 @@ use crate::weight::{slot_weight, weight};
 use a68_acts::{Reply, Want};
 use a68_base::{MOST_COUNTED, MOST_PRINTED, MOST_STRANDS, NoMemory, Span, Text};
 use a68_layout::Plan;
-use a68_values::{Act, Cells, Chain, Entrances, Environ, FaultKind, Held, Plain, Slots, Value};
+use a68_values::{
+    Act, Cells, Chain, Descriptor, Entrances, Environ, FaultKind, Held, Plain, Slots, Value,
+};
 use std::alloc::Global;
 use std::marker::Model;
 use std::mem;
@@ -110,6 +113,18 @@ fn plain_of(held: &Held) -> Option<Plain>
     }
 }
 
+// The row that is held; none where another value is.
+#[inline(always)]
+fn row_of(held: &Held) -> Option<&Descriptor>
+    ensures { option_copied result ≡ row_held (Some held.now) }
+{
+    match held {
+        Held::Plain(_) => None,
+        Held::Rows(row) => Some(row),
+        Held::Member { .. } => None,
+    }
+}
+
 // The count that is held, if one is.
 fn count_of(held: &Held) -> Option<i64>
     ensures { result ≡ count_held held.now }
@@ -172,6 +187,64 @@ impl Store {
         self.frames[frame as usize].slots.len() as u32
     }
 
+    /// The number of the next frame; none where a frame could have no number. It takes no memory.
+    #[inline(always)]
+    pub fn next_frame(&self) -> Option<u32>
+        ensures { IfSome result (λ frame. (frame ≡ length self.now.frames) × (frame < 2 ^ 32 - 1)) }
+    {
+        let frame = self.frames.len();
+        if frame >= u32::MAX as usize {
+            return None;
+        }
+        Some(frame as u32)
+    }
+
+    // A new frame behind all others, which may have so many slots that are not bound.
+    fn add_frame(
+        &mut self,
+        alloc: Global,
+        outer: u32,
+        scope: u32,
+        slots: u32,
+    ) -> Result<(), NoMemory>
+        requires there { outer < length self.old.frames }
+        requires few { counted self.old + slots ≤ most_counted }
+        ensures ok { OnOk result (does (Want.Enter outer scope slots) self.old
+            ≡ did (Act.Enter (length self.old.frames)) (Reply.Frame (record { frame = length self.old.frames; scope = scope } ∷ chain_of self.old.frames outer)) self.new) }
+        ensures err { OnErr result (self.new ≡ self.old) }
+    {
+        let slots_of_frame = unbound(alloc, slots)?;
+        self.frames.push(Frame {
+            outer,
+            scope,
+            slots: slots_of_frame,
+        })?;
+        self.counted += slots;
+        Ok(())
+    }
+
+    /// The chain of a frame that would stand within this one; none where that is not there, or there is no memory.
+    pub fn chain_within(&self, alloc: Global, new: Environ, outer: u32) -> Option<Chain>
+        ensures { IfSome result (λ chain. chain ≡ new ∷ chain_of self.now.frames outer) }
+    {
+        if outer as usize >= self.frames.len() {
+            return None;
+        }
+        chain_behind(alloc, new, &self.frames, outer).ok()
+    }
+
+    /// A new frame of this scope within another one, with so many slots that are not bound. Tells whether it was made: nothing
+    /// is done where the other frame is not there, the act would meet a fault, or there is no memory.
+    pub fn enter_frame(&mut self, alloc: Global, outer: u32, scope: u32, slots: u32) -> bool
+        ensures { MatchBool result (does (Want.Enter outer scope slots) self.old
+            ≡ did (Act.Enter (length self.old.frames)) (Reply.Frame (record { frame = length self.old.frames; scope = scope } ∷ chain_of self.old.frames outer)) self.new) (self.new ≡ self.old) }
+    {
+        if outer as usize >= self.frames.len() || slots > MOST_COUNTED - self.counted {
+            return false;
+        }
+        self.add_frame(alloc, outer, scope, slots).is_ok()
+    }
+
     /// A new frame of this scope within another one, with so many slots that are not bound. Its chain comes back.
     pub fn enter(
         &mut self,
@@ -190,13 +263,7 @@ impl Store {
         }
         let frame = self.frames.len() as u32;
         let chain = chain_behind(alloc, Environ { frame, scope }, &self.frames, outer)?;
-        let slots_of_frame = unbound(alloc, slots)?;
-        self.frames.push(Frame {
-            outer,
-            scope,
-            slots: slots_of_frame,
-        })?;
-        self.counted += slots;
+        self.add_frame(alloc, outer, scope, slots)?;
         Ok(chain)
     }
 
@@ -216,6 +283,17 @@ impl Store {
         set_slot(&mut self.frames[frame as usize], slot, value);
         self.counted = (u64::from(self.counted) - replaced + added) as u32;
         Ok(())
+    }
+
+    /// Binds a slot to a plain value, and takes no memory. Tells whether it did: it does nothing where the slot is not there
+    /// or the act would meet a fault.
+    pub fn bind_plain(&mut self, frame: u32, slot: u32, held: Plain) -> bool
+        ensures { MatchBool result (does (Want.Bind frame slot (plain held)) self.old ≡ did (Act.Bind frame slot) Reply.Go self.new) (self.new ≡ self.old) }
+    {
+        if self.slot(frame, slot).is_none() {
+            return false;
+        }
+        self.bind(frame, slot, Value::of(held)).is_ok()
     }
 
     /// The value that a slot is bound to. A plain value takes no memory.
@@ -277,6 +355,14 @@ impl Store {
         ensures { result ≡ plain_held (slice_get self.now.cells cell) }
     {
         plain_of(self.cells.get(cell as usize)?)
+    }
+
+    /// The row that a cell holds; none where it holds another value, or is not there. It takes no memory.
+    #[inline(always)]
+    pub fn row_in(&self, cell: u32) -> Option<&Descriptor>
+        ensures { option_copied result ≡ row_held (slice_get self.now.cells cell) }
+    {
+        row_of(self.cells.get(cell as usize)?)
     }
 
     /// Gives a cell something to hold, and takes no memory.

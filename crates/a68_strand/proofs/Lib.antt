@@ -1,8 +1,5 @@
-pub mod Acting
-pub mod Alive
-pub mod Alone
-pub mod Settled
-pub mod Settling
-pub mod Taking
-pub mod Yielding
+pub mod ElementActs
+pub mod GoingAlone
+pub mod Machines
+pub mod QuickActs
 pub mod Waking

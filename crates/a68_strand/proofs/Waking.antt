@@ -2,14 +2,14 @@
 use Rattle.std.proofs.Common.{◌≡◌, ◌∙◌, ◌⊎◌, inl, inr, ℕ, zero, suc, Bool, true, false, List, [], ◌∷◌, ◌++◌, map, refl, ap, sym, subst, true≢false}
 use Rattle.std.specs.Prelude.{None, Some, ◌&&◌, slice_get, slice_set, if◌then◌else◌}
 use Rattle.a68_code.specs.declared.code.Code.{Code}
-use Rattle.a68_strand.proofs.Alive.{active}
-use Rattle.a68_strand.proofs.Settled.{settle_rests, settle_still}
+use Rattle.a68_exec.proofs.Alive.{active}
+use Rattle.a68_exec.proofs.Settled.{settle_rests, settle_still}
 use Rattle.a68_acts.specs.declared.want.Want.{Want}
 use Rattle.a68_acts.specs.declared.want.Want.TheVariants as want
-use Rattle.a68_strand.specs.Machine.{State, settle, next_state, beginning}
-use Rattle.a68_strand.specs.Runs.{has_closed, is_passive, is_closed, all_closed, woken, woken_in, begun, strands_after}
-use Rattle.a68_strand.specs.declared.ask.Stance.{Stance}
-use Rattle.a68_strand.specs.declared.ask.Stance.TheVariants.{Idle, Asking, Failed, Waits, Closed}
+use Rattle.a68_instructions.specs.Machine.{State, settle, next_state, beginning}
+use Rattle.a68_exec.specs.Runs.{has_closed, is_passive, is_closed, all_closed, woken, woken_in, begun, strands_after}
+use Rattle.a68_instructions.specs.declared.ask.Stance.{Stance}
+use Rattle.a68_instructions.specs.declared.ask.Stance.TheVariants.{Idle, Asking, Failed, Waits, Closed}
 
 -- each strand has settled, and none waits for units that have closed
 pub record IsCalm (code : Code) (strands : List State) : Type 0 where

@@ -3,7 +3,7 @@ use Rattle.std.specs.Prelude.{◌≡◌, ◌≢◌, ◌<◌, ◌≤◌, ◌⊎�
 use Rattle.std.specs.declared.option.Option.{Option}
 use Rattle.a68_code.specs.declared.code.Code.{Code}
 use Rattle.a68_strand.specs.Ends.{fault_of, CanAct}
-use Rattle.a68_strand.specs.Runs.{World, Machine, IfNext, opening, acted}
+use Rattle.a68_exec.specs.Runs.{World, Machine, IfNext, opening, acted}
 use Rattle.a68_values.specs.declared.act.Entry.{Entry}
 use Rattle.a68_values.specs.declared.kept.End.{End}
 use Rattle.a68_values.specs.declared.kept.End.TheVariants as ends

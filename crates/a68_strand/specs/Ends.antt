@@ -5,14 +5,14 @@ use Rattle.std.specs.declared.option.Option.{Option}
 use Rattle.a68_acts.specs.Does.{refused, does}
 use Rattle.a68_acts.specs.Store.{Store}
 use Rattle.a68_code.specs.declared.code.Code.{Code}
-use Rattle.a68_strand.specs.Machine.{State, place_at}
-use Rattle.a68_strand.specs.declared.ask.Stance.{Stance}
-use Rattle.a68_strand.specs.declared.ask.Stance.TheVariants.{Idle, Asking, Failed}
+use Rattle.a68_instructions.specs.Machine.{State, place_at}
+use Rattle.a68_instructions.specs.declared.ask.Stance.{Stance}
+use Rattle.a68_instructions.specs.declared.ask.Stance.TheVariants.{Idle, Asking, Failed}
 use Rattle.a68_values.specs.declared.act.Entry.{Entry}
 use Rattle.a68_values.specs.declared.act.FaultKind.{FaultKind}
 use Rattle.a68_values.specs.declared.kept.End.{End}
 use Rattle.a68_values.specs.declared.kept.End.TheVariants as ends
-use Rattle.a68_strand.specs.Runs.{World, acted}
+use Rattle.a68_exec.specs.Runs.{World, acted}
 
 abbrev pub fault_in : Stance → Store → Option FaultKind
 fault_in (Asking want waiting) store = refused (does want store)

@@ -1,11 +1,7 @@
-pub mod Bodies
+pub mod Alone
 pub mod Cyclic
+pub mod Elements
 pub mod Ends
-pub mod Unbound
-pub mod Machine
-pub mod Replies
-pub mod Room
+pub mod Plain
 pub mod RunOf
-pub mod Runs
-pub mod Silent
 pub mod Strands

@@ -3,7 +3,7 @@ use Rattle.std.specs.Prelude.{◌≤◌, ℕ, length}
 use Rattle.a68_acts.specs.Keeping.{IsKept}
 use Rattle.a68_code.specs.declared.code.Code.{Code}
 use Rattle.a68_strand.specs.Ends.{EndsWith}
-use Rattle.a68_strand.specs.Runs.{World, Machine, opening}
+use Rattle.a68_exec.specs.Runs.{World, Machine, opening}
 use Rattle.a68_values.specs.declared.kept.Kept.{Kept}
 
 -- The machine has this journal with this fuel, and what is kept is what it leaves.

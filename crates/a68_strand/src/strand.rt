@@ -1,8 +1,8 @@
 //! Strands.
 ghost use Rattle.std.specs.Prelude.{IsTrue};
-ghost use Rattle.a68_strand.specs.Bodies.{may_go_on};
+ghost use Rattle.a68_instructions.specs.Bodies.{may_go_on};
 
-use crate::body::{About, Body};
+use a68_instructions::{About, Body};
 
 /// A strand that has run its silent instructions, and shows what it asks.
 pub struct Strand {

@@ -4,7 +4,7 @@ use Rattle.a68_base.specs.declared.limits.TheConstants.{USUAL_FUEL}
 use Rattle.a68_base.specs.declared.refusal.Refusal.{Refusal}
 use Rattle.a68_elab.specs.Programs.{program_of}
 use Rattle.a68_elab.specs.Permitted.{Permitted}
-use Rattle.a68_gen.specs.Stretches.{Translates}
+use Rattle.a68_emit.specs.Stretches.{Translates}
 use Rattle.a68_strand.specs.RunOf.{RunOf}
 use Rattle.a68_top.specs.Answer.{AnswersText, IsRefusal, refused, ran, unmade, compiled}
 use Rattle.a68_top.specs.Commands.{AnswersMade}

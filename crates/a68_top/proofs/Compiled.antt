@@ -6,8 +6,8 @@ use Rattle.a68_code.specs.declared.code.Code.{Code}
 use Rattle.a68_elab.specs.Programs.{program_of}
 use Rattle.a68_elab.specs.Trees.{Program}
 use Rattle.a68_gen.specs.Refusals.{IsNotGenerated}
-use Rattle.a68_gen.specs.Stretches.{Translates}
-use Rattle.a68_gen.specs.Writing.{most}
+use Rattle.a68_emit.specs.Stretches.{Translates}
+use Rattle.a68_emit.specs.Writing.{most}
 use Rattle.a68_top.proofs.One.{Laws, same_program, compiled_late}
 use Rattle.a68_top.specs.Compiles.{Compiles, RefusedAs}
 use Rattle.a68_top.specs.declared.finish.Made.{Made}

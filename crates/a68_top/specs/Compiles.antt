@@ -6,8 +6,8 @@ use Rattle.a68_base.specs.declared.refusal.Stop.TheVariants.{Refused}
 use Rattle.a68_check.specs.Annotates.{Annotates, Refuses}
 use Rattle.a68_elab.specs.Programs.{program_of}
 use Rattle.a68_gen.specs.Refusals.{IsNotGenerated}
-use Rattle.a68_gen.specs.Stretches.{Translates}
-use Rattle.a68_gen.specs.Writing.{most}
+use Rattle.a68_emit.specs.Stretches.{Translates}
+use Rattle.a68_emit.specs.Writing.{most}
 use Rattle.a68_parse.specs.Parses.{IsTree, Parses}
 use Rattle.a68_symbols.specs.Names.{Named, AreNamed}
 use Rattle.a68_symbols.specs.Symbols.{SymbolsAre, RefusalIs, piece_of}

@@ -2,3 +2,4 @@ pub mod Going
 pub mod Sending
 pub mod Sole
 pub mod Turning
+pub mod TurningAlone

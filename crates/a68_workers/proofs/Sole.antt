@@ -6,9 +6,9 @@ use Rattle.a68_acts.specs.Keeping.{outer_slots}
 use Rattle.a68_code.specs.declared.code.Code.{Code}
 use Rattle.a68_strand.specs.Cyclic.{TakeTurns, IsTurnOf, EndsInTurn, last_of, Cyclic}
 use Rattle.a68_strand.specs.Ends.{fault_of, CanAct, EndsWith, HasEnded, done, fault, all_halted, spent}
-use Rattle.a68_strand.specs.Machine.{State, place_at}
+use Rattle.a68_instructions.specs.Machine.{State, place_at}
 use Rattle.a68_strand.specs.RunOf.{RunOf}
-use Rattle.a68_strand.specs.Runs.{World, Machine, IfNext, opening, acted}
+use Rattle.a68_exec.specs.Runs.{World, Machine, IfNext, opening, acted}
 use Rattle.a68_values.specs.Content.{Content}
 use Rattle.a68_values.specs.declared.act.Act.{Act}
 use Rattle.a68_values.specs.declared.act.Entry.{Entry}

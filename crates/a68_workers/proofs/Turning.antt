@@ -11,10 +11,10 @@ use Rattle.a68_acts.specs.declared.want.Want.{Want}
 use Rattle.a68_code.specs.declared.code.Code.{Code}
 use Rattle.a68_strand.specs.Cyclic.{HasTurn, Sooner, IsFirstBehind, TakeTurns, IsTurnOf, EndsInTurn, last_of, Cyclic}
 use Rattle.a68_strand.specs.Ends.{fault_of, fault_in, CanAct}
-use Rattle.a68_strand.specs.Machine.{State}
-use Rattle.a68_strand.specs.Runs.{World, Machine, IfNext, opening, acted, acts_in, after}
-use Rattle.a68_strand.specs.declared.ask.Stance.{Stance}
-use Rattle.a68_strand.specs.declared.ask.Stance.TheVariants.{Idle, Asking, Failed, Waits, Closed}
+use Rattle.a68_instructions.specs.Machine.{State}
+use Rattle.a68_exec.specs.Runs.{World, Machine, IfNext, opening, acted, acts_in, after}
+use Rattle.a68_instructions.specs.declared.ask.Stance.{Stance}
+use Rattle.a68_instructions.specs.declared.ask.Stance.TheVariants.{Idle, Asking, Failed, Waits, Closed}
 use Rattle.a68_values.specs.declared.act.Act.{Act}
 use Rattle.a68_values.specs.declared.act.Entry.{Entry}
 use Rattle.a68_values.specs.declared.kept.End.{End}
@@ -61,7 +61,7 @@ turns_more code w v u before (d ∷ es) e turns runs turn next = (
       (λ b t r. turns_more code b v u (Some d.strand) es e t r turn next) turns.1 runs,
 )
 
-last_behind : (before : Option ℕ) (xs ys : List Entry) → last_of before (xs ++ ys) ≡ last_of (last_of before xs) ys
+pub last_behind : (before : Option ℕ) (xs ys : List Entry) → last_of before (xs ++ ys) ≡ last_of (last_of before xs) ys
 last_behind before [] ys = refl
 last_behind before (x ∷ xs) ys = last_behind (Some x.strand) xs ys
 
@@ -90,7 +90,7 @@ has_last (d ∷ es) = one_more d es (has_last es)
 
 -- ---- a strand that has a turn is there
 
-turn_is_there : (code : Code) (w : World) (n : ℕ) → HasTurn code w n → slice_get w.strands n ≡ None → ⊥
+pub turn_is_there : (code : Code) (w : World) (n : ℕ) → HasTurn code w n → slice_get w.strands n ≡ None → ⊥
 turn_is_there code w n (inl can) gone = can (ap (λ o. option_and_then (λ (st : State). acts_in st.stance code w n st) o) gone)
 turn_is_there code w n (inr fault) gone = fault (ap (λ o. option_and_then (λ (st : State). fault_in st.stance w.store) o) gone)
 
@@ -104,7 +104,7 @@ some_below [] n p = absurd (omega arith)
 some_below (x ∷ xs) zero p = (x, refl)
 some_below (x ∷ xs) (suc n) p = some_below xs n (omega arith)
 
-within : {X : Type 0} (xs : List X) (n : ℕ) → (slice_get xs n ≡ None → ⊥) → n < length xs
+pub within : {X : Type 0} (xs : List X) (n : ℕ) → (slice_get xs n ≡ None → ⊥) → n < length xs
 within xs n there = by (cases_lt n (length xs)) where
   by : (n < length xs) ⊎ (length xs ≤ n) → n < length xs
   by (inl p) = p
@@ -162,7 +162,7 @@ took_none old = record {
 }
 
 -- an end that needs no turn comes in turn
-silent_end : (code : Code) (w : World) (before : Option ℕ) (e : End) → EndsWithoutTurn code w (Some e) → EndsInTurn code w before e
+pub silent_end : (code : Code) (w : World) (before : Option ℕ) (e : End) → EndsWithoutTurn code w (Some e) → EndsInTurn code w before e
 silent_end code w before ends.Done p = tt
 silent_end code w before ends.AllHalted p = tt
 silent_end code w before (ends.Fault why place strand) p = absurd p

@@ -2,7 +2,7 @@
 -- Runs that have gone on.
 use Rattle.std.specs.Prelude.{◌≡◌, ◌++◌, ℕ, List, length, take, None, Some}
 use Rattle.a68_strand.specs.Cyclic.{TakeTurns, EndsInTurn, last_of}
-use Rattle.a68_strand.specs.Runs.{Machine}
+use Rattle.a68_exec.specs.Runs.{Machine}
 use Rattle.a68_values.specs.declared.act.Entry.{Entry}
 use Rattle.a68_values.specs.declared.kept.End.{End}
 use Rattle.a68_world.specs.Run.{Run, world}

@@ -1,5 +1,5 @@
 //! Runs by one worker.
-ghost use Rattle.std.specs.Prelude.{◌≡◌, ◌≢◌, ◌<◌, ◌+◌, length, true, None, IfOk, IfSome, IsNone, MatchBool, OnOk};
+ghost use Rattle.std.specs.Prelude.{◌≡◌, ◌≢◌, ◌<◌, ◌≤◌, ◌+◌, length, true, None, IfOk, IfSome, IsNone, MatchBool, OnOk};
 ghost use Rattle.a68_strand.specs.Cyclic.{IsFirstBehind};
 ghost use Rattle.a68_workers.specs.Runs.{GoesFrom, TookTurns};
 ghost use Rattle.a68_world.specs.Run.{Run};
@@ -27,8 +27,19 @@ fn turn_first(alloc: Global, world: &mut World, strand: u32) -> Result<bool, NoM
     }
 }
 
+// The strand, where it is alone, takes its turns one after the other.
+fn go_alone(alloc: Global, world: &mut World) -> Result<(), NoMemory>
+    ensures goes_on { GoesFrom world.old world.new }
+    ensures took { OnOk result ((first : Run) → GoesFrom first world.old → TookTurns first world.old → TookTurns first world.new) }
+    ensures longer { length world.old.entries ≤ length world.new.entries }
+{
+    let done = world.go_alone(alloc);
+    done
+}
+
 /// Turns strands until the run has ended, each time the first one that can be turned behind that of the last entry. The
-/// gate is called behind each turn. NoMemory where a turn finds no memory; the world is then as that turn left it.
+/// gate is called behind each, and not behind those that a strand takes alone. NoMemory where a turn finds no memory; the
+/// world is then as that turn left it.
 pub fn turn_rest<G: Gate>(alloc: Global, world: &mut World, gate: &G) -> Result<(), NoMemory>
     ensures goes_on { GoesFrom world.old world.new }
     ensures took { OnOk result (TookTurns world.old world.new) }
@@ -42,6 +53,7 @@ pub fn turn_rest<G: Gate>(alloc: Global, world: &mut World, gate: &G) -> Result<
         if !acted {
             return Ok(());
         }
+        go_alone(alloc, world)?;
     }
     // A run that has not ended, and in which no strand can be turned, has a strand that found no memory.
     if world.end().is_none() {

@@ -4,7 +4,7 @@ ghost use Rattle.a68_code.specs.declared.code.Code.{Code};
 ghost use Rattle.a68_strand.specs.Cyclic.{Cyclic};
 ghost use Rattle.a68_strand.specs.Ends.{CanAct, HasEnded};
 ghost use Rattle.a68_strand.specs.RunOf.{RunOf};
-ghost use Rattle.a68_strand.specs.Runs.{Machine, World, opening};
+ghost use Rattle.a68_exec.specs.Runs.{Machine, World, opening};
 ghost use Rattle.a68_values.specs.declared.act.Entry.{Entry};
 ghost use Rattle.a68_values.specs.declared.kept.Kept.{Kept};
 

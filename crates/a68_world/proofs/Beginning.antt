@@ -3,7 +3,7 @@ use Rattle.std.proofs.Common.{◌≡◌, ◌∙◌, inl, inr, ℕ, zero, suc, �
 use Rattle.std.specs.Prelude.{Some, slice_get}
 use Rattle.std.proofs.lemmas.List.{take_more}
 use Rattle.a68_code.specs.declared.code.Code.{Code}
-use Rattle.a68_strand.specs.Machine.{State, beginning, settle}
+use Rattle.a68_instructions.specs.Machine.{State, beginning, settle}
 use Rattle.a68_strand.specs.Strands.{standing}
 use Rattle.a68_values.specs.declared.chain.Environ.{Environ}
 use Rattle.a68_world.specs.Stepping.{AreUnits, IsUnit, units_at}

@@ -12,14 +12,14 @@ use Rattle.a68_acts.specs.declared.want.Reply.{Reply}
 use Rattle.a68_acts.specs.declared.want.Want.{Want}
 use Rattle.a68_acts.specs.declared.want.Want.TheVariants as want
 use Rattle.a68_code.specs.declared.code.Code.{Code}
-use Rattle.a68_strand.proofs.Settled.{settle_rests}
+use Rattle.a68_exec.proofs.Settled.{settle_rests}
 use Rattle.a68_strand.proofs.Waking.{Goes, begun_goes, none_woken, goes_open, goes_waits}
-use Rattle.a68_strand.specs.Machine.{State, settle, next_state, replied}
-use Rattle.a68_strand.specs.Runs.{World, acted, after, woken, has_closed, is_passive, is_closed, begun, strands_after}
+use Rattle.a68_instructions.specs.Machine.{State, settle, next_state, replied}
+use Rattle.a68_exec.specs.Runs.{World, acted, after, woken, has_closed, is_passive, is_closed, begun, strands_after}
 use Rattle.a68_strand.specs.Strands.{standing}
-use Rattle.a68_strand.specs.declared.ask.Ask.{Ask}
-use Rattle.a68_strand.specs.declared.ask.Stance.TheVariants.{Waits}
-use Rattle.a68_strand.specs.declared.ask.Ask.TheVariants as ask
+use Rattle.a68_instructions.specs.declared.ask.Ask.{Ask}
+use Rattle.a68_instructions.specs.declared.ask.Stance.TheVariants.{Waits}
+use Rattle.a68_instructions.specs.declared.ask.Ask.TheVariants as ask
 use Rattle.a68_strand.specs.declared.strand.Strand.{Strand}
 use Rattle.a68_values.specs.declared.act.Act.{Act}
 use Rattle.a68_values.specs.declared.act.Entry.{Entry}

@@ -8,11 +8,11 @@ use Rattle.std.specs.declared.option.Option.{Option}
 use Rattle.std.specs.declared.vec.Vec.{Vec}
 use Rattle.a68_acts.specs.Does.{refused, does}
 use Rattle.a68_acts.specs.Store.{Store}
-use Rattle.a68_strand.specs.Machine.{State, replied}
-use Rattle.a68_strand.specs.Machine as machine
-use Rattle.a68_strand.specs.Runs.{woken}
+use Rattle.a68_instructions.specs.Machine.{State, replied}
+use Rattle.a68_instructions.specs.Machine as machine
+use Rattle.a68_exec.specs.Runs.{woken}
 use Rattle.a68_strand.specs.Strands.{standing}
-use Rattle.a68_strand.specs.declared.ask.Stance.TheVariants.{Asking}
+use Rattle.a68_instructions.specs.declared.ask.Stance.TheVariants.{Asking}
 use Rattle.a68_strand.specs.declared.strand.Strand.{Strand}
 use Rattle.a68_values.specs.declared.act.Act.{Act}
 use Rattle.a68_values.specs.declared.act.Entry.{Entry}

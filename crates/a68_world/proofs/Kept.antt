@@ -4,8 +4,8 @@ use Rattle.std.specs.Prelude.{None, Some, IfSome, slice_get}
 use Rattle.std.specs.Option.{option_map}
 use Rattle.std.specs.declared.option.Option.{Option}
 use Rattle.a68_strand.specs.Ends.{HasEnded, EndsWith, fault, spent}
-use Rattle.a68_strand.specs.Machine.{State, place_at}
-use Rattle.a68_strand.specs.Runs.{World, acted}
+use Rattle.a68_instructions.specs.Machine.{State, place_at}
+use Rattle.a68_exec.specs.Runs.{World, acted}
 use Rattle.a68_values.specs.declared.act.Act.{Act}
 use Rattle.a68_values.specs.declared.kept.End.{End}
 use Rattle.a68_values.specs.declared.kept.End.TheVariants as ends
@@ -13,7 +13,8 @@ use Rattle.a68_world.specs.Run.{Run, IsRun, AllHome, IsNumber, EndsWithoutTurn, 
 use Rattle.a68_world.specs.Turns.{GoesOn, Acts, EndsAt, IsSpentBy, IsDue, IsOf, noted}
 use Rattle.a68_world.specs.Worlds.{world_of, IsJournal}
 use Rattle.a68_world.specs.declared.status.Status.TheVariants.{Spent}
-use Rattle.a68_world.proofs.Journals.{entry_of, world_more, journal_more}
+use Rattle.a68_strand.proofs.Machines.{entry_of}
+use Rattle.a68_world.proofs.Journals.{world_more, journal_more}
 use Rattle.a68_world.proofs.Showing.{is_end}
 
 -- no strand is spent in a run that goes on

@@ -4,6 +4,7 @@ pub mod Behind
 pub mod Doing
 pub mod Entering
 pub mod Firsts
+pub mod GoingAlone
 pub mod Journals
 pub mod Kept
 pub mod Outcomes

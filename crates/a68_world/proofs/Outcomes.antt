@@ -9,14 +9,14 @@ use Rattle.std.specs.declared.vec.Vec.{Vec}
 use Rattle.std.proofs.Math.ListN.{length-set}
 use Rattle.a68_acts.specs.Store.{Store}
 use Rattle.a68_code.specs.declared.code.Code.{Code}
-use Rattle.a68_strand.proofs.Alive.{active}
-use Rattle.a68_strand.proofs.Settled.{settle_rests}
+use Rattle.a68_exec.proofs.Alive.{active}
+use Rattle.a68_exec.proofs.Settled.{settle_rests}
 use Rattle.a68_strand.proofs.Waking.{none_woken, goes_waits, woken_still}
-use Rattle.a68_strand.specs.Machine.{State, settle, replied, next_state}
-use Rattle.a68_strand.specs.Runs.{World, woken, woken_in, has_closed, is_passive, all_closed}
+use Rattle.a68_instructions.specs.Machine.{State, settle, replied, next_state}
+use Rattle.a68_exec.specs.Runs.{World, woken, woken_in, has_closed, is_passive, all_closed}
 use Rattle.a68_strand.specs.Strands.{standing, HasSettled}
-use Rattle.a68_strand.specs.declared.ask.Stance.{Stance}
-use Rattle.a68_strand.specs.declared.ask.Stance.TheVariants.{Idle, Asking, Failed, Waits, Closed}
+use Rattle.a68_instructions.specs.declared.ask.Stance.{Stance}
+use Rattle.a68_instructions.specs.declared.ask.Stance.TheVariants.{Idle, Asking, Failed, Waits, Closed}
 use Rattle.a68_strand.specs.declared.strand.Strand.{Strand}
 use Rattle.a68_values.specs.declared.act.Act.{Act}
 use Rattle.a68_values.specs.declared.act.Entry.{Entry}

@@ -8,15 +8,15 @@ use Rattle.std.specs.declared.option.Option.{Option}
 use Rattle.a68_acts.specs.declared.want.Reply.TheVariants as reply
 use Rattle.a68_code.specs.declared.code.Code.{Code}
 use Rattle.a68_strand.proofs.Waking.{woken_still, woken_closed}
-use Rattle.a68_strand.specs.Machine.{State, settle, replied, replied_in}
-use Rattle.a68_strand.specs.Runs.{has_closed, awaited_units, is_closed, all_closed, woken, woken_in}
+use Rattle.a68_instructions.specs.Machine.{State, settle, replied, replied_in}
+use Rattle.a68_exec.specs.Runs.{has_closed, awaited_units, is_closed, all_closed, woken, woken_in}
 use Rattle.a68_strand.specs.Strands.{standing, awaits}
-use Rattle.a68_strand.specs.declared.ask.Ask.{Ask}
-use Rattle.a68_strand.specs.declared.ask.Ask.TheVariants as ask
-use Rattle.a68_strand.specs.declared.ask.Stance.{Stance}
-use Rattle.a68_strand.specs.declared.ask.Stance.TheVariants.{Idle, Asking, Failed, Waits, Closed}
-use Rattle.a68_strand.specs.declared.ask.Waiting.{Waiting}
-use Rattle.a68_strand.specs.Bodies.{stance_in}
+use Rattle.a68_instructions.specs.declared.ask.Ask.{Ask}
+use Rattle.a68_instructions.specs.declared.ask.Ask.TheVariants as ask
+use Rattle.a68_instructions.specs.declared.ask.Stance.{Stance}
+use Rattle.a68_instructions.specs.declared.ask.Stance.TheVariants.{Idle, Asking, Failed, Waits, Closed}
+use Rattle.a68_instructions.specs.declared.ask.Waiting.{Waiting}
+use Rattle.a68_instructions.specs.Bodies.{stance_in}
 use Rattle.a68_strand.specs.declared.strand.Strand.{Strand}
 use Rattle.a68_world.specs.Seats.{Sits, SitsAt, SitsHere, AllSit, closed_in, closed_at, all_closed_at, due_in, due_at}
 use Rattle.a68_world.specs.Waking.{WaitBelow, seat_awaits, GoesOnAt, WakesBy, WakesAt, AllRest, IsReleased, Wakes}
@@ -76,6 +76,7 @@ awaits-units (ask.Want w) wait f c e = refl
 awaits-units (ask.Fault why place) wait f c e = absurd (cc)
 awaits-units ask.Closed wait f c e = absurd (cc)
 awaits-units ask.Ended wait f c e = absurd (cc)
+awaits-units ask.Runs wait f c e = absurd (cc)
 awaits-units ask.NoMemory wait f c e = absurd (cc)
 
 -- a strand that is due waits for units that have closed

@@ -21,15 +21,15 @@ use Rattle.a68_code.specs.declared.does.Does.{Does}
 use Rattle.a68_code.specs.declared.does.Does.TheVariants as does
 use Rattle.a68_modes.specs.Nodes.{shape_at}
 use Rattle.a68_modes.specs.declared.shape.Shape.{Shape}
-use Rattle.a68_strand.specs.Machine.{State, stack_of, goes_on, goes_to, fails, follows, operates, enters, yields_to, leaves_frame, branches, unless, chooses, cases, kept_of, to_member, members, with_counter, counts, indexes, steps, advances, forgets, calling, calls, enters_body, begins_body, binds, returns_to, returns, operation_of, controls, exec, at_end, does_one, silently, next_state, settle_in, settle, leaves_at, told_by, replied_in, replied}
+use Rattle.a68_instructions.specs.Machine.{State, stack_of, goes_on, goes_to, fails, follows, operates, enters, yields_to, leaves_frame, branches, unless, chooses, cases, kept_of, to_member, members, with_counter, counts, indexes, steps, advances, forgets, calling, calls, enters_body, begins_body, binds, returns_to, returns, operation_of, controls, exec, at_end, does_one, silently, next_state, settle_in, settle, leaves_at, told_by, replied_in, replied}
 use Rattle.a68_stack.specs.Room.{has_room}
-use Rattle.a68_strand.specs.Room.{brings_room}
+use Rattle.a68_instructions.specs.Room.{brings_room}
 use Rattle.a68_stack.specs.Values.{callers, pop_values, top_counter, top_value}
-use Rattle.a68_strand.specs.Unbound.{Unbound}
-use Rattle.a68_strand.specs.declared.ask.Stance.{Stance}
-use Rattle.a68_strand.specs.declared.ask.Stance.TheVariants.{Idle, Asking, Failed, Waits, Closed}
-use Rattle.a68_strand.specs.declared.ask.Waiting.{Waiting}
-use Rattle.a68_strand.specs.declared.ask.Waiting.TheVariants as waiting
+use Rattle.a68_instructions.specs.Unbound.{Unbound}
+use Rattle.a68_instructions.specs.declared.ask.Stance.{Stance}
+use Rattle.a68_instructions.specs.declared.ask.Stance.TheVariants.{Idle, Asking, Failed, Waits, Closed}
+use Rattle.a68_instructions.specs.declared.ask.Waiting.{Waiting}
+use Rattle.a68_instructions.specs.declared.ask.Waiting.TheVariants as waiting
 use Rattle.a68_stack.specs.declared.stack.Item.{Item}
 use Rattle.a68_stack.specs.declared.stack.Item.TheVariants as item
 use Rattle.a68_values.specs.Content.{Content, plain, scope_of}

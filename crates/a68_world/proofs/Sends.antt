@@ -22,11 +22,11 @@ use Rattle.a68_layout.proofs.types.Trims.TheSendSync as trims
 use Rattle.a68_modes.proofs.modes.Modes.TheSendSync as modes
 use Rattle.a68_store.specs.contracts.frame.Frame as frame
 use Rattle.a68_store.specs.contracts.store.Store as store
-use Rattle.a68_strand.specs.contracts.ask.Ask as ask
-use Rattle.a68_strand.specs.contracts.ask.Parameters as parameters
-use Rattle.a68_strand.specs.contracts.ask.Waiting as waiting
-use Rattle.a68_strand.specs.contracts.body.About as about
-use Rattle.a68_strand.specs.contracts.body.Body as body
+use Rattle.a68_instructions.specs.contracts.ask.Ask as ask
+use Rattle.a68_instructions.specs.contracts.ask.Parameters as parameters
+use Rattle.a68_instructions.specs.contracts.ask.Waiting as waiting
+use Rattle.a68_instructions.specs.contracts.body.About as about
+use Rattle.a68_instructions.specs.contracts.body.Body as body
 use Rattle.a68_stack.specs.contracts.caller.Caller as caller
 use Rattle.a68_stack.specs.contracts.stack.Item as item
 use Rattle.a68_stack.specs.contracts.stack.Stack as stack

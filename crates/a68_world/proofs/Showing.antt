@@ -8,17 +8,17 @@ use Rattle.a68_acts.specs.Does.{Outcome, did, refuses, waits, refused, does}
 use Rattle.a68_acts.specs.declared.want.Want.{Want}
 use Rattle.a68_code.specs.declared.code.Code.{Code}
 use Rattle.a68_store.specs.Acts.{has_to_wait}
-use Rattle.a68_strand.specs.Bodies.{stance_in}
+use Rattle.a68_instructions.specs.Bodies.{stance_in}
 use Rattle.a68_strand.specs.Cyclic.{HasTurn}
 use Rattle.a68_strand.specs.Ends.{fault_in, fault_of, HasEnded, EndsWith, done, all_halted}
-use Rattle.a68_strand.specs.Machine.{State, asked, place_at}
-use Rattle.a68_strand.specs.Runs.{World, after, acts_in, acted}
-use Rattle.a68_strand.specs.Strands.{standing}
-use Rattle.a68_strand.specs.declared.ask.Ask.{Ask}
-use Rattle.a68_strand.specs.declared.ask.Ask.TheVariants as ask
-use Rattle.a68_strand.specs.declared.ask.Stance.{Stance}
-use Rattle.a68_strand.specs.declared.ask.Stance.TheVariants.{Idle, Asking, Failed, Waits, Closed}
-use Rattle.a68_strand.specs.declared.ask.Waiting.{Waiting}
+use Rattle.a68_instructions.specs.Machine.{State, asked, place_at}
+use Rattle.a68_exec.specs.Runs.{World, after, acts_in, acted}
+use Rattle.a68_strand.specs.Strands.{Shows, standing}
+use Rattle.a68_instructions.specs.declared.ask.Ask.{Ask}
+use Rattle.a68_instructions.specs.declared.ask.Ask.TheVariants as ask
+use Rattle.a68_instructions.specs.declared.ask.Stance.{Stance}
+use Rattle.a68_instructions.specs.declared.ask.Stance.TheVariants.{Idle, Asking, Failed, Waits, Closed}
+use Rattle.a68_instructions.specs.declared.ask.Waiting.{Waiting}
 use Rattle.a68_strand.specs.declared.strand.Strand.{Strand}
 use Rattle.a68_values.specs.declared.act.Entry.{Entry}
 use Rattle.a68_values.specs.declared.act.FaultKind.{FaultKind}
@@ -26,7 +26,7 @@ use Rattle.a68_values.specs.declared.kept.End.{End}
 use Rattle.a68_values.specs.declared.kept.End.TheVariants as ends
 use Rattle.a68_world.specs.Ending.{EndShown}
 use Rattle.a68_world.specs.Run.{EndsWithoutTurn}
-use Rattle.a68_world.specs.Seats.{Sits, SitsHere, AreSeated, AllSit, Shows, turn_shown, turn_in, turn_at, ended_shown, ended_in, ended_at}
+use Rattle.a68_world.specs.Seats.{Sits, SitsHere, AreSeated, AllSit, turn_shown, turn_in, turn_at, ended_shown, ended_in, ended_at}
 use Rattle.a68_world.specs.declared.seat.Seat.{Seat}
 use Rattle.a68_world.specs.declared.seat.Seat.TheVariants as seat
 use Rattle.a68_world.proofs.Places.{is_there, is_within}

@@ -18,15 +18,15 @@ use Rattle.a68_code.specs.declared.code.Code.{Code}
 use Rattle.a68_store.specs.Acts.{has_to_wait}
 use Rattle.a68_strand.specs.Cyclic.{IsFirstBehind}
 use Rattle.a68_strand.specs.Ends.{fault_of, fault_in, EndsWith}
-use Rattle.a68_strand.specs.Machine.{State, asked, beginning, settle}
-use Rattle.a68_strand.specs.Machine as machine
-use Rattle.a68_strand.specs.Runs.{World, opening, after as runs_after}
+use Rattle.a68_instructions.specs.Machine.{State, asked, beginning, settle}
+use Rattle.a68_instructions.specs.Machine as machine
+use Rattle.a68_exec.specs.Runs.{World, opening, after as runs_after}
 use Rattle.a68_strand.specs.Strands.{standing, wants}
-use Rattle.a68_strand.specs.declared.ask.Ask.{Ask}
-use Rattle.a68_strand.specs.declared.ask.Ask.TheVariants as ask
-use Rattle.a68_strand.specs.declared.ask.Stance.{Stance}
-use Rattle.a68_strand.specs.declared.ask.Stance.TheVariants.{Idle, Asking, Failed, Waits, Closed}
-use Rattle.a68_strand.specs.declared.ask.Waiting.{Waiting}
+use Rattle.a68_instructions.specs.declared.ask.Ask.{Ask}
+use Rattle.a68_instructions.specs.declared.ask.Ask.TheVariants as ask
+use Rattle.a68_instructions.specs.declared.ask.Stance.{Stance}
+use Rattle.a68_instructions.specs.declared.ask.Stance.TheVariants.{Idle, Asking, Failed, Waits, Closed}
+use Rattle.a68_instructions.specs.declared.ask.Waiting.{Waiting}
 use Rattle.a68_strand.specs.declared.strand.Strand.{Strand}
 use Rattle.a68_values.specs.declared.act.Act.{Act}
 use Rattle.a68_values.specs.declared.act.Entry.{Entry}

@@ -12,14 +12,14 @@ use Rattle.a68_acts.specs.declared.want.Want.{Want}
 use Rattle.a68_acts.specs.declared.want.Want.TheVariants as want
 use Rattle.a68_code.specs.declared.code.Code.{Code}
 use Rattle.a68_layout.specs.declared.types.Plan.{Plan}
-use Rattle.a68_strand.proofs.Alive.{active}
-use Rattle.a68_strand.proofs.Settled.{settle_rests}
+use Rattle.a68_exec.proofs.Alive.{active}
+use Rattle.a68_exec.proofs.Settled.{settle_rests}
 use Rattle.a68_strand.proofs.Waking.{IsCalm, calm_kept, begun_goes}
-use Rattle.a68_strand.specs.Machine.{State, beginning, settle, next_state, replied}
-use Rattle.a68_strand.specs.Runs.{World, Machine, IfNext, opening, acted, acts_in, after, woken, woken_in, all_closed, is_passive, begun, strands_after}
-use Rattle.a68_strand.specs.declared.ask.Stance.{Stance}
-use Rattle.a68_strand.specs.declared.ask.Stance.TheVariants.{Idle, Asking, Failed, Waits, Closed}
-use Rattle.a68_strand.specs.declared.ask.Waiting.{Waiting}
+use Rattle.a68_instructions.specs.Machine.{State, beginning, settle, next_state, replied}
+use Rattle.a68_exec.specs.Runs.{World, Machine, IfNext, opening, acted, acts_in, after, woken, woken_in, all_closed, is_passive, begun, strands_after}
+use Rattle.a68_instructions.specs.declared.ask.Stance.{Stance}
+use Rattle.a68_instructions.specs.declared.ask.Stance.TheVariants.{Idle, Asking, Failed, Waits, Closed}
+use Rattle.a68_instructions.specs.declared.ask.Waiting.{Waiting}
 use Rattle.a68_values.specs.Content.{Content}
 use Rattle.a68_values.specs.declared.act.Act.{Act}
 use Rattle.a68_values.specs.declared.act.Act.TheVariants as act

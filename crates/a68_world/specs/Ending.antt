@@ -5,8 +5,8 @@ use Rattle.std.specs.Option.{option_map_or}
 use Rattle.std.specs.declared.option.Option.{Option}
 use Rattle.a68_acts.specs.Does.{does, refused}
 use Rattle.a68_acts.specs.Store.{Store}
-use Rattle.a68_strand.specs.declared.ask.Ask.{Ask}
-use Rattle.a68_strand.specs.declared.ask.Ask.TheVariants as ask
+use Rattle.a68_instructions.specs.declared.ask.Ask.{Ask}
+use Rattle.a68_instructions.specs.declared.ask.Ask.TheVariants as ask
 use Rattle.a68_values.specs.declared.kept.End.{End}
 use Rattle.a68_values.specs.declared.kept.End.TheVariants as ends
 use Rattle.a68_world.specs.Seats.{turn_at, ended_at}

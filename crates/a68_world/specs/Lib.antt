@@ -1,7 +1,8 @@
+pub mod Alone
+pub mod AloneAt
 pub mod Codes
 pub mod Ending
 pub mod Inside
-pub mod Plain
 pub mod Run
 pub mod Scopes
 pub mod Seats

@@ -7,7 +7,7 @@ use Rattle.a68_code.specs.Valid.{IsValid}
 use Rattle.a68_code.specs.declared.code.Code.{Code}
 use Rattle.a68_strand.specs.Cyclic.{HasTurn}
 use Rattle.a68_strand.specs.Ends.{HasEnded, EndsWith}
-use Rattle.a68_strand.specs.Runs.{World, opening}
+use Rattle.a68_exec.specs.Runs.{World, opening}
 use Rattle.a68_values.specs.declared.act.Entry.{Entry}
 use Rattle.a68_values.specs.declared.kept.End.{End}
 use Rattle.a68_values.specs.declared.kept.End.TheVariants as ends

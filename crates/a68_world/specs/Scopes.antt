@@ -10,9 +10,9 @@ use Rattle.a68_acts.specs.declared.want.Want.{Want}
 use Rattle.a68_acts.specs.declared.want.Want.TheVariants as want
 use Rattle.a68_stack.specs.declared.stack.Item.{Item}
 use Rattle.a68_stack.specs.declared.stack.Item.TheVariants as item
-use Rattle.a68_strand.specs.Machine.{State}
-use Rattle.a68_strand.specs.declared.ask.Stance.{Stance}
-use Rattle.a68_strand.specs.declared.ask.Stance.TheVariants.{Asking}
+use Rattle.a68_instructions.specs.Machine.{State}
+use Rattle.a68_instructions.specs.declared.ask.Stance.{Stance}
+use Rattle.a68_instructions.specs.declared.ask.Stance.TheVariants.{Asking}
 use Rattle.a68_values.specs.declared.chain.Environ.{Environ}
 
 -- the scopes of a chain are below a number

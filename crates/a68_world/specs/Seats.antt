@@ -6,12 +6,11 @@ use Rattle.a68_acts.specs.Does.{does}
 use Rattle.a68_acts.specs.Store.{Store}
 use Rattle.a68_code.specs.declared.code.Code.{Code}
 use Rattle.a68_store.specs.Acts.{has_to_wait}
-use Rattle.a68_strand.specs.Machine.{State, ask_of, beginning}
-use Rattle.a68_strand.specs.Machine as machine
-use Rattle.a68_strand.specs.Runs.{has_closed, awaited_units}
-use Rattle.a68_strand.specs.Strands.{standing, HasSettled}
-use Rattle.a68_strand.specs.declared.ask.Ask.{Ask}
-use Rattle.a68_strand.specs.declared.ask.Ask.TheVariants as ask
+use Rattle.a68_instructions.specs.Machine.{State, beginning}
+use Rattle.a68_exec.specs.Runs.{has_closed, awaited_units}
+use Rattle.a68_strand.specs.Strands.{standing, HasSettled, Shows}
+use Rattle.a68_instructions.specs.declared.ask.Ask.{Ask}
+use Rattle.a68_instructions.specs.declared.ask.Ask.TheVariants as ask
 use Rattle.a68_strand.specs.declared.strand.Strand.{Strand}
 use Rattle.a68_world.specs.declared.seat.Seat.{Seat}
 use Rattle.a68_world.specs.declared.seat.Seat.TheVariants as seat
@@ -21,11 +20,6 @@ use Rattle.a68_world.specs.declared.status.Status.TheVariants as status
 abbrev pub status_of : Seat → Status
 status_of (seat.Home strand) = status.Home
 status_of seat.Spent = status.Spent
-
--- the strand shows what it asks, and the place of the construct that asks
-pub record Shows (code : Code) (strand : Strand) : Type 0 where
-  pub ask : strand.about.ask ≡ ask_of code (standing strand)
-  pub place : strand.place ≡ machine.place_at code.list strand.body.at
 
 -- the strand has this number, stands as that one of these does, and shows what it asks
 pub record Sits (code : Code) (strands : List State) (k : ℕ) (strand : Strand) : Type 0 where

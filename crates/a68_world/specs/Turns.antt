@@ -6,11 +6,11 @@ use Rattle.a68_acts.specs.declared.want.Want.{Want}
 use Rattle.a68_code.specs.declared.code.Code.{Code}
 use Rattle.a68_strand.specs.Cyclic.{HasTurn}
 use Rattle.a68_strand.specs.Ends.{fault_of, CanAct}
-use Rattle.a68_strand.specs.Machine.{State, place_at}
+use Rattle.a68_instructions.specs.Machine.{State, place_at}
 use Rattle.a68_strand.specs.RunOf.{RunOf}
-use Rattle.a68_strand.specs.Runs.{World, acted}
-use Rattle.a68_strand.specs.declared.ask.Stance.TheVariants.{Asking, Waits}
-use Rattle.a68_strand.specs.declared.ask.Waiting.{Waiting}
+use Rattle.a68_exec.specs.Runs.{World, acted}
+use Rattle.a68_instructions.specs.declared.ask.Stance.TheVariants.{Asking, Waits}
+use Rattle.a68_instructions.specs.declared.ask.Waiting.{Waiting}
 use Rattle.a68_values.specs.declared.act.Act.{Act}
 use Rattle.a68_values.specs.declared.act.Entry.{Entry}
 use Rattle.a68_values.specs.declared.kept.End.{End}

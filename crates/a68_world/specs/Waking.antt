@@ -3,10 +3,10 @@
 use Rattle.std.specs.Prelude.{◌≡◌, ◌<◌, ◌≤◌, ⊤, ℕ, Bool, true, false, List, length, map, None, Some, slice_get, slice_set}
 use Rattle.a68_acts.specs.declared.want.Reply.TheVariants as reply
 use Rattle.a68_code.specs.declared.code.Code.{Code}
-use Rattle.a68_strand.specs.Machine.{State, next_state, replied}
-use Rattle.a68_strand.specs.Runs.{all_closed, woken}
+use Rattle.a68_instructions.specs.Machine.{State, next_state, replied}
+use Rattle.a68_exec.specs.Runs.{all_closed, woken}
 use Rattle.a68_strand.specs.Strands.{standing, awaits, HasSettled}
-use Rattle.a68_strand.specs.declared.ask.Stance.TheVariants.{Waits}
+use Rattle.a68_instructions.specs.declared.ask.Stance.TheVariants.{Waits}
 use Rattle.a68_strand.specs.declared.strand.Strand.{Strand}
 use Rattle.a68_world.specs.Seats.{AllSit, AreSeated, due_at, may_wake}
 use Rattle.a68_world.specs.declared.seat.Seat.{Seat}

@@ -3,7 +3,7 @@
 use Rattle.std.specs.Prelude.{List, [], ◌∷◌, None, Some}
 use Rattle.std.specs.declared.option.Option.{Option}
 use Rattle.a68_code.specs.declared.code.Code.{Code}
-use Rattle.a68_strand.specs.Runs.{World, Machine, opening, acted}
+use Rattle.a68_exec.specs.Runs.{World, Machine, opening, acted}
 use Rattle.a68_values.specs.declared.act.Act.{Act}
 use Rattle.a68_values.specs.declared.act.Entry.{Entry}
 

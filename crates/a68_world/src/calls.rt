@@ -4,7 +4,7 @@ ghost use Rattle.std.specs.Vec.{vec_len, vec_capacity};
 ghost use Rattle.a68_acts.specs.Store.{opening_store};
 ghost use Rattle.a68_code.specs.Valid.{IsValid};
 ghost use Rattle.a68_strand.specs.Cyclic.{IsFirstBehind};
-ghost use Rattle.a68_strand.specs.Machine.{beginning};
+ghost use Rattle.a68_instructions.specs.Machine.{beginning};
 ghost use Rattle.a68_strand.specs.Strands.{HasSettled};
 ghost use Rattle.a68_world.specs.Ending.{EndShown};
 ghost use Rattle.a68_world.specs.Run.{IsRun, Begins, most_fuel};

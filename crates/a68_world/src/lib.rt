@@ -1,7 +1,7 @@
 //! A run: the store and its strands, joined by the journal of their acts.
 #![tactic(auto)]
 
-mod acts;
+mod alone;
 mod calls;
 mod deed;
 mod seat;

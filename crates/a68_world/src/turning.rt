@@ -5,8 +5,9 @@ ghost use Rattle.a68_world.specs.Ending.{Turns, EndShown, FirstIn, NoneIn, end_a
 ghost use Rattle.a68_world.specs.Seats.{turn_shown, turn_in, turn_at, ended_shown, ended_in, ended_at};
 
 use crate::seat::Seat;
+use a68_instructions::Ask;
 use a68_store::Store;
-use a68_strand::{Ask, Strand};
+use a68_strand::Strand;
 use a68_values::End;
 
 // Has a strand that shows this something to do at its turn?

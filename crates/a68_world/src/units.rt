@@ -9,8 +9,9 @@ use crate::seat::Seat;
 use a68_acts::Want;
 use a68_base::NoMemory;
 use a68_code::Code;
+use a68_instructions::Ask;
 use a68_store::Store;
-use a68_strand::{Ask, Strand};
+use a68_strand::Strand;
 use a68_values::{Chain, Entrances};
 use std::alloc::Global;
 

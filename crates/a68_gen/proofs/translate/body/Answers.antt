@@ -1,8 +1,8 @@
 use Rattle.std.proofs.Common.{◌-◌, List, ℕ, length, arith, ap, sym, ◌∙◌}
 use Rattle.a68_elab.specs.Made.{last_id}
-use Rattle.a68_gen.proofs.Constructs.{parts_are}
+use Rattle.a68_emit.proofs.Linking.{parts_are}
 use Rattle.a68_gen.proofs.Generating.{last_is_last}
-use Rattle.a68_runs.proofs.Between.{between-each}
+use Rattle.a68_parts.proofs.Between.{between-each}
 use Rattle.std.specs.Prelude.{slice_get}
 use Rattle.a68_gen.proofs.translate.body.Goals as goal
 

@@ -7,7 +7,7 @@ use Rattle.a68_code.specs.declared.code.RoutineEntrance.{RoutineEntrance}
 use Rattle.a68_elab.specs.Programs.{program_of}
 use Rattle.a68_gen.proofs.Generating.{is_translated, is_valid, stops_listing, written_of}
 use Rattle.a68_gen.proofs.translate.code_of.Goals as goal
-use Rattle.a68_gen.specs.Listing.{texts_entered, units_entered}
+use Rattle.a68_emit.specs.Listing.{texts_entered, units_entered}
 
 pub returns-in-Some-clause-too_long : goal.returns-in-Some-clause-too_long
 returns-in-Some-clause-too_long c =

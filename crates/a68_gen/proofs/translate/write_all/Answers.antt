@@ -1,9 +1,9 @@
 use Rattle.std.proofs.Common.{ℕ, ap, ◌∙◌}
 use Rattle.a68_elab.specs.Programs.{program_of}
 use Rattle.a68_gen.proofs.Generating.{all_written, behind_program}
-use Rattle.a68_gen.proofs.Writing.{had_not}
+use Rattle.a68_emit.proofs.Writing.{had_not}
 use Rattle.a68_gen.proofs.translate.write_all.Goals as goal
-use Rattle.a68_gen.specs.Listing.{text_entrances, unit_entrances}
+use Rattle.a68_emit.specs.Listing.{text_entrances, unit_entrances}
 
 pub returns-clause-writes : goal.returns-clause-writes
 returns-clause-writes c =

@@ -4,9 +4,9 @@ use Rattle.a68_elab.specs.Programs.{program_of}
 use Rattle.a68_elab.specs.Trees.{Apart}
 use Rattle.a68_gen.proofs.Generating.{ApartAhead, apart_on, entered_cons, entered_inside}
 use Rattle.a68_gen.proofs.translate.write_apart.Goals as goal
-use Rattle.a68_gen.specs.Texts.{apart_of}
-use Rattle.a68_gen.specs.declared.entered.Entered.{Entered}
-use Rattle.a68_gen.specs.declared.entered.Entered.TheVariants as entered
+use Rattle.a68_emit.specs.Texts.{apart_of}
+use Rattle.a68_emit.specs.declared.entered.Entered.{Entered}
+use Rattle.a68_emit.specs.declared.entered.Entered.TheVariants as entered
 
 pub write_entered-requires : goal.write_entered-requires
 write_entered-requires c =

@@ -3,7 +3,7 @@ use Rattle.std.specs.Prelude.{map}
 use Rattle.a68_elab.specs.Programs.{program_of}
 use Rattle.a68_gen.proofs.Generating.{ApartAhead}
 use Rattle.a68_gen.proofs.translate.write_apart.Given as goal
-use Rattle.a68_gen.specs.Texts.{apart_of}
+use Rattle.a68_emit.specs.Texts.{apart_of}
 
 -- what stands apart before some of it is written
 abbrev pub invariant-loop-entered : goal.invariant-loop-entered

@@ -1,7 +1,7 @@
 use Rattle.std.proofs.Common.{length}
 use Rattle.a68_elab.specs.Programs.{asked_tree, body_yields}
-use Rattle.a68_gen.specs.Listing.{stretch}
-use Rattle.a68_gen.specs.Writing.{Writes}
+use Rattle.a68_emit.specs.Listing.{stretch}
+use Rattle.a68_emit.specs.Writing.{Writes}
 use Rattle.a68_gen.proofs.Generating.{text_written}
 use Rattle.a68_gen.proofs.translate.write_text.Goals as goal
 

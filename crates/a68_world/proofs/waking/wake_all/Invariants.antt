@@ -1,5 +1,5 @@
 use Rattle.std.proofs.Common.{◌≡◌, List, length}
-use Rattle.a68_strand.specs.Machine.{State}
+use Rattle.a68_instructions.specs.Machine.{State}
 use Rattle.a68_world.specs.Seats.{AllSit}
 use Rattle.a68_world.specs.Waking.{AllRest, WaitBelow}
 use Rattle.a68_world.proofs.Rousing.{Woke}

@@ -1,0 +1,213 @@
+-- What conformity clauses have written.
+use Rattle.std.proofs.Common.{◌≡◌, ◌⊎◌, ℕ, Bool, List, Option, ◌+◌, ◌-◌, ◌++◌, [], ◌∷◌, length, true, sym, ◌∙◌, ap, subst, drop, take, get_or, arith, ◌<◌}
+use Rattle.std.specs.Option.{option_map_or}
+use Rattle.std.proofs.lemmas.List.{append-nil}
+use Rattle.a68_annot.specs.declared.annotated.Annotated.{Annotated}
+use Rattle.a68_code.specs.declared.does.Does.TheVariants as does
+use Rattle.a68_elab.specs.Made as made
+use Rattle.a68_elab.specs.Trees.{Tree, Specs, no_specs, spec}
+use Rattle.a68_elab.specs.Made.{trees_at, specs_of}
+use Rattle.a68_elab.specs.Programs.{behind}
+use Rattle.a68_emit.specs.Listing.{instr, stretch}
+use Rattle.a68_code.specs.declared.code.Instr.{Instr}
+use Rattle.a68_emit.specs.Writing.{aim_all, ran_out, Writes}
+use Rattle.a68_emit.specs.Numbers.{put_all}
+use Rattle.a68_emit.specs.Views.{tree_of}
+use Rattle.a68_modes.specs.declared.shape.Shape.{Shape}
+use Rattle.a68_emit.specs.Chains.{shuts}
+use Rattle.a68_constructs.proofs.Constructs.{rest_parts}
+use Rattle.a68_parts.proofs.Between.{between-each}
+use Rattle.a68_emit.proofs.Writing.{and_behind, nothing-written}
+use Rattle.a68_constructs.proofs.+units.Goals as goal
+use Rattle.std.specs.Prelude.{not, false, IfSome, if◌then◌else◌}
+use Rattle.a68_acts.specs.Operations.{is_union}
+use Rattle.a68_modes.specs.Nodes.{shape_at, is_void}
+use Rattle.a68_base.specs.declared.refusal.Stop.{Stop}
+use Rattle.a68_acts.specs.Members.{members_of}
+use Rattle.a68_constructs.proofs.Conforming.{SpecsAhead, conform_framed, conform_is, conform_writes, spec_ends, spec_writes, specs_on, tagged_writes}
+use Rattle.a68_emit.proofs.Taking.{specs_end, specs_more}
+use Rattle.a68_emit.specs.Conforming.{conform_list, takes_of}
+use Rattle.a68_emit.specs.Stretches.{member_places}
+use mir.Val.{bool_byte}
+
+kept_of : (b : Bool) (n : ℕ) → n ≡ bool_byte b → n ≡ (if b then 1 else 0)
+kept_of true n e = e
+kept_of false n e = e
+
+pub conformity::write_specified-returns-then-not-tagged : goal.conformity::write_specified-returns-then-not-tagged
+conformity::write_specified-returns-then-not-tagged t c =
+    let part = behind c.args.id (tree_of c.args.program.now) c.args.part in
+    let w0 = c.args.out.now in
+    let w1 = c.emit.new.self in
+    let w2 = c.write_part.new.out in
+    rw c.if-not-tagged.true (and_behind w0.stop w1.stop w2.stop w0.list w1.list w2.list (instr c.args.place does.Drop ∷ []) (λ n. stretch part n) c.emit.ensures c.write_part.ensures)
+
+pub conformity::write_specified-returns : goal.conformity::write_specified-returns
+conformity::write_specified-returns t c =
+    let part = behind c.args.id (tree_of c.args.program.now) c.args.part in
+    let w0 = c.args.out.now in
+    let w1 = c.emit-2.new.self in
+    let w2 = c.emit-3.new.self in
+    let w3 = c.write_part-2.new.out in
+    let w4 = c.emit-4.new.self in
+    rw c.if-not-tagged.false
+    (tagged_writes w0.stop w1.stop w2.stop w3.stop w4.stop w0.list w1.list w2.list w3.list w4.list c.args.place c.from.result c.args.yields part (kept_of c.args.yields c.from.result c.from.ensures)
+    c.emit-2.ensures c.emit-3.ensures c.write_part-2.ensures c.emit-4.ensures)
+
+pub conformity::write_spec-returns-clause-writes : goal.conformity::write_spec-returns-clause-writes
+conformity::write_spec-returns-clause-writes t c =
+    let w0 = c.args.out.now in
+    let w1 = c.keep.new.out in
+    let w2 = c.write_specified.new.out in
+    let w3 = c.keep-2.new.out in
+    let w4 = c.emit.new.self in
+    spec_writes w0.stop w1.stop w2.stop w3.stop w4.stop w0.list w1.list w2.list w3.list w4.list c.args.place c.args.yields c.args.tagged (behind c.args.id (tree_of c.args.program.now) c.args.part)
+    c.keep.ensures.list c.keep.ensures.stop c.write_specified.ensures c.keep-2.ensures.list c.keep-2.ensures.stop c.emit.ensures
+
+pub conformity::write_spec-returns-clause-jumps : goal.conformity::write_spec-returns-clause-jumps
+conformity::write_spec-returns-clause-jumps t c = λ none.
+    let w0 = c.args.out.now in
+    let w1 = c.keep.new.out in
+    let w2 = c.write_specified.new.out in
+    let w3 = c.keep-2.new.out in
+    let w4 = c.emit.new.self in
+    let end = spec_ends w1.stop w2.stop w3.stop w4.stop w0.list w1.list w2.list w3.list w4.list c.args.place c.args.yields c.args.tagged (behind c.args.id (tree_of c.args.program.now) c.args.part)
+    c.keep.ensures.list c.write_specified.ensures c.keep-2.ensures.stop c.emit.ensures none in
+    c.keep-2.ensures.kept end.0 ∙ ap (λ (k : ℕ). c.args.jumps.now.items ++ k ∷ []) (c.len-jump.ensures.long ∙ end.1)
+
+pub conformity::write_specs-write_spec-requires : goal.conformity::write_specs-write_spec-requires
+conformity::write_specs-write_spec-requires t c =
+    let b = between-each c.args.id (length c.args.program.now.of.now.tree.nodes) (c.loop-at.at + 1) c.args.specs.now c.requires.between (omega arith) in
+    let below = b.0 in
+    (omega arith, b)
+
+pub conformity::write_specs-has_tag-tagged-requires : goal.conformity::write_specs-has_tag-tagged-requires
+conformity::write_specs-has_tag-tagged-requires t c = (between-each c.args.id (length c.args.program.now.of.now.tree.nodes) c.loop-at.at c.args.specs.now c.requires.between (omega arith)).1
+
+-- no specification is left
+all_ahead : (a : Annotated) (f : ℕ → Tree) (ids : List ℕ) (at place : ℕ) (yields : Bool) (starts jumps : List ℕ) (s0 s1 : Option Stop) (l0 l1 : List Instr) → (at + 1 < length ids → ⊥)
+    → SpecsAhead place yields (specs_of a f ids) (specs_of a f (drop at ids)) starts jumps s0 s1 l0 l1 → SpecsAhead place yields (specs_of a f ids) no_specs starts jumps s0 s1 l0 l1
+all_ahead a f ids at place yields starts jumps s0 s1 l0 l1 none ahead =
+    subst (λ (z : Specs). SpecsAhead place yields (specs_of a f ids) z starts jumps s0 s1 l0 l1) (specs_end a f ids at none) ahead
+
+pub conformity::write_specs-returns-clause-writes : goal.conformity::write_specs-returns-clause-writes
+conformity::write_specs-returns-clause-writes t c =
+    let w1 = c.loop-at.out in
+    let none : c.loop-at.at + 1 < length c.args.specs.now → ⊥ = λ less. absurd (omega arith) in
+    (all_ahead c.args.program.now.of.now (behind c.args.id (tree_of c.args.program.now)) c.args.specs.now c.loop-at.at c.args.place c.args.yields c.loop-at.starts.items c.loop-at.jumps.items
+    c.args.out.now.stop w1.stop c.args.out.now.list w1.list none c.loop-at.invariant.1).writes w1.stop w1.list (nothing-written w1.stop w1.list)
+
+pub conformity::write_specs-returns-clause-starts : goal.conformity::write_specs-returns-clause-starts
+conformity::write_specs-returns-clause-starts t c = λ is.
+    let w1 = c.loop-at.out in
+    let none : c.loop-at.at + 1 < length c.args.specs.now → ⊥ = λ less. absurd (omega arith) in
+    sym (append-nil c.loop-at.starts.items)
+    ∙ (all_ahead c.args.program.now.of.now (behind c.args.id (tree_of c.args.program.now)) c.args.specs.now c.loop-at.at c.args.place c.args.yields c.loop-at.starts.items c.loop-at.jumps.items
+    c.args.out.now.stop w1.stop c.args.out.now.list w1.list none c.loop-at.invariant.1).starts_are is
+
+pub conformity::write_specs-returns-clause-jumps : goal.conformity::write_specs-returns-clause-jumps
+conformity::write_specs-returns-clause-jumps t c = λ is.
+    let w1 = c.loop-at.out in
+    let none : c.loop-at.at + 1 < length c.args.specs.now → ⊥ = λ less. absurd (omega arith) in
+    sym (append-nil c.loop-at.jumps.items)
+    ∙ (all_ahead c.args.program.now.of.now (behind c.args.id (tree_of c.args.program.now)) c.args.specs.now c.loop-at.at c.args.place c.args.yields c.loop-at.starts.items c.loop-at.jumps.items
+    c.args.out.now.stop w1.stop c.args.out.now.list w1.list none c.loop-at.invariant.1).jumps_are is
+
+pub conformity::write_specs-loop-at-preserved : goal.conformity::write_specs-loop-at-preserved
+conformity::write_specs-loop-at-preserved t c =
+    let v = c.args.program.now in
+    let a = v.of.now in
+    let f = behind c.args.id (tree_of v) in
+    let ids = c.args.specs.now in
+    let i = c.loop-at.at in
+    let s = get_or ids i 0 in
+    let m = made.spec_mode a (made.parts_at a s) in
+    let w0 = c.args.out.now in
+    let w1 = c.loop-at.out in
+    let w2 = c.write_spec.new.out in
+    let starts = c.loop-at.starts.items in
+    let jumps = c.loop-at.jumps.items in
+    let whole = specs_of a f ids in
+    let rest = specs_of a f (drop (i + 2) ids) in
+    let part = f (get_or ids (i + 1) 0) in
+    let ahead : SpecsAhead c.args.place c.args.yields whole (specs_of a f (drop i ids)) starts jumps w0.stop w1.stop w0.list w1.list = c.loop-at.invariant.1 in
+    let next : specs_of a f (drop i ids) ≡ spec (takes_of (shape_at a.modes m) m) c.has_tag-tagged.result (is_union (shape_at a.modes m)) part rest =
+    specs_more a f ids i c.loop-at-test.true ∙ ap (λ (b : Bool). spec (takes_of (shape_at a.modes m) m) b (is_union (shape_at a.modes m)) part rest) (sym c.has_tag-tagged.ensures) in
+    let before = subst (λ (z : Specs). SpecsAhead c.args.place c.args.yields whole z starts jumps w0.stop w1.stop w0.list w1.list) next ahead in (
+      omega arith,
+      specs_on c.args.place c.args.yields whole rest _ c.has_tag-tagged.result _ part starts c.write_spec.new.starts.items jumps c.write_spec.new.jumps.items
+          w0.stop w1.stop w2.stop w0.list w1.list w2.list before c.write_spec.ensures.writes c.write_spec.ensures.starts c.write_spec.ensures.jumps,
+    )
+
+pub conformity::conform-returns : goal.conformity::conform-returns
+conformity::conform-returns t c =
+    let v = c.args.program.now in
+    let a = v.of.now in
+    let f = behind c.args.id (tree_of v) in
+    let specs = specs_of a f c.args.specs.now in
+    let union = c.args.union in
+    let w0 = c.args.out.now in
+    let w1 = c.emit.new.self in
+    let w2 = c.write_specs.new.out in
+    let w3 = c.otherwise.new.out in
+    let w4 = c.patch_all.new.self in
+    let w5 = c.aim_member.new.out in
+    let member = c.len-member.result in
+    let none = c.len-none.result in
+    let end = c.len-end.result in
+    let starts = c.write_specs.new.starts.items in
+    let jumps = c.write_specs.new.jumps.items in
+    let found = c.members_of-members.result.now in
+    let yields = c.is_void-yields.result in
+    let members_are : found ≡ members_of (shape_at a.modes union) = c.members_of-members.ensures ∙ ap (λ (ms : List Shape). members_of (shape_at ms union)) c.modes.ensures in
+    let ends : w4.list ≡ aim_all w3.list jumps end = c.patch_all.ensures.list ∙ ap (λ (j : List ℕ). aim_all w3.list j end) c.deref.ensures.value in
+    let each : ((w5.list ≡ put_all w4.list member 0 (member_places found specs starts none)) × (w5.stop ≡ w4.stop)) ⊎ (w5.stop ≡ ran_out w4.stop) =
+    subst (λ (ps : List ℕ). ((w5.list ≡ put_all w4.list member 0 (member_places found specs ps none)) × (w5.stop ≡ w4.stop)) ⊎ (w5.stop ≡ ran_out w4.stop)) c.deref-2.ensures.value c.aim_member.ensures in
+    let all = conform_writes w0.stop w1.stop w2.stop w3.stop w4.stop w5.stop w0.list w1.list w2.list w3.list w4.list w5.list c.args.place union member end none found starts jumps (not yields) specs
+    (option_map_or (tree_of v) c.args.other (made.left_out c.args.place c.args.goal)) c.in-Ok.does
+    c.len-member.ensures.long c.in-Ok.ensures c.emit.ensures c.write_specs.ensures.writes c.write_specs.ensures.starts c.write_specs.ensures.jumps c.len-none.ensures.long c.otherwise.ensures c.len-end.ensures.long
+    ends c.patch_all.ensures.stop each in
+    let by_members = subst (λ (ms : List ℕ). Writes w0.stop w5.stop w0.list w5.list
+    (conform_list c.args.place union ms (not yields) specs (option_map_or (tree_of v) c.args.other (made.left_out c.args.place c.args.goal)) (length w0.list))) members_are all in
+    subst (λ (b : Bool). Writes w0.stop w5.stop w0.list w5.list
+    (conform_list c.args.place union (members_of (shape_at a.modes union)) (not b) specs (option_map_or (tree_of v) c.args.other (made.left_out c.args.place c.args.goal)) (length w0.list))) c.is_void-yields.ensures by_members
+
+pub conformity::conformity-returns : goal.conformity::conformity-returns
+conformity::conformity-returns t c =
+    let v = c.args.program.now in
+    let a = v.of.now in
+    let id = c.args.id in
+    let node = c.node.result.now in
+    let note = c.note.result.now in
+    let place = c.args.place in
+    let goal_mode = c.args.goal in
+    let yields = not (is_void (shape_at a.modes goal_mode)) in
+    let ids = c.args.parts.now in
+    let enquiry = get_or ids 0 0 in
+    let f = behind id (tree_of v) in
+    let units = c.before_out-specs.result.now in
+    let other = c.out_of-other.result in
+    let union = c.goal_at-union.result in
+    let below = (between-each id (length a.tree.nodes) 0 ids c.requires (omega arith)).0 in
+    let w0 = c.args.out.now in
+    let w1 = c.enquire.new.out in
+    let w2 = c.conform.new.out in
+    let w3 = c.shut.new.out in
+    let shut : Writes w2.stop w3.stop w2.list w3.list (shuts note.slots yields place) =
+    subst (λ (b : Bool). Writes w2.stop w3.stop w2.list w3.list (shuts note.slots (not b) place)) c.is_void.ensures c.shut.ensures in
+    let phrases = made.phrases_of node.span.from (trees_at (behind enquiry (tree_of v)) c.parts-phrases.result.now) in
+    let out = option_map_or (tree_of v) other (made.left_out place goal_mode) in
+    let chosen : Writes w1.stop w2.stop w1.list w2.list
+    (conform_list place (made.goal_at a enquiry) (members_of (shape_at a.modes (made.goal_at a enquiry))) yields (specs_of a f units) out (length w1.list)) =
+    subst (λ (u : ℕ). Writes w1.stop w2.stop w1.list w2.list (conform_list place u (members_of (shape_at a.modes u)) yields (specs_of a f units) out (length w1.list))) c.goal_at-union.ensures c.conform.ensures in
+    let all = conform_framed w0.stop w1.stop w2.stop w3.stop w0.list w1.list w2.list w3.list node.span.from note.slots place (made.goal_at a enquiry) (members_of (shape_at a.modes (made.goal_at a enquiry))) yields
+    phrases (specs_of a f units) out c.enquire.ensures chosen shut in
+    let rest = take (length ids - 1) (drop 1 ids) in
+    let units_are : units ≡ made.before_out a rest = c.before_out-specs.ensures.parts ∙ ap (λ (x : Annotated). made.before_out x rest) c.annotated.ensures in
+    let other_is : other ≡ made.out_of a rest = c.out_of-other.ensures.out ∙ ap (λ (x : Annotated). made.out_of x rest) c.annotated-2.ensures in
+    let other_within : IfSome other (λ p. (id < p) × (p < length a.tree.nodes)) =
+    subst (λ (x : Annotated). IfSome other (λ p. (id < p) × (p < length x.tree.nodes))) c.annotated-2.ensures c.out_of-other.ensures.within in
+    let same = conform_is a (tree_of v) id place goal_mode yields enquiry rest c.parts-phrases.result.now units other node note c.node.ensures.is c.note.ensures c.parts-phrases.ensures.is
+    c.parts-phrases.ensures.behind below units_are other_is other_within in
+    let whole = ap (λ (l : List ℕ). made.conformity_of a f place goal_mode yields l) (sym (rest_parts ids (omega arith))) in
+    subst (λ (u : Tree). Writes w0.stop w3.stop w0.list w3.list (stretch u (length w0.list))) (same ∙ whole) all

@@ -1,0 +1,5 @@
+pub mod Conforming
+pub mod Constructs
+pub mod Jumping
+pub mod Numbering
+pub mod Patching

@@ -1,0 +1,182 @@
+//! Formulas and calls.
+ghost use Rattle.a68_acts.specs.Operations as operations;
+ghost use Rattle.std.specs.Prelude.{◌<◌, not, length};
+ghost use Rattle.a68_elab.specs.Made as made;
+ghost use Rattle.a68_elab.specs.Made.{trees_at};
+ghost use Rattle.a68_elab.specs.Programs.{behind};
+ghost use Rattle.a68_elab.specs.Trees as trees;
+ghost use Rattle.a68_elab.specs.Trees.{◌and_tree◌};
+ghost use Rattle.a68_emit.specs.Listing.{stretch};
+ghost use Rattle.a68_emit.specs.Views.{note_of, tree_of};
+ghost use Rattle.a68_emit.specs.Writers.{Wrote};
+ghost use Rattle.a68_modes.specs.Nodes.{shape_at, is_void};
+ghost use Rattle.a68_tree.specs.Trees.{AllBetween};
+
+use crate::rows::operation;
+use a68_annot::Note;
+use a68_code::Does;
+use a68_emit::{View, Writer, hops, meaningless};
+use a68_parts::{called, is_one_of, items_at, printers, wholes};
+use a68_tree::NodeId;
+use std::alloc::Global;
+
+// Tag [operands] Call. There is no memory for more operands than an instruction can tell.
+#[cycle(units)]
+fn applied(
+    alloc: Global,
+    program: &View,
+    id: NodeId,
+    parts: &[NodeId],
+    place: u32,
+    note: &Note,
+    out: &mut Writer,
+)
+    requires { AllBetween id (length program.now.of.now.tree.nodes) parts.now }
+    ensures { Wrote out.old out.new (stretch (trees.call place (not (is_void (shape_at program.now.of.now.modes note.now.mode)))
+        (made.leaf place (operations.tag (made.hops_seen program.now.of.now program.now.sight note.now) note.now.step.slot) and_tree trees_at (behind id (tree_of program.now)) parts.now)) (length out.old.list)) }
+{
+    let gives = !program.of.is_void(note.mode);
+    match u32::try_from(parts.len()) {
+        Ok(count) => {
+            out.emit(
+                place,
+                Does::Tag {
+                    hops: hops(program, note),
+                    slot: note.step.slot,
+                },
+            );
+            operation(
+                alloc,
+                program,
+                id,
+                parts,
+                place,
+                Does::Call { count, gives },
+                out,
+            )
+        }
+        Err(_) => out.run_out(),
+    }
+}
+
+// A formula whose operator the text defines.
+#[cycle(units)]
+fn declared_formula(
+    alloc: Global,
+    program: &View,
+    id: NodeId,
+    parts: &[NodeId],
+    place: u32,
+    note: &Note,
+    out: &mut Writer,
+)
+    requires { AllBetween id (length program.now.of.now.tree.nodes) parts.now }
+    ensures { Wrote out.old out.new (stretch (made.declared_formula place (not (is_void (shape_at program.now.of.now.modes note.now.mode))) (note_of program.now note.now) note.now.definition
+        (trees_at (behind id (tree_of program.now)) parts.now)) (length out.old.list)) }
+{
+    match note.definition {
+        Some(_) => applied(alloc, program, id, parts, place, note, out),
+        None => meaningless(out),
+    }
+}
+
+/// [operands] Apply, or a call of the operator.
+#[cycle(units)]
+pub fn formula(
+    alloc: Global,
+    program: &View,
+    id: NodeId,
+    parts: &[NodeId],
+    place: u32,
+    note: &Note,
+    out: &mut Writer,
+)
+    requires { AllBetween id (length program.now.of.now.tree.nodes) parts.now }
+    ensures { Wrote out.old out.new (stretch (made.formula place (not (is_void (shape_at program.now.of.now.modes note.now.mode))) (note_of program.now note.now)
+        (trees_at (behind id (tree_of program.now)) parts.now)) (length out.old.list)) }
+{
+    match note.op {
+        Some(row) => operation(alloc, program, id, parts, place, Does::Apply(row), out),
+        None => declared_formula(alloc, program, id, parts, place, note, out),
+    }
+}
+
+// [items] Print. There is no memory for more items than an instruction can tell.
+#[cycle(units)]
+fn prints(alloc: Global, program: &View, id: NodeId, items: &[NodeId], place: u32, out: &mut Writer)
+    requires { AllBetween id (length program.now.of.now.tree.nodes) items.now }
+    ensures { Wrote out.old out.new (stretch (trees.operation place operations.print trees.collateral (trees_at (behind id (tree_of program.now)) items.now)) (length out.old.list)) }
+{
+    match u32::try_from(items.len()) {
+        Ok(count) => operation(alloc, program, id, items, place, Does::Print(count), out),
+        Err(_) => out.run_out(),
+    }
+}
+
+// [primary] [parameters] Call. There is no memory for more parameters than an instruction can tell.
+#[cycle(units)]
+fn routine(
+    alloc: Global,
+    program: &View,
+    id: NodeId,
+    parts: &[NodeId],
+    place: u32,
+    note: &Note,
+    out: &mut Writer,
+)
+    requires between { AllBetween id (length program.now.of.now.tree.nodes) parts.now }
+    requires some { 0 < length parts.now }
+    ensures { Wrote out.old out.new (stretch (trees.call place (not (is_void (shape_at program.now.of.now.modes note.now.mode)))
+        (trees_at (behind id (tree_of program.now)) parts.now)) (length out.old.list)) }
+{
+    let gives = !program.of.is_void(note.mode);
+    match u32::try_from(parts.len() - 1) {
+        Ok(count) => operation(
+            alloc,
+            program,
+            id,
+            parts,
+            place,
+            Does::Call { count, gives },
+            out,
+        ),
+        Err(_) => out.run_out(),
+    }
+}
+
+/// [items] Print; [number] [width] Whole; or a call of a routine. What is called of the standard environ leaves nothing.
+#[cycle(units)]
+pub fn call(
+    alloc: Global,
+    program: &View,
+    id: NodeId,
+    parts: &[NodeId],
+    place: u32,
+    note: &Note,
+    out: &mut Writer,
+)
+    requires { AllBetween id (length program.now.of.now.tree.nodes) parts.now }
+    ensures { Wrote out.old out.new (stretch (made.call_of program.now.of.now (behind id (tree_of program.now)) place (not (is_void (shape_at program.now.of.now.modes note.now.mode))) parts.now)
+        (length out.old.list)) }
+{
+    if parts.len() == 0 {
+        meaningless(out);
+        return;
+    }
+    let name = called(program.of.annotated(), parts[0]);
+    let rest = &parts[1..];
+    if is_one_of(printers(), name) {
+        prints(
+            alloc,
+            program,
+            id,
+            items_at(program.of.annotated(), id, rest),
+            place,
+            out,
+        );
+    } else if is_one_of(wholes(), name) {
+        operation(alloc, program, id, rest, place, Does::Whole, out);
+    } else {
+        routine(alloc, program, id, parts, place, note, out);
+    }
+}

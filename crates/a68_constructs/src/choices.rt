@@ -1,0 +1,262 @@
+//! Choices, by a truth value or by a number.
+ghost use Rattle.std.specs.Option.{option_map_or};
+ghost use Rattle.std.specs.Prelude.{◌≡◌, ◌<◌, ◌≤◌, ◌+◌, ◌∷◌, ◌++◌, [], not, length, IfSome};
+ghost use Rattle.a68_elab.specs.Made as made;
+ghost use Rattle.a68_elab.specs.Made.{trees_at};
+ghost use Rattle.a68_elab.specs.Programs.{behind};
+ghost use Rattle.a68_emit.specs.Chains.{IsOpen, IsWhole, IsWithin, enquiry_tree, jump_of, link_list, link_tree, other_tree};
+ghost use Rattle.a68_emit.specs.Listing.{arm_places, arm_stretches, instr, size, stretch};
+ghost use Rattle.a68_emit.specs.Numbers.{arm_jumps, case_list};
+ghost use Rattle.a68_emit.specs.Views.{tree_of};
+ghost use Rattle.a68_emit.specs.Writers.{Wrote};
+ghost use Rattle.a68_modes.specs.Nodes.{shape_at, is_void};
+ghost use Rattle.a68_tree.specs.Trees.{AllBetween};
+
+use crate::rows::{unit, write_part};
+use crate::turns::enquire;
+use a68_code::{Does, Places};
+use a68_emit::{
+    Link, Opened, View, Writer, close_all, keep, keep_open, link_of, meaningless, next_link, shut,
+    zeros,
+};
+use a68_modes::ModeId;
+use a68_parts::{before_out, out_of};
+use a68_tree::NodeId;
+use std::alloc::Global;
+
+/// The part that is chosen where the enquiry is false: [part], or Skip.
+#[cycle(units)]
+pub fn otherwise(
+    alloc: Global,
+    program: &View,
+    id: NodeId,
+    part: Option<NodeId>,
+    place: u32,
+    goal: ModeId,
+    out: &mut Writer,
+)
+    requires { IfSome part (λ p. (id < p) × (p < length program.now.of.now.tree.nodes)) }
+    ensures { Wrote out.old out.new (stretch (option_map_or (tree_of program.now) part (made.left_out place goal)) (length out.old.list)) }
+{
+    match part {
+        Some(part) => unit(alloc, program, part, out),
+        None => out.emit(place, Does::Skip(goal)),
+    }
+}
+
+// [enquiry] Unless x [part] Jump 0 x: and gives the number of the Jump. With slots Enter stands before it.
+#[cycle(units)]
+fn write_link(alloc: Global, program: &View, link: &Link, out: &mut Writer) -> u32
+    requires { IsWithin program.now.of.now link.now }
+    ensures writes { Wrote out.old out.new (link_list link.now.at link.now.slots link.now.place (enquiry_tree program.now.of.now (tree_of program.now) link.now)
+        (tree_of program.now link.now.part) (length out.old.list)) }
+    ensures jump { out.new.stop ≡ None → result ≡ jump_of link.now.at link.now.slots (enquiry_tree program.now.of.now (tree_of program.now) link.now)
+        (tree_of program.now link.now.part) (length out.old.list) }
+{
+    let place = link.place;
+    let phrases = program.of.parts(link.enquiry);
+    enquire(
+        alloc,
+        program,
+        link.enquiry,
+        phrases,
+        link.at,
+        link.slots,
+        out,
+    );
+    let unless = out.len();
+    out.emit(place, Does::Unless(0));
+    unit(alloc, program, link.part, out);
+    let jump = out.len();
+    out.emit(place, Does::Jump(0));
+    let x = out.len();
+    out.patch(unless, x);
+    jump
+}
+
+// Writes the choices of a chain one behind the other, whose ends are yet to come, and gives the last one, whose other
+// part is yet to be written.
+#[cycle(units)]
+fn write_links(
+    alloc: Global,
+    program: &View,
+    first: Link,
+    opens: &mut Vec<Opened>,
+    out: &mut Writer,
+) -> Link
+    requires within { IsWithin program.now.of.now first }
+    requires empty { opens.old.items ≡ [] }
+    ensures within { IsWithin program.now.of.now result }
+    ensures behind { first.id ≤ result.id }
+    ensures chain { IsOpen (IsWhole (link_tree program.now.of.now (tree_of program.now) first) out.old.stop out.old.list) opens.new.items (other_tree (tree_of program.now) result)
+        out.new.stop out.new.list }
+{
+    let mut link = first;
+    'links: loop {
+        let jump = write_link(alloc, program, &link, out);
+        keep_open(opens, &link, jump, out);
+        match next_link(program, &link) {
+            Some(next) => link = next,
+            None => return link,
+        }
+    }
+}
+
+// A chain of choices: no more of the stack is needed however long it is.
+#[cycle(units)]
+fn chain(alloc: Global, program: &View, first: Link, out: &mut Writer)
+    requires { IsWithin program.now.of.now first }
+    ensures { Wrote out.old out.new (stretch (link_tree program.now.of.now (tree_of program.now) first) (length out.old.list)) }
+{
+    let mut opens = Vec::new(alloc);
+    let last = write_links(alloc, program, first, &mut opens, out);
+    otherwise(
+        alloc, program, last.id, last.other, last.place, last.goal, out,
+    );
+    close_all(&opens, out);
+}
+
+/// A choice of two parts, or of one.
+#[cycle(units)]
+pub fn conditional(
+    alloc: Global,
+    program: &View,
+    id: NodeId,
+    parts: &[NodeId],
+    place: u32,
+    goal: ModeId,
+    out: &mut Writer,
+)
+    requires { AllBetween id (length program.now.of.now.tree.nodes) parts.now }
+    ensures { Wrote out.old out.new (stretch (made.choice_of program.now.of.now (behind id (tree_of program.now)) place goal
+        (not (is_void (shape_at program.now.of.now.modes goal))) parts.now) (length out.old.list)) }
+{
+    match link_of(program, id, parts, place, goal) {
+        Some(first) => chain(alloc, program, first, out),
+        None => meaningless(out),
+    }
+}
+
+// [part] Jump 0: and keeps where the part begins, and the number of the Jump.
+#[cycle(units)]
+fn write_arm(
+    alloc: Global,
+    program: &View,
+    id: NodeId,
+    part: NodeId,
+    place: u32,
+    starts: &mut Vec<u32>,
+    jumps: &mut Vec<u32>,
+    out: &mut Writer,
+)
+    requires { (id < part) × (part < length program.now.of.now.tree.nodes) }
+    ensures writes { Wrote out.old out.new (stretch (behind id (tree_of program.now) part) (length out.old.list) ++ instr place (Does.Jump 0) ∷ []) }
+    ensures starts { out.new.stop ≡ None → starts.new.items ≡ starts.old.items ++ length out.old.list ∷ [] }
+    ensures jumps { out.new.stop ≡ None → jumps.new.items ≡ jumps.old.items ++ (length out.old.list + size (behind id (tree_of program.now) part)) ∷ [] }
+{
+    let start = out.len();
+    keep(starts, start, out);
+    write_part(alloc, program, id, part, out);
+    let jump = out.len();
+    keep(jumps, jump, out);
+    out.emit(place, Does::Jump(0));
+}
+
+// Writes the parts that are chosen among by a number, and keeps where each begins and where the other part does, and the
+// numbers of the jumps to the end, which are yet to be patched.
+#[cycle(units)]
+fn write_arms(
+    alloc: Global,
+    program: &View,
+    id: NodeId,
+    parts: &[NodeId],
+    place: u32,
+    starts: &mut Vec<u32>,
+    jumps: &mut Vec<u32>,
+    out: &mut Writer,
+)
+    requires between { AllBetween id (length program.now.of.now.tree.nodes) parts.now }
+    requires no_starts { starts.old.items ≡ [] }
+    requires no_jumps { jumps.old.items ≡ [] }
+    ensures writes { Wrote out.old out.new (arm_stretches place 0 (trees_at (behind id (tree_of program.now)) parts.now) (length out.old.list)) }
+    ensures starts { out.new.stop ≡ None → starts.new.items ≡ arm_places (trees_at (behind id (tree_of program.now)) parts.now) (length out.old.list) ++ length out.new.list ∷ [] }
+    ensures jumps { out.new.stop ≡ None → jumps.new.items ≡ arm_jumps (trees_at (behind id (tree_of program.now)) parts.now) (length out.old.list) }
+{
+    for part in parts {
+        write_arm(alloc, program, id, *part, place, starts, jumps, out);
+    }
+    let other = out.len();
+    keep(starts, other, out);
+}
+
+// Case and its places, the [part] of each number and Jump e, the other [part], e:
+#[cycle(units)]
+fn choose(
+    alloc: Global,
+    program: &View,
+    id: NodeId,
+    parts: &[NodeId],
+    other: Option<NodeId>,
+    place: u32,
+    goal: ModeId,
+    out: &mut Writer,
+)
+    requires between { AllBetween id (length program.now.of.now.tree.nodes) parts.now }
+    requires other { IfSome other (λ p. (id < p) × (p < length program.now.of.now.tree.nodes)) }
+    ensures { Wrote out.old out.new (case_list place (trees_at (behind id (tree_of program.now)) parts.now) (option_map_or (tree_of program.now) other (made.left_out place goal))
+        (length out.old.list)) }
+{
+    let Ok(items) = zeros(alloc, parts.len() + 1) else {
+        out.run_out();
+        return;
+    };
+    let case = out.len();
+    out.emit(place, Does::Case(Places { items }));
+    let mut starts = Vec::new(alloc);
+    let mut jumps = Vec::new(alloc);
+    write_arms(
+        alloc,
+        program,
+        id,
+        parts,
+        place,
+        &mut starts,
+        &mut jumps,
+        out,
+    );
+    otherwise(alloc, program, id, other, place, goal, out);
+    let end = out.len();
+    out.patch_all(&jumps, end);
+    out.patch_each(case, &starts);
+}
+
+/// [enquiry] Case .., with slots Enter before it and Leave behind it.
+#[cycle(units)]
+pub fn case(
+    alloc: Global,
+    program: &View,
+    id: NodeId,
+    parts: &[NodeId],
+    place: u32,
+    goal: ModeId,
+    out: &mut Writer,
+)
+    requires { AllBetween id (length program.now.of.now.tree.nodes) parts.now }
+    ensures { Wrote out.old out.new (stretch (made.case_of program.now.of.now (behind id (tree_of program.now)) place goal
+        (not (is_void (shape_at program.now.of.now.modes goal))) parts.now) (length out.old.list)) }
+{
+    if parts.len() == 0 {
+        meaningless(out);
+        return;
+    }
+    let enquiry = parts[0];
+    let rest = &parts[1..];
+    let begin = program.of.node(enquiry).span.from;
+    let slots = program.of.note(enquiry).slots;
+    let phrases = program.of.parts(enquiry);
+    enquire(alloc, program, enquiry, phrases, begin, slots, out);
+    let units = before_out(program.of.annotated(), id, rest);
+    let other = out_of(program.of.annotated(), id, rest);
+    choose(alloc, program, id, units, other, place, goal, out);
+    shut(place, slots, !program.of.is_void(goal), out);
+}

@@ -1,0 +1,12 @@
+//! The instructions of constructs, with those of the constructs within them.
+#![tactic(auto)]
+
+mod calls;
+mod choices;
+mod conformity;
+mod names;
+mod parts;
+mod rows;
+mod turns;
+
+pub use rows::unit;

@@ -1,0 +1,166 @@
+//! Collateral clauses, selections and slices.
+ghost use Rattle.a68_acts.specs.Operations as operations;
+ghost use Rattle.std.specs.Prelude.{◌<◌, length};
+ghost use Rattle.a68_elab.specs.Made as made;
+ghost use Rattle.a68_elab.specs.Made.{trees_at};
+ghost use Rattle.a68_elab.specs.Programs.{behind};
+ghost use Rattle.a68_elab.specs.Trees as trees;
+ghost use Rattle.a68_emit.specs.Listing.{stretch, stretches};
+ghost use Rattle.a68_emit.specs.Views.{tree_of};
+ghost use Rattle.a68_emit.specs.Writers.{Wrote};
+ghost use Rattle.a68_modes.specs.Nodes.{shape_at};
+ghost use Rattle.a68_tree.specs.Trees.{AllBetween};
+
+use crate::rows::{all, last, operation, write_part};
+use a68_annot::Note;
+use a68_code::Does;
+use a68_emit::{
+    CollateralForm, View, Writer, field, form_at, forms_of, meaningless, mode_in_front,
+};
+use a68_modes::ModeId;
+use a68_tree::NodeId;
+use std::alloc::Global;
+
+// [parts] Compose: a structure. There is no memory for more parts than an instruction can tell.
+#[cycle(units)]
+fn structure(
+    alloc: Global,
+    program: &View,
+    id: NodeId,
+    parts: &[NodeId],
+    place: u32,
+    out: &mut Writer,
+)
+    requires { AllBetween id (length program.now.of.now.tree.nodes) parts.now }
+    ensures { let parts = trees_at (behind id (tree_of program.now)) parts.now in
+        Wrote out.old out.new (stretch (trees.operation place (operations.compose (trees.count parts)) trees.collateral parts) (length out.old.list)) }
+{
+    match u32::try_from(parts.len()) {
+        Ok(count) => operation(alloc, program, id, parts, place, Does::Compose(count), out),
+        Err(_) => out.run_out(),
+    }
+}
+
+// [parts] Display: a row. There is no memory for more parts than an instruction can tell.
+#[cycle(units)]
+fn row(
+    alloc: Global,
+    program: &View,
+    id: NodeId,
+    parts: &[NodeId],
+    place: u32,
+    mode: ModeId,
+    out: &mut Writer,
+)
+    requires { AllBetween id (length program.now.of.now.tree.nodes) parts.now }
+    ensures { let parts = trees_at (behind id (tree_of program.now)) parts.now in
+        Wrote out.old out.new (stretch (trees.operation place (operations.display (trees.count parts) mode) trees.collateral parts) (length out.old.list)) }
+{
+    match u32::try_from(parts.len()) {
+        Ok(count) => operation(
+            alloc,
+            program,
+            id,
+            parts,
+            place,
+            Does::Display { count, mode },
+            out,
+        ),
+        Err(_) => out.run_out(),
+    }
+}
+
+/// A collateral clause: of VOID [parts], of a structure [parts] Compose, of a row [parts] Display.
+#[cycle(units)]
+pub fn collateral(
+    alloc: Global,
+    program: &View,
+    id: NodeId,
+    parts: &[NodeId],
+    place: u32,
+    note: &Note,
+    out: &mut Writer,
+)
+    requires { AllBetween id (length program.now.of.now.tree.nodes) parts.now }
+    ensures { Wrote out.old out.new (stretch (made.collateral_of (shape_at program.now.of.now.modes note.now.goal) place note.now.goal (trees_at (behind id (tree_of program.now)) parts.now))
+        (length out.old.list)) }
+{
+    match form_at(program, note.goal) {
+        CollateralForm::Void => all(alloc, program, id, parts, out),
+        CollateralForm::Structure => structure(alloc, program, id, parts, place, out),
+        CollateralForm::Row => row(alloc, program, id, parts, place, note.goal, out),
+        CollateralForm::Other => meaningless(out),
+    }
+}
+
+/// [structure] Select: a field, or the name of one. There is no memory for more fields than an instruction can tell.
+#[cycle(units)]
+pub fn selection(
+    alloc: Global,
+    program: &View,
+    id: NodeId,
+    parts: &[NodeId],
+    place: u32,
+    name: u32,
+    out: &mut Writer,
+)
+    requires { AllBetween id (length program.now.of.now.tree.nodes) parts.now }
+    ensures { Wrote out.old out.new (stretch (made.selection_of program.now.of.now.modes place (made.first_goal program.now.of.now parts.now) name
+        (trees_at (behind id (tree_of program.now)) parts.now)) (length out.old.list)) }
+{
+    let mode = mode_in_front(program, parts);
+    match u32::try_from(field(program, mode, name)) {
+        Ok(field) => {
+            last(alloc, program, id, parts, out);
+            out.emit(place, Does::Select { mode, field });
+        }
+        Err(_) => out.run_out(),
+    }
+}
+
+// The units of an index: [units].
+#[cycle(units)]
+fn write_index(alloc: Global, program: &View, id: NodeId, index: NodeId, out: &mut Writer)
+    requires { (id < index) × (index < length program.now.of.now.tree.nodes) }
+    ensures { Wrote out.old out.new (stretches (trees_at (behind id (tree_of program.now)) (made.parts_at program.now.of.now index)) (length out.old.list)) }
+{
+    all(alloc, program, id, program.of.parts(index), out);
+}
+
+// [units] of each index, in order.
+#[cycle(units)]
+fn write_indexes(alloc: Global, program: &View, id: NodeId, indexes: &[NodeId], out: &mut Writer)
+    requires { AllBetween id (length program.now.of.now.tree.nodes) indexes.now }
+    ensures { Wrote out.old out.new (stretches (trees_at (behind id (tree_of program.now)) (made.index_units program.now.of.now indexes.now)) (length out.old.list)) }
+{
+    for index in indexes {
+        write_index(alloc, program, id, *index, out);
+    }
+}
+
+/// [primary] [units] Slice: an element or a part of a row.
+#[cycle(units)]
+pub fn slice(
+    alloc: Global,
+    program: &View,
+    id: NodeId,
+    parts: &[NodeId],
+    place: u32,
+    out: &mut Writer,
+)
+    requires { AllBetween id (length program.now.of.now.tree.nodes) parts.now }
+    ensures { Wrote out.old out.new (stretch (made.slice_of program.now.of.now (behind id (tree_of program.now)) place parts.now) (length out.old.list)) }
+{
+    if parts.len() == 0 {
+        meaningless(out);
+        return;
+    }
+    let indexes = &parts[1..];
+    let Ok(forms) = forms_of(alloc, program, indexes) else {
+        out.run_out();
+        return;
+    };
+    write_part(alloc, program, id, parts[0], out);
+    write_indexes(alloc, program, id, indexes, out);
+    out.emit(place, Does::Slice(forms));
+}

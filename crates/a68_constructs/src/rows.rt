@@ -1,0 +1,227 @@
+//! The instructions of constructs. Above each function stands what it writes: `[x]` is what the part x writes.
+ghost use Rattle.a68_acts.specs.Operations as operations;
+ghost use Rattle.std.specs.Prelude.{◌≡◌, ◌<◌, ◌∷◌, ◌++◌, [], not, length};
+ghost use Rattle.a68_elab.specs.Made as made;
+ghost use Rattle.a68_elab.specs.Made.{trees_at};
+ghost use Rattle.a68_elab.specs.Programs.{behind};
+ghost use Rattle.a68_elab.specs.Trees as trees;
+ghost use Rattle.a68_emit.specs.Listing.{instr, stretch, stretches};
+ghost use Rattle.a68_emit.specs.Views.{bound_of, note_of, tree_of};
+ghost use Rattle.a68_emit.specs.Writers.{Wrote};
+ghost use Rattle.a68_modes.specs.Nodes.{shape_at, is_void};
+ghost use Rattle.a68_tree.specs.Trees.{AllBetween};
+
+use crate::calls::{call, formula};
+use crate::choices::{case, conditional};
+use crate::conformity::conformity;
+use crate::names::{generator, variable};
+use crate::parts::{collateral, selection, slice};
+use crate::turns::repeat;
+use a68_annot::Note;
+use a68_code::Does;
+use a68_emit::{
+    View, Writer, are_built, coerce, denotation, leave, meaningless, misfit, nothing, parallel,
+    same, store, tag,
+};
+use a68_tree::{Node, NodeId, NodeKind};
+use std::alloc::Global;
+
+/// Writes a unit and its coercions: [construct] coercions; or a misfit, where it does not leave what is asked of it.
+#[cycle(units)]
+pub fn unit(alloc: Global, program: &View, id: NodeId, out: &mut Writer)
+    requires { id < length program.now.of.now.tree.nodes }
+    ensures { Wrote out.old out.new (stretch (tree_of program.now id) (length out.old.list)) }
+{
+    let node = program.of.node(id);
+    let note = program.of.note(id);
+    if !program.of.runs(id) {
+        misfit(node.span.from, program.of.asks_value(id), out);
+        return;
+    }
+    if !are_built(program.of.modes(), note) {
+        meaningless(out);
+        return;
+    }
+    construct(alloc, program, id, node, note, out);
+    coerce(program.of.modes(), node.span.from, note, out);
+}
+
+/// One of the parts of a node.
+#[cycle(units)]
+pub fn write_part(alloc: Global, program: &View, id: NodeId, part: NodeId, out: &mut Writer)
+    requires { (id < part) × (part < length program.now.of.now.tree.nodes) }
+    ensures { Wrote out.old out.new (stretch (behind id (tree_of program.now) part) (length out.old.list)) }
+{
+    unit(alloc, program, part, out);
+}
+
+// One row for each kind of node that runs.
+#[cycle(units)]
+fn construct(alloc: Global, program: &View, id: NodeId, node: &Node, note: &Note, out: &mut Writer)
+    requires there { id < length program.now.of.now.tree.nodes }
+    requires between { AllBetween id (length program.now.of.now.tree.nodes) node.now.parts }
+    requires named { node.now.name < length program.now.of.now.tree.spellings }
+    requires begins { node.now.span.from < made.behind_all program.now.of.now.tree.nodes }
+    ensures { Wrote out.old out.new (stretch (made.made program.now.of.now (bound_of program.now) (behind id (tree_of program.now)) node.now (note_of program.now note.now) node.now.kind) (length out.old.list)) }
+{
+    let place = node.span.from;
+    let parts = &node.parts.items;
+    match node.kind {
+        NodeKind::Denotation => denotation(alloc, program, node, out),
+        NodeKind::Skip => out.emit(place, Does::Skip(note.goal)),
+        NodeKind::Nil => out.emit(place, Does::Nil),
+        NodeKind::RoutineText => {
+            let text = program.of.text_number(place);
+            out.emit(
+                place,
+                Does::Routine {
+                    text,
+                    distance: note.need,
+                },
+            )
+        }
+        NodeKind::Tag => out.emit(place, tag(program, node, note)),
+        NodeKind::Monadic | NodeKind::Dyadic => {
+            formula(alloc, program, id, parts, place, note, out)
+        }
+        NodeKind::Assignation => {
+            let does = store(program, note);
+            operation(alloc, program, id, parts, place, does, out)
+        }
+        NodeKind::Identity => {
+            let does = same(program, node);
+            operation(alloc, program, id, parts, place, does, out)
+        }
+        NodeKind::Generator => generator(alloc, program, id, node, note, out),
+        NodeKind::OpDefinition | NodeKind::IdentityDefinition => {
+            definition(alloc, program, id, parts, place, note, out)
+        }
+        NodeKind::Variable => variable(alloc, program, id, node, note, out),
+        NodeKind::ModeDefinition | NodeKind::Priority => nothing(out),
+        NodeKind::Joined => all(alloc, program, id, parts, out),
+        NodeKind::Collateral => collateral(alloc, program, id, parts, place, note, out),
+        NodeKind::Vacuum => out.emit(place, Does::Vacuum(note.goal)),
+        NodeKind::Slice => slice(alloc, program, id, parts, place, out),
+        NodeKind::Selection => selection(alloc, program, id, parts, place, node.name, out),
+        NodeKind::Call => call(alloc, program, id, parts, place, note, out),
+        NodeKind::Cast => last(alloc, program, id, parts, out),
+        NodeKind::Serial => serial(alloc, program, id, parts, place, note, out),
+        NodeKind::Closed
+        | NodeKind::Out
+        | NodeKind::From
+        | NodeKind::By
+        | NodeKind::To
+        | NodeKind::Lower
+        | NodeKind::Upper
+        | NodeKind::At
+        | NodeKind::While => only(alloc, program, id, parts, out),
+        NodeKind::Conditional => conditional(alloc, program, id, parts, place, note.goal, out),
+        NodeKind::Case => case(alloc, program, id, parts, place, note.goal, out),
+        NodeKind::Conformity => conformity(alloc, program, id, parts, place, note.goal, out),
+        NodeKind::Loop => repeat(alloc, program, id, parts, place, out),
+        NodeKind::Parallel => parallel(alloc, program, id, parts, place, out),
+        _ => meaningless(out),
+    }
+}
+
+/// [parts], one behind the other.
+#[cycle(units)]
+pub fn all(alloc: Global, program: &View, id: NodeId, parts: &[NodeId], out: &mut Writer)
+    requires { AllBetween id (length program.now.of.now.tree.nodes) parts.now }
+    ensures { Wrote out.old out.new (stretches (trees_at (behind id (tree_of program.now)) parts.now) (length out.old.list)) }
+{
+    for part in parts {
+        write_part(alloc, program, id, *part, out);
+    }
+}
+
+/// [parts], and the instruction that takes their values.
+#[cycle(units)]
+pub fn operation(
+    alloc: Global,
+    program: &View,
+    id: NodeId,
+    parts: &[NodeId],
+    place: u32,
+    does: Does,
+    out: &mut Writer,
+)
+    requires { AllBetween id (length program.now.of.now.tree.nodes) parts.now }
+    ensures { Wrote out.old out.new (stretches (trees_at (behind id (tree_of program.now)) parts.now) (length out.old.list) ++ instr place does ∷ []) }
+{
+    all(alloc, program, id, parts, out);
+    out.emit(place, does);
+}
+
+/// The last part: [part].
+#[cycle(units)]
+pub fn last(alloc: Global, program: &View, id: NodeId, parts: &[NodeId], out: &mut Writer)
+    requires { AllBetween id (length program.now.of.now.tree.nodes) parts.now }
+    ensures { Wrote out.old out.new (stretch (made.last_tree (trees_at (behind id (tree_of program.now)) parts.now)) (length out.old.list)) }
+{
+    if parts.len() == 0 {
+        meaningless(out);
+        return;
+    }
+    write_part(alloc, program, id, parts[parts.len() - 1], out);
+}
+
+// [source] Bind.
+#[cycle(units)]
+fn definition(
+    alloc: Global,
+    program: &View,
+    id: NodeId,
+    parts: &[NodeId],
+    place: u32,
+    note: &Note,
+    out: &mut Writer,
+)
+    requires { AllBetween id (length program.now.of.now.tree.nodes) parts.now }
+    ensures { Wrote out.old out.new (stretch (trees.operation place (operations.bind note.now.step.slot) trees.serial
+        (made.only (made.last_tree (trees_at (behind id (tree_of program.now)) parts.now)))) (length out.old.list)) }
+{
+    last(alloc, program, id, parts, out);
+    out.emit(place, Does::Bind(note.step.slot));
+}
+
+// [phrases]; with slots Enter [phrases] Leave.
+#[cycle(units)]
+fn serial(
+    alloc: Global,
+    program: &View,
+    id: NodeId,
+    parts: &[NodeId],
+    place: u32,
+    note: &Note,
+    out: &mut Writer,
+)
+    requires { AllBetween id (length program.now.of.now.tree.nodes) parts.now }
+    ensures { Wrote out.old out.new (stretch (made.serial_of place note.now.slots (not (is_void (shape_at program.now.of.now.modes note.now.goal)))
+        (trees_at (behind id (tree_of program.now)) parts.now)) (length out.old.list)) }
+{
+    if parts.len() == 0 {
+        meaningless(out);
+        return;
+    }
+    if note.slots == 0 {
+        all(alloc, program, id, parts, out);
+        return;
+    }
+    out.emit(place, Does::Enter(note.slots));
+    all(alloc, program, id, parts, out);
+    out.emit(place, leave(program, note));
+}
+
+// [part], the only one.
+#[cycle(units)]
+fn only(alloc: Global, program: &View, id: NodeId, parts: &[NodeId], out: &mut Writer)
+    requires { AllBetween id (length program.now.of.now.tree.nodes) parts.now }
+    ensures { Wrote out.old out.new (stretch (made.only_of (trees_at (behind id (tree_of program.now)) parts.now)) (length out.old.list)) }
+{
+    if parts.len() != 1 {
+        meaningless(out);
+        return;
+    }
+    write_part(alloc, program, id, parts[0], out);
+}

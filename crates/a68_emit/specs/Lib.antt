@@ -1,0 +1,11 @@
+pub mod Chains
+pub mod Coercing
+pub mod Conforming
+pub mod Forms
+pub mod Listing
+pub mod Numbers
+pub mod Stretches
+pub mod Texts
+pub mod Views
+pub mod Writers
+pub mod Writing

@@ -1,0 +1,3 @@
+pub mod Alive
+pub mod Settled
+pub mod Taking

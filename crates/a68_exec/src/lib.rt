@@ -1,0 +1,11 @@
+//! The instructions that steer, calls and replies, and silent steps: those of a strand up to its next act, fault or end.
+#![tactic(auto)]
+
+mod control;
+mod exec;
+mod members;
+mod reply;
+mod routines;
+
+pub use exec::{does_at, go_on, most_steps, run, runs, settle};
+pub use reply::{place_at, resume, resume_plain};

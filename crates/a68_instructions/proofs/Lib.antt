@@ -1,0 +1,3 @@
+pub mod Acting
+pub mod Settling
+pub mod Yielding

@@ -1,0 +1,17 @@
+//! What the constructs of an annotated tree are made of: parts, values, fields, loops, and the modes of coercions.
+#![tactic(auto)]
+
+mod constants;
+mod fields;
+mod loops;
+mod nodes;
+mod rowing;
+
+pub use constants::{is_quoted, standard_of, truths, value_in};
+pub use fields::{field_in, fields_at, first_goal};
+pub use loops::{LoopParts, loop_parts, only_id};
+pub use nodes::{
+    before_out, begins_in_heap, begins_with_declarer, behind_heap, behind_proc, behind_ref, called,
+    is_one_of, items_at, kind_at, last_id, mode_at, out_of, parts_at, printers, wholes,
+};
+pub use rowing::rowed_to;

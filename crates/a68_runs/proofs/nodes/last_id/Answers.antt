@@ -1,6 +1,0 @@
-use Rattle.std.proofs.Common.{arith, sym}
-use Rattle.a68_runs.proofs.Listing.{last-id-is}
-use Rattle.a68_runs.proofs.nodes.last_id.Goals as goal
-
-pub returns : goal.returns
-returns c = sym (last-id-is c.args.ids.now (omega arith))

@@ -1,0 +1,78 @@
+//! Turns of a strand that is alone, one after the other.
+ghost use Rattle.std.specs.Prelude.{◌≡◌, ◌<◌, ◌≤◌, ◌^◌, length, IfOk, MatchBool, OnErr, OnOk};
+ghost use Rattle.std.specs.Vec.{vec_capacity};
+ghost use Rattle.a68_world.specs.Alone.{GoneAlone, IsLonger};
+ghost use Rattle.a68_world.specs.AloneAt.{GoesAt, RestsAt, StopsAt};
+
+use crate::World;
+use crate::seat::{Seat, spend};
+use crate::turning::end_shown;
+use a68_base::NoMemory;
+use a68_code::Code;
+use a68_store::Store;
+use a68_values::Entry;
+use std::alloc::Global;
+
+// The strand at this seat, which is the only one, goes on. Tells whether it did; where it finds no memory it is spent.
+fn go_at(
+    alloc: Global,
+    code: &Code,
+    fuel: u32,
+    store: &mut Store,
+    journal: &mut Vec<Entry>,
+    seat: &mut Seat,
+) -> Result<bool, NoMemory>
+    requires few { length code.now.list < 2 ^ 32 }
+    requires rests { RestsAt code.now seat.old }
+    requires room { fuel ≤ vec_capacity journal.old }
+    requires within { length journal.old.items ≤ fuel }
+    ensures room { fuel ≤ vec_capacity journal.new }
+    ensures within { length journal.new.items ≤ fuel }
+    ensures went { IfOk result (λ any. MatchBool any
+        (GoesAt code.now store.old seat.old journal.old.items journal.new.items store.new seat.new)
+        ((seat.new ≡ seat.old) × (store.new ≡ store.old) × (journal.new.items ≡ journal.old.items))) }
+    ensures stops { OnErr result (StopsAt code.now store.old seat.old journal.old.items journal.new.items store.new seat.new) }
+{
+    let Seat::Home(strand) = seat else {
+        return Ok(false);
+    };
+    match strand.go_alone(alloc, code, fuel, store, journal) {
+        Ok(any) => Ok(any),
+        Err(error) => {
+            spend(seat);
+            Err(error)
+        }
+    }
+}
+
+impl World {
+    /// The acts of the one strand of a run, one after the other while there is fuel, up to one that meets a fault or would
+    /// make strands, or to its end. Where there are several strands, or its next act is such, the run stays as it is. Where
+    /// it finds no memory the run does not go on.
+    pub fn go_alone(&mut self, alloc: Global) -> Result<(), NoMemory>
+        ensures longer { IsLonger self.old self.new }
+        ensures alone { OnOk result (GoneAlone self.old self.new) }
+    {
+        if self.end.is_some() || self.lost || self.seats.len() != 1 {
+            return Ok(());
+        }
+        match go_at(
+            alloc,
+            &self.code,
+            self.fuel,
+            &mut self.store,
+            &mut self.journal,
+            &mut self.seats[0],
+        ) {
+            Ok(false) => Ok(()),
+            Ok(true) => {
+                self.end = end_shown(&self.seats, &self.store, 0);
+                Ok(())
+            }
+            Err(error) => {
+                self.lost = true;
+                Err(error)
+            }
+        }
+    }
+}
