@@ -1,3 +1,4 @@
 pub mod Alive
+pub mod PlainSteps
 pub mod Settled
 pub mod Taking

@@ -4,8 +4,10 @@
 mod control;
 mod exec;
 mod members;
+mod plain;
 mod reply;
 mod routines;
 
 pub use exec::{does_at, go_on, most_steps, run, runs, settle};
+pub use plain::step_plain;
 pub use reply::{place_at, resume, resume_plain};

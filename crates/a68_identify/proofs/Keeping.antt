@@ -28,8 +28,8 @@ use Rattle.a68_modes.specs.declared.coercion.Coercion.{Coercion}
 use Rattle.a68_modes.specs.declared.coercion.Sort.{Sort}
 use Rattle.a68_modes.specs.declared.coercion.Sort.TheVariants as by
 use Rattle.a68_modes.specs.declared.shape.Shape.{Shape}
-use Rattle.a68_ops.specs.Standard.{candidates}
-use Rattle.a68_ops.specs.declared.standard.Operator.{Operator}
+use Rattle.a68_signs.specs.Signs.{candidates}
+use Rattle.a68_signs.specs.declared.signs.Operator.{Operator}
 use Rattle.a68_ranges.proofs.Taking.{is_there, read, some_one}
 use Rattle.a68_ranges.specs.Definitions.{declared_in}
 use Rattle.a68_tree.specs.Trees.{Built}

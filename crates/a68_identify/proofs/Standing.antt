@@ -13,8 +13,8 @@ use Rattle.a68_identify.specs.Identified.{FirstThatHolds, IsLow, IsOperator, Sta
 use Rattle.a68_identify.specs.declared.identified.Identified.TheVariants.{Standard}
 use Rattle.a68_modes.specs.declared.shape.Shape.{Shape}
 use Rattle.a68_tree.specs.Trees.{Built}
-use Rattle.a68_ops.specs.Standard.{Entry, entry_of, candidates, dyadic_entries, monadic_entries}
-use Rattle.a68_ops.specs.declared.standard.Operator.{Operator}
+use Rattle.a68_signs.specs.Signs.{Entry, entry_of, candidates, dyadic_entries, monadic_entries}
+use Rattle.a68_signs.specs.declared.signs.Operator.{Operator}
 
 abbrev are_low : List Operator → Bool
 are_low [] = true

@@ -13,8 +13,8 @@ use Rattle.a68_identify.specs.declared.identified.Identified.{Identified}
 use Rattle.a68_identify.specs.declared.identified.Identified.TheVariants.{Declared, Standard}
 use Rattle.a68_modes.specs.declared.coercion.Sort.TheVariants as by
 use Rattle.a68_modes.specs.declared.shape.Shape.{Shape}
-use Rattle.a68_ops.specs.Standard.{candidates}
-use Rattle.a68_ops.specs.declared.standard.Operator.{Operator}
+use Rattle.a68_signs.specs.Signs.{candidates}
+use Rattle.a68_signs.specs.declared.signs.Operator.{Operator}
 use Rattle.a68_ranges.specs.Definitions.{declared_in}
 use Rattle.a68_ranges.specs.Surroundings.{Lies}
 use Rattle.a68_tree.specs.Trees.{Built}

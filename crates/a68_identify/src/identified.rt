@@ -19,8 +19,8 @@ use a68_coerce::Leaf;
 use a68_declare::NodeModes;
 use a68_equiv::Classes;
 use a68_modes::Modes;
-use a68_ops::{Operator, candidates};
 use a68_ranges::Ranges;
+use a68_signs::{Operator, candidates};
 use a68_tree::{NodeId, Tree};
 use std::alloc::Global;
 

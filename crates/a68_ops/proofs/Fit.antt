@@ -1,10 +1,11 @@
 -- The table of operators and what they yield fit together.
-use Rattle.std.proofs.Common.{◌≡◌, ℕ, zero, suc, ℤ, pos, negsuc, ◌+ℤ◌, ◌-ℤ◌, ◌*ℤ◌, ◌++◌, neg_ℤ, int_div, Bool, true, false, cond, nat_lt, List, [], ◌∷◌, None, Some, Ok, Err, Option, refl, sym, ◌∙◌, IsTrue, IfSome, length}
+use Rattle.std.proofs.Common.{◌≡◌, ℕ, zero, suc, ℤ, pos, negsuc, ◌+ℤ◌, ◌-ℤ◌, ◌*ℤ◌, ◌++◌, neg_ℤ, int_div, Bool, true, false, cond, nat_lt, List, [], ◌∷◌, None, Some, Ok, Err, Option, refl, sym, ◌∙◌, IsTrue, length}
 use Rattle.std.proofs.lemmas.Bool.{false≢true}
 use Rattle.a68_base.specs.Tables.{is_listed}
 use Rattle.std.proofs.lemmas.List.Elements.{All-from_recursion}
 use Rattle.std.specs.Int.{int_pow}
 use Rattle.std.specs.List.{All, AllByRecursion as ByRecursion}
+use Rattle.std.specs.Option.{option_map_or}
 use Rattle.std.specs.Ordering.{int_eq}
 use Rattle.a68_values.specs.Content.{Content, Contents, void, plain, row as row_value, no_parts, ◌and_part◌, contents_of}
 use Rattle.a68_values.specs.declared.act.FaultKind.TheVariants as fault
@@ -14,7 +15,7 @@ use Rattle.a68_ops.specs.Bits.{shifted, element}
 use Rattle.a68_ops.specs.Fitting.{has_mode, is_silent, IsOf, IsFitting}
 use Rattle.a68_ops.specs.Integers.{abs_of, modulo, divided, raised, sign_of, char_of, bits_of}
 use Rattle.a68_ops.specs.Operators.{dyadic_of}
-use Rattle.a68_ops.specs.Standard.{op, Entry, entry_of, entries_for, dyadic_entries, monadic_entries}
+use Rattle.a68_signs.specs.Signs.{op, Entry, candidates, entry_of, dyadic_entries, monadic_entries}
 use Rattle.a68_ops.specs.Texts.{are_chars, codes_in, text_of, on_texts, text_times, repeated, times}
 use Rattle.a68_ops.specs.Yields.{yield_of, is_unset, some_unset, is_int, int, text, text_row, char_values, most_parts}
 use Rattle.a68_ops.specs.declared.operator.Dyadic.{Dyadic}
@@ -568,17 +569,18 @@ monadic_fit : EachFits monadic_entries
 monadic_fit = (fit_26, (fit_27, (fit_28, (fit_29, (fit_30, (fit_31, (fit_32, (fit_33, (fit_34, (fit_35, (fit_36, (fit_37, (fit_38, tt)))))))))))))
 
 found_by : (here : Bool) (entry : Entry) (rest : Option Entry) → ByRecursion IsFitting entry.operators
-    → IfSome rest (λ one. All IsFitting one.operators) → IfSome (cond here (Some entry) rest) (λ one. All IsFitting one.operators)
+    → All IsFitting (option_map_or (λ one. one.operators) rest []) → All IsFitting (option_map_or (λ one. one.operators) (cond here (Some entry) rest) [])
 found_by true entry rest fit others = All-from_recursion IsFitting entry.operators fit
 found_by false entry rest fit others = others
 
 -- an entry that is found is one of them
-found : (entries : List Entry) → EachFits entries → (sign : List ℕ) → IfSome (entry_of entries sign) (λ one. All IsFitting one.operators)
-found [] fit sign = tt
+found : (entries : List Entry) → EachFits entries → (sign : List ℕ) → All IsFitting (option_map_or (λ one. one.operators) (entry_of entries sign) [])
+found [] fit sign = All-from_recursion IsFitting [] tt
 found (entry ∷ more) fit sign = found_by (is_listed entry.signs sign) entry (entry_of more sign) fit.0 (found more fit.1 sign)
 
-pub entries_fit : (operands : ℕ) (sign : List ℕ) → IfSome (entry_of (entries_for operands) sign) (λ one. All IsFitting one.operators)
-entries_fit (suc zero) sign = found monadic_entries monadic_fit sign
-entries_fit (suc (suc zero)) sign = found dyadic_entries dyadic_fit sign
-entries_fit zero sign = tt
-entries_fit (suc (suc (suc n))) sign = tt
+pub operators_fit : (sign : List ℕ) (operands : ℕ) → All IsFitting (candidates sign operands)
+unfolding candidates
+operators_fit sign (suc zero) = found monadic_entries monadic_fit sign
+operators_fit sign (suc (suc zero)) = found dyadic_entries dyadic_fit sign
+operators_fit sign zero = All-from_recursion IsFitting [] tt
+operators_fit sign (suc (suc (suc n))) = All-from_recursion IsFitting [] tt

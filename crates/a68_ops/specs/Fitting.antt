@@ -8,7 +8,7 @@ use Rattle.a68_values.specs.declared.plain.Plain.TheVariants as value
 use Rattle.a68_ops.specs.Applied.{applied}
 use Rattle.a68_ops.specs.Texts.{are_chars}
 use Rattle.a68_ops.specs.Yields.{Yield, is_int}
-use Rattle.a68_ops.specs.declared.standard.Operator.{Operator}
+use Rattle.a68_signs.specs.declared.signs.Operator.{Operator}
 
 -- a value of a standard mode that is set in all its parts: 0 none, 1 INT, 2 BOOL, 3 CHAR, 4 BITS, 7 [] CHAR
 abbrev pub has_mode : (mode : ℕ) → Content → Bool

@@ -1,12 +1,10 @@
 pub mod Applied
 pub mod Bits
 pub mod Booleans
-pub mod Entries
 pub mod Fitting
 pub mod Integers
 pub mod Laws
 pub mod Operators
 pub mod Printed
-pub mod Standard
 pub mod Texts
 pub mod Yields

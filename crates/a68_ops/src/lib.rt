@@ -1,5 +1,5 @@
-//! The operators of the standard environ (Report, 10.2.3): the table of them, what each that yields at once yields, and
-//! how values are written (10.3.2.1).
+//! The operators of the standard environ (Report, 10.2.3): what each that yields at once yields; and how values are written
+//! (10.3.2.1).
 #![tactic(auto)]
 
 mod applied;
@@ -8,15 +8,13 @@ mod integers;
 mod laws;
 mod operator;
 mod printing;
-mod standard;
 mod stop;
 mod texts;
 mod unset;
 
 pub use applied::{apply, apply_monadic, apply_plain, updated};
-pub use laws::{at_most_is_told_by_places, mod_gives_a_rest};
+pub use laws::{at_most_is_told_by_places, mod_gives_a_rest, operators_fit_their_modes};
 pub use printing::{item_text, whole};
-pub use standard::{Operator, candidates, priority_of};
 pub use stop::OpStop;
 pub use texts::{is_text, text_value};
 pub use unset::is_unset;

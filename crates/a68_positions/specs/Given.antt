@@ -10,7 +10,7 @@ use Rattle.a68_modes.specs.declared.coercion.Sort.{Sort}
 use Rattle.a68_modes.specs.declared.coercion.Sort.TheVariants as by
 use Rattle.a68_modes.specs.declared.shape.Shape.{Shape}
 use Rattle.a68_modes.specs.declared.shape.Shape.TheVariants.{Void, Rows, Struct}
-use Rattle.a68_ops.specs.declared.standard.Operator.{Operator}
+use Rattle.a68_signs.specs.declared.signs.Operator.{Operator}
 use Rattle.a68_positions.specs.declared.asker.Asker.{Asker}
 use Rattle.a68_positions.specs.declared.position.Position.{Position}
 use Rattle.a68_positions.specs.declared.position.Position.TheVariants as position

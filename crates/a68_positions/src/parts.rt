@@ -11,7 +11,7 @@ use crate::position::{Position, asked, goal};
 use a68_definitions::part_number;
 use a68_identify::Identified;
 use a68_modes::{ModeId, Modes, Shape, Sort};
-use a68_ops::Operator;
+use a68_signs::Operator;
 use a68_tree::{NodeId, NodeKind};
 use a68_yields::Finding;
 

@@ -12,7 +12,8 @@ use Rattle.a68_ranges.specs.Nodes.{IsPartAt, kind_at, name_at}
 use Rattle.a68_ranges.specs.Surroundings.{Lies, alone, part, IsUnder}
 use Rattle.a68_ranges.specs.Links.{has_layer, layered}
 use Rattle.a68_ranges.specs.Definitions.{defines, declared_in, Declares, FirstDefinition, here, further, IsDefinition, Undefined}
-use Rattle.a68_ranges.specs.Standard.{IsTagOf, IsModeWordOf, IsPriorityOf, spelled, standard_of, standard_tags, standard_priorities}
+use Rattle.a68_ranges.specs.Standard.{IsTagOf, IsModeWordOf, IsPriorityOf, spelled, standard_of, standard_priority, standard_tags}
+use Rattle.a68_signs.specs.Signs.{priority_of}
 use Rattle.a68_ranges.specs.Tables.{Nested, outermost, within, FindsOut, at_key, first_named, has_name, is_sort, same_sort, AreFirst, AreRanges, Tables, priority_or}
 use Rattle.a68_ranges.specs.Tables.{here as out_here, further as out_further, nothing}
 use Rattle.a68_ranges.specs.declared.nests.Layer.{Layer}
@@ -211,7 +212,7 @@ tags_said [] name = refl
 tags_said (s ∷ more) zero = refl
 tags_said (s ∷ more) (suc name) = tags_said more name
 
-priorities_said : (spellings : List (List ℕ)) (name : ℕ) → option_and_then (λ (s : Standard). s.priority) (slice_get (map standard_of spellings) name) ≡ option_and_then (find standard_priorities) (slice_get spellings name)
+priorities_said : (spellings : List (List ℕ)) (name : ℕ) → option_and_then (λ (s : Standard). s.priority) (slice_get (map standard_of spellings) name) ≡ option_and_then priority_of (slice_get spellings name)
 priorities_said [] name = refl
 priorities_said (s ∷ more) zero = refl
 priorities_said (s ∷ more) (suc name) = priorities_said more name
@@ -278,7 +279,7 @@ priority_is tree t at name found standard answer are there out is gives =
     rw gives (go found standard (found_at tree t at name sorts.Priority t.priorities found are there are.priorities out)
     (is ∙ ap (λ (ss : List Standard). option_and_then (λ (s : Standard). s.priority) (slice_get ss name)) are.standard ∙ priorities_said tree.spellings name))
   where
-    go : (f p : Option ℕ) → FoundAt tree at sorts.Priority name f → p ≡ spelled tree name standard_priorities → IsPriorityOf tree at name (priority_or f t.written p)
+    go : (f p : Option ℕ) → FoundAt tree at sorts.Priority name f → p ≡ standard_priority tree name → IsPriorityOf tree at name (priority_or f t.written p)
     go (Some id) p def said = rw (are.written.each id (first_there def.first)) (inl (id, def, refl))
     go None None never said = (never, sym said)
     go None (Some k) never said = inr (never, sym said)

@@ -6,6 +6,7 @@ use Rattle.a68_ranges.specs.Nodes.{parts_at, spelling_at}
 use Rattle.a68_ranges.specs.Definitions.{IsDefinition, Undefined}
 use Rattle.a68_ranges.specs.declared.sort.Sort.TheVariants as sorts
 use Rattle.a68_ranges.specs.declared.standard.Standard.{Standard}
+use Rattle.a68_signs.specs.Signs.{priority_of}
 use Rattle.a68_tree.specs.Trees.{Built}
 
 -- the tags of the standard environ, by their places (10.2.1, 10.3; newline and space, print, write and whole are own)
@@ -14,22 +15,12 @@ standard_tags =
     (codes "maxint", 0) ∷ (codes "intwidth", 1) ∷ (codes "bitswidth", 2) ∷ (codes "maxabschar", 3) ∷ (codes "newline", 4) ∷
     (codes "space", 5) ∷ (codes "print", 6) ∷ (codes "write", 7) ∷ (codes "whole", 8) ∷ []
 
--- the priorities of the standard signs (10.2.3.0)
-unfoldable pub standard_priorities : List (List ℕ × ℕ)
-standard_priorities =
-    (codes "+:=", 1) ∷ (codes "PLUSAB", 1) ∷ (codes "-:=", 1) ∷ (codes "MINUSAB", 1) ∷ (codes "*:=", 1) ∷ (codes "TIMESAB", 1) ∷
-    (codes "%:=", 1) ∷ (codes "OVERAB", 1) ∷ (codes "%*:=", 1) ∷ (codes "MODAB", 1) ∷ (codes "+=:", 1) ∷ (codes "PLUSTO", 1) ∷
-    (codes "OR", 2) ∷ (codes "AND", 3) ∷ (codes "&", 3) ∷ (codes "=", 4) ∷ (codes "EQ", 4) ∷ (codes "/=", 4) ∷ (codes "NE", 4) ∷
-    (codes "<", 5) ∷ (codes "LT", 5) ∷ (codes "<=", 5) ∷ (codes "LE", 5) ∷ (codes ">=", 5) ∷ (codes "GE", 5) ∷ (codes ">", 5) ∷ (codes "GT", 5) ∷
-    (codes "+", 6) ∷ (codes "-", 6) ∷ (codes "*", 7) ∷ (codes "OVER", 7) ∷ (codes "%", 7) ∷ (codes "MOD", 7) ∷ (codes "%*", 7) ∷ (codes "ELEM", 7) ∷
-    (codes "**", 8) ∷ (codes "SHL", 8) ∷ (codes "SHR", 8) ∷ (codes "LWB", 8) ∷ (codes "UPB", 8) ∷ []
-
 abbrev pub spelled : Built → (name : ℕ) → {A : Type 0} → List (List ℕ × A) → Option A
 spelled tree name table = option_and_then (find table) (slice_get tree.spellings name)
 
 -- what a spelling is in the standard environ
 abbrev pub standard_of : List ℕ → Standard
-standard_of spelling = record { tag = find standard_tags spelling; priority = find standard_priorities spelling }
+standard_of spelling = record { tag = find standard_tags spelling; priority = priority_of spelling }
 
 -- the node of the definition; a standard tag has a number from that of the nodes upwards
 abbrev pub IsTagOf : Built → (at name : ℕ) → Option ℕ → Type 0
@@ -40,6 +31,10 @@ IsTagOf tree at name None = Undefined tree at sorts.Tag name × (spelled tree na
 abbrev pub IsModeWordOf : Built → (at name : ℕ) → Option ℕ → Type 0
 IsModeWordOf tree at name (Some id) = IsDefinition tree at sorts.ModeWord name id
 IsModeWordOf tree at name None = Undefined tree at sorts.ModeWord name
+
+-- the priority that a sign has in the standard environ
+abbrev pub standard_priority : Built → (name : ℕ) → Option ℕ
+standard_priority tree name = option_and_then priority_of (slice_get tree.spellings name)
 
 -- the number that a digit spells
 abbrev pub digit_of : List ℕ → ℕ
@@ -57,5 +52,5 @@ pub record AreWritten (tree : Built) (count : ℕ) (written : List ℕ) : Type 0
 abbrev pub IsPriorityOf : Built → (at name : ℕ) → Option ℕ → Type 0
 IsPriorityOf tree at name (Some p) =
     ((d : ℕ) × IsDefinition tree at sorts.Priority name d × (p ≡ written_priority tree d))
-    ⊎ (Undefined tree at sorts.Priority name × (spelled tree name standard_priorities ≡ Some p))
-IsPriorityOf tree at name None = Undefined tree at sorts.Priority name × (spelled tree name standard_priorities ≡ None)
+    ⊎ (Undefined tree at sorts.Priority name × (standard_priority tree name ≡ Some p))
+IsPriorityOf tree at name None = Undefined tree at sorts.Priority name × (standard_priority tree name ≡ None)

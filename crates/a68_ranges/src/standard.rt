@@ -1,10 +1,11 @@
-//! The tags and the priorities of the standard environ.
+//! What spellings are in the standard environ: its tags, and the priorities of its signs.
 ghost use Rattle.std.specs.Prelude.{◌≡◌, ◌<◌, ℕ, IfOk, length, map, slice_get};
 ghost use Rattle.std.specs.Option.{option_and_then};
 ghost use Rattle.a68_ranges.specs.Standard as environ;
 ghost use Rattle.a68_ranges.specs.Standard.{spelled};
 
 use a68_base::{NoMemory, find};
+use a68_signs::priority_of;
 use a68_tree::{NodeId, Tree};
 use std::alloc::Global;
 
@@ -33,62 +34,13 @@ fn standard_tags() -> &'static [(&'static str, u32)]
     ]
 }
 
-#[tactic(auto, unfolding(crate::specs::Standard::standard_priorities))]
-// The priorities of the standard signs (10.2.3.0).
-fn standard_priorities() -> &'static [(&'static str, u32)]
-    ensures { map (λ row. (row.0.now, row.1)) result.now ≡ environ.standard_priorities }
-{
-    &[
-        ("+:=", 1),
-        ("PLUSAB", 1),
-        ("-:=", 1),
-        ("MINUSAB", 1),
-        ("*:=", 1),
-        ("TIMESAB", 1),
-        ("%:=", 1),
-        ("OVERAB", 1),
-        ("%*:=", 1),
-        ("MODAB", 1),
-        ("+=:", 1),
-        ("PLUSTO", 1),
-        ("OR", 2),
-        ("AND", 3),
-        ("&", 3),
-        ("=", 4),
-        ("EQ", 4),
-        ("/=", 4),
-        ("NE", 4),
-        ("<", 5),
-        ("LT", 5),
-        ("<=", 5),
-        ("LE", 5),
-        (">=", 5),
-        ("GE", 5),
-        (">", 5),
-        ("GT", 5),
-        ("+", 6),
-        ("-", 6),
-        ("*", 7),
-        ("OVER", 7),
-        ("%", 7),
-        ("MOD", 7),
-        ("%*", 7),
-        ("ELEM", 7),
-        ("**", 8),
-        ("SHL", 8),
-        ("SHR", 8),
-        ("LWB", 8),
-        ("UPB", 8),
-    ]
-}
-
 // What a spelling is in the standard environ.
 fn standard_of(spelling: &[u8]) -> Standard
     ensures { result ≡ environ.standard_of spelling.now }
 {
     Standard {
         tag: find(standard_tags(), spelling),
-        priority: find(standard_priorities(), spelling),
+        priority: priority_of(spelling),
     }
 }
 

@@ -17,8 +17,8 @@ use a68_identify::{
     related_pair,
 };
 use a68_modes::ModeId;
-use a68_ops::Operator;
 use a68_ranges::{Ranges, ranges};
+use a68_signs::Operator;
 use a68_tree::{NodeId, NodeKind, Tree};
 use std::alloc::Global;
 use std::panic::Expect;

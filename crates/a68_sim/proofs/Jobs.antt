@@ -28,7 +28,7 @@ use Rattle.a68_ops.specs.Applied.{applied}
 use Rattle.a68_ops.specs.Yields.{Yield}
 use Rattle.a68_sim.proofs.Asking.{idle, seen, ask, at_instr, place_is, does_is, is_inside, Back}
 use Rattle.a68_gen.proofs.Forward.{next_is, forward, forward_index, forward_leaves, forward_arms, forward_test}
-use Rattle.a68_sim.proofs.Forks.{start_forkless}
+use Rattle.a68_heights.proofs.Forks.{start_forkless}
 use Rattle.a68_sim.proofs.Operating.{exec_of, not_end, operation_begins, operation_goes_on}
 use Rattle.a68_sim.proofs.Quiet.{progress_row, still, quietly, outwards, Progress, moves, finishes, moves_on, moves_act, moves_fault}
 use Rattle.a68_sim.proofs.Relation.{drops, bit_of, pose_of, ready, push, callers_left, count_terms, posed, parts_give, inner, LoopAt, Tail, Sim, yields, left, onto, size, values_yields, pops_left, count_yields, left_none, does_yields}

@@ -21,7 +21,8 @@ use Rattle.a68_emit.specs.Stretches.{does_of}
 use Rattle.a68_modes.specs.declared.shape.Shape.{Shape}
 use Rattle.a68_sim.proofs.Asking.{idle, seen, ask, place_is, does_is, is_inside}
 use Rattle.a68_gen.proofs.Forward.{next_is}
-use Rattle.a68_sim.proofs.Forks.{Forkless, resumed_forkless}
+use Rattle.a68_heights.proofs.Forks.{resumed_forkless}
+use Rattle.a68_heights.proofs.ForksOfSteps.{Forkless}
 use Rattle.a68_sim.proofs.Quiet.{still, quietly, Progress, finishes, moves_on, moves_act, moves_fault}
 use Rattle.a68_sim.proofs.Relation.{push, callers_push, OperationAt, Continues, Sim}
 use Rattle.a68_instructions.specs.Machine.{State, exec, operation_of, controls, operates, follows, at_end, does_leave, leaves_at, asks_for, told_by}

@@ -12,7 +12,7 @@ use Rattle.a68_elab.specs.Terms.{Term, part, yielded, joining, unit_terms}
 use Rattle.a68_elab.specs.Trees.{Program, units_of}
 use Rattle.a68_emit.specs.Stretches.{AreEntrances}
 use Rattle.a68_sim.proofs.Asking.{ask, Forth}
-use Rattle.a68_sim.proofs.Forks.{is_fork}
+use Rattle.a68_heights.proofs.ForksOfSteps.{is_fork}
 use Rattle.a68_instructions.specs.Machine.{State, stack_of}
 use Rattle.a68_instructions.specs.declared.ask.Stance.TheVariants.{Idle, Waits}
 use Rattle.a68_stack.specs.declared.stack.Item.{Item}

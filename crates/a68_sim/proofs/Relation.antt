@@ -16,7 +16,7 @@ use Rattle.a68_elab.specs.Trees.{Tree, Turns, depth, Trees, no_trees, ◌and_tre
 use Rattle.a68_emit.specs.Stretches.{AreEntrances, Indexes, Leaves, Has, Stands, StandAll, StandArms, StandSpecs, Tests, member_places, wholes_of, with_last, does_of, leave}
 use Rattle.a68_modes.specs.Nodes.{shape_at}
 use Rattle.a68_sim.proofs.Asking.{idle}
-use Rattle.a68_sim.proofs.Forks.{is_fork}
+use Rattle.a68_heights.proofs.ForksOfSteps.{is_fork}
 use Rattle.a68_sim.proofs.Quiet.{outwards}
 use Rattle.a68_instructions.specs.Machine.{State, follows, enters_body, binds}
 use Rattle.a68_stack.specs.Values.{callers, pop_values}

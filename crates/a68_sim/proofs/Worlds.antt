@@ -23,7 +23,8 @@ use Rattle.a68_elab.specs.Trees.{Program}
 use Rattle.a68_sim.proofs.Beginning.{Begun, StandFrom, begin, times_from}
 use Rattle.a68_sim.proofs.Family.{how_many, QuietIn, in_on, in_hole, own_hole, quiet_at, in_elaborates, all_joining, Kin, single, parent, number, times, Lives, Joined, present}
 use Rattle.a68_sim.proofs.Finishing.{Finish, EndsAt, Works}
-use Rattle.a68_sim.proofs.Forks.{is_fork, strands_kept, fork_tells}
+use Rattle.a68_heights.proofs.ForksOfSteps.{is_fork}
+use Rattle.a68_sim.proofs.Forks.{strands_kept, fork_tells}
 use Rattle.a68_sim.proofs.Lists.{same, same_self, same_other, same_most, get_set_same, get_set_other, length_set, length_both, get_front, get_back, get_either, get_less, get_map, was_there}
 use Rattle.a68_sim.proofs.Locating.{Spot, locate}
 use Rattle.a68_sim.proofs.Quiet.{ActsNext, Kept, simply, joins, Joins, opens_at, waiting_at}

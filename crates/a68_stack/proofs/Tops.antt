@@ -1,73 +1,100 @@
--- The plain values on top of a stack, whose items stand with the topmost one last.
-use Rattle.std.proofs.Common.{◌≡◌, ◌-◌, ◌<◌, ◌≤◌, ◌∙◌, List, [], ◌∷◌, length, get_or, ap, sym, refl, arith}
-use Rattle.std.specs.Prelude.{None, Some, reverse}
+-- What stands on top of a stack, whose items stand with the topmost one last.
+use Rattle.std.proofs.Common.{◌≡◌, ℕ, ◌+◌, ◌-◌, ◌∙◌, Bool, true, false, List, [], ◌∷◌, ◌++◌, length, take, get_or, set, ap, sym, refl, arith}
+use Rattle.std.specs.Prelude.{None, Some, reverse, MatchBool, MatchOption}
+use Rattle.std.specs.Option.{is_some}
 use Rattle.std.specs.declared.option.Option.{Option}
-use Rattle.std.proofs.lemmas.List.{length-reverse, get_or-reverse}
-use Rattle.a68_stack.specs.Values.{plain_in, top_three, top_two}
+use Rattle.std.proofs.lemmas.Bool.{false≢true}
+use Rattle.std.proofs.Math.Seq.{set-append_seam, take-append-add, take-length}
+use Rattle.std.proofs.lemmas.List.{length-reverse, length-set, get_or-reverse, reverse-append, reverse-reverse, take_more, take_more_set}
+use Rattle.a68_acts.specs.declared.operation.Counter.{Counter}
+use Rattle.a68_stack.specs.Inside.{counter_in}
+use Rattle.a68_stack.specs.Values.{callers, plain_in, top_counter, top_plain, top_two}
 use Rattle.a68_stack.specs.declared.stack.Item.{Item}
 use Rattle.a68_stack.specs.declared.stack.Item.TheVariants as item
-use Rattle.a68_values.specs.Content.{void, plain, layout, structure, row, united}
+use Rattle.a68_values.specs.Content.{plain}
 use Rattle.a68_values.specs.declared.plain.Plain.{Plain}
 
--- fewer than two items
-pub few_none : (items : List Item) → length items < 2 → top_two items ≡ None
-few_none [] few = refl
-few_none (i ∷ []) few = refl
-few_none (i ∷ j ∷ items) few = absurd (omega arith)
-
-front : (items : List Item) (d e : Item) → 2 ≤ length items → (rest : List Item) × (items ≡ get_or items 0 d ∷ get_or items 1 e ∷ rest)
-front [] d e long = absurd (omega arith)
-front (i ∷ []) d e long = absurd (omega arith)
-front (i ∷ j ∷ rest) d e long = (rest, refl)
-
--- the two topmost items
-pub last_two : (items : List Item) (below topmost : Item) → 2 ≤ length items → below ≡ get_or items (length items - 2) below → topmost ≡ get_or items (length items - 1) topmost
-    → (rest : List Item) × (reverse items ≡ topmost ∷ below ∷ rest)
-last_two items below topmost long b t =
-    let found = front (reverse items) topmost below (omega (arith, length-reverse items)) in
-    let at_top : length items - 1 - 0 ≡ length items - 1 = omega arith in
-    let at_next : length items - 1 - 1 ≡ length items - 2 = omega arith in
-    let top : get_or (reverse items) 0 topmost ≡ topmost = get_or-reverse items 0 topmost (omega arith) ∙ ap (λ k. get_or items k topmost) at_top ∙ sym t in
-    let next : get_or (reverse items) 1 below ≡ below = get_or-reverse items 1 below (omega arith) ∙ ap (λ k. get_or items k below) at_next ∙ sym b in
-    (found.0, found.1 ∙ ap (λ i. i ∷ get_or (reverse items) 1 below ∷ found.0) top ∙ ap (λ i. topmost ∷ i ∷ found.0) next)
-
--- an item that is a plain value
-pub is_plain : (i : Item) (p : Plain) → plain_in i ≡ Some p → i ≡ item.Value (plain p)
-is_plain (item.Value (plain q)) p e = let same : q ≡ p = cc in ap (λ x. item.Value (plain x)) same
-is_plain (item.Value void) p e = let bad : ◌≡◌ {A = Option Plain} None (Some p) = e in cc
-is_plain (item.Value (layout l)) p e = let bad : ◌≡◌ {A = Option Plain} None (Some p) = e in cc
-is_plain (item.Value (structure parts)) p e = let bad : ◌≡◌ {A = Option Plain} None (Some p) = e in cc
-is_plain (item.Value (row bounds parts)) p e = let bad : ◌≡◌ {A = Option Plain} None (Some p) = e in cc
-is_plain (item.Value (united mode inner)) p e = let bad : ◌≡◌ {A = Option Plain} None (Some p) = e in cc
-is_plain (item.Counter c) p e = let bad : ◌≡◌ {A = Option Plain} None (Some p) = e in cc
-is_plain (item.Caller c) p e = let bad : ◌≡◌ {A = Option Plain} None (Some p) = e in cc
-
--- fewer than three items
-pub few_of_three : (items : List Item) → length items < 3 → top_three items ≡ None
-few_of_three [] few = refl
-few_of_three (i ∷ []) few = refl
-few_of_three (i ∷ j ∷ []) few = refl
-few_of_three (i ∷ j ∷ k ∷ items) few = absurd (omega arith)
-
-front_three : (items : List Item) (d e f : Item) → 3 ≤ length items → (rest : List Item) × (items ≡ get_or items 0 d ∷ get_or items 1 e ∷ get_or items 2 f ∷ rest)
-front_three [] d e f long = absurd (omega arith)
-front_three (i ∷ []) d e f long = absurd (omega arith)
-front_three (i ∷ j ∷ []) d e f long = absurd (omega arith)
-front_three (i ∷ j ∷ k ∷ rest) d e f long = (rest, refl)
-
--- the three topmost items
-pub last_three : (items : List Item) (lowest below topmost : Item) → 3 ≤ length items → lowest ≡ get_or items (length items - 3) lowest
-    → below ≡ get_or items (length items - 2) below → topmost ≡ get_or items (length items - 1) topmost
-    → (rest : List Item) × (reverse items ≡ topmost ∷ below ∷ lowest ∷ rest)
-last_three items lowest below topmost long a b t =
-    let found = front_three (reverse items) topmost below lowest (omega (arith, length-reverse items)) in
-    let at_top : length items - 1 - 0 ≡ length items - 1 = omega arith in
-    let at_next : length items - 1 - 1 ≡ length items - 2 = omega arith in
-    let at_third : length items - 1 - 2 ≡ length items - 3 = omega arith in
-    let top : get_or (reverse items) 0 topmost ≡ topmost = get_or-reverse items 0 topmost (omega arith) ∙ ap (λ k. get_or items k topmost) at_top ∙ sym t in
-    let next : get_or (reverse items) 1 below ≡ below = get_or-reverse items 1 below (omega arith) ∙ ap (λ k. get_or items k below) at_next ∙ sym b in
-    let third : get_or (reverse items) 2 lowest ≡ lowest = get_or-reverse items 2 lowest (omega arith) ∙ ap (λ k. get_or items k lowest) at_third ∙ sym a in (
-      found.0,
-      found.1 ∙ ap (λ i. i ∷ get_or (reverse items) 1 below ∷ get_or (reverse items) 2 lowest ∷ found.0) top
-          ∙ ap (λ i. topmost ∷ i ∷ get_or (reverse items) 2 lowest ∷ found.0) next ∙ ap (λ i. topmost ∷ below ∷ i ∷ found.0) third,
+-- the topmost item before and after it is replaced
+on_top : (old : List Item) (n : ℕ) (before after : Item) → length old ≡ n + 1 → before ≡ get_or old n before
+    → (rest : List Item) × (reverse old ≡ before ∷ rest) × (reverse (set old n after) ≡ after ∷ rest)
+on_top old n before after all is =
+    let cut : (new : List Item) → length new ≡ length old → take (n + 1) new ≡ new = λ new e. ap (λ k. take k new) (sym all ∙ sym e) ∙ take-length new in
+    let was : old ≡ take n old ++ before ∷ [] = sym (cut old refl) ∙ take_more old n before (omega (arith, all)) ∙ ap (λ i. take n old ++ i ∷ []) (sym is) in
+    let now : set old n after ≡ take n old ++ after ∷ [] = sym (cut (set old n after) (length-set old n after)) ∙ take_more_set old n after (omega (arith, all)) in (
+      reverse (take n old),
+      ap (λ (l : List Item). reverse l) was ∙ reverse-append (take n old) (before ∷ []),
+      ap (λ (l : List Item). reverse l) now ∙ reverse-append (take n old) (after ∷ []),
     )
+
+-- Whether a plain value took the place of the one on top.
+abbrev pub PlainIsSet : Bool → Plain → (old new : List Item) → Type 0
+PlainIsSet is_set held old new =
+    MatchBool is_set ((p : Plain) × (rest : List Item) × (old ≡ item.Value (plain p) ∷ rest) × (new ≡ item.Value (plain held) ∷ rest)) ((top_plain old ≡ None) × (new ≡ old))
+
+pub plain_is_set : (items : List Item) (n : ℕ) (is_set : Bool) (held : Plain) (before after : Item) → length items ≡ n + 1 → before ≡ get_or items n before
+    → MatchBool is_set ((p : Plain) × (before ≡ item.Value (plain p)) × (after ≡ item.Value (plain held))) ((plain_in before ≡ None) × (after ≡ before))
+    → PlainIsSet is_set held (reverse items) (reverse (set items n after))
+plain_is_set items n true held before after all is (p, was, now) =
+    let top = on_top items n before after all is in
+    (p, top.0, top.1 ∙ ap (λ (i : Item). i ∷ top.0) was, top.2 ∙ ap (λ (i : Item). i ∷ top.0) now)
+plain_is_set items n false held before after all is (none, same) =
+    let top = on_top items n before after all is in
+    (ap (λ l. top_plain l) top.1 ∙ none, top.2 ∙ ap (λ (i : Item). i ∷ top.0) same ∙ sym top.1)
+
+pub plain_set_callers : (is_set : Bool) (held : Plain) (old new : List Item) → PlainIsSet is_set held old new → callers new ≡ callers old
+plain_set_callers true held old new (p, rest, was, now) = ap (λ l. callers l) now ∙ sym (ap (λ l. callers l) was)
+plain_set_callers false held old new (none, same) = ap (λ l. callers l) same
+
+-- Whether a counter took the place of the one on top.
+abbrev pub CounterIsSet : Bool → Counter → (old new : List Item) → Type 0
+CounterIsSet is_set counter old new =
+    MatchBool is_set ((c : Counter) × (rest : List Item) × (old ≡ item.Counter c ∷ rest) × (new ≡ item.Counter counter ∷ rest)) ((top_counter old ≡ None) × (new ≡ old))
+
+no_counter : (i : Item) (rest : List Item) → counter_in i ≡ None → top_counter (i ∷ rest) ≡ None
+no_counter (item.Value v) rest e = refl
+no_counter (item.Counter c) rest e = e
+no_counter (item.Caller c) rest e = refl
+
+pub counter_is_set : (items : List Item) (n : ℕ) (is_set : Bool) (counter : Counter) (before after : Item) → length items ≡ n + 1 → before ≡ get_or items n before
+    → MatchBool is_set ((c : Counter) × (before ≡ item.Counter c) × (after ≡ item.Counter counter)) ((counter_in before ≡ None) × (after ≡ before))
+    → CounterIsSet is_set counter (reverse items) (reverse (set items n after))
+counter_is_set items n true counter before after all is (c, was, now) =
+    let top = on_top items n before after all is in
+    (c, top.0, top.1 ∙ ap (λ (i : Item). i ∷ top.0) was, top.2 ∙ ap (λ (i : Item). i ∷ top.0) now)
+counter_is_set items n false counter before after all is (none, same) =
+    let top = on_top items n before after all is in
+    (ap (λ l. top_counter l) top.1 ∙ no_counter before top.0 none, top.2 ∙ ap (λ (i : Item). i ∷ top.0) same ∙ sym top.1)
+
+pub counter_set_callers : (is_set : Bool) (counter : Counter) (old new : List Item) → CounterIsSet is_set counter old new → callers new ≡ callers old
+counter_set_callers true counter old new (c, rest, was, now) = ap (λ l. callers l) now ∙ sym (ap (λ l. callers l) was)
+counter_set_callers false counter old new (none, same) = ap (λ l. callers l) same
+
+-- the two plain values that were looked for and found
+pub found_two : (found : Option (Plain × Plain)) (items : List Item) → is_some found ≡ true
+    → MatchOption found (top_two items ≡ None) (λ two. (rest : List Item) × (items ≡ item.Value (plain two.1) ∷ item.Value (plain two.0) ∷ rest))
+    → (l : Plain) × (r : Plain) × (rest : List Item) × (items ≡ item.Value (plain r) ∷ item.Value (plain l) ∷ rest)
+found_two None items some is = absurd (false≢true some)
+found_two (Some two) items some (rest, is) = (two.0, two.1, rest, is)
+
+-- the topmost item goes, and another takes the place of the one below it
+pub put_below : (items rest : List Item) (n : ℕ) (l r i : Item) → reverse items ≡ r ∷ l ∷ rest → length items ≡ n + 2
+    → reverse (take (length items - 1) (set items n i)) ≡ i ∷ rest
+put_below items rest n l r i is all =
+    let below : List Item = reverse rest in
+    let whole : items ≡ below ++ l ∷ r ∷ [] = sym (reverse-reverse items) ∙ ap (λ (xs : List Item). reverse xs) is ∙ reverse-append (r ∷ l ∷ []) rest in
+    let size : length below ≡ n = omega (arith, all, length-reverse items, length-reverse rest, ap (λ (xs : List Item). length xs) is) in
+    let put : set items n i ≡ below ++ i ∷ r ∷ [] =
+    ap (λ (xs : List Item). set xs n i) whole ∙ ap (λ k. set (below ++ l ∷ r ∷ []) k i) (sym size) ∙ set-append_seam below l (r ∷ []) i in
+    let cut : length items - 1 ≡ length below + 1 = omega (arith, all, size) in
+    let new : take (length items - 1) (set items n i) ≡ below ++ i ∷ [] =
+    ap (λ (xs : List Item). take (length items - 1) xs) put ∙ ap (λ k. take k (below ++ i ∷ r ∷ [])) cut ∙ take-append-add below (i ∷ r ∷ []) 1 in
+    ap (λ (xs : List Item). reverse xs) new ∙ reverse-append below (i ∷ []) ∙ ap (λ (xs : List Item). i ∷ xs) (reverse-reverse rest)
+
+-- the topmost item takes the place of the one below it
+pub top_kept : (items rest : List Item) (n : ℕ) (l r i : Item) → reverse items ≡ r ∷ l ∷ rest → length items ≡ n + 2
+    → reverse (take (length items - 1) (set items n (get_or items (length items - 1) i))) ≡ r ∷ rest
+top_kept items rest n l r i is all =
+    let at_top : length items - 1 ≡ length items - 1 - 0 = omega arith in
+    let top : get_or items (length items - 1) i ≡ r =
+    ap (λ k. get_or items k i) at_top ∙ sym (get_or-reverse items 0 i (omega (arith, all))) ∙ ap (λ (xs : List Item). get_or xs 0 i) is in
+    ap (λ (t : Item). reverse (take (length items - 1) (set items n t))) top ∙ put_below items rest n l r r is all

@@ -2,6 +2,7 @@
 #![tactic(auto)]
 
 mod caller;
+mod kept;
 mod stack;
 
 pub use caller::Caller;

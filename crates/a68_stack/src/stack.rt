@@ -1,16 +1,20 @@
 //! The stack of a strand.
 ghost use Rattle.std.specs.Prelude.{◌≡◌, [], ◌∷◌, ◌++◌, None, Some, List, length, reverse, OnOk, OnErr, IfOk, IfSome, MatchOption, MatchBool};
 ghost use Rattle.std.specs.Option.{option_map};
+ghost use Rattle.a68_acts.specs.declared.operation.Counter.{Counter};
 ghost use Rattle.a68_values.specs.Content.{Content, plain, scope_of};
+ghost use Rattle.a68_values.specs.declared.plain.Plain.{Plain};
 ghost use Rattle.a68_stack.specs.declared.stack.Item.{Item};
-ghost use Rattle.a68_stack.specs.Values.{callers, is_caller, plain_in, pop_values, top_counter, top_plain, top_three, top_two, top_value};
+ghost use Rattle.a68_stack.specs.Values.{callers, is_caller, pop_values, top_counter, top_plain, top_three, top_two, top_value};
 
 use crate::Caller;
+use crate::kept::Kept;
 use a68_acts::Counter;
 use a68_base::NoMemory;
 use a68_values::{Plain, Value, Values};
 use std::alloc::Global;
 use std::marker::Model;
+use std::mem;
 
 /// What stands on a stack: a value, the counter of a loop, or the caller of the activation whose items stand above it.
 #[derive(Drop)]
@@ -22,7 +26,7 @@ pub enum Item {
 
 /// A stack. Contracts see the list of its items, the topmost first.
 pub struct Stack {
-    items: Vec<Item>,
+    items: Vec<Kept>,
     // How many callers stand on it, so that nobody has to count them.
     open_calls: usize,
 }
@@ -50,17 +54,6 @@ impl Model for Stack {
     ghost view = { λ stack. reverse stack.items.items };
 
     ghost invariant = { λ stack. stack.open_calls ≡ callers (reverse stack.items.items) };
-}
-
-// The plain value that an item is.
-#[inline(always)]
-fn plain_in(item: &Item) -> Option<Plain>
-    ensures { result ≡ plain_in item.now }
-{
-    match item {
-        Item::Value(value) => value.plain(),
-        Item::Counter(_) | Item::Caller(_) => None,
-    }
 }
 
 // Is it a caller?
@@ -96,7 +89,8 @@ impl Stack {
         ensures err { OnErr result (self.new ≡ self.old) }
     {
         let calls = is_caller(&item);
-        self.items.push(item)?;
+        let kept = Kept::of(*self.items.allocator(), item)?;
+        self.items.push(kept)?;
         if calls {
             self.open_calls += 1;
         }
@@ -124,7 +118,22 @@ impl Stack {
         ensures ok { OnOk result (self.new ≡ Item.Value value ∷ self.old) }
         ensures err { OnErr result (self.new ≡ self.old) }
     {
-        self.items.push(Item::Value(value))?;
+        if let Some(held) = value.plain() {
+            // A plain value holds no memory.
+            mem::forget(value);
+            return self.push_plain(held);
+        }
+        self.push_boxed(value)
+    }
+
+    // Puts a value on top that is not plain, in a box.
+    #[inline(never)]
+    fn push_boxed(&mut self, value: Value) -> Result<(), NoMemory>
+        ensures ok { OnOk result (self.new ≡ Item.Value value ∷ self.old) }
+        ensures err { OnErr result (self.new ≡ self.old) }
+    {
+        let kept = Kept::of_value(*self.items.allocator(), value)?;
+        self.items.push(kept)?;
         Ok(())
     }
 
@@ -134,7 +143,7 @@ impl Stack {
         ensures ok { OnOk result (self.new ≡ Item.Value (plain held) ∷ self.old) }
         ensures err { OnErr result (self.new ≡ self.old) }
     {
-        self.items.push(Item::Value(Value::of(held)))?;
+        self.items.push(Kept::of_plain(held))?;
         Ok(())
     }
 
@@ -143,11 +152,13 @@ impl Stack {
     pub fn pop(&mut self) -> Option<Item>
         ensures { MatchOption result ((self.old ≡ []) × (self.new ≡ [])) (λ item. self.old ≡ item ∷ self.new) }
     {
-        let item = self.items.pop();
-        if let Some(Item::Caller(_)) = &item {
+        let Some(kept) = self.items.pop() else {
+            return None;
+        };
+        if kept.is_caller() {
             self.open_calls -= 1;
         }
-        item
+        Some(kept.into_item())
     }
 
     /// The plain value on top; none where another item is on top, or none is.
@@ -156,7 +167,7 @@ impl Stack {
         ensures { result ≡ top_plain self.now }
     {
         match self.items.last() {
-            Some(item) => plain_in(item),
+            Some(kept) => kept.plain(),
             None => None,
         }
     }
@@ -166,9 +177,29 @@ impl Stack {
     pub fn take_plain(&mut self) -> Option<Plain>
         ensures { MatchOption result ((top_plain self.old ≡ None) × (self.new ≡ self.old)) (λ held. self.old ≡ Item.Value (plain held) ∷ self.new) }
     {
-        let held = plain_in(self.items.last()?)?;
-        drop(self.items.pop());
+        let held = self.items.last()?.plain()?;
+        // A plain value holds no memory, and to forget it spares the look at what it is.
+        mem::forget(self.items.pop());
         Some(held)
+    }
+
+    /// Lets the topmost item go where it is a plain value; elsewhere the stack stays.
+    #[inline(always)]
+    pub fn drop_plain(&mut self) -> bool
+        ensures { MatchBool result ((p : Plain) × (self.old ≡ Item.Value (plain p) ∷ self.new)) ((top_plain self.old ≡ None) × (self.new ≡ self.old)) }
+    {
+        self.take_plain().is_some()
+    }
+
+    /// Puts a plain value in the place of the topmost item where that is a plain value; elsewhere the stack stays.
+    #[inline(always)]
+    pub fn set_plain(&mut self, held: Plain) -> bool
+        ensures { MatchBool result ((p : Plain) × (rest : List Item) × (self.old ≡ Item.Value (plain p) ∷ rest) × (self.new ≡ Item.Value (plain held) ∷ rest)) ((top_plain self.old ≡ None) × (self.new ≡ self.old)) }
+    {
+        let Some(kept) = self.items.last_mut() else {
+            return false;
+        };
+        kept.set_plain(held)
     }
 
     /// The two topmost items, the lower one first; none where they are not both plain values.
@@ -179,10 +210,9 @@ impl Stack {
         let [.., below, topmost] = self.items.as_slice() else {
             return None;
         };
-        match (plain_in(below), plain_in(topmost)) {
-            (Some(left), Some(right)) => Some((left, right)),
-            _ => None,
-        }
+        let right = topmost.plain()?;
+        let left = below.plain()?;
+        Some((left, right))
     }
 
     /// The three topmost items, the lowest one first; none where they are not all plain values.
@@ -193,10 +223,10 @@ impl Stack {
         let [.., lowest, below, topmost] = self.items.as_slice() else {
             return None;
         };
-        match (plain_in(lowest), plain_in(below), plain_in(topmost)) {
-            (Some(first), Some(second), Some(third)) => Some((first, second, third)),
-            _ => None,
-        }
+        let third = topmost.plain()?;
+        let second = below.plain()?;
+        let first = lowest.plain()?;
+        Some((first, second, third))
     }
 
     /// Takes the two topmost items off where they are plain values, the lower one first; elsewhere the stack stays.
@@ -205,9 +235,47 @@ impl Stack {
         ensures { MatchOption result ((top_two self.old ≡ None) × (self.new ≡ self.old)) (λ two. self.old ≡ Item.Value (plain two.1) ∷ Item.Value (plain two.0) ∷ self.new) }
     {
         let two = self.two_plain()?;
-        drop(self.pop());
-        drop(self.pop());
+        // Neither holds any memory.
+        mem::forget(self.items.pop());
+        mem::forget(self.items.pop());
         Some(two)
+    }
+
+    /// Lets the two topmost items go where they are plain values; elsewhere the stack stays.
+    #[inline(always)]
+    pub fn drop_two(&mut self) -> bool
+        ensures { MatchBool result ((l : Plain) × (r : Plain) × (self.old ≡ Item.Value (plain r) ∷ Item.Value (plain l) ∷ self.new)) ((top_two self.old ≡ None) × (self.new ≡ self.old)) }
+    {
+        self.take_two().is_some()
+    }
+
+    /// Puts a plain value in the place of the two topmost items where they are plain values; elsewhere the stack stays.
+    #[inline(always)]
+    pub fn set_two(&mut self, held: Plain) -> bool
+        ensures { MatchBool result ((l : Plain) × (r : Plain) × (rest : List Item) × (self.old ≡ Item.Value (plain r) ∷ Item.Value (plain l) ∷ rest) × (self.new ≡ Item.Value (plain held) ∷ rest)) ((top_two self.old ≡ None) × (self.new ≡ self.old)) }
+    {
+        if self.two_plain().is_none() {
+            return false;
+        }
+        let below = self.items.len() - 2;
+        // Neither holds any memory, and nothing is looked at again.
+        mem::forget(self.items.pop());
+        mem::forget(mem::replace(&mut self.items[below], Kept::of_plain(held)));
+        true
+    }
+
+    /// Lets the item below the topmost one go where both are plain values; elsewhere the stack stays.
+    #[inline(always)]
+    pub fn keep_top(&mut self) -> bool
+        ensures { MatchBool result ((l : Plain) × (r : Plain) × (rest : List Item) × (self.old ≡ Item.Value (plain r) ∷ Item.Value (plain l) ∷ rest) × (self.new ≡ Item.Value (plain r) ∷ rest)) ((top_two self.old ≡ None) × (self.new ≡ self.old)) }
+    {
+        if self.two_plain().is_none() {
+            return false;
+        }
+        let lower = self.items.len() - 2;
+        // The lower one holds no memory.
+        mem::forget(self.items.swap_remove(lower));
+        true
     }
 
     /// Takes the topmost item off where it is a counter; elsewhere the stack stays.
@@ -216,7 +284,7 @@ impl Stack {
         ensures { MatchOption result ((top_counter self.old ≡ None) × (self.new ≡ self.old)) (λ counter. self.old ≡ Item.Counter counter ∷ self.new) }
     {
         let counter = self.counter()?;
-        drop(self.pop());
+        drop(self.items.pop());
         Some(counter)
     }
 
@@ -225,13 +293,20 @@ impl Stack {
     pub fn drop_value(&mut self) -> bool
         ensures { MatchBool result ((value : Content) × (self.old ≡ Item.Value value ∷ self.new)) (pop_values 1 self.old [] ≡ None) }
     {
-        let popped = self.pop();
-        let is_value = match &popped {
-            Some(Item::Value(_)) => true,
-            _ => false,
-        };
-        drop(popped);
-        is_value
+        self.drop_plain() || self.drop_boxed()
+    }
+
+    // Lets the topmost value go, also one in a box; false where no value is on top.
+    #[inline(never)]
+    fn drop_boxed(&mut self) -> bool
+        ensures { MatchBool result ((value : Content) × (self.old ≡ Item.Value value ∷ self.new)) ((pop_values 1 self.old [] ≡ None) × (self.new ≡ self.old)) }
+    {
+        match self.items.last() {
+            Some(kept) if kept.is_value() => {}
+            _ => return false,
+        }
+        drop(self.items.pop());
+        true
     }
 
     /// Takes the topmost value off; none where no value is on top, and then an item may be gone.
@@ -274,9 +349,20 @@ impl Stack {
         ensures { result ≡ top_counter self.now }
     {
         match self.items.last() {
-            Some(Item::Counter(counter)) => Some(*counter),
-            _ => None,
+            Some(kept) => kept.counter(),
+            None => None,
         }
+    }
+
+    /// Puts a counter in the place of the topmost item where that is a counter; elsewhere the stack stays.
+    #[inline(always)]
+    pub fn set_counter(&mut self, counter: Counter) -> bool
+        ensures { MatchBool result ((c : Counter) × (rest : List Item) × (self.old ≡ Item.Counter c ∷ rest) × (self.new ≡ Item.Counter counter ∷ rest)) ((top_counter self.old ≡ None) × (self.new ≡ self.old)) }
+    {
+        let Some(kept) = self.items.last_mut() else {
+            return false;
+        };
+        kept.set_counter(counter)
     }
 
     /// The scope of the value on top; none where there is none.
@@ -284,8 +370,8 @@ impl Stack {
         ensures { result ≡ option_map scope_of (top_value self.now) }
     {
         match self.items.last() {
-            Some(Item::Value(value)) => Some(value.scope()),
-            _ => None,
+            Some(kept) => kept.scope(),
+            None => None,
         }
     }
 }

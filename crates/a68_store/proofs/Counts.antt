@@ -6,7 +6,7 @@ use Rattle.std.proofs.lemmas.List.Sums.{sum_by-cons}
 use Rattle.a68_acts.specs.Store.{slot_weight}
 use Rattle.a68_values.specs.Content.{Content}
 
-weight-pos : (slot : Option Content) → 1 ≤ slot_weight slot
+pub weight-pos : (slot : Option Content) → 1 ≤ slot_weight slot
 weight-pos None = omega arith
 weight-pos (Some v) = omega arith
 

@@ -2,33 +2,19 @@
 use Rattle.std.proofs.Common.{◌≡◌, ◌⊎◌, inl, inr, Bool, true, false, ℕ, zero, suc, ◌+◌, ◌<◌, ◌≤◌, List, [], ◌∷◌, ◌++◌, length, get_or, ap, sym, ◌∙◌, refl, arith}
 use Rattle.std.specs.Prelude.{None, Some, slice_get, slice_set, nat_eq, if◌then◌else◌, sum_by}
 use Rattle.std.specs.declared.option.Option.{Option}
+use Rattle.std.specs.Option.{option_map}
 use Rattle.std.proofs.lemmas.List.Sums.{get_or-le-sum_by, sum_by-set}
-use Rattle.std.proofs.lemmas.Option.{slice_get_within, get_or_from_slice_get}
+use Rattle.std.proofs.lemmas.Option.{same_Some, slice_get-map, slice_get_within, get_or_from_slice_get}
 use Rattle.a68_acts.specs.Store as store
 use Rattle.a68_acts.specs.Store.{chain_step, chain_within, chain_of, frame_weight, slot_weight}
 use Rattle.a68_store.specs.Frames.{frame_of, frames_of, AreLinked}
 use Rattle.a68_store.specs.declared.frame.Frame.{Frame}
-use Rattle.a68_store.proofs.Counts.{length-le-weight}
 use Rattle.a68_values.specs.Content.{Content}
 use Rattle.a68_values.specs.declared.chain.Environ.{Environ}
 
--- a frame that the code reads is the one that contracts see
-pub frames-at : (fs : List Frame) (f : ℕ) (frame : Frame) → f < length fs → frame ≡ get_or fs f frame → slice_get (frames_of fs) f ≡ Some (frame_of frame)
-frames-at [] f frame h e = absurd (omega arith)
-frames-at (g ∷ fs) zero frame h e = ap (λ x. Some (frame_of x)) (sym e)
-frames-at (g ∷ fs) (suc f) frame h e = frames-at fs f frame (omega arith) e
-
-pub length-frames_of : (fs : List Frame) → length (frames_of fs) ≡ length fs
-length-frames_of [] = refl
-length-frames_of (g ∷ fs) = let more = length-frames_of fs in omega (arith, more)
-
--- a frame's slots are counted
-pub slots-le-counted : (fs : List store.Frame) (f : ℕ) (frame : store.Frame) → slice_get fs f ≡ Some frame → length frame.slots ≤ sum_by frame_weight fs
-slots-le-counted fs f frame e =
-    let here : f < length fs = slice_get_within fs f frame e in
-    let same : get_or fs f frame ≡ frame = get_or_from_slice_get fs f frame frame e in
-    let weight : frame_weight frame ≤ sum_by frame_weight fs = rw same at (get_or-le-sum_by frame_weight fs f frame here) in
-    omega (arith, weight, length-le-weight frame.slots)
+pub length-frames_of : (bound : List (Option Content)) (fs : List Frame) → length (frames_of bound fs) ≡ length fs
+length-frames_of bound [] = refl
+length-frames_of bound (g ∷ fs) = let more = length-frames_of bound fs in omega (arith, more)
 
 -- ---- a list by place, after a write and behind one more element
 
@@ -64,9 +50,6 @@ module _ {A : Type 0} where
       elim (get-append_cases xs x i z e) [ inl p ↦ inl (ap suc p.0, p.1) | inr q ↦ inr q ]
 
 -- ---- a slot that is bound
-
-pub with_slots : store.Frame → List (Option Content) → store.Frame
-with_slots frame slots = record frame { slots = slots }
 
 -- what the frames count once a slot is bound
 pub sum-bind : (fs : List store.Frame) (f s : ℕ) (frame : store.Frame) (old new : Option Content) → slice_get fs f ≡ Some frame
@@ -172,6 +155,36 @@ chain-enter fs new linked within =
     chain-inner (fs ++ new ∷ []) (length fs) new (linked-enter fs new linked within) (get-append_last fs new) (omega arith)
     ∙ ap (λ l. record { frame = length fs; scope = new.scope } ∷ l) (chain-append fs new linked (suc new.outer) new.outer within)
 
-pub frames_of-push : (fs : List Frame) (new : Frame) → frames_of (fs ++ new ∷ []) ≡ frames_of fs ++ frame_of new ∷ []
-frames_of-push [] new = refl
-frames_of-push (g ∷ fs) new = ap (λ l. frame_of g ∷ l) (frames_of-push fs new)
+pub frames_of-push : (bound : List (Option Content)) (fs : List Frame) (new : Frame) → frames_of bound (fs ++ new ∷ []) ≡ frames_of bound fs ++ frame_of bound new ∷ []
+frames_of-push bound [] new = refl
+frames_of-push bound (g ∷ fs) new = ap (λ l. frame_of bound g ∷ l) (frames_of-push bound fs new)
+
+-- ---- chains ask for no slots
+
+link-in : (one other : List (Option Content)) (o : Option Frame) (frame : store.Frame) → option_map (frame_of one) o ≡ Some frame
+    → (same : store.Frame) × (option_map (frame_of other) o ≡ Some same) × (same.outer ≡ frame.outer)
+link-in one other None frame e = cc
+link-in one other (Some g) frame e = (frame_of other g, refl, ap (λ (x : store.Frame). x.outer) (same_Some _ _ e))
+
+pub linked-other : (one other : List (Option Content)) (fs : List Frame) → AreLinked (frames_of one fs) → AreLinked (frames_of other fs)
+linked-other one other fs linked f frame is pos =
+    let found = link-in other one (slice_get fs f) frame (sym (slice_get-map (frame_of other) fs f) ∙ is) in
+    let out : found.0.outer < f = linked f found.0 (slice_get-map (frame_of one) fs f ∙ found.1) pos in
+    let same : found.0.outer ≡ frame.outer = found.2 in
+    omega (arith, out, same)
+
+step-other : (one other : List (Option Content)) (f : ℕ) (o : Option Frame) (g h : ℕ → List Environ) → ((n : ℕ) → g n ≡ h n)
+    → chain_step f (option_map (frame_of one) o) g ≡ chain_step f (option_map (frame_of other) o) h
+step-other one other f None g h e = refl
+step-other one other f (Some frame) g h e = ap (λ (l : List Environ). let this : Environ = record { frame = f; scope = frame.scope } in this ∷ (if nat_eq f 0 then [] else l)) (e frame.outer)
+
+chain-other_in : (one other : List (Option Content)) (fs : List Frame) (n f : ℕ) → chain_within n (frames_of one fs) f ≡ chain_within n (frames_of other fs) f
+chain-other_in one other fs zero f = refl
+chain-other_in one other fs (suc n) f =
+    ap (λ o. chain_step f o (chain_within n (frames_of one fs))) (slice_get-map (frame_of one) fs f)
+    ∙ step-other one other f (slice_get fs f) (chain_within n (frames_of one fs)) (chain_within n (frames_of other fs)) (λ m. chain-other_in one other fs n m)
+    ∙ ap (λ o. chain_step f o (chain_within n (frames_of other fs))) (sym (slice_get-map (frame_of other) fs f))
+
+pub chain-other : (one other : List (Option Content)) (fs : List Frame) (f : ℕ) → chain_of (frames_of one fs) f ≡ chain_of (frames_of other fs) f
+unfolding chain_of
+chain-other one other fs f = chain-other_in one other fs (suc f) f

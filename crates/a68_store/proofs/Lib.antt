@@ -1,4 +1,5 @@
 pub mod Binding
 pub mod Counts
 pub mod FramesLemmas
+pub mod Places
 pub mod Rows

@@ -8,7 +8,7 @@ use Rattle.std.proofs.lemmas.Option.{slice_get_within}
 use Rattle.a68_store.specs.Acts.{has_to_wait}
 use Rattle.a68_store.specs.Frames.{slot_in}
 use Rattle.a68_acts.proofs.Waiting.{LowersNone, waits_where}
-use Rattle.a68_acts.specs.Does.{Outcome, did, refuses, waits, refused, does, with_slot, looked, count_held, count_in, with_count, raised, lowered, is_int}
+use Rattle.a68_acts.specs.Does.{Outcome, did, refuses, waits, refused, does, with_slot, count_held, count_in, with_count, raised, lowered, is_int}
 use Rattle.a68_acts.specs.Store.{Frame, Store, chain_of, counted, slot_weight, most_counted}
 use Rattle.a68_acts.specs.declared.want.Reply.TheVariants as reply
 use Rattle.a68_acts.specs.declared.want.Want.{Want}
@@ -19,11 +19,6 @@ use Rattle.a68_values.specs.declared.act.FaultKind.TheVariants as fault
 use Rattle.a68_values.specs.declared.held.Held.{Held}
 use Rattle.a68_values.specs.declared.held.Held.TheVariants as held
 use Rattle.a68_values.specs.declared.plain.Plain.TheVariants as value
-
-pub look-row : (store : Store) (f s : ℕ) (frame : Frame) (slot : Option Content) → slice_get store.frames f ≡ Some frame → slice_get frame.slots s ≡ Some slot
-    → does (want.Look f s) store ≡ looked store f s (Some slot)
-unfolding does
-look-row store f s frame slot there here = rw (there, here) refl
 
 pub bind-did : (store : Store) (f s : ℕ) (v : Content) (frame : Frame) (old : Option Content) → slice_get store.frames f ≡ Some frame
     → slice_get frame.slots s ≡ Some old → counted store + slot_weight (Some v) ≤ most_counted + slot_weight old

@@ -4,6 +4,8 @@
 mod chains;
 mod frame;
 mod plans;
+mod room;
+mod slot;
 mod stop;
 mod store;
 mod weight;

@@ -8,10 +8,12 @@ ghost use Rattle.a68_store.specs.Frames.{HasSlot, frame_of, plain_bound, plain_h
 ghost use Rattle.a68_values.specs.Content.{plain};
 
 use crate::chains::chain_behind;
-use crate::frame::Frame;
+use crate::frame::{Frame, place};
 use crate::plans::{cells_from, is_closed};
+use crate::room::{add_unbound, keep, make_room, push_frame};
+use crate::slot::{Slot, SlotNode};
 use crate::stop::StoreStop;
-use crate::weight::{slot_weight, weight};
+use crate::weight::weight;
 use a68_acts::{Reply, Want};
 use a68_base::{MOST_COUNTED, MOST_PRINTED, MOST_STRANDS, NoMemory, Span, Text};
 use a68_layout::Plan;
@@ -27,6 +29,10 @@ use std::mem;
 pub struct Store {
     cells: Vec<Held>,
     frames: Vec<Frame>,
+    // The slots of all frames, those of each behind those of the frame before.
+    slots: Vec<Slot>,
+    // Holds nothing: room for what is kept of frame 1, since that may take no memory once the run has ended.
+    kept: Vec<Option<Value>>,
     text: Vec<u8>,
     // What the store counts.
     counted: u32,
@@ -39,6 +45,8 @@ impl Drop for Store {
         let Store {
             cells: _,
             frames: _,
+            slots: _,
+            kept: _,
             text: _,
             counted: _,
             strands: _,
@@ -61,44 +69,13 @@ impl Model for Store {
     ghost invariant = { IsSound };
 }
 
-// Binds a slot of a frame.
-fn set_slot(frame: &mut Frame, slot: u32, value: Value)
-    requires { slot < vec_len frame.old.slots }
-    ensures { frame_of frame.new ≡ record (frame_of frame.old) { slots = slice_set frame.old.slots.items slot (Some value) } }
-{
-    let old = mem::replace(&mut frame.slots[slot as usize], Some(value));
-    drop(old);
-}
-
-// The plain value to which a slot is bound; none where it is bound to none.
+// Binds a slot, and lets what it was bound to go.
 #[inline(always)]
-fn plain_value(slot: &Option<Value>) -> Option<Plain>
-    ensures { result ≡ plain_bound (Some slot.now) }
+fn set_slot(slot: &mut Slot, bound: Slot)
+    ensures { slot.new ≡ bound }
 {
-    match slot {
-        None => None,
-        Some(value) => value.plain(),
-    }
-}
-
-// So many slots that are not bound put where there are none.
-fn add_unbound(unbound: &mut Vec<Option<Value>>, slots: u32) -> Result<(), NoMemory>
-    requires { unbound.old.items ≡ [] }
-    ensures { OnOk result (unbound.new.items ≡ replicate slots None) }
-{
-    for _ in 0..slots {
-        unbound.push(None)?;
-    }
-    Ok(())
-}
-
-// So many slots that are not bound.
-fn unbound(alloc: Global, slots: u32) -> Result<Vec<Option<Value>>, NoMemory>
-    ensures { IfOk result (λ unbound. unbound.items ≡ replicate slots None) }
-{
-    let mut unbound = Vec::with_capacity(alloc, slots as usize)?;
-    add_unbound(&mut unbound, slots)?;
-    Ok(unbound)
+    let old = mem::replace(slot, bound);
+    drop(old);
 }
 
 // The plain value that is held; none where another is.
@@ -160,11 +137,14 @@ impl Store {
         frames.push(Frame {
             outer: 0,
             scope: 0,
-            slots: Vec::new(alloc),
+            first: 0,
+            count: 0,
         })?;
         Ok(Store {
             cells: Vec::new(alloc),
             frames,
+            slots: Vec::new(alloc),
+            kept: Vec::new(alloc),
             text: Vec::new(alloc),
             counted: 0,
             strands: 1,
@@ -184,7 +164,7 @@ impl Store {
         requires { frame < length self.now.frames }
         ensures { IfSome (slice_get self.now.frames frame) (λ f. result ≡ length f.slots) }
     {
-        self.frames[frame as usize].slots.len() as u32
+        self.frames[frame as usize].count
     }
 
     /// The number of the next frame; none where a frame could have no number. It takes no memory.
@@ -213,12 +193,22 @@ impl Store {
             ≡ did (Act.Enter (length self.old.frames)) (Reply.Frame (record { frame = length self.old.frames; scope = scope } ∷ chain_of self.old.frames outer)) self.new) }
         ensures err { OnErr result (self.new ≡ self.old) }
     {
-        let slots_of_frame = unbound(alloc, slots)?;
-        self.frames.push(Frame {
+        let first = self.slots.len() as u32;
+        let frame = Frame {
             outer,
             scope,
-            slots: slots_of_frame,
-        })?;
+            first,
+            count: slots,
+        };
+        make_room(
+            alloc,
+            &mut self.frames,
+            &mut self.slots,
+            &mut self.kept,
+            frame,
+        )?;
+        push_frame(&mut self.frames, frame);
+        add_unbound(&mut self.slots, slots);
         self.counted += slots;
         Ok(())
     }
@@ -274,13 +264,18 @@ impl Store {
         ensures { DoesAct result (λ u. Act.Bind frame slot) (λ u. Reply.Go)
             (does (Want.Bind frame slot value) self.old) self.old self.new }
     {
+        let Some(place) = place(&self.frames, frame, slot) else {
+            drop(value);
+            return Err(StoreStop::Fault(FaultKind::Kind));
+        };
         let added = weight(&value).saturating_add(1);
-        let replaced = slot_weight(&self.frames[frame as usize].slots[slot as usize]);
+        let replaced = self.slots[place].weight();
         if added > u64::from(MOST_COUNTED - self.counted) + replaced {
             drop(value);
             return Err(StoreStop::Fault(FaultKind::Cells));
         }
-        set_slot(&mut self.frames[frame as usize], slot, value);
+        let bound = Slot::of(*self.slots.allocator(), value)?;
+        set_slot(&mut self.slots[place], bound);
         self.counted = (u64::from(self.counted) - replaced + added) as u32;
         Ok(())
     }
@@ -290,10 +285,13 @@ impl Store {
     pub fn bind_plain(&mut self, frame: u32, slot: u32, held: Plain) -> bool
         ensures { MatchBool result (does (Want.Bind frame slot (plain held)) self.old ≡ did (Act.Bind frame slot) Reply.Go self.new) (self.new ≡ self.old) }
     {
-        if self.slot(frame, slot).is_none() {
+        let Some(place) = place(&self.frames, frame, slot) else {
             return false;
-        }
-        self.bind(frame, slot, Value::of(held)).is_ok()
+        };
+        let replaced = self.slots[place].weight();
+        set_slot(&mut self.slots[place], Slot::plain(held));
+        self.counted = (u64::from(self.counted) - replaced + 1) as u32;
+        true
     }
 
     /// The value that a slot is bound to. A plain value takes no memory.
@@ -303,17 +301,22 @@ impl Store {
         ensures { DoesAct result (λ value. Act.Look frame slot) (λ value. Reply.Value value)
             (does (Want.Look frame slot) self.now) self.now self.now }
     {
-        match &self.frames[frame as usize].slots[slot as usize] {
-            None => Err(StoreStop::Fault(FaultKind::Unset)),
-            Some(value) => Ok(value.copy(alloc)?),
+        let Some(slot) = self.slot(frame, slot) else {
+            return Err(StoreStop::Fault(FaultKind::Kind));
+        };
+        match &slot.node {
+            SlotNode::Unbound => Err(StoreStop::Fault(FaultKind::Unset)),
+            SlotNode::Plain(held) => Ok(Value::of(*held)),
+            SlotNode::Other(value) => Ok(value.copy(alloc)?),
         }
     }
 
     /// The plain value that a slot is bound to; none where it is bound to none, or is not there. It takes no memory.
+    #[inline(always)]
     pub fn plain_at(&self, frame: u32, slot: u32) -> Option<Plain>
         ensures { result ≡ plain_bound (slot_in self.now frame slot) }
     {
-        plain_value(self.slot(frame, slot)?)
+        self.slot(frame, slot)?.held()
     }
 
     /// How many cells there are. It takes no memory.
@@ -351,6 +354,7 @@ impl Store {
     }
 
     /// The plain value that a cell holds; none where it holds another, or is not there. It takes no memory.
+    #[inline(always)]
     pub fn plain_in(&self, cell: u32) -> Option<Plain>
         ensures { result ≡ plain_held (slice_get self.now.cells cell) }
     {
@@ -436,11 +440,12 @@ impl Store {
     }
 
     // The slot of a frame, where they are there.
-    fn slot(&self, frame: u32, slot: u32) -> Option<&Option<Value>>
+    #[inline(always)]
+    fn slot(&self, frame: u32, slot: u32) -> Option<&Slot>
         ensures { option_copied result ≡ slot_in self.now frame slot }
     {
-        let frame = self.frames.get(frame as usize)?;
-        frame.slots.get(slot as usize)
+        let place = place(&self.frames, frame, slot)?;
+        Some(&self.slots[place])
     }
 
     // The count of a semaphore; none where its cell is not there or holds another value.
@@ -478,7 +483,7 @@ impl Store {
             return Some(FaultKind::Kind);
         };
         let added = weight(value).saturating_add(1);
-        if added.saturating_sub(slot_weight(old)) > u64::from(MOST_COUNTED - self.counted) {
+        if added.saturating_sub(old.weight()) > u64::from(MOST_COUNTED - self.counted) {
             return Some(FaultKind::Cells);
         }
         None
@@ -487,11 +492,13 @@ impl Store {
     fn fault_of_look(&self, frame: u32, slot: u32) -> Option<FaultKind>
         ensures { result ≡ refused (does (Want.Look frame slot) self.now) }
     {
-        match self.slot(frame, slot) {
-            None => Some(FaultKind::Kind),
-            Some(None) => Some(FaultKind::Unset),
-            Some(Some(_)) => None,
+        let Some(found) = self.slot(frame, slot) else {
+            return Some(FaultKind::Kind);
+        };
+        if found.is_bound() {
+            return None;
         }
+        Some(FaultKind::Unset)
     }
 
     fn fault_of_make(&self, plan: &Plan) -> Option<FaultKind>
@@ -603,19 +610,17 @@ impl Store {
     {
         let Store {
             cells,
-            mut frames,
+            frames,
+            mut slots,
+            mut kept,
             text,
             counted: _,
             strands: _,
         } = self;
-        let slots = if frames.len() > 1 {
-            frames.swap_remove(1).slots
-        } else {
-            Vec::new(*cells.allocator())
-        };
+        keep(&mut kept, &frames, &mut slots);
         (
             Cells { items: cells },
-            Slots { items: slots },
+            Slots { items: kept },
             Text { items: text },
         )
     }

@@ -1,6 +1,6 @@
 //! How many values are within a value.
 ghost use Rattle.std.specs.Prelude.{◌≡◌, ◌-◌, ◌^◌, min};
-ghost use Rattle.a68_acts.specs.Store.{further_parts, all_parts, slot_weight};
+ghost use Rattle.a68_acts.specs.Store.{further_parts, all_parts};
 ghost use Rattle.a68_values.specs.Content.{contents_of};
 
 use a68_values::{Value, ValueNode, Values};
@@ -29,15 +29,4 @@ fn weight_of_all(parts: &Values) -> u64
         all = all.saturating_add(1).saturating_add(weight(part));
     }
     all
-}
-
-/// What a slot counts: itself, and the values within the one that it is bound to; at the last value of u64 it stands
-/// still.
-pub fn slot_weight(slot: &Option<Value>) -> u64
-    ensures { result ≡ min (slot_weight slot.now) (2 ^ 64 - 1) }
-{
-    match slot {
-        None => 1,
-        Some(value) => weight(value).saturating_add(1),
-    }
 }

@@ -1,9 +1,8 @@
 //! Operators of the standard environ, and how values are written, by hand.
 use crate::table::{agrees, cut, holds};
 use a68_base::Text;
-use a68_ops::{
-    OpStop, apply, apply_monadic, apply_plain, candidates, item_text, priority_of, updated, whole,
-};
+use a68_ops::{OpStop, apply, apply_monadic, apply_plain, item_text, updated, whole};
+use a68_signs::{candidates, priority_of};
 use a68_values::{Bounds, Layout, Plain, Value, ValueNode, Values};
 use std::alloc::Global;
 use std::panic::Expect;

@@ -1,7 +1,7 @@
--- The reserved words, the standard operator words, and the marks that open, close and separate (9.4; which words there are
--- is own).
-use Rattle.std.specs.Prelude.{ℕ, List, [], ◌∷◌, codes, map, slice_get, Option, Some, None}
+-- The reserved words, and the marks that open, close and separate (9.4; which words there are is own).
+use Rattle.std.specs.Prelude.{ℕ, List, [], ◌∷◌, codes, map, slice_get, Option, Some, None, if◌then◌else◌}
 use Rattle.a68_base.specs.Tables.{find}
+use Rattle.a68_signs.specs.Signs.{is_sign}
 use Rattle.a68_symbols.specs.declared.symbol.Symbol.{Symbol}
 use Rattle.a68_symbols.specs.declared.symbol.SymbolKind.{SymbolKind}
 use Rattle.a68_symbols.specs.declared.symbol.SymbolKind.TheVariants as kinds
@@ -60,42 +60,6 @@ reserved =
     (codes "FALSE", Reserved) ∷
     []
 
--- the standard operators: those before an operand alone; those between operands, LWB and UPB among them; those that
--- compare; those that assign
-abbrev pub standard : List (List ℕ × Role)
-standard =
-    (codes "NOT", Standard) ∷
-    (codes "ABS", Standard) ∷
-    (codes "SIGN", Standard) ∷
-    (codes "ODD", Standard) ∷
-    (codes "REPR", Standard) ∷
-    (codes "BIN", Standard) ∷
-    (codes "LEVEL", Standard) ∷
-    (codes "UP", Standard) ∷
-    (codes "DOWN", Standard) ∷
-    (codes "OVER", Standard) ∷
-    (codes "MOD", Standard) ∷
-    (codes "ELEM", Standard) ∷
-    (codes "AND", Standard) ∷
-    (codes "OR", Standard) ∷
-    (codes "SHL", Standard) ∷
-    (codes "SHR", Standard) ∷
-    (codes "LWB", Standard) ∷
-    (codes "UPB", Standard) ∷
-    (codes "EQ", Standard) ∷
-    (codes "NE", Standard) ∷
-    (codes "LT", Standard) ∷
-    (codes "LE", Standard) ∷
-    (codes "GE", Standard) ∷
-    (codes "GT", Standard) ∷
-    (codes "PLUSAB", Standard) ∷
-    (codes "MINUSAB", Standard) ∷
-    (codes "TIMESAB", Standard) ∷
-    (codes "OVERAB", Standard) ∷
-    (codes "MODAB", Standard) ∷
-    (codes "PLUSTO", Standard) ∷
-    []
-
 -- the marks that open, close, separate and define
 abbrev pub marks : List (List ℕ × Role)
 marks =
@@ -115,9 +79,9 @@ abbrev pub or_else : Option Role → Role → Role
 or_else (Some r) s = r
 or_else None s = s
 
--- a word
+-- a word: the operators of the standard environ that are words are those of the table of signs
 abbrev pub word_role : List ℕ → Role
-word_role s = or_else (find reserved s) (or_else (find standard s) Bold)
+word_role s = or_else (find reserved s) (if is_sign s then Standard else Bold)
 
 -- a mark
 abbrev pub mark_role : List ℕ → Role

@@ -4,6 +4,7 @@ ghost use Rattle.a68_words.specs.Spellings as spellings;
 
 use crate::role::Role;
 use a68_base::{NoMemory, find};
+use a68_signs::is_sign;
 use a68_symbols::{SymbolKind, Symbols};
 use std::alloc::Global;
 
@@ -60,44 +61,6 @@ fn reserved() -> &'static [(&'static str, Role)]
     ]
 }
 
-// The standard operator words.
-fn standard() -> &'static [(&'static str, Role)]
-    ensures { map (λ row. (row.0.now, row.1)) result.now ≡ spellings.standard }
-{
-    &[
-        ("NOT", Role::Standard),
-        ("ABS", Role::Standard),
-        ("SIGN", Role::Standard),
-        ("ODD", Role::Standard),
-        ("REPR", Role::Standard),
-        ("BIN", Role::Standard),
-        ("LEVEL", Role::Standard),
-        ("UP", Role::Standard),
-        ("DOWN", Role::Standard),
-        ("OVER", Role::Standard),
-        ("MOD", Role::Standard),
-        ("ELEM", Role::Standard),
-        ("AND", Role::Standard),
-        ("OR", Role::Standard),
-        ("SHL", Role::Standard),
-        ("SHR", Role::Standard),
-        ("LWB", Role::Standard),
-        ("UPB", Role::Standard),
-        ("EQ", Role::Standard),
-        ("NE", Role::Standard),
-        ("LT", Role::Standard),
-        ("LE", Role::Standard),
-        ("GE", Role::Standard),
-        ("GT", Role::Standard),
-        ("PLUSAB", Role::Standard),
-        ("MINUSAB", Role::Standard),
-        ("TIMESAB", Role::Standard),
-        ("OVERAB", Role::Standard),
-        ("MODAB", Role::Standard),
-        ("PLUSTO", Role::Standard),
-    ]
-}
-
 // The marks that open, close, separate and define.
 fn marks() -> &'static [(&'static str, Role)]
     ensures { map (λ row. (row.0.now, row.1)) result.now ≡ spellings.marks }
@@ -118,11 +81,9 @@ fn marks() -> &'static [(&'static str, Role)]
 fn word_role(s: &[u8]) -> Role
     ensures { result ≡ spellings.word_role s.now }
 {
-    if let Some(role) = find(reserved(), s) {
-        return role;
-    }
-    match find(standard(), s) {
+    match find(reserved(), s) {
         Some(role) => role,
+        None if is_sign(s) => Role::Standard,
         None => Role::Bold,
     }
 }

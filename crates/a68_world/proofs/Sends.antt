@@ -21,6 +21,7 @@ use Rattle.a68_layout.proofs.types.Plan.TheSendSync as plan
 use Rattle.a68_layout.proofs.types.Trims.TheSendSync as trims
 use Rattle.a68_modes.proofs.modes.Modes.TheSendSync as modes
 use Rattle.a68_store.specs.contracts.frame.Frame as frame
+use Rattle.a68_store.specs.contracts.slot.Slot as slot
 use Rattle.a68_store.specs.contracts.store.Store as store
 use Rattle.a68_instructions.specs.contracts.ask.Ask as ask
 use Rattle.a68_instructions.specs.contracts.ask.Parameters as parameters
@@ -28,7 +29,8 @@ use Rattle.a68_instructions.specs.contracts.ask.Waiting as waiting
 use Rattle.a68_instructions.specs.contracts.body.About as about
 use Rattle.a68_instructions.specs.contracts.body.Body as body
 use Rattle.a68_stack.specs.contracts.caller.Caller as caller
-use Rattle.a68_stack.specs.contracts.stack.Item as item
+use Rattle.a68_stack.specs.contracts.kept.Form as form
+use Rattle.a68_stack.specs.contracts.kept.Kept as kept
 use Rattle.a68_stack.specs.contracts.stack.Stack as stack
 use Rattle.a68_strand.specs.contracts.strand.Strand as strand
 use Rattle.a68_world.specs.contracts.seat.Seat as seat
@@ -89,21 +91,27 @@ code_send = search (sendable, crosses, instrs_send, routines.the_send, modes.the
 -- ---- the store
 
 frame_send : IsSend frame.the_row
-frame_send = search (sendable, crosses, value_send) depth 20
+frame_send = search (sendable, crosses) depth 20
+
+slot_send : IsSend slot.the_row
+slot_send = search (sendable, crosses, value_send, plain.the_field_send) depth 30
 
 store_send : IsSend store.the_row
-store_send = search (sendable, crosses, frame_send, held.the_send) depth 20
+store_send = search (sendable, crosses, frame_send, slot_send, value_send, held.the_send) depth 20
 
 -- ---- the strand
 
 caller_send : IsSend caller.the_row
 caller_send = search (sendable, crosses, chain.the_send) depth 20
 
-item_send : IsSend item.the_row
-item_send = search (sendable, crosses, value_send, caller_send) depth 20
+form_send : IsSend (form.the_field).row
+form_send = search (sendable, crosses, plain.the_field_send, value_send, caller_send) depth 40
+
+kept_send : IsSend kept.the_row
+kept_send = search (sendable, crosses, form_send) depth 20
 
 stack_send : IsSend stack.the_row
-stack_send = search (sendable, crosses, item_send) depth 20
+stack_send = search (sendable, crosses, kept_send) depth 20
 
 body_send : IsSend (body.the_field).row
 body_send = search (sendable, crosses, stack_send, chain.the_send) depth 20

@@ -1,8 +1,8 @@
 //! Turns of a strand that is alone, one after the other.
 ghost use Rattle.std.specs.Prelude.{◌≡◌, ◌<◌, ◌≤◌, ◌^◌, length, IfOk, MatchBool, OnErr, OnOk};
 ghost use Rattle.std.specs.Vec.{vec_capacity};
-ghost use Rattle.a68_world.specs.Alone.{GoneAlone, IsLonger};
-ghost use Rattle.a68_world.specs.AloneAt.{GoesAt, RestsAt, StopsAt};
+ghost use Rattle.a68_world.specs.Alone.{GoneAlone, IsLonger, IsLostBehind, NothingAhead};
+ghost use Rattle.a68_world.specs.AloneAt.{GoesAt, NoneAheadAt, RestsAt, StopsAt};
 
 use crate::World;
 use crate::seat::{Seat, spend};
@@ -31,7 +31,9 @@ fn go_at(
     ensures went { IfOk result (λ any. MatchBool any
         (GoesAt code.now store.old seat.old journal.old.items journal.new.items store.new seat.new)
         ((seat.new ≡ seat.old) × (store.new ≡ store.old) × (journal.new.items ≡ journal.old.items))) }
+    ensures ahead { OnOk result (NoneAheadAt fuel (length journal.new.items) store.new seat.new) }
     ensures stops { OnErr result (StopsAt code.now store.old seat.old journal.old.items journal.new.items store.new seat.new) }
+    ensures more { OnErr result (length journal.old.items < length journal.new.items) }
 {
     let Seat::Home(strand) = seat else {
         return Ok(false);
@@ -47,11 +49,13 @@ fn go_at(
 
 impl World {
     /// The acts of the one strand of a run, one after the other while there is fuel, up to one that meets a fault or would
-    /// make strands, or to its end. Where there are several strands, or its next act is such, the run stays as it is. Where
-    /// it finds no memory the run does not go on.
+    /// make strands, or to its end; each in which plain values alone take part is done. Where there are several strands, or its
+    /// next act is such, the run stays as it is. Where it finds no memory behind an act the run does not go on.
     pub fn go_alone(&mut self, alloc: Global) -> Result<(), NoMemory>
         ensures longer { IsLonger self.old self.new }
         ensures alone { OnOk result (GoneAlone self.old self.new) }
+        ensures ahead { OnOk result (NothingAhead self.new) }
+        ensures lost { OnErr result (IsLostBehind self.old self.new) }
     {
         if self.end.is_some() || self.lost || self.seats.len() != 1 {
             return Ok(());

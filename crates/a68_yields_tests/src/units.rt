@@ -7,7 +7,7 @@ use a68_coerce::Leaf;
 use a68_identify::Identified;
 use a68_mode_table::ModeTable;
 use a68_modes::{ModeId, Shape};
-use a68_ops::Operator;
+use a68_signs::Operator;
 use a68_tree::{NodeId, NodeKind, Tree};
 use a68_yields::{Finding, leaves_of};
 use std::alloc::Global;

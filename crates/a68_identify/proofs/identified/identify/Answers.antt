@@ -18,7 +18,7 @@ returns-in-Some c =
     c.in_ok-definition.field-0 c.in_ok-definition.ensures c.in-Some.definition c.in-Some.is
 
 pub first_standard-requires-clause-low : goal.first_standard-requires-clause-low
-first_standard-requires-clause-low c = rw c.candidates-standard.ensures.listed (candidates_low c.spelling.result.now (length c.args.operands.now))
+first_standard-requires-clause-low c = rw c.candidates-standard.ensures (candidates_low c.spelling.result.now (length c.args.operands.now))
 
 pub returns-in-Some-2 : goal.returns-in-Some-2
 returns-in-Some-2 c =
@@ -29,7 +29,7 @@ returns-in-Some-2 c =
     standard_is tree c.args.modes.now c.args.of.now c.args.at c.node.result.now.name lists c.args.ranges.now c.requires.ranges c.requires.at named
     c.in_ok-definition.field-0 c.in_ok-definition.ensures
     c.spelling.result.now (length c.args.operands.now) c.candidates-standard.result.now c.in_ok-operator.field-0 c.spelling.ensures (sym (length_of_map f c.args.operands.now))
-    c.candidates-standard.ensures.listed c.in_ok-operator.ensures c.in_default.is c.in-Some-2.operator c.in-Some-2.is
+    c.candidates-standard.ensures c.in_ok-operator.ensures c.in_default.is c.in-Some-2.operator c.in-Some-2.is
 
 pub returns : goal.returns
 returns c =
@@ -40,4 +40,4 @@ returns c =
     none_is tree c.args.modes.now c.args.of.now c.args.at c.node.result.now.name lists c.args.ranges.now c.requires.ranges c.requires.at named
     c.in_ok-definition.field-0 c.in_ok-definition.ensures
     c.spelling.result.now (length c.args.operands.now) c.candidates-standard.result.now c.in_ok-operator.field-0 c.spelling.ensures (sym (length_of_map f c.args.operands.now))
-    c.candidates-standard.ensures.listed c.in_ok-operator.ensures c.in_default.is c.in_default-2.is
+    c.candidates-standard.ensures c.in_ok-operator.ensures c.in_default.is c.in_default-2.is

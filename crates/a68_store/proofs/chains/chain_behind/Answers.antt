@@ -2,8 +2,8 @@ use Rattle.std.proofs.Common.{ℕ, zero, suc, ◌≡◌, ◌∙◌, ◌<◌, ◌
 use Rattle.std.specs.Prelude.{Some, slice_get}
 use Rattle.a68_acts.specs.Store as store
 use Rattle.a68_acts.specs.Store.{chain_of}
-use Rattle.a68_store.specs.Frames.{frame_of, frames_of, AreLinked}
-use Rattle.a68_store.proofs.FramesLemmas.{frames-at, chain-inner, chain-outermost}
+use Rattle.a68_store.specs.Frames.{frame_of, links_of, AreLinked}
+use Rattle.a68_store.proofs.FramesLemmas.{chain-inner, chain-outermost}
 use Rattle.a68_store.proofs.chains.chain_behind.Goals as goal
 use Rattle.a68_values.specs.declared.chain.Environ.{Environ}
 
@@ -14,32 +14,32 @@ outermost items fs (suc at) frame linked is zero_is = absurd (omega arith)
 
 pub loop-items-preserved : goal.loop-items-preserved
 loop-items-preserved c =
-    let frames = frames_of c.args.frames.now in
+    let frames = links_of c.args.frames.now in
     let at = c.loop-items.at in
-    let frame = c.index-frames-at.result in
+    let frame = c.frame_at-frame.result in
     let this : Environ = record { frame = at; scope = frame.scope } in
-    let is = frames-at c.args.frames.now at frame c.loop-items.invariant.there c.index-frames-at.is in
+    let is = c.frame_at-frame.ensures in
     let pos : 0 < at = omega (arith, c.if-at-eq0.false) in
     record {
-      there = omega (arith, c.requires.linked at (frame_of frame) is pos, c.loop-items.invariant.there);
+      there = omega (arith, c.requires.linked at (frame_of [] frame) is pos, c.loop-items.invariant.there);
       whole =
           ap (λ (l : List Environ). l ++ chain_of frames frame.outer) c.in_ok-push-2.ensures.items
           ∙ append_assoc c.loop-items.items.items (this ∷ []) (chain_of frames frame.outer)
-          ∙ ap (λ l. c.loop-items.items.items ++ l) (sym (chain-inner frames at (frame_of frame) c.requires.linked is pos))
+          ∙ ap (λ l. c.loop-items.items.items ++ l) (sym (chain-inner frames at (frame_of [] frame) c.requires.linked is pos))
           ∙ c.loop-items.invariant.whole;
     }
 
 pub loop-items-smaller : goal.loop-items-smaller
 loop-items-smaller c =
-    let frame = c.index-frames-at.result in
-    let is = frames-at c.args.frames.now c.loop-items.at frame c.loop-items.invariant.there c.index-frames-at.is in
-    c.requires.linked c.loop-items.at (frame_of frame) is (omega (arith, c.if-at-eq0.false))
+    let frame = c.frame_at-frame.result in
+    let is = c.frame_at-frame.ensures in
+    c.requires.linked c.loop-items.at (frame_of [] frame) is (omega (arith, c.if-at-eq0.false))
 
 pub returns : goal.returns
 returns c =
-    let frames = frames_of c.args.frames.now in
-    let frame = c.index-frames-at.result in
-    let is = frames-at c.args.frames.now c.loop-items.at frame c.loop-items.invariant.there c.index-frames-at.is in
+    let frames = links_of c.args.frames.now in
+    let frame = c.frame_at-frame.result in
+    let is = c.frame_at-frame.ensures in
     c.in_ok-push-2.ensures.items
-    ∙ outermost c.loop-items.items.items frames c.loop-items.at (frame_of frame) c.requires.linked is c.if-at-eq0.true
+    ∙ outermost c.loop-items.items.items frames c.loop-items.at (frame_of [] frame) c.requires.linked is c.if-at-eq0.true
     ∙ c.loop-items.invariant.whole

@@ -12,4 +12,4 @@ returns c =
     let small = slot-le-counted store.frames c.args.frame c.args.slot found.0 c.in-Some.old.now found.1 found.2 in
     let counts : counted store ≡ c.self.inside.counted = ap counted (sym c.self.view_is) ∙ sym c.self.invariant.counted_is in
     sym (ap refused (bind-did store c.args.frame c.args.slot c.args.value.now found.0 c.in-Some.old.now found.1 found.2
-    (omega (arith, counts, small, c.self.invariant.few, c.if-saturating_sub-from.false, c.slot_weight.ensures, c.from.ensures, c.weight.ensures, c.saturating_add-added.ensures, c.saturating_sub.ensures))))
+    (omega (arith, counts, small, c.self.invariant.few, c.if-saturating_sub-from.false, c.weight-2.ensures, c.from.ensures, c.weight.ensures, c.saturating_add-added.ensures, c.saturating_sub.ensures))))

@@ -1,0 +1,17 @@
+pub mod Bounding
+pub mod Calling
+pub mod Choosing
+pub mod Counting
+pub mod Forking
+pub mod Forks
+pub mod ForksOfSteps
+pub mod Leading
+pub mod Lowering
+pub mod Operating
+pub mod Popping
+pub mod Rising
+pub mod Rooming
+pub mod Steering
+pub mod Stepping
+pub mod Telling
+pub mod Worlds

@@ -1,0 +1,16 @@
+use Rattle.std.proofs.Common.{◌≡◌, ◌+◌, ◌-◌, ◌∙◌, length, refl, sym, arith}
+use Rattle.std.specs.Vec.{vec_len}
+use Rattle.a68_stack.proofs.Tops.{plain_is_set, plain_set_callers}
+use Rattle.a68_stack.proofs.stack.Stack.set_plain.Goals as goal
+
+pub invariant_of-self-2 : goal.invariant_of-self-2
+invariant_of-self-2 c =
+    let all : length c.self.inside.items.items ≡ vec_len c.self.inside.items - 1 + 1 = omega (arith, c.self.inside.items.ok.0, c.in-Some.ensures.variant.0 refl) in
+    let is_set = plain_is_set c.self.inside.items.items (vec_len c.self.inside.items - 1) c.set_plain.result c.args.held c.in-Some.kept.now c.set_plain.new.self all c.in-Some.ensures.value c.set_plain.ensures in
+    c.self.invariant ∙ sym (plain_set_callers c.set_plain.result c.args.held _ _ is_set)
+
+pub returns : goal.returns
+returns c =
+    let all : length c.self.inside.items.items ≡ vec_len c.self.inside.items - 1 + 1 = omega (arith, c.self.inside.items.ok.0, c.in-Some.ensures.variant.0 refl) in
+    rw (← c.self.view_is)
+    (plain_is_set c.self.inside.items.items (vec_len c.self.inside.items - 1) c.set_plain.result c.args.held c.in-Some.kept.now c.set_plain.new.self all c.in-Some.ensures.value c.set_plain.ensures)

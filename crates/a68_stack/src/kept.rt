@@ -1,0 +1,225 @@
+//! Items in the form in which a stack keeps them.
+ghost use Rattle.std.specs.Prelude.{◌≡◌, None, IfOk, MatchBool};
+ghost use Rattle.std.specs.Option.{option_map};
+ghost use Rattle.a68_stack.specs.declared.stack.Item.{Item};
+ghost use Rattle.a68_acts.specs.declared.operation.Counter.{Counter};
+ghost use Rattle.a68_stack.specs.Inside.{counter_in, is_value, item_of, value_in};
+ghost use Rattle.a68_stack.specs.Values.{is_caller, plain_in};
+ghost use Rattle.a68_values.specs.Content.{plain, scope_of};
+ghost use Rattle.a68_values.specs.declared.plain.Plain.{Plain};
+
+use crate::{Caller, Item};
+use a68_acts::Counter;
+use a68_base::NoMemory;
+use a68_values::{Plain, Value};
+use std::alloc::Global;
+use std::marker::Model;
+use std::mem;
+
+/// An item in few bytes, so that it is moved at little cost. Contracts see the item.
+pub struct Kept {
+    form: Form,
+}
+
+impl Drop for Kept {
+    fn drop(self) {
+        let Kept { form: _ } = self;
+    }
+}
+
+/// Where the item stands. A plain value is never in a box.
+pub enum Form {
+    Plain(Plain),
+    Value(Box<Value>),
+    Counter(Box<Counter>),
+    Caller(Box<Caller>),
+}
+
+impl Drop for Form {
+    fn drop(self) {
+        match self {
+            Form::Plain(_) | Form::Value(_) | Form::Counter(_) | Form::Caller(_) => {}
+        }
+    }
+}
+
+impl Model for Kept {
+    ghost use Rattle.std.specs.Prelude.{◌≡◌, None};
+    ghost use Rattle.a68_stack.specs.declared.stack.Item.{Item};
+    ghost use Rattle.a68_stack.specs.contracts.stack.Item as item;
+
+    ghost Value = { Item };
+
+    ghost coded = { item.the_row.coded };
+
+    ghost use Rattle.a68_stack.specs.Inside.{boxed_plain, item_of};
+
+    ghost view = { λ kept. item_of kept.form };
+
+    ghost invariant = { λ kept. boxed_plain kept.form ≡ None };
+}
+
+impl Form {
+    // The item.
+    #[inline(always)]
+    fn into_item(self) -> Item
+        ensures { result ≡ item_of self }
+    {
+        match self {
+            Form::Plain(held) => Item::Value(Value::of(held)),
+            Form::Value(value) => Item::Value(Box::into_inner(value)),
+            Form::Counter(counter) => Item::Counter(Box::into_inner(counter)),
+            Form::Caller(caller) => Item::Caller(Box::into_inner(caller)),
+        }
+    }
+}
+
+impl Kept {
+    /// Keeps a plain value, which takes no memory.
+    #[inline(always)]
+    pub fn of_plain(held: Plain) -> Kept
+        ensures { result ≡ Item.Value (plain held) }
+    {
+        Kept {
+            form: Form::Plain(held),
+        }
+    }
+
+    /// Keeps an item.
+    pub fn of(alloc: Global, item: Item) -> Result<Kept, NoMemory>
+        ensures { IfOk result (λ kept. kept ≡ item) }
+    {
+        match item {
+            Item::Value(value) => Kept::of_value(alloc, value),
+            Item::Counter(counter) => Kept::of_counter(alloc, counter),
+            Item::Caller(caller) => Kept::of_caller(alloc, caller),
+        }
+    }
+
+    /// Keeps a value.
+    pub fn of_value(alloc: Global, value: Value) -> Result<Kept, NoMemory>
+        ensures { IfOk result (λ kept. kept ≡ Item.Value value) }
+    {
+        if let Some(held) = value.plain() {
+            // A plain value holds no memory.
+            mem::forget(value);
+            return Ok(Kept::of_plain(held));
+        }
+        Ok(Kept {
+            form: Form::Value(Box::new(alloc, value)?),
+        })
+    }
+
+    /// Keeps a counter.
+    pub fn of_counter(alloc: Global, counter: Counter) -> Result<Kept, NoMemory>
+        ensures { IfOk result (λ kept. kept ≡ Item.Counter counter) }
+    {
+        Ok(Kept {
+            form: Form::Counter(Box::new(alloc, counter)?),
+        })
+    }
+
+    /// Keeps a caller.
+    pub fn of_caller(alloc: Global, caller: Caller) -> Result<Kept, NoMemory>
+        ensures { IfOk result (λ kept. kept ≡ Item.Caller caller) }
+    {
+        Ok(Kept {
+            form: Form::Caller(Box::new(alloc, caller)?),
+        })
+    }
+
+    /// The item.
+    #[inline(always)]
+    pub fn into_item(self) -> Item
+        ensures { result ≡ self }
+    {
+        let Kept { form } = self;
+        form.into_item()
+    }
+
+    /// The plain value that it is; none where it is another item.
+    #[inline(always)]
+    pub fn plain(&self) -> Option<Plain>
+        ensures { result ≡ plain_in self.now }
+    {
+        match &self.form {
+            Form::Plain(held) => Some(*held),
+            Form::Value(_) => None,
+            Form::Counter(_) => None,
+            Form::Caller(_) => None,
+        }
+    }
+
+    /// The counter that it is; none where it is another item.
+    #[inline(always)]
+    pub fn counter(&self) -> Option<Counter>
+        ensures { result ≡ counter_in self.now }
+    {
+        match &self.form {
+            Form::Counter(counter) => Some(**counter),
+            Form::Plain(_) => None,
+            Form::Value(_) => None,
+            Form::Caller(_) => None,
+        }
+    }
+
+    /// Is it a value?
+    #[inline(always)]
+    pub fn is_value(&self) -> bool
+        ensures { result ≡ is_value self.now }
+    {
+        matches!(&self.form, Form::Plain(_) | Form::Value(_))
+    }
+
+    /// Is it a caller?
+    #[inline(always)]
+    pub fn is_caller(&self) -> bool
+        ensures { result ≡ is_caller self.now }
+    {
+        matches!(&self.form, Form::Caller(_))
+    }
+
+    /// The scope of the value that it is; none where it is another item.
+    pub fn scope(&self) -> Option<u32>
+        ensures { result ≡ option_map scope_of (value_in self.now) }
+    {
+        match &self.form {
+            Form::Plain(held) => Some(held.scope()),
+            Form::Value(value) => Some(value.scope()),
+            Form::Counter(_) => None,
+            Form::Caller(_) => None,
+        }
+    }
+
+    /// Puts a plain value in the place of the one that it is; another item stays.
+    #[inline(always)]
+    pub fn set_plain(&mut self, held: Plain) -> bool
+        ensures { MatchBool result ((p : Plain) × (self.old ≡ Item.Value (plain p)) × (self.new ≡ Item.Value (plain held))) ((plain_in self.old ≡ None) × (self.new ≡ self.old)) }
+    {
+        match &mut self.form {
+            Form::Plain(place) => {
+                *place = held;
+                true
+            }
+            Form::Value(_) => false,
+            Form::Counter(_) => false,
+            Form::Caller(_) => false,
+        }
+    }
+
+    /// Puts a counter in the place of the one that it is; another item stays.
+    #[inline(always)]
+    pub fn set_counter(&mut self, counter: Counter) -> bool
+        ensures { MatchBool result ((c : Counter) × (self.old ≡ Item.Counter c) × (self.new ≡ Item.Counter counter)) ((counter_in self.old ≡ None) × (self.new ≡ self.old)) }
+    {
+        match &mut self.form {
+            Form::Counter(place) => {
+                **place = counter;
+                true
+            }
+            Form::Plain(_) => false,
+            Form::Value(_) => false,
+            Form::Caller(_) => false,
+        }
+    }
+}
