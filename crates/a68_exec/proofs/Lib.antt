@@ -1,4 +1,5 @@
 pub mod Alive
+pub mod PlainReturns
 pub mod PlainSteps
 pub mod Settled
 pub mod Taking

@@ -1,3 +1,4 @@
 pub mod Callers
 pub mod Popping
+pub mod Returning
 pub mod Tops

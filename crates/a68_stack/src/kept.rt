@@ -1,17 +1,19 @@
 //! Items in the form in which a stack keeps them.
-ghost use Rattle.std.specs.Prelude.{◌≡◌, None, IfOk, MatchBool};
+ghost use Rattle.std.specs.Prelude.{◌≡◌, false, None, IfOk, MatchBool, MatchOption, slice_get};
 ghost use Rattle.std.specs.Option.{option_map};
 ghost use Rattle.a68_stack.specs.declared.stack.Item.{Item};
 ghost use Rattle.a68_acts.specs.declared.operation.Counter.{Counter};
+ghost use Rattle.a68_stack.specs.Below.{caller_scope};
 ghost use Rattle.a68_stack.specs.Inside.{counter_in, is_value, item_of, value_in};
 ghost use Rattle.a68_stack.specs.Values.{is_caller, plain_in};
 ghost use Rattle.a68_values.specs.Content.{plain, scope_of};
+ghost use Rattle.a68_values.specs.declared.chain.Environ.{Environ};
 ghost use Rattle.a68_values.specs.declared.plain.Plain.{Plain};
 
 use crate::{Caller, Item};
 use a68_acts::Counter;
 use a68_base::NoMemory;
-use a68_values::{Plain, Value};
+use a68_values::{Chain, Plain, Value};
 use std::alloc::Global;
 use std::marker::Model;
 use std::mem;
@@ -59,6 +61,17 @@ impl Model for Kept {
     ghost invariant = { λ kept. boxed_plain kept.form ≡ None };
 }
 
+// The scope of the innermost frame.
+#[inline(always)]
+fn scope_of_first(chain: &Chain) -> Option<u32>
+    ensures { result ≡ option_map (λ (e : Environ). e.scope) (slice_get chain.now 0) }
+{
+    match chain.items.first() {
+        Some(environ) => Some(environ.scope),
+        None => None,
+    }
+}
+
 impl Form {
     // The item.
     #[inline(always)]
@@ -70,6 +83,19 @@ impl Form {
             Form::Value(value) => Item::Value(Box::into_inner(value)),
             Form::Counter(counter) => Item::Counter(Box::into_inner(counter)),
             Form::Caller(caller) => Item::Caller(Box::into_inner(caller)),
+        }
+    }
+
+    // The caller; none where it is another item.
+    #[inline(always)]
+    fn into_caller(self) -> Option<Caller>
+        ensures { MatchOption result (is_caller (item_of self) ≡ false) (λ caller. item_of self ≡ Item.Caller caller) }
+    {
+        match self {
+            Form::Caller(caller) => Some(Box::into_inner(caller)),
+            Form::Plain(_) => None,
+            Form::Value(_) => None,
+            Form::Counter(_) => None,
         }
     }
 }
@@ -137,6 +163,15 @@ impl Kept {
         form.into_item()
     }
 
+    /// The caller; none where it is another item.
+    #[inline(always)]
+    pub fn into_caller(self) -> Option<Caller>
+        ensures { MatchOption result (is_caller self ≡ false) (λ caller. self ≡ Item.Caller caller) }
+    {
+        let Kept { form } = self;
+        form.into_caller()
+    }
+
     /// The plain value that it is; none where it is another item.
     #[inline(always)]
     pub fn plain(&self) -> Option<Plain>
@@ -177,6 +212,19 @@ impl Kept {
         ensures { result ≡ is_caller self.now }
     {
         matches!(&self.form, Form::Caller(_))
+    }
+
+    /// The scope of the innermost frame of the caller that it is; none where it is another item.
+    #[inline(always)]
+    pub fn caller_scope(&self) -> Option<u32>
+        ensures { result ≡ caller_scope self.now }
+    {
+        match &self.form {
+            Form::Caller(caller) => scope_of_first(&caller.chain),
+            Form::Plain(_) => None,
+            Form::Value(_) => None,
+            Form::Counter(_) => None,
+        }
     }
 
     /// The scope of the value that it is; none where it is another item.

@@ -1,10 +1,11 @@
 //! The stack of a strand.
-ghost use Rattle.std.specs.Prelude.{◌≡◌, [], ◌∷◌, ◌++◌, None, Some, List, length, reverse, OnOk, OnErr, IfOk, IfSome, MatchOption, MatchBool};
+ghost use Rattle.std.specs.Prelude.{◌≡◌, [], ◌∷◌, ◌++◌, true, None, Some, List, length, reverse, OnOk, OnErr, IfOk, IfSome, MatchOption, MatchBool};
 ghost use Rattle.std.specs.Option.{option_map};
 ghost use Rattle.a68_acts.specs.declared.operation.Counter.{Counter};
 ghost use Rattle.a68_values.specs.Content.{Content, plain, scope_of};
 ghost use Rattle.a68_values.specs.declared.plain.Plain.{Plain};
 ghost use Rattle.a68_stack.specs.declared.stack.Item.{Item};
+ghost use Rattle.a68_stack.specs.Below.{may_yield, plain_below};
 ghost use Rattle.a68_stack.specs.Values.{callers, is_caller, pop_values, top_counter, top_plain, top_three, top_two, top_value};
 
 use crate::Caller;
@@ -126,6 +127,18 @@ impl Stack {
         self.push_boxed(value)
     }
 
+    /// Puts a caller on top.
+    #[inline(always)]
+    pub fn push_caller(&mut self, caller: Caller) -> Result<(), NoMemory>
+        ensures ok { OnOk result (self.new ≡ Item.Caller caller ∷ self.old) }
+        ensures err { OnErr result (self.new ≡ self.old) }
+    {
+        let kept = Kept::of_caller(*self.items.allocator(), caller)?;
+        self.items.push(kept)?;
+        self.open_calls += 1;
+        Ok(())
+    }
+
     // Puts a value on top that is not plain, in a box.
     #[inline(never)]
     fn push_boxed(&mut self, value: Value) -> Result<(), NoMemory>
@@ -202,6 +215,18 @@ impl Stack {
         kept.set_plain(held)
     }
 
+    /// The plain value that stands so many items below the topmost one; none where another item stands there, or none does.
+    #[inline(always)]
+    pub fn plain_below(&self, depth: u32) -> Option<Plain>
+        ensures { result ≡ plain_below depth self.now }
+    {
+        let above = depth as usize;
+        if above >= self.items.len() {
+            return None;
+        }
+        self.items[self.items.len() - 1 - above].plain()
+    }
+
     /// The two topmost items, the lower one first; none where they are not both plain values.
     #[inline(always)]
     pub fn two_plain(&self) -> Option<(Plain, Plain)>
@@ -276,6 +301,55 @@ impl Stack {
         // The lower one holds no memory.
         mem::forget(self.items.swap_remove(lower));
         true
+    }
+
+    /// Takes the topmost item off where it is a caller; elsewhere the stack stays.
+    #[inline(always)]
+    pub fn take_caller(&mut self) -> Option<Caller>
+        ensures { MatchOption result (self.new ≡ self.old) (λ caller. self.old ≡ Item.Caller caller ∷ self.new) }
+    {
+        match self.items.last() {
+            Some(kept) if kept.is_caller() => {}
+            _ => return None,
+        }
+        let Some(kept) = self.items.pop() else {
+            return None;
+        };
+        self.open_calls -= 1;
+        kept.into_caller()
+    }
+
+    // Does a plain value stand on top of a caller, and is it not newer than the innermost of the caller's frames?
+    #[inline(always)]
+    fn may_yield(&self) -> bool
+        ensures { result ≡ may_yield self.now }
+    {
+        let [.., below, topmost] = self.items.as_slice() else {
+            return false;
+        };
+        let Some(held) = topmost.plain() else {
+            return false;
+        };
+        let Some(scope) = below.caller_scope() else {
+            return false;
+        };
+        held.scope() <= scope
+    }
+
+    /// Takes out the caller below the topmost item where that is a plain value which is not newer than the innermost of the
+    /// caller's frames; elsewhere the stack stays.
+    #[inline(always)]
+    pub fn yield_plain(&mut self) -> Option<Caller>
+        ensures taken { MatchOption result (self.new ≡ self.old) (λ caller. (held : Plain) × (rest : List Item) × (self.old ≡ Item.Value (plain held) ∷ Item.Caller caller ∷ rest) × (self.new ≡ Item.Value (plain held) ∷ rest)) }
+        ensures may { IfSome result (λ caller. may_yield self.old ≡ true) }
+    {
+        if !self.may_yield() {
+            return None;
+        }
+        let lower = self.items.len() - 2;
+        let kept = self.items.swap_remove(lower);
+        self.open_calls -= 1;
+        kept.into_caller()
     }
 
     /// Takes the topmost item off where it is a counter; elsewhere the stack stays.

@@ -280,10 +280,10 @@ impl Store {
         Ok(())
     }
 
-    /// Binds a slot to a plain value, and takes no memory. Tells whether it did: it does nothing where the slot is not there
-    /// or the act would meet a fault.
+    /// Binds a slot to a plain value, and takes no memory. Tells whether it did: it does nothing where the slot is not there,
+    /// and there alone.
     pub fn bind_plain(&mut self, frame: u32, slot: u32, held: Plain) -> bool
-        ensures { MatchBool result (does (Want.Bind frame slot (plain held)) self.old ≡ did (Act.Bind frame slot) Reply.Go self.new) (self.new ≡ self.old) }
+        ensures { MatchBool result (does (Want.Bind frame slot (plain held)) self.old ≡ did (Act.Bind frame slot) Reply.Go self.new) ((self.new ≡ self.old) × (slot_in self.old frame slot ≡ None)) }
     {
         let Some(place) = place(&self.frames, frame, slot) else {
             return false;

@@ -1,3 +1,4 @@
+pub mod CallActs
 pub mod ElementActs
 pub mod GoingAlone
 pub mod Machines

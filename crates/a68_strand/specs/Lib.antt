@@ -1,4 +1,5 @@
 pub mod Alone
+pub mod Calling
 pub mod Cyclic
 pub mod Elements
 pub mod Ends

@@ -4,6 +4,7 @@
 mod acts;
 mod alone;
 mod asked;
+mod calling;
 mod calls;
 mod elements;
 mod plainly;
