@@ -44,7 +44,7 @@ use std::alloc::Global;
 /// | Jump | place | | | | goes there |
 /// | Unless | place | truth value | | | goes there for false |
 /// | Case | places | number | | | goes to the place of that number, counted from 1; to the last one for any other number |
-/// | Member | mode, places, whole | united value | value, but for the last place | | goes to the place of the member that the value has; to the last one for a member that no part takes. The member's value is left, or the united one where `whole` has 1 for it |
+/// | Member | mode, places, whole | united value | value, but for the last place | | goes to the place of the member that the value has; to the last one for a member that no part takes. The member's value is left, or the united one where `whole` has 1 for it. There is a place for each member of the mode in order and one more, the last, and in `whole` a number for each member |
 /// | Counter | | FROM, BY, TO | counter | | TO may be unset: no limit |
 /// | Index | | counter | counter, value | | the count of the counter |
 /// | Step | place | counter | counter | | goes there where the loop has no further turn |

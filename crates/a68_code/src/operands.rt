@@ -1,11 +1,12 @@
 //! The operands of an instruction, and the values that it takes and leaves.
-ghost use Rattle.std.specs.Prelude.{◌≡◌, ◌≤◌, ◌^◌, suc, false, MatchOption};
+ghost use Rattle.std.specs.List.{list_all};
+ghost use Rattle.std.specs.Prelude.{◌≡◌, ◌≤◌, ◌&&◌, ◌^◌, nat_lt, suc, false, MatchOption};
 ghost use Rattle.a68_code.specs.Flow.{is_slice, operands_of, takes, leaves, trim_values, values_of_trims};
-ghost use Rattle.a68_code.specs.Operands.{is_well_made};
+ghost use Rattle.a68_code.specs.Operands.{is_well_made, members_of, serves_each};
 
-use crate::Does;
+use crate::{Does, Places};
 use a68_layout::TrimForm;
-use a68_modes::Modes;
+use a68_modes::{ModeId, Modes, Shape};
 
 /// How many values an operator is on, by its row in the table of operators.
 #[inline(always)]
@@ -46,6 +47,31 @@ pub fn slice_takes(forms: &[TrimForm]) -> Option<usize>
     units.checked_add(1)
 }
 
+// The members of a union; none of another mode.
+fn members_of(union: &Shape) -> &[ModeId]
+    ensures { result.now ≡ members_of union.now }
+{
+    match union {
+        Shape::Union(members) => &members.items,
+        _ => &[],
+    }
+}
+
+// Whether there is a place for each member of a union and one more for none, and it is said of each what is left there.
+fn serves_each(union: &Shape, places: &Places, whole: &Places) -> bool
+    ensures { result ≡ serves_each union.now places.now whole.now }
+{
+    let members = members_of(union).len();
+    places.items.len() == members + 1 && whole.items.len() == members
+}
+
+// Whether a Member of this union may have these places, among so many instructions, and say this of its members.
+fn fits_members(union: &Shape, places: &Places, whole: &Places, count: usize) -> bool
+    ensures { result ≡ (serves_each union.now places.now whole.now && list_all (λ to. nat_lt to count) places.now) }
+{
+    serves_each(union, places, whole) && places.are_below(count)
+}
+
 impl Does {
     /// Whether the operands are such as the instruction may have, in a list of so many instructions, of
     /// so many routine texts.
@@ -67,7 +93,11 @@ impl Does {
             Does::Jump(to) | Does::Unless(to) | Does::Step(to) | Does::Advance(to) => (*to as usize)
                 < count,
             Does::Case(places) => places.are_inside(count),
-            Does::Member { mode, places, .. } => { *mode < modes.len() && places.are_inside(count) }
+            Does::Member {
+                mode,
+                places,
+                whole,
+            } => *mode < modes.len() && fits_members(modes.shape(*mode), places, whole, count),
             Does::Fork(entrances) => entrances.are_units(count),
             _ => true,
         }

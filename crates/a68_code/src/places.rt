@@ -60,6 +60,13 @@ impl Places {
         are_some && are_below(&self.items, count)
     }
 
+    /// Whether all are places in a list of so many instructions.
+    pub(crate) fn are_below(&self, count: usize) -> bool
+        ensures { result ≡ list_all (λ to. nat_lt to count) self.now }
+    {
+        are_below(&self.items, count)
+    }
+
     /// Whether there are two at least, and all are places in a list of so many instructions.
     pub(crate) fn are_units(&self, count: usize) -> bool
         ensures { result ≡ (nat_le 2 (length self.now) && list_all (λ to. nat_lt to count) self.now) }

@@ -6,7 +6,7 @@ use std::panic::Expect;
 use std::process::Abort;
 
 /// Codes: + where the machine runs it, what is to be seen in it, and its instructions. Push pushes an INT. The modes
-/// are the standard ones: 0 VOID, 1 INT, 6 layout, 7 `[] CHAR`, 8 a union, 9 REF INT; there are 13.
+/// are the standard ones: 0 VOID, 1 INT, 6 layout, 7 `[] CHAR`, 8 a union of six, 9 REF INT; there are 13.
 const CASES: &str = "\
 + BEGIN INT x := 5; print(x) END | Enter 1, Make 1 0, Push 5, Store 1, Bind 0, Tag 0 0, Deref 1, Print 1, Leave 0, End
 - nothing |
@@ -103,14 +103,20 @@ const CASES: &str = "\
 - a part before the choice | Skip 0, Push, Case 0 3, End
 - two parts of two heights | Push, Case 2 3, Push, End
 + two parts of one height | Push, Case 2 4, Push, Jump 5, Push, Drop, End
-+ a choice by a member | Push, Unite 1, Member 8 3 5, Drop, Jump 5, End
-- no value is left at the last place | Push, Unite 1, Member 8 3 5, Drop, Jump 5, Drop, End
-- the value of a member is left | Push, Unite 1, Member 8 3 5, Skip 0, Jump 5, End
-+ one place for all members | Push, Member 8 2, End
-- a choice by a member of nothing | Member 8 1, End
++ a choice by a member | Push, Unite 1, Member 8 3 5 5 5 5 5 5, Drop, Jump 5, End
+- no value is left at the last place | Push, Unite 1, Member 8 3 5 5 5 5 5 5, Drop, Jump 5, Drop, End
+- the value of a member is left | Push, Unite 1, Member 8 3 5 5 5 5 5 5, Skip 0, Jump 5, End
++ one place for all members | Push, Member 8 2 2 2 2 2 2 2, End
+- a choice by a member of nothing | Member 8 1 1 1 1 1 1 1, End
 - a choice by a member of a mode that is not there | Push, Member 13 2, End
-- a member's part outside | Push, Member 8 2 9, End
-- a member's part at the choice itself | Push, Member 8 1 2, End
+- a member's part outside | Push, Member 8 2 9 2 2 2 2 2, End
+- a member's part at the choice itself | Push, Member 8 1 2 2 2 2 2 2, End
+- a place too few for the members | Push, Excess 8 2 2 2 2 2 2, End
+- a place too many, and no member for it | Push, Member 8 2 2 2 2 2 2 2 2, End
+- a member too many is told of | Push, Excess 8 2 2 2 2 2 2 2, End
++ one place for a mode that is no union | Push, Member 1 2, End
+- two places for a mode that is no union | Push, Member 1 2 2, End
+- a member of a mode that is no union is told of | Push, Excess 1 2, End
 + nothing is printed | Print 0, End
 + a routine that yields | Text 4 1, Routine 0 -, Call 0 1, Drop, End, Push 5, Return
 - it yields where its entrance says it does not | Text 4 0, Routine 0 -, Call 0 1, Drop, End, Push 5, Return

@@ -1,7 +1,8 @@
 //! Codes by their instructions in words: a name and at most two numbers each, with commas between. A Case and a Fork have any
-//! number of them, a Member its mode and then its places, and a Routine of scope 0 has - for its second number. A Member
-//! that leaves the united values is called United. Text is no instruction but the entrance of a routine
-//! text, with 1 where its body leaves a value.
+//! number of them, a Member its mode and then its places, the last of them for none, and a Routine of scope 0 has - for its
+//! second number. A Member that leaves the united values is called United, and one that tells of a member more than it has
+//! places for is called Excess. Text is no instruction but the entrance of a routine text, with 1 where its body leaves a
+//! value.
 use a68_base::find;
 use a68_code::{Code, Does, Instr, Instrs, Places, RoutineEntrance, Routines};
 use a68_modes::{Modes, Shape};
@@ -147,12 +148,14 @@ fn places(alloc: Global, numbers: &str) -> Option<Places> {
     Some(Places { items })
 }
 
-// A Member of these numbers, the first of which is its mode, which leaves what is united in values, or with 1 the united ones.
-fn member(alloc: Global, numbers: &str, kept: u32) -> Option<Does> {
+// A Member of these numbers, the first of which is its mode, which leaves what is united in values, or with 1 the united ones. It
+// says so of each member that it has a place for, and of so many more.
+fn member(alloc: Global, numbers: &str, kept: u32, more: usize) -> Option<Does> {
     let (mode, rest) = apart(numbers);
     let mode = number(mode)?;
     let places = places(alloc, rest)?;
-    let items = vec![in alloc; kept; places.items.len()].ok()?;
+    let members = places.items.len().checked_sub(1)?.checked_add(more)?;
+    let items = vec![in alloc; kept; members].ok()?;
     Some(Does::Member {
         mode,
         places,
@@ -178,8 +181,9 @@ fn does(alloc: Global, op: &str) -> Option<Does> {
     match name {
         "Case" => Some(Does::Case(places(alloc, numbers)?)),
         "Fork" => Some(Does::Fork(places(alloc, numbers)?)),
-        "Member" => member(alloc, numbers, 0),
-        "United" => member(alloc, numbers, 1),
+        "Member" => member(alloc, numbers, 0, 0),
+        "United" => member(alloc, numbers, 1, 0),
+        "Excess" => member(alloc, numbers, 0, 1),
         "Routine" => routine(numbers),
         _ => {
             let (one, two) = apart(numbers);

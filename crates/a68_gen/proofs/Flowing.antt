@@ -6,7 +6,7 @@ use Rattle.std.proofs.lemmas.List.Elements.{All-cons, All-contains, All-from_get
 use Rattle.std.proofs.lemmas.List.Sums.{list_all-from_AllPass}
 use Rattle.std.specs.List.{All, Contains}
 use Rattle.std.specs.Option.{option_map}
-use Rattle.std.specs.Prelude.{not, ◌&&◌, ◌||◌, if◌then◌else◌}
+use Rattle.std.specs.Prelude.{not, ◌||◌, if◌then◌else◌}
 use Rattle.std.specs.declared.option.Option.{Option}
 use Rattle.a68_acts.specs.Operations.{Operation, constant, skip, nil, routine, tag, make, heap, bind, deref, store, apply, same, slice, display, vacuum, compose, select, unite, row_up, row_up_name, widen, drop, print, whole, leaves}
 use Rattle.a68_code.specs.Flow.{does_at, takes, one_if, MayMeet}
@@ -25,7 +25,7 @@ use Rattle.a68_elab.specs.Rows.{is_among}
 use Rattle.a68_elab.specs.Trees.{Tree, Trees, operation, together, phrases, range, choice, cases, conformity, loop, call, parallel, meaningless, no_trees, ◌and_tree◌, count, Specs, no_specs, spec, Test, no_test, while_in, depth_of}
 use Rattle.a68_gen.proofs.Forward.{forward, forward_index, forward_leaves, forward_arms, forward_specs, forward_test}
 use Rattle.a68_emit.proofs.Entering.{IsUnit, each_is_unit, entrances_many}
-use Rattle.a68_gen.proofs.Members.{last_is, some_member, taken_or, members_all}
+use Rattle.a68_gen.proofs.Members.{both_true, each_served, last_is, taken_or, members_all}
 use Rattle.a68_gen.proofs.Heights.{bit, after, after_true, after_false, At, LimitHeights, IndexHeights, OpenHeights, LeaveHeights, HeightsOf, AllHeights, ArmHeights, SpecHeights, TestHeights, nothing_more, starts, starts_all, starts_limit, starts_index, starts_leave, starts_test}
 use Rattle.a68_gen.specs.Operands.{FitsModes, FitAll, SpecsFitModes, TestFitsModes}
 use Rattle.a68_emit.specs.Stretches.{Has, Limits, Indexes, Opens, Leaves, Stands, StandAll, StandArms, StandSpecs, Tests, place_for, member_places, wholes_of, with_last, does_of, leave}
@@ -296,9 +296,6 @@ module _ (code : Code) (whose : Owner) (W : ℕ → ℕ → Type 0) (is_inside :
   some_last [] x = refl
   some_last (p ∷ ps) x = lt-ltb 0 (length (with_last (p ∷ ps) x)) (omega arith)
 
-  both_true : {x y : Bool} → x ≡ true → y ≡ true → IsTrue (x && y)
-  both_true {x = x} {y = y} e f = rw (e, f) refl
-
   -- a tree is reached at its height, whether it is empty or not
   begun : (g : Bool) (t : Tree) (a b : ℕ) (s : Stands code g t a b) (base : ℕ) → ((k h : ℕ) → HeightsOf code g t a b s base k h → W k h) → W b (base + bit g) → W a base
   begun g t a b s base into out =
@@ -498,7 +495,7 @@ module _ (code : Code) (whose : Owner) (W : ℕ → ℕ → Type 0) (is_inside :
               at_way w.0 (base + (if nat_eq w.0 (flow.last_place places) then 0 else 1)) (to, h) w.2
               (All-contains (λ z. W z (base + (if nat_eq z (flow.last_place places) then 0 else 1))) places w.0 led w.1);
           meets = member_meets whose union places (wholes_of members specs) (base + 1);
-          made = both_true fit.0 (both_true (some_member members specs s.3 s.2) (list_all-from_AllPass (λ to. nat_lt to (length code.list)) places inside));
+          made = both_true fit.0 (both_true (each_served (shape_at code.modes union) members specs s.3 s.2 s.5) (list_all-from_AllPass (λ to. nat_lt to (length code.list)) places inside));
           ordered = list_all-from_AllPass (λ to. nat_lt s.0 to) places onward;
           forks = no_fork code (does.Member union places (wholes_of members specs)) refl;
         }

@@ -16,14 +16,14 @@ use Rattle.a68_heights.proofs.Forking.{forks-fits}
 use Rattle.a68_heights.proofs.Leading.{behind, stays}
 use Rattle.a68_heights.proofs.Operating.{operates-fits}
 use Rattle.a68_heights.proofs.Steering.{cases-fits, enters-fits, jump-fits, leaves-fits, members-fits, unless-fits}
-use Rattle.a68_heights.specs.Heights.{height, Below, Fits, FitsBy, HasPlaces, Stands}
+use Rattle.a68_heights.specs.Heights.{height, Below, Fits, FitsBy, Stands}
 use Rattle.a68_instructions.specs.Machine.{State, at_end, controls, does_one, exec, fails, next_state, operates, operation_of, settle, settle_in, silently}
 use Rattle.a68_instructions.specs.declared.ask.Stance.{Stance}
 use Rattle.a68_instructions.specs.declared.ask.Stance.TheVariants.{Idle, Asking, Failed, Waits, Closed}
 use Rattle.a68_stack.specs.Values.{callers}
 use Rattle.a68_values.specs.declared.act.FaultKind.TheVariants as fault
 
-module _ (code : Code) (valid : IsValid code) (full : HasPlaces code) where
+module _ (code : Code) (valid : IsValid code) where
   module _ (whose : Owner) (st : State) (r : Reaches code whose st.at (height st.stack.items)) (l : Below code whose st.stack.items) where
     -- each instruction without an operation
     controls-fits : (d : Does) → does_at code.list st.at ≡ Some d → Fits code st → Fits code (controls code.modes code.texts d st)
@@ -32,7 +32,7 @@ module _ (code : Code) (valid : IsValid code) (full : HasPlaces code) where
     controls-fits (does.Jump to) is f = jump-fits code whose st to is r l
     controls-fits (does.Unless to) is f = unless-fits code whose st to is st.stack.items r l
     controls-fits (does.Case places) is f = cases-fits code whose st valid places is st.stack.items r l
-    controls-fits (does.Member mode places whole) is f = members-fits code whose st full mode places whole is st.stack.items r l
+    controls-fits (does.Member mode places whole) is f = members-fits code whose st valid mode places whole is st.stack.items r l
     controls-fits (does.Call count gives) is f = calls-fits code whose st count gives is r l
     controls-fits does.Return is f = returns-fits code st valid whose is r l
     controls-fits does.Counter is f = counts-fits code whose st is st.stack.items r l

@@ -17,7 +17,7 @@ use Rattle.a68_heights.proofs.Bounding.{innermost, whole}
 use Rattle.a68_heights.proofs.Leading.{first}
 use Rattle.a68_heights.proofs.Stepping.{settle-fits}
 use Rattle.a68_heights.proofs.Telling.{beginning-fits, replied-fits}
-use Rattle.a68_heights.specs.Heights.{height, BeginsUnits, Fits, FitsBy, HasPlaces}
+use Rattle.a68_heights.specs.Heights.{height, BeginsUnits, Fits, FitsBy}
 use Rattle.a68_instructions.specs.Machine.{State, beginning, replied, settle}
 use Rattle.a68_instructions.specs.declared.ask.Stance.{Stance}
 use Rattle.a68_instructions.specs.declared.ask.Stance.TheVariants.{Idle, Asking, Failed, Waits, Closed}
@@ -26,7 +26,7 @@ use Rattle.a68_values.specs.declared.act.Act.{Act}
 use Rattle.a68_values.specs.declared.act.Entry.{Entry}
 use Rattle.a68_values.specs.declared.chain.Environ.{Environ}
 
-module _ (code : Code) (valid : IsValid code) (full : HasPlaces code) where
+module _ (code : Code) (valid : IsValid code) where
   -- a strand that has waited for units goes on behind its Fork
   woken_in-fits : (strands : List State) (st : State) (m : Stance) → FitsBy code st.at m st.stack.items → Fits code st → Fits code (woken_in strands st m)
   woken_in-fits strands st (Waits one count) b f = by_test (all_closed strands one count)
@@ -40,14 +40,14 @@ module _ (code : Code) (valid : IsValid code) (full : HasPlaces code) where
   woken_in-fits strands st Closed b f = f
 
   woken-fits : (strands : List State) (st : State) → Fits code st → Fits code (woken code strands st)
-  woken-fits strands st f = settle-fits code valid full (woken_in strands st st.stance) (woken_in-fits strands st st.stance f f)
+  woken-fits strands st f = settle-fits code valid (woken_in strands st st.stance) (woken_in-fits strands st st.stance f f)
 
   -- the strands that an act makes
   begun-fit : (st : State) (w : Want) → BeginsUnits code w → All (Fits code) (begun code st w)
   begun-fit st (want.Fork places) each =
       All-map (Fits code) (λ (at : ℕ). settle code (beginning at st.chain)) places
       (All-weaker (λ (at : ℕ). Contains (entrances code owner.Units) at) (λ (at : ℕ). Fits code (settle code (beginning at st.chain)))
-      (λ at i. settle-fits code valid full (beginning at st.chain) (beginning-fits code owner.Units at st.chain i)) places each)
+      (λ at i. settle-fits code valid (beginning at st.chain) (beginning-fits code owner.Units at st.chain i)) places each)
   begun-fit st _ each = All-nil (Fits code)
 
   after-fit : (strands : List State) (n : ℕ) (next : State) (new : List State) → All (Fits code) strands → Fits code next → All (Fits code) new
@@ -65,7 +65,7 @@ module _ (code : Code) (valid : IsValid code) (full : HasPlaces code) where
     where
       by_outcome : (o : Outcome) → NextFits (after code w n st want o)
       by_outcome (did act reply store) =
-          after-fit w.strands n (settle code (replied code st reply)) (begun code st want) all (settle-fits code valid full (replied code st reply) (replied-fits code st reply f)) (begun-fit st want b.1)
+          after-fit w.strands n (settle code (replied code st reply)) (begun code st want) all (settle-fits code valid (replied code st reply) (replied-fits code st reply f)) (begun-fit st want b.1)
       by_outcome (refuses why) = tt
       by_outcome waits = tt
   acts-fit w n st Idle all f b = tt
@@ -97,7 +97,7 @@ module _ (code : Code) (valid : IsValid code) (full : HasPlaces code) where
   pub opening-fits : All (Fits code) (opening code).strands
   opening-fits =
       let home : List Environ = record { frame = 0; scope = 0 } ∷ [] in
-      All-cons (Fits code) (settle code (beginning 0 home)) [] (settle-fits code valid full (beginning 0 home) (beginning-fits code owner.Program 0 home (first 0 []))) (All-nil (Fits code))
+      All-cons (Fits code) (settle code (beginning 0 home)) [] (settle-fits code valid (beginning 0 home) (beginning-fits code owner.Program 0 home (first 0 []))) (All-nil (Fits code))
 
   pub runs-fit : (entries : List Entry) (end : World) → Machine code (opening code) entries end → All (Fits code) end.strands
   runs-fit entries end m = run-fits entries (opening code) end opening-fits m

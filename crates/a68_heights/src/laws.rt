@@ -6,7 +6,7 @@ ghost use Rattle.a68_code.specs.Valid.{IsValid};
 ghost use Rattle.a68_code.specs.declared.code.Code.{Code};
 ghost use Rattle.a68_code.specs.declared.owner.Owner.{Owner};
 ghost use Rattle.a68_exec.specs.Runs.{Machine, World, acted, opening};
-ghost use Rattle.a68_heights.specs.Heights.{Fits, HasPlaces, height};
+ghost use Rattle.a68_heights.specs.Heights.{Fits, height};
 ghost use Rattle.a68_heights.specs.Room.{HasRoom, is_entering};
 ghost use Rattle.a68_instructions.specs.Machine.{State, beginning, next_state, replied, settle};
 ghost use Rattle.a68_stack.specs.Values.{callers};
@@ -18,17 +18,17 @@ ghost use Rattle.a68_values.specs.declared.chain.Environ.{Environ};
 /// all silent steps up to the next act leave one that does.
 pub fn strands_keep_their_heights()
     ensures begins { (code : Code) (whose : Owner) (at : ℕ) (chain : List Environ) → Contains (entrances code whose) at → Fits code (beginning at chain) }
-    ensures steps { (code : Code) → IsValid code → HasPlaces code → (st next : State) → Fits code st → next_state code st ≡ Some next → Fits code next }
+    ensures steps { (code : Code) → IsValid code → (st next : State) → Fits code st → next_state code st ≡ Some next → Fits code next }
     ensures told { (code : Code) (st : State) (reply : Reply) → Fits code st → Fits code (replied code st reply) }
-    ensures settles { (code : Code) → IsValid code → HasPlaces code → (st : State) → Fits code st → Fits code (settle code st) }
+    ensures settles { (code : Code) → IsValid code → (st : State) → Fits code st → Fits code (settle code st) }
 {}
 
 /// States that an act of a strand, or its reply, leaves all strands fitting valid code where all of them did, those that the
 /// act makes too, and that all strands of a run fit it.
 pub fn runs_keep_their_heights()
-    ensures acts { (code : Code) → IsValid code → HasPlaces code → (now next : World) (strand : ℕ) (act : Act) → All (Fits code) now.strands
+    ensures acts { (code : Code) → IsValid code → (now next : World) (strand : ℕ) (act : Act) → All (Fits code) now.strands
         → acted code now strand ≡ Some (act, next) → All (Fits code) next.strands }
-    ensures runs { (code : Code) → IsValid code → HasPlaces code → (entries : List Entry) (end : World) → Machine code (opening code) entries end
+    ensures runs { (code : Code) → IsValid code → (entries : List Entry) (end : World) → Machine code (opening code) entries end
         → All (Fits code) end.strands }
 {}
 
@@ -38,7 +38,7 @@ pub fn activations_fit()
     ensures innermost { (code : Code) → IsValid code → (st : State) → Fits code st → height st.stack.items < length code.list }
     ensures whole { (code : Code) → IsValid code → (st : State) → Fits code st
         → length st.stack.items < length code.list * (1 + callers st.stack.items) }
-    ensures runs { (code : Code) → IsValid code → HasPlaces code → (entries : List Entry) (end : World) → Machine code (opening code) entries end
+    ensures runs { (code : Code) → IsValid code → (entries : List Entry) (end : World) → Machine code (opening code) entries end
         → All (λ (st : State). (height st.stack.items < length code.list) × (length st.stack.items < length code.list * (1 + callers st.stack.items))) end.strands }
 {}
 

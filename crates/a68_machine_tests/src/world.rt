@@ -165,8 +165,8 @@ const RUNS: &[(&str, u32, u64, End)] = &[
         0,
         UNSET_AT_9,
     ),
-    ("Skip 1, Member 8 2, End", 9, 0, UNSET_AT_1),
-    ("Push 5, Member 8 2, End", 9, 0, KIND_AT_1),
+    ("Skip 1, Member 8 2 2 2 2 2 2 2, End", 9, 0, UNSET_AT_1),
+    ("Push 5, Member 8 2 2 2 2 2 2 2, End", 9, 0, KIND_AT_1),
     (
         "Push 5, Unite 1, Member 8 3 7 7 7 7 7 7, Drop, Skip 1, Print 1, Jump 10, Skip 0, Skip 1, Print 1, End",
         9,
