@@ -9,14 +9,14 @@ use Rattle.a68_check.specs.Annotates.{DeclaresOnce}
 use Rattle.a68_op_ident.specs.Formulas.{Placed, alone, under, over, is_formula, is_sign, monadic_node, dyadic_node}
 use Rattle.a68_op_ident.specs.Shapes.{Shaped, IsShaped, IsLeft, IsOperatorNode}
 use Rattle.a68_op_ident.specs.declared.formula.Operand.{Operand}
-use Rattle.a68_op_ident.specs.declared.formula.Token.{Token}
+use Rattle.a68_op_ident.specs.declared.formula.FormulaPart.{FormulaPart}
 use Rattle.a68_op_ident.proofs.Lists.{eq_or_more}
 use Rattle.a68_op_ident.proofs.Parts.{same_count, sign_nodes}
 use Rattle.a68_op_ident.proofs.Shaping.{split, here_at, left_of, right_of}
 use Rattle.a68_ranges.specs.Definitions.{defines, defining, if_defines, if_joined, is_joined, unjoined, declared_by, declared_in}
 use Rattle.a68_ranges.specs.Nodes.{kind_at, name_at, node_at, parts_at}
 use Rattle.a68_ranges.specs.Twice.{IsTwice}
-use Rattle.a68_ranges.specs.declared.sort.Sort.{Sort}
+use Rattle.a68_ranges.specs.declared.sort.IndicatorKind.{IndicatorKind}
 use Rattle.a68_ranges.proofs.Taking.{past}
 use Rattle.a68_tree.specs.Trees.{Built}
 use Rattle.a68_tree.specs.declared.kind.NodeKind.{NodeKind}
@@ -65,7 +65,7 @@ IsInertIn nodes id = (n : Node) × (slice_get nodes id ≡ Some n) × IsInert n.
 kind_there : (tree : Built) (id : ℕ) → IsInertIn tree.nodes id → IsInert (kind_at tree id)
 kind_there tree id (n, at, is) = subst IsInert (sym (ap (λ (o : Option Node). option_map_or (λ (m : Node). m.kind) o kind.Skip) at)) is
 
-placed_inert : {nodes : List Node} {ts : List Token} {id next : ℕ} {top : Operand} → Placed nodes ts id next top → (k : ℕ) → id ≤ k → k < next → IsInertIn nodes k
+placed_inert : {nodes : List Node} {ts : List FormulaPart} {id next : ℕ} {top : Operand} → Placed nodes ts id next top → (k : ℕ) → id ≤ k → k < next → IsInertIn nodes k
 placed_inert (alone o) k from to = absurd (omega arith)
 placed_inert {nodes = nodes} {id = id} (under s o c here a) k from to =
     elim (eq_or_more id k from) [
@@ -150,7 +150,7 @@ module _ (flat shaped : Built) (s : Shaped flat shaped) where
   defining_alike : (ps : List ℕ) → defining shaped ps ≡ defining flat ps
   defining_alike [] = refl
   defining_alike (p ∷ ps) =
-      ap (λ (d : Option Sort). if_defines p d ++ defining shaped ps) (defines_alike p) ∙ ap (λ xs. if_defines p (defines (kind_at flat p)) ++ xs) (defining_alike ps)
+      ap (λ (d : Option IndicatorKind). if_defines p d ++ defining shaped ps) (defines_alike p) ∙ ap (λ xs. if_defines p (defines (kind_at flat p)) ++ xs) (defining_alike ps)
 
   by_alike : (k : NodeKind) (ps : List ℕ) → declared_by shaped k ps ≡ declared_by flat k ps
   by_alike kind.Serial ps = ap (defining shaped) (unjoined_alike ps) ∙ defining_alike (unjoined flat ps)
@@ -172,7 +172,7 @@ module _ (flat shaped : Built) (s : Shaped flat shaped) where
   declared_alike range = declared_at range (alike range)
 
   -- what defines something has its name
-  name_by : (id : ℕ) (sort : Sort) → defines (kind_at shaped id) ≡ Some sort → Alike flat shaped id → name_at shaped id ≡ name_at flat id
+  name_by : (id : ℕ) (sort : IndicatorKind) → defines (kind_at shaped id) ≡ Some sort → Alike flat shaped id → name_at shaped id ≡ name_at flat id
   name_by id sort is (same e) = ap (λ (o : Option Node). option_map_or (λ (n : Node). n.name) o 0) e
   name_by id sort is (inert a b) = let none = inert_defines (kind_at shaped id) b in absurd (cc)
 

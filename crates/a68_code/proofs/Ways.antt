@@ -13,7 +13,7 @@ use Rattle.a68_code.specs.Operands.{is_well_made}
 use Rattle.a68_modes.specs.Nodes.{shape_at, is_void}
 use Rattle.a68_code.specs.Valid.{IsValid}
 use Rattle.a68_code.proofs.Mapping.{contains_map, from_map}
-use Rattle.a68_code.specs.Walk.{Heights, Places, Knows, ways, at_height, unknown, FitsAt, NotesAll, AnyClashes, GoesOn, Fails, AreHeights, Agree, AllAgree}
+use Rattle.a68_code.specs.Walk.{Heights, Places, Knows, ways, at_height, unknown, FitsAt, NotesAll, AnyClashes, NotesWays, Fails, AreHeights, Agree, AllAgree}
 use Rattle.a68_code.proofs.Noting.{unknown-replicate}
 use Rattle.a68_code.specs.declared.code.Code.{Code}
 use Rattle.a68_code.specs.declared.does.Does.{Does}
@@ -91,7 +91,7 @@ module _ (code : Code) (whose : Owner) (heights : Heights) (todo rest : Places) 
   leaving_few : (below x k : ℕ) → Contains (ways code.modes at does below) (x, k) → k ≤ below + leaves code.modes does
   leaving_few below x k i = let w = way_from code.modes at does below x k i in let e = w.1 in let m = leaves_to_most code.modes does x in omega arith
 
-  pub halfway_on : (heights' : Heights) (todo' : Places) → leaves code.modes does ≤ takes does + 1 → GoesOn code.modes whose at does height heights rest heights' todo' → Halfway code whose heights' todo'
+  pub halfway_on : (heights' : Heights) (todo' : Places) → leaves code.modes does ≤ takes does + 1 → NotesWays code.modes whose at does height heights rest heights' todo' → Halfway code whose heights' todo'
   halfway_on heights' todo' one (meets, (below, finds, v)) = record {
     long = v.long ∙ h.long;
     first = λ x i. v.kept x 0 (h.first x i);

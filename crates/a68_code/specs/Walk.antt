@@ -69,8 +69,8 @@ abbrev pub AnyClashes : Places → Heights → Type 0
 AnyClashes places heights = (to : ℕ) × (height : ℕ) × Contains places (to, height) × Clashes to height heights
 
 -- the owner may meet the instruction, which finds what it takes, and all places where the machine may go on are noted
-abbrev pub GoesOn : List Shape → Owner → ℕ → Does → ℕ → Heights → Places → Heights → Places → Type 0
-GoesOn modes whose at does height heights todo heights' todo' =
+abbrev pub NotesWays : List Shape → Owner → ℕ → Does → ℕ → Heights → Places → Heights → Places → Type 0
+NotesWays modes whose at does height heights todo heights' todo' =
     MayMeet whose does height × ((below : ℕ) × (below + takes does ≡ height) × NotesAll (ways modes at does below) heights todo heights' todo')
 
 -- the owner may not meet the instruction, or it finds too few values, or it comes to a place that has another height or is

@@ -1,7 +1,7 @@
 //! The walk along all ways, which finds the height of the stack at each place.
 ghost use Rattle.std.specs.Prelude.{◌≡◌, ◌↔◌, ◌+◌, ◌∷◌, ◌<◌, ◌≤◌, ◌^◌, [], IfOk, IsTrue, MatchBool, None, Some, replicate, slice_set, nat_eq, if◌then◌else◌};
 ghost use Rattle.a68_code.specs.Flow.{last_place, leaves, takes, MayMeet};
-ghost use Rattle.a68_code.specs.Walk.{at_height, to_members, ways, AnyClashes, Clashes, Fails, GoesOn, Notes, NotesAll};
+ghost use Rattle.a68_code.specs.Walk.{at_height, to_members, ways, AnyClashes, Clashes, Fails, NotesWays, Notes, NotesAll};
 
 use crate::owner::Owner;
 use crate::{Does, last_place};
@@ -171,7 +171,7 @@ impl Walk {
         requires room { height + 1 < 2 ^ 64 }
         requires one { leaves modes.now does.now ≤ takes does.now + 1 }
         ensures { IfOk result (λ fits. MatchBool fits
-            (GoesOn modes.now whose at does.now height self.old.heights.items self.old.todo.items
+            (NotesWays modes.now whose at does.now height self.old.heights.items self.old.todo.items
             self.new.heights.items self.new.todo.items)
             (Fails modes.now whose at does.now height self.old.heights.items)) }
     {

@@ -6,7 +6,7 @@ use Rattle.a68_modes.specs.declared.shape.Shape.{Shape}
 use Rattle.a68_modes.specs.declared.shape.Shape.TheVariants.{Rows, Same}
 use Rattle.a68_modes.specs.Nodes.{shape_at, IsWithin, HoldsNodes}
 use Rattle.a68_equiv.specs.declared.mode.Mode.{Mode}
-use Rattle.a68_equiv.specs.declared.steps.Steps.TheVariants.{BesidesNames}
+use Rattle.a68_equiv.specs.declared.steps.Inward.TheVariants.{BesidesNames}
 use Rattle.a68_equiv.specs.Ways.{steps_of, row, Way, AreWellFormed}
 use Rattle.a68_equiv.specs.Ways.Way.{last_step, more_steps}
 use Rattle.a68_equiv.specs.Unfolding.{behind, word_or, unfolded}

@@ -19,7 +19,7 @@ use Rattle.a68_equiv.specs.Related.Meek.{here, deref, deproc}
 use Rattle.a68_equiv.specs.Ways.{AreWellFormed, Way, row, steps_of}
 use Rattle.a68_equiv.specs.Ways.Way.{last_step, more_steps}
 use Rattle.a68_equiv.proofs.Stepping.{row_of_map}
-use Rattle.a68_equiv.specs.declared.steps.Steps.TheVariants.{WithinUnions}
+use Rattle.a68_equiv.specs.declared.steps.Inward.TheVariants.{WithinUnions}
 use Rattle.a68_equiv.proofs.Grasp.{behind_below}
 use Rattle.a68_equiv.proofs.Growing.{old_unfolded, grows, shrinks, member_in, member_out, way_below, longer, new_shape}
 use Rattle.a68_coerce.specs.declared.goal.CoercionGoal.{CoercionGoal}

@@ -18,7 +18,7 @@ use Rattle.a68_coerce.specs.Paths.{No, GoesTo, Leads, MeekTo, UnitedTo, FirmTo, 
 use Rattle.a68_coerce.specs.Paths.UnitesTo.{a_member, a_union}
 use Rattle.a68_coerce.specs.Routes.{FindsRoute, FindsRowed, FindsUnrowed}
 use Rattle.a68_coerce.specs.declared.route.Route.{Route}
-use Rattle.a68_coerce.specs.declared.route.Rowed.{Rowed}
+use Rattle.a68_coerce.specs.declared.route.RowRoute.{RowRoute}
 use Rattle.a68_modes.specs.declared.coercion.Sort.{Sort}
 use Rattle.a68_modes.specs.declared.coercion.Sort.TheVariants as by
 use Rattle.a68_equiv.proofs.Grasp.{stays}
@@ -150,7 +150,7 @@ else_widened nodes m g (Some route) nv a w = widening a w
 else_widened nodes m g None nv a w = (nv, a, w)
 
 -- a soft, weak or meek way is a path
-pub goes_leads : (nodes : List Shape) (sort : Sort) (from to : Mode) (o : Option Rowed) → (sort ≡ by.Soft) ⊎ ((sort ≡ by.Weak) ⊎ (sort ≡ by.Meek)) → FindsRowed nodes from (GoesTo nodes sort from to) o → FindsRowed nodes from (Leads nodes sort from to) o
+pub goes_leads : (nodes : List Shape) (sort : Sort) (from to : Mode) (o : Option RowRoute) → (sort ≡ by.Soft) ⊎ ((sort ≡ by.Weak) ⊎ (sort ≡ by.Meek)) → FindsRowed nodes from (GoesTo nodes sort from to) o → FindsRowed nodes from (Leads nodes sort from to) o
 goes_leads nodes by.Soft from to o e w = w
 goes_leads nodes by.Weak from to o e w = w
 goes_leads nodes by.Meek from to o e w = w

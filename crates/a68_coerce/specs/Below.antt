@@ -5,8 +5,8 @@ use Rattle.a68_coerce.specs.declared.goal.CoercionGoal.{CoercionGoal}
 use Rattle.a68_coerce.specs.declared.goal.CoercionGoal.TheVariants as goal
 use Rattle.a68_coerce.specs.declared.leaf.Leaf.{Leaf}
 use Rattle.a68_coerce.specs.declared.leaf.Leaf.TheVariants as leaf
-use Rattle.a68_coerce.specs.declared.walk.Want.{Want}
-use Rattle.a68_coerce.specs.declared.walk.Want.TheVariants as want
+use Rattle.a68_coerce.specs.declared.walk.Target.{Target}
+use Rattle.a68_coerce.specs.declared.walk.Target.TheVariants as want
 use Rattle.a68_modes.specs.declared.shape.Shape.{Shape}
 use Rattle.a68_modes.specs.declared.shape.Shape.TheVariants.{Rows}
 
@@ -18,7 +18,7 @@ IsGoalBelow n (goal.Name m) = m.id < n
 IsGoalBelow n (goal.NameOfRow dims of) = (of.id < n) × (0 < dims)
 
 -- a form leads to no node
-abbrev pub IsWantBelow : ℕ → Want → Type 0
+abbrev pub IsWantBelow : ℕ → Target → Type 0
 IsWantBelow n (want.CoercionGoal g) = IsGoalBelow n g
 IsWantBelow n (want.ModeForm f) = Unit {0}
 

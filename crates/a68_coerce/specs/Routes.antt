@@ -5,9 +5,9 @@ use Rattle.std.specs.List.{All, Contains}
 use Rattle.a68_coerce.specs.declared.goal.CoercionGoal.{CoercionGoal}
 use Rattle.a68_coerce.specs.declared.leaf.Leaf.{Leaf}
 use Rattle.a68_coerce.specs.declared.route.Route.{Route}
-use Rattle.a68_coerce.specs.declared.route.Rowed.{Rowed}
-use Rattle.a68_coerce.specs.declared.walk.Want.{Want}
-use Rattle.a68_coerce.specs.declared.walk.Want.TheVariants as want
+use Rattle.a68_coerce.specs.declared.route.RowRoute.{RowRoute}
+use Rattle.a68_coerce.specs.declared.walk.Target.{Target}
+use Rattle.a68_coerce.specs.declared.walk.Target.TheVariants as want
 use Rattle.a68_coerce.specs.Balanced.{LeafLeads}
 use Rattle.a68_coerce.specs.Forms.{IsOfForm}
 use Rattle.a68_coerce.specs.Goals.{Reaches, IsVoidGoal, is_multiple}
@@ -52,7 +52,7 @@ with_rows way (suc n) = with_rows way n ++ RowUp ∷ []
 abbrev pub way_of : List Shape → Mode → Route → List Coercion
 way_of nodes m route = with_last (meek_way nodes route.meekly m) route.last
 
-abbrev pub path_of : List Shape → Mode → Rowed → List Coercion
+abbrev pub path_of : List Shape → Mode → RowRoute → List Coercion
 path_of nodes m rowed = with_rows (way_of nodes m rowed.route) rowed.rows
 
 -- a number of meek coercions, a route, or a route with rows, that leads; or none where none leads
@@ -64,7 +64,7 @@ abbrev pub FindsRoute : List Shape → Mode → (List Coercion → Type 0) → O
 FindsRoute nodes m Leading (Some route) = Leading (way_of nodes m route)
 FindsRoute nodes m Leading None = No Leading
 
-abbrev pub FindsRowed : List Shape → Mode → (List Coercion → Type 0) → Option Rowed → Type 0
+abbrev pub FindsRowed : List Shape → Mode → (List Coercion → Type 0) → Option RowRoute → Type 0
 FindsRowed nodes m Leading (Some rowed) = Leading (path_of nodes m rowed)
 FindsRowed nodes m Leading None = No Leading
 
@@ -83,7 +83,7 @@ MayEnd by.Weak true shape = is_multiple shape ≡ false
 MayEnd _ dereferenced shape = Unit {0}
 
 -- the mode of the goal, or one of the form
-abbrev pub IsWanted : List Shape → Want → Mode → Type 0
+abbrev pub IsWanted : List Shape → Target → Mode → Type 0
 IsWanted nodes (want.CoercionGoal g) k = Reaches nodes k g
 IsWanted nodes (want.ModeForm f) k = IsOfForm nodes f k
 

@@ -13,7 +13,7 @@ ghost use Rattle.a68_equiv.specs.Ways.{AreWellFormed};
 use crate::form::ModeForm;
 use crate::leaf::{Balanced, Leaf};
 use crate::sorts::route;
-use crate::walk::{Want, reach};
+use crate::walk::{Target, reach};
 use a68_base::NoMemory;
 use a68_equiv::{Classes, Mode};
 use a68_modes::{ModeId, Modes, Sort};
@@ -263,7 +263,7 @@ fn leaf_form(
     match leaf {
         Leaf::Mode(from) => {
             let from = Mode::as_it_stands(from);
-            let reached = reach(modes, classes, sort, from, Want::ModeForm(form))?;
+            let reached = reach(modes, classes, sort, from, Target::ModeForm(form))?;
             Some(reached.mode)
         }
         Leaf::StrongOnly => None,

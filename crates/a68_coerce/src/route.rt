@@ -17,13 +17,13 @@ pub struct Route {
 
 /// A route, and how often a dimension is added behind it.
 #[derive(Clone, Copy)]
-pub struct Rowed {
+pub struct RowRoute {
     pub route: Route,
     pub rows: u64,
 }
 
 /// Writes out the path from a mode.
-pub fn written(alloc: Global, modes: &Modes, from: Mode, rowed: Rowed) -> Result<Path, NoMemory>
+pub fn written(alloc: Global, modes: &Modes, from: Mode, rowed: RowRoute) -> Result<Path, NoMemory>
     requires { from.id < length modes.now }
     ensures { IfOk result (λ path. path ≡ path_of modes.now from rowed) }
 {

@@ -9,10 +9,10 @@ ghost use Rattle.a68_equiv.specs.Ways.{AreWellFormed};
 ghost use Rattle.a68_modes.specs.Nodes.{HoldsNodes};
 
 use crate::goal::CoercionGoal;
-use crate::route::{Route, Rowed, written};
+use crate::route::{Route, RowRoute, written};
 use crate::strong::strong;
 use crate::unite::firm;
-use crate::walk::{Want, reach};
+use crate::walk::{Target, reach};
 use a68_base::NoMemory;
 use a68_equiv::{Classes, Mode};
 use a68_modes::{ModeId, Modes, Path, Sort};
@@ -54,7 +54,7 @@ pub fn route(
     sort: Sort,
     from: Mode,
     to: Mode,
-) -> Result<Option<Rowed>, NoMemory>
+) -> Result<Option<RowRoute>, NoMemory>
     requires formed { AreWellFormed modes.now }
     requires rows { HaveDimensions modes.now }
     requires exact { AreExact modes.now classes.now.of }
@@ -70,7 +70,7 @@ pub fn route(
 }
 
 /// Finds the soft, weak or meek coercions.
-fn onward(modes: &Modes, classes: &Classes, sort: Sort, from: Mode, to: Mode) -> Option<Rowed>
+fn onward(modes: &Modes, classes: &Classes, sort: Sort, from: Mode, to: Mode) -> Option<RowRoute>
     requires formed { AreWellFormed modes.now }
     requires exact { AreExact modes.now classes.now.of }
     requires from { from.id < length modes.now }
@@ -82,13 +82,13 @@ fn onward(modes: &Modes, classes: &Classes, sort: Sort, from: Mode, to: Mode) ->
         classes,
         sort,
         from,
-        Want::CoercionGoal(CoercionGoal::Mode(to)),
+        Target::CoercionGoal(CoercionGoal::Mode(to)),
     )?;
     let route = Route {
         meekly: reached.steps,
         last: None,
     };
-    Some(Rowed { route, rows: 0 })
+    Some(RowRoute { route, rows: 0 })
 }
 
 /// Finds the firm coercions.
@@ -98,7 +98,7 @@ fn firmly(
     classes: &Classes,
     from: Mode,
     to: Mode,
-) -> Result<Option<Rowed>, NoMemory>
+) -> Result<Option<RowRoute>, NoMemory>
     requires formed { AreWellFormed modes.now }
     requires exact { AreExact modes.now classes.now.of }
     requires from { from.id < length modes.now }
@@ -106,7 +106,7 @@ fn firmly(
     ensures { IfOk result (FindsRowed modes.now from (FirmTo modes.now from (CoercionGoal.Mode to))) }
 {
     match firm(alloc, modes, classes, from, CoercionGoal::Mode(to))? {
-        Some(route) => Ok(Some(Rowed { route, rows: 0 })),
+        Some(route) => Ok(Some(RowRoute { route, rows: 0 })),
         None => Ok(None),
     }
 }

@@ -11,7 +11,7 @@ ghost use Rattle.a68_equiv.specs.Unfolding.{flex_left};
 ghost use Rattle.a68_equiv.specs.Ways.{AreWellFormed};
 
 use crate::goal::CoercionGoal;
-use crate::route::{Route, Rowed};
+use crate::route::{Route, RowRoute};
 use crate::unite::firm;
 use crate::walk::meek;
 use a68_base::NoMemory;
@@ -232,7 +232,7 @@ pub fn strong(
     classes: &Classes,
     from: Mode,
     to: Mode,
-) -> Result<Option<Rowed>, NoMemory>
+) -> Result<Option<RowRoute>, NoMemory>
     requires formed { AreWellFormed modes.now }
     requires rows { HaveDimensions modes.now }
     requires exact { AreExact modes.now classes.now.of }
@@ -245,11 +245,11 @@ pub fn strong(
     let mut rows = 0;
     'rowing: loop {
         if let Some(route) = unrowed(alloc, modes, classes, from, to_void, goal)? {
-            return Ok(Some(Rowed { route, rows }));
+            return Ok(Some(RowRoute { route, rows }));
         }
         let Some(inner) = row_over(modes, goal) else {
             return match named(modes, classes, from, goal) {
-                Some(route) => Ok(Some(Rowed { route, rows })),
+                Some(route) => Ok(Some(RowRoute { route, rows })),
                 None => Ok(None),
             };
         };

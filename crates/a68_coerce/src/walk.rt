@@ -65,32 +65,32 @@ fn reaches(modes: &Modes, classes: &Classes, mode: Mode, goal: CoercionGoal) -> 
 
 /// What a walk looks for.
 #[derive(Clone, Copy)]
-pub enum Want {
+pub enum Target {
     CoercionGoal(CoercionGoal),
     ModeForm(ModeForm),
 }
 
 /// Is the mode what is looked for?
-fn is_wanted(modes: &Modes, classes: &Classes, mode: Mode, want: Want) -> bool
+fn is_wanted(modes: &Modes, classes: &Classes, mode: Mode, want: Target) -> bool
     requires exact { AreExact modes.now classes.now.of }
     requires mode { mode.id < length modes.now }
     requires want { IsWantBelow (length modes.now) want }
     ensures { IsTrue result ↔ IsWanted modes.now want mode }
 {
     match want {
-        Want::CoercionGoal(goal) => reaches(modes, classes, mode, goal),
-        Want::ModeForm(form) => is_of_form(modes, form, mode),
+        Target::CoercionGoal(goal) => reaches(modes, classes, mode, goal),
+        Target::ModeForm(form) => is_of_form(modes, form, mode),
     }
 }
 
 /// A meek coercion, and the mode to which it leads.
 #[derive(Clone, Copy)]
-pub struct Step {
+pub struct MeekStep {
     pub dereferences: bool,
     pub to: Mode,
 }
 
-impl Step {
+impl MeekStep {
     /// Gives the coercion.
     pub fn coercion(self) -> Coercion
         ensures { result ≡ coercion_of self.dereferences }
@@ -104,7 +104,7 @@ impl Step {
 }
 
 /// Gives the meek coercion of a mode.
-pub fn next_step(modes: &Modes, mode: Mode) -> Option<Step>
+pub fn next_step(modes: &Modes, mode: Mode) -> Option<MeekStep>
     requires { mode.id < length modes.now }
     ensures step { MatchOption result (meek_step (unfolded modes.now mode.id) ≡ None) (λ s. Meek modes.now mode (coercion_of s.dereferences ∷ []) s.to) }
     ensures there { IfSome result (λ s. s.to.id < length modes.now) }
@@ -112,7 +112,7 @@ pub fn next_step(modes: &Modes, mode: Mode) -> Option<Step>
 {
     let to = a68_equiv::meek(modes, mode)?;
     let dereferences = matches!(modes.shape(behind(modes, mode.id)), Shape::Ref(_));
-    Some(Step { dereferences, to })
+    Some(MeekStep { dereferences, to })
 }
 
 fn is_multiple(shape: &Shape) -> bool
@@ -140,7 +140,7 @@ fn ends_well(
     sort: Sort,
     dereferenced: bool,
     at: Mode,
-    want: Want,
+    want: Target,
 ) -> bool
     requires exact { AreExact modes.now classes.now.of }
     requires at { at.id < length modes.now }
@@ -155,7 +155,7 @@ fn ends_well(
 }
 
 /// Does a way of the sort break off at this step? A soft one does not dereference.
-fn breaks_off(sort: Sort, step: Step) -> bool
+fn breaks_off(sort: Sort, step: MeekStep) -> bool
     ensures { IsTrue result ↔ ((sort ≡ Sort.Soft) × (step.dereferences ≡ true)) }
 {
     match sort {
@@ -177,7 +177,7 @@ pub fn reach(
     classes: &Classes,
     sort: Sort,
     from: Mode,
-    want: Want,
+    want: Target,
 ) -> Option<Reached>
     requires formed { AreWellFormed modes.now }
     requires exact { AreExact modes.now classes.now.of }
@@ -213,7 +213,7 @@ pub fn meek(modes: &Modes, classes: &Classes, from: Mode, goal: CoercionGoal) ->
     requires goal { IsGoalBelow (length modes.now) goal }
     ensures { FindsMeekly modes.now from (MeekTo modes.now from goal) result }
 {
-    match reach(modes, classes, Sort::Meek, from, Want::CoercionGoal(goal)) {
+    match reach(modes, classes, Sort::Meek, from, Target::CoercionGoal(goal)) {
         Some(reached) => Some(reached.steps),
         None => None,
     }

@@ -21,8 +21,8 @@ use Rattle.a68_equiv.proofs.Rowing.{no_steps, none_from}
 use Rattle.a68_equiv.proofs.Stepping.{row_of_map}
 use Rattle.a68_equiv.specs.Classes.{AreExact}
 use Rattle.a68_equiv.specs.declared.mode.Mode.{Mode}
-use Rattle.a68_equiv.specs.declared.steps.Steps.{Steps}
-use Rattle.a68_equiv.specs.declared.steps.Steps.TheVariants.{BesidesNames, BesidesStructures, WithinUnions}
+use Rattle.a68_equiv.specs.declared.steps.Inward.{Inward}
+use Rattle.a68_equiv.specs.declared.steps.Inward.TheVariants.{BesidesNames, BesidesStructures, WithinUnions}
 use Rattle.a68_equiv.specs.Dimensions.{HasDimensions, HaveDimensions}
 use Rattle.a68_equiv.specs.Related.{as_it_stands, without_flex}
 use Rattle.a68_equiv.specs.Unfolding.{behind, unfolded, constructor, leads_within, is_union, passes_on, IsMember, IsAt, IsPart, Alike, Equivalent}
@@ -344,13 +344,13 @@ module _ (old new : List Shape) (classes to firsts : List ℕ) (holds : HoldsNod
 
   -- ---- well formed
 
-  wider_way : (which : Steps) (a b : ℕ) → a < length old → Way (map (steps_of WithinUnions) old) a b → Way (map (steps_of which) old) a b
+  wider_way : (which : Inward) (a b : ℕ) → a < length old → Way (map (steps_of WithinUnions) old) a b → Way (map (steps_of which) old) a b
   wider_way which a b h (last_step i) = last_step (rw (row_of_map (steps_of which) old a h) (wider which (shape_at old a) b (rw (row_of_map (steps_of WithinUnions) old a h) at i)))
   wider_way which a b h (more_steps {b = c} i w) =
       more_steps (rw (row_of_map (steps_of which) old a h) (wider which (shape_at old a) c (rw (row_of_map (steps_of WithinUnions) old a h) at i)))
       (wider_way which c b (way_below old holds WithinUnions a c h (last_step i)) w)
 
-  step_back : (which : Steps) (m y : ℕ) → m < length old → Contains (row (map (steps_of which) new) (get_or to m 0)) y → (x : ℕ) × Way (map (steps_of which) old) m x × (get_or to x 0 ≡ y)
+  step_back : (which : Inward) (m y : ℕ) → m < length old → Contains (row (map (steps_of which) new) (get_or to m 0)) y → (x : ℕ) × Way (map (steps_of which) old) m x × (get_or to x 0 ≡ y)
   step_back which m y h c = go (is_union (unfolded old m)) refl
     where
       step : Contains (steps_of which (shape_at new (get_or to m 0))) y
@@ -369,7 +369,7 @@ module _ (old new : List Shape) (classes to firsts : List ℕ) (holds : HoldsNod
           let x = map_has (number_in to) (steps_of which (unfolded old m)) y (subst (λ (xs : List ℕ). Contains xs y) e step) in
           (x.0, way_behind old holds which m x.0 h x.1, x.2)
 
-  way_back : (which : Steps) (m i j : ℕ) → m < length old → get_or to m 0 ≡ i → Way (map (steps_of which) new) i j → (x : ℕ) × Way (map (steps_of which) old) m x × (get_or to x 0 ≡ j)
+  way_back : (which : Inward) (m i j : ℕ) → m < length old → get_or to m 0 ≡ i → Way (map (steps_of which) new) i j → (x : ℕ) × Way (map (steps_of which) old) m x × (get_or to x 0 ≡ j)
   way_back which m i j h e (last_step c) = step_back which m j h (subst (λ k. Contains (row (map (steps_of which) new) k) j) (sym e) c)
   way_back which m i j h e (more_steps {b = k} c w) =
       let s = step_back which m k h (subst (λ n. Contains (row (map (steps_of which) new) n) k) (sym e) c) in
@@ -380,14 +380,14 @@ module _ (old new : List Shape) (classes to firsts : List ℕ) (holds : HoldsNod
   abbrev For : ℕ → Type 0
   For j = (m : ℕ) × (m < length old) × (get_or to m 0 ≡ j)
 
-  next_for : (which : Steps) (j : ℕ) → Way (map (steps_of which) new) j j → For j → For j
+  next_for : (which : Inward) (j : ℕ) → Way (map (steps_of which) new) j j → For j → For j
   next_for which j w (m, h, e) = let r = way_back which m j j h e w in (r.0, way_below old holds which m r.0 h r.1, r.2)
 
-  run : (which : Steps) (j : ℕ) → Way (map (steps_of which) new) j j → For j → ℕ → For j
+  run : (which : Inward) (j : ℕ) → Way (map (steps_of which) new) j j → For j → ℕ → For j
   run which j w start zero = start
   run which j w start (suc k) = next_for which j w (run which j w start k)
 
-  no_ring : (which : Steps) → ((m : ℕ) → m < length old → Way (map (steps_of which) old) m m → ⊥) → (j : ℕ) → j < length new → Way (map (steps_of which) new) j j → ⊥
+  no_ring : (which : Inward) → ((m : ℕ) → m < length old → Way (map (steps_of which) old) m m → ⊥) → (j : ℕ) → j < length new → Way (map (steps_of which) new) j j → ⊥
   unfolding next_for run
   no_ring which never j h w =
       let lt : j < length firsts = omega arith in

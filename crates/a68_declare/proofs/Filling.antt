@@ -14,7 +14,7 @@ use Rattle.a68_declare.specs.Clean.{IsUnionImage, IsImage, IsRising}
 use Rattle.a68_declare.specs.Numbering.{number_in, AreImagesOf, IsNumbering, IsShapeFrom, AreShapesFrom}
 use Rattle.a68_equiv.proofs.Grasp.{behind_below}
 use Rattle.a68_equiv.proofs.Growing.{way_below}
-use Rattle.a68_equiv.specs.declared.steps.Steps.TheVariants.{WithinUnions}
+use Rattle.a68_equiv.specs.declared.steps.Inward.TheVariants.{WithinUnions}
 use Rattle.a68_equiv.specs.Related.{IsAmong}
 use Rattle.a68_equiv.specs.Spread.{Notes}
 use Rattle.a68_equiv.specs.Unfolding.{behind, unfolded, is_union, IsMember}

@@ -29,7 +29,7 @@ use Rattle.a68_equiv.proofs.Spreading.{members_behind}
 use Rattle.a68_equiv.proofs.Stepping.{row_of_map}
 use Rattle.a68_equiv.specs.declared.mode.Mode.{Mode}
 use Rattle.a68_equiv.specs.Related.{as_it_stands, without_flex}
-use Rattle.a68_equiv.specs.declared.steps.Steps.TheVariants.{WithinUnions}
+use Rattle.a68_equiv.specs.declared.steps.Inward.TheVariants.{WithinUnions}
 use Rattle.a68_equiv.specs.Unfolding.{behind, word_or, unfolded, constructor, passes_on, is_union, IsMember, IsAt, IsPart, Alike}
 use Rattle.a68_equiv.specs.Ways.{steps_of, row, Way}
 use Rattle.a68_equiv.specs.Ways.Way.{last_step, more_steps}

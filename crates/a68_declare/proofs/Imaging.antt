@@ -5,8 +5,8 @@ use Rattle.std.specs.List.{Contains}
 use Rattle.std.proofs.lemmas.Bool.{false≢true}
 use Rattle.std.proofs.lemmas.List.{map-append, length-map}
 use Rattle.a68_declare.specs.Clean.{IsBare, renumbered, IsUnionImage, IsImage}
-use Rattle.a68_equiv.specs.declared.steps.Steps.{Steps}
-use Rattle.a68_equiv.specs.declared.steps.Steps.TheVariants.{BesidesNames, BesidesStructures, WithinUnions}
+use Rattle.a68_equiv.specs.declared.steps.Inward.{Inward}
+use Rattle.a68_equiv.specs.declared.steps.Inward.TheVariants.{BesidesNames, BesidesStructures, WithinUnions}
 use Rattle.a68_equiv.specs.Dimensions.{HasDimensions}
 use Rattle.a68_equiv.specs.Unfolding.{constructor, leads_within, is_union, passes_on, IsMember, IsAt}
 use Rattle.a68_equiv.specs.Ways.{steps_of}
@@ -219,7 +219,7 @@ bare_other nodes f _ u n b = tt
 
 -- ---- steps
 
-pub steps_renumbered : (which : Steps) (f : ℕ → ℕ) (s : Shape) → is_union s ≡ false → steps_of which (renumbered f s) ≡ map f (steps_of which s)
+pub steps_renumbered : (which : Inward) (f : ℕ → ℕ) (s : Shape) → is_union s ≡ false → steps_of which (renumbered f s) ≡ map f (steps_of which s)
 steps_renumbered BesidesNames f (Ref m) u = refl
 steps_renumbered BesidesNames f (Proc ps m) u = refl
 steps_renumbered BesidesNames f (Struct fields) u = parts_renumbered f (Struct fields)
@@ -233,7 +233,7 @@ steps_renumbered WithinUnions f (Same m) u = refl
 steps_renumbered WithinUnions f _ u = refl
 
 -- the steps of mode words and unions are among the others
-pub wider : (which : Steps) (s : Shape) (b : ℕ) → Contains (steps_of WithinUnions s) b → Contains (steps_of which s) b
+pub wider : (which : Inward) (s : Shape) (b : ℕ) → Contains (steps_of WithinUnions s) b → Contains (steps_of which s) b
 wider BesidesNames (Same m) b c = c
 wider BesidesNames (Union ms) b c = c
 wider BesidesNames _ b c = absurd (let l = c.1 in omega arith)
@@ -242,7 +242,7 @@ wider BesidesStructures (Union ms) b c = c
 wider BesidesStructures _ b c = absurd (let l = c.1 in omega arith)
 wider WithinUnions s b c = c
 
-pub steps_union : (which : Steps) (ms : List ℕ) → steps_of which (Union ms) ≡ ms
+pub steps_union : (which : Inward) (ms : List ℕ) → steps_of which (Union ms) ≡ ms
 steps_union BesidesNames ms = refl
 steps_union BesidesStructures ms = refl
 steps_union WithinUnions ms = refl

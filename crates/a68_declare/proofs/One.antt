@@ -26,7 +26,7 @@ use Rattle.a68_ranges.specs.Indexed.{IsLeast}
 use Rattle.a68_ranges.specs.Nodes.{kind_at, name_at, parts_at, place_at}
 use Rattle.a68_ranges.specs.Standard.{IsModeWordOf}
 use Rattle.a68_ranges.specs.Twice.{IsTwice, single_mode_word}
-use Rattle.a68_ranges.specs.declared.sort.Sort.TheVariants as sorts
+use Rattle.a68_ranges.specs.declared.sort.IndicatorKind.TheVariants as sorts
 use Rattle.a68_tree.specs.Trees.{Built}
 use Rattle.a68_tree.specs.declared.node.Node.{Node}
 

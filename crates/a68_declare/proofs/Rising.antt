@@ -13,8 +13,8 @@ use Rattle.a68_declarers.specs.Modes.{AreDeclared, AreOrdered}
 use Rattle.a68_equiv.proofs.Growing.{way_below}
 use Rattle.a68_equiv.proofs.Meekly.{way_join}
 use Rattle.a68_equiv.proofs.Stepping.{row_of_map}
-use Rattle.a68_equiv.specs.declared.steps.Steps.{Steps}
-use Rattle.a68_equiv.specs.declared.steps.Steps.TheVariants.{BesidesNames, BesidesStructures, WithinUnions}
+use Rattle.a68_equiv.specs.declared.steps.Inward.{Inward}
+use Rattle.a68_equiv.specs.declared.steps.Inward.TheVariants.{BesidesNames, BesidesStructures, WithinUnions}
 use Rattle.a68_equiv.specs.Ways.{steps_of, row, Way, IsWellFormed, AreWellFormed}
 use Rattle.a68_equiv.specs.Ways.Way.{last_step, more_steps}
 use Rattle.a68_modes.specs.declared.shape.Shape.{Shape}
@@ -23,7 +23,7 @@ use Rattle.a68_modes.specs.Nodes.{shape_at, standard_shapes, parts_of, HoldsNode
 use Rattle.a68_ranges.proofs.Taking.{below_or}
 use Rattle.a68_ranges.specs.Definitions.{defines, FirstDefinition, here, further}
 use Rattle.a68_ranges.specs.Nodes.{kind_at, parts_at}
-use Rattle.a68_ranges.specs.declared.sort.Sort.TheVariants as sorts
+use Rattle.a68_ranges.specs.declared.sort.IndicatorKind.TheVariants as sorts
 use Rattle.a68_tree.specs.Trees.{Built}
 use Rattle.a68_tree.specs.declared.kind.NodeKind.{NodeKind}
 use Rattle.a68_tree.specs.declared.kind.NodeKind.TheVariants as kind
@@ -59,7 +59,7 @@ module _ (graph : List (List ℕ)) (rank : ℕ → ℕ) (Root : ℕ → Type 0) 
 -- ---- the modes of declarers
 
 -- steps lead to modes within the shape
-pub steps_in : (which : Steps) (s : Shape) (b : ℕ) → Contains (steps_of which s) b → Contains (parts_of s) b
+pub steps_in : (which : Inward) (s : Shape) (b : ℕ) → Contains (steps_of which s) b → Contains (parts_of s) b
 steps_in BesidesNames (Ref m) b c = absurd (let l = c.1 in omega arith)
 steps_in BesidesNames (Proc ps m) b c = absurd (let l = c.1 in omega arith)
 steps_in BesidesNames _ b c = c
@@ -184,14 +184,14 @@ module _ (tree : Built) (nodes : List Shape) (number : ℕ → Bool → ℕ) (ho
       subst (λ m. All (Falls m) (parts_of (shape_at nodes m))) o.3 (from_declarer o.0 o.1 o.2))
       (below_or a 13)
 
-  step_falls : (which : Steps) (a b : ℕ) → a < length nodes → Contains (row (map (steps_of which) nodes) a) b → Falls a b
+  step_falls : (which : Inward) (a b : ℕ) → a < length nodes → Contains (row (map (steps_of which) nodes) a) b → Falls a b
   step_falls which a b h c =
       let d : Contains (steps_of which (shape_at nodes a)) b = rw (row_of_map (steps_of which) nodes a h) at c in
       All-contains (Falls a) (parts_of (shape_at nodes a)) b (all_fall a h) (steps_in which (shape_at nodes a) b d)
 
   -- the modes of definitions lead back to themselves by no such way
   module _ (well : (d : ℕ) → IsIllFormed tree nodes number d → ⊥) where
-    root_well : (which : Steps) → ((m : ℕ) → IsWellFormed nodes m → Way (map (steps_of which) nodes) m m → ⊥) → (r : ℕ) → r < length nodes → IsRoot r → Way (map (steps_of which) nodes) r r → ⊥
+    root_well : (which : Inward) → ((m : ℕ) → IsWellFormed nodes m → Way (map (steps_of which) nodes) m m → ⊥) → (r : ℕ) → r < length nodes → IsRoot r → Way (map (steps_of which) nodes) r r → ⊥
     root_well which never r h root w = go root.fixed root.same
       where
         ill : IsWellFormed nodes r → ⊥
@@ -201,7 +201,7 @@ module _ (tree : Built) (nodes : List Shape) (number : ℕ → Bool → ℕ) (ho
         go false e = well root.definition (record { is_definition = root.is; ill = inl (λ f. ill (subst (IsWellFormed nodes) (sym e) f)) })
         go true e = well root.definition (record { is_definition = root.is; ill = inr (λ f. ill (subst (IsWellFormed nodes) (sym e) f)) })
 
-    no_way_back : (which : Steps) → ((m : ℕ) → IsWellFormed nodes m → Way (map (steps_of which) nodes) m m → ⊥) → (a : ℕ) → a < length nodes → Way (map (steps_of which) nodes) a a → ⊥
+    no_way_back : (which : Inward) → ((m : ℕ) → IsWellFormed nodes m → Way (map (steps_of which) nodes) m m → ⊥) → (a : ℕ) → a < length nodes → Way (map (steps_of which) nodes) a a → ⊥
     no_way_back which never =
         no_ring (map (steps_of which) nodes) (rank_of (length nodes)) IsRoot (length nodes)
         (λ a b h c. way_below nodes holds which a b h (last_step c)) (step_falls which) (root_well which never)

@@ -7,7 +7,7 @@ use Rattle.a68_declare.proofs.Standing.{standard_at, standard_unfolded, thirteen
 use Rattle.a68_declare.specs.Clean.{IsImage}
 use Rattle.a68_declare.specs.Numbering.{number_in, AreOnce, IsShapeFrom}
 use Rattle.a68_equiv.proofs.Spreading.{members_spread, plain_spread}
-use Rattle.a68_equiv.specs.declared.steps.Steps.TheVariants.{WithinUnions}
+use Rattle.a68_equiv.specs.declared.steps.Inward.TheVariants.{WithinUnions}
 use Rattle.a68_equiv.specs.Unfolding.{leads_within, IsMember}
 use Rattle.a68_equiv.specs.Ways.{steps_of}
 use Rattle.a68_modes.specs.declared.shape.Shape.{Shape}

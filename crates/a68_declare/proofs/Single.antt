@@ -15,7 +15,7 @@ use Rattle.a68_declare.specs.Clean.{CleansTo, IsImage, IsRising, IsUnionImage}
 use Rattle.a68_declare.specs.Outcome.{AreByNode, AreModesOf, ByNode}
 use Rattle.a68_equiv.proofs.Grasp.{behind_below}
 use Rattle.a68_equiv.proofs.Growing.{way_below}
-use Rattle.a68_equiv.specs.declared.steps.Steps.TheVariants.{WithinUnions}
+use Rattle.a68_equiv.specs.declared.steps.Inward.TheVariants.{WithinUnions}
 use Rattle.a68_equiv.specs.Unfolding.{behind, unfolded, is_union}
 use Rattle.a68_modes.specs.declared.shape.Shape.{Shape}
 use Rattle.a68_modes.specs.declared.shape.Shape.TheVariants.{Union, Blank}

@@ -7,8 +7,8 @@ use Rattle.a68_equiv.proofs.Grasp.{behind_below}
 use Rattle.a68_equiv.proofs.Growing.{way_below}
 use Rattle.a68_equiv.proofs.Meekly.{way_join}
 use Rattle.a68_equiv.proofs.Stepping.{row_of_map}
-use Rattle.a68_equiv.specs.declared.steps.Steps.{Steps}
-use Rattle.a68_equiv.specs.declared.steps.Steps.TheVariants.{BesidesNames, BesidesStructures, WithinUnions}
+use Rattle.a68_equiv.specs.declared.steps.Inward.{Inward}
+use Rattle.a68_equiv.specs.declared.steps.Inward.TheVariants.{BesidesNames, BesidesStructures, WithinUnions}
 use Rattle.a68_equiv.specs.Unfolding.{behind, word_or, unfolded}
 use Rattle.a68_equiv.specs.Ways.{steps_of, row, Way, AreWellFormed}
 use Rattle.a68_equiv.specs.Ways.Way.{last_step, more_steps}
@@ -34,7 +34,7 @@ at_end nodes (suc k) m h t e = go (shape_at nodes m) refl (at_end nodes k) h e
     go _ f ih h e = cc
 
 -- steps are taken from mode words
-word_step : (which : Steps) (t : ℕ) → Contains (steps_of which (Same t)) t
+word_step : (which : Inward) (t : ℕ) → Contains (steps_of which (Same t)) t
 word_step BesidesNames t = (0, omega arith, refl)
 word_step BesidesStructures t = (0, omega arith, refl)
 word_step WithinUnions t = (0, omega arith, refl)
@@ -45,7 +45,7 @@ way_moved graph a b z e (last_step c) = last_step (subst (λ (xs : List ℕ). Co
 way_moved graph a b z e (more_steps {b = k} c w) = more_steps (subst (λ (xs : List ℕ). Contains xs k) e c) w
 
 module _ (nodes : List Shape) (holds : HoldsNodes nodes) where
-  word_on : (which : Steps) (m t : ℕ) → m < length nodes → shape_at nodes m ≡ Same t → Contains (row (map (steps_of which) nodes) m) t
+  word_on : (which : Inward) (m t : ℕ) → m < length nodes → shape_at nodes m ≡ Same t → Contains (row (map (steps_of which) nodes) m) t
   word_on which m t h e = rw (row_of_map (steps_of which) nodes m h, e) (word_step which t)
 
   pub no_loops : AreWellFormed nodes → (m : ℕ) → m < length nodes → (t : ℕ) → unfolded nodes m ≡ Same t → ⊥
@@ -61,7 +61,7 @@ module _ (nodes : List Shape) (holds : HoldsNodes nodes) where
       inside : (m k : ℕ) → m < length nodes → word_next nodes m ≡ Some k → k < length nodes
       inside m k h e = way_below nodes holds BesidesNames m k h (step m k h e)
 
-  to_head : (which : Steps) (k m : ℕ) → m < length nodes → (m ≡ behind nodes k m) ⊎ Way (map (steps_of which) nodes) m (behind nodes k m)
+  to_head : (which : Inward) (k m : ℕ) → m < length nodes → (m ≡ behind nodes k m) ⊎ Way (map (steps_of which) nodes) m (behind nodes k m)
   to_head which zero m h = inl refl
   to_head which (suc k) m h = go (shape_at nodes m) refl (holds.within m h) (to_head which k)
     where
@@ -74,7 +74,7 @@ module _ (nodes : List Shape) (holds : HoldsNodes nodes) where
       go _ e w ih = inl refl
 
   -- a way leads to each mode to which a step leads from what stands behind the mode words
-  pub way_behind : (which : Steps) (m x : ℕ) → m < length nodes → Contains (steps_of which (unfolded nodes m)) x → Way (map (steps_of which) nodes) m x
+  pub way_behind : (which : Inward) (m x : ℕ) → m < length nodes → Contains (steps_of which (unfolded nodes m)) x → Way (map (steps_of which) nodes) m x
   way_behind which m x h c =
       let head = behind nodes (length nodes) m in
       let lt = behind_below nodes holds (length nodes) m h in

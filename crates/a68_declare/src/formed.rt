@@ -4,13 +4,13 @@ ghost use Rattle.a68_declare.specs.Broken.{IsIllFormed};
 ghost use Rattle.a68_declarers.specs.Declarers.{is_mode_definition};
 ghost use Rattle.a68_declarers.specs.Numbers.{number_at};
 ghost use Rattle.a68_equiv.specs.Ways.{steps_of, IsClosed, IsWellFormed};
-ghost use Rattle.a68_equiv.specs.declared.steps.Steps.TheVariants as steps;
+ghost use Rattle.a68_equiv.specs.declared.steps.Inward.TheVariants as steps;
 ghost use Rattle.a68_ranges.specs.Indexed.{IsLeast};
 ghost use Rattle.a68_ranges.specs.Nodes.{kind_at};
 
 use a68_base::NoMemory;
 use a68_declarers::{Numbers, last_mode, sooner};
-use a68_equiv::{Steps, comes_back, graph_of};
+use a68_equiv::{Inward, comes_back, graph_of};
 use a68_modes::{Members, ModeId, Modes};
 use a68_tree::{NodeId, NodeKind, Tree};
 use std::alloc::Global;
@@ -29,8 +29,8 @@ fn steps_between(alloc: Global, modes: &Modes) -> Result<Steppings, NoMemory>
     ensures names_closed { IfOk result (λ found. IsClosed found.names.items) }
     ensures structures_closed { IfOk result (λ found. IsClosed found.structures.items) }
 {
-    let names = graph_of(alloc, modes, Steps::BesidesNames)?;
-    let structures = graph_of(alloc, modes, Steps::BesidesStructures)?;
+    let names = graph_of(alloc, modes, Inward::BesidesNames)?;
+    let structures = graph_of(alloc, modes, Inward::BesidesStructures)?;
     Ok(Steppings { names, structures })
 }
 

@@ -12,7 +12,7 @@ use Rattle.a68_ranges.proofs.Parenting.{all_below, all_behind}
 use Rattle.a68_ranges.proofs.Taking.{past, below_or, read}
 use Rattle.a68_ranges.specs.Definitions.{defines, FirstDefinition, here, further, IsDefinition}
 use Rattle.a68_ranges.specs.Nodes.{kind_at, parts_at, IsPart}
-use Rattle.a68_ranges.specs.declared.sort.Sort.{Sort}
+use Rattle.a68_ranges.specs.declared.sort.IndicatorKind.{IndicatorKind}
 use Rattle.a68_tree.specs.Trees.{Built, AllBetween}
 use Rattle.a68_tree.specs.declared.kind.NodeKind.TheVariants as kind
 use Rattle.a68_tree.specs.declared.node.Node.{Node}
@@ -23,16 +23,16 @@ kind_past tree d h = ap (λ (o : Option Node). option_map_or (λ (n : Node). n.k
 pub declarer_there : (tree : Built) (d : ℕ) → IsDeclarer tree d → d < length tree.nodes
 declarer_there tree d is = ⊎_elim (λ h. h) (λ h. absurd (false≢true (sym (ap is_declarer (kind_past tree d h)) ∙ is))) (below_or d (length tree.nodes))
 
-nothing : (sort : Sort) → defines kind.Skip ≡ Some sort → ⊥
+nothing : (sort : IndicatorKind) → defines kind.Skip ≡ Some sort → ⊥
 unfolding defines
 nothing sort e = cc
 
-first_there : {tree : Built} {sort : Sort} {name d : ℕ} {ranges : List ℕ} → FirstDefinition tree sort name ranges d → d < length tree.nodes
+first_there : {tree : Built} {sort : IndicatorKind} {name d : ℕ} {ranges : List ℕ} → FirstDefinition tree sort name ranges d → d < length tree.nodes
 first_there {tree = tree} {sort = sort} {d = d} (here is) =
     ⊎_elim (λ h. h) (λ h. absurd (nothing sort (ap defines (sym (kind_past tree d h)) ∙ is.sort_is))) (below_or d (length tree.nodes))
 first_there (further none more) = first_there more
 
-pub definition_there : (tree : Built) (at : ℕ) (sort : Sort) (name d : ℕ) → IsDefinition tree at sort name d → d < length tree.nodes
+pub definition_there : (tree : Built) (at : ℕ) (sort : IndicatorKind) (name d : ℕ) → IsDefinition tree at sort name d → d < length tree.nodes
 definition_there tree at sort name d is = first_there is.first
 
 -- the parts of a node, as they are read

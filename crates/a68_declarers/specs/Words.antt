@@ -4,7 +4,7 @@ use Rattle.a68_declarers.specs.Declarers.{form_at, is_declarer, is_word, IsDecla
 use Rattle.a68_declarers.specs.Numbers.{one_if}
 use Rattle.a68_ranges.specs.Definitions.{Undefined}
 use Rattle.a68_ranges.specs.Nodes.{kind_at, name_at, place_at}
-use Rattle.a68_ranges.specs.declared.sort.Sort.TheVariants as sorts
+use Rattle.a68_ranges.specs.declared.sort.IndicatorKind.TheVariants as sorts
 use Rattle.a68_tree.specs.Trees.{Built}
 
 -- a mode word that no surrounding range defines

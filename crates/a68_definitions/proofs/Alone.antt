@@ -18,7 +18,7 @@ use Rattle.a68_ranges.proofs.Single.{definition_one}
 use Rattle.a68_ranges.specs.Nodes.{kind_at, name_at, parts_at}
 use Rattle.a68_ranges.specs.Standard.{IsTagOf}
 use Rattle.a68_ranges.specs.Twice.{IsTwice, single_tag}
-use Rattle.a68_ranges.specs.declared.sort.Sort.TheVariants as sorts
+use Rattle.a68_ranges.specs.declared.sort.IndicatorKind.TheVariants as sorts
 use Rattle.a68_tree.specs.Trees.{Built}
 
 -- ---- tags

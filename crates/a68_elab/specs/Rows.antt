@@ -12,7 +12,7 @@ use Rattle.a68_acts.specs.declared.want.Reply.TheVariants as reply
 use Rattle.a68_acts.specs.declared.want.Want.{Want}
 use Rattle.a68_acts.specs.declared.want.Want.TheVariants as want
 use Rattle.a68_elab.specs.Terms.{Job, operating, resuming, gathering, preceding, ending, ranged, choosing, casing, conforming, specifying, tagging, passing, chosen, limiting, counting, stepping, turning, opening, naming, indexing, ranging, testing, running, advancing, quitting, leaving, calling, entering, binding, inside, forking, joining, closing, Term, todo, part, yielded, unit_of, no_terms, ◌and_term◌, only, todos, unit_terms, values, last_of}
-use Rattle.a68_elab.specs.Trees.{Tree, operation, together, phrases, range, choice, cases, conformity, loop, call, parallel, meaningless, Trees, no_trees, ◌and_tree◌, count, Specs, no_specs, spec, Test, no_test, while_in, Turns, depth, Body, ParallelUnit, Program, texts_of, units_of}
+use Rattle.a68_elab.specs.Trees.{Tree, operation, together, phrases, range, choice, cases, conformity, loop, call, parallel, meaningless, Trees, no_trees, ◌and_tree◌, count, Specs, no_specs, spec, Test, no_test, while_in, LoopTurns, depth, Body, ParallelUnit, Program, texts_of, units_of}
 use Rattle.a68_acts.specs.Members.{member_of}
 use Rattle.a68_modes.specs.Nodes.{shape_at}
 use Rattle.a68_modes.specs.declared.shape.Shape.{Shape}
@@ -108,7 +108,7 @@ conforms place yields chain (spec takes tagged whole t behind) out v =
 -- ---- loops
 
 -- TO is looked at alone: it is the operand of a monadic + (own)
-abbrev pub limits : Turns → List Environ → List Content → Then Term
+abbrev pub limits : LoopTurns → List Environ → List Content → Then Term
 limits l chain (from ∷ by ∷ to ∷ []) =
     goes_with l.place (λ t. part (counting l) chain (yielded from and_term (yielded by and_term only (yielded t)))) (applied 26 void to)
 limits l chain _ = meets fault.Kind l.place
@@ -124,7 +124,7 @@ turned place chain t reply.Go = t
 turned place chain t _ = misled place chain
 
 -- a turn: WHILE, in a frame where it has slots, or at once the body
-abbrev pub in_turn : Test → Counter → Turns → List Environ → Term
+abbrev pub in_turn : Test → Counter → LoopTurns → List Environ → Term
 in_turn no_test c l chain = part (running c l) chain (only (todo l.body chain))
 in_turn (while_in at zero test) c l chain = part (testing c l) chain (only (todo test chain))
 in_turn (while_in at (suc n) test) c l chain = part (ranging c l at (suc n) test) chain no_terms
@@ -136,7 +136,7 @@ binds_tag place yields v t (e ∷ outer) =
     acts place (want.Bind e.frame 0 v) (turned place (e ∷ outer) (part (ranged place yields) (e ∷ outer) (only (todo t (e ∷ outer)))))
 
 -- FOR's tag is the count
-abbrev pub binds_count : Counter → Turns → List Environ → Then Term
+abbrev pub binds_count : Counter → LoopTurns → List Environ → Then Term
 binds_count c l [] = meets fault.Kind l.place
 binds_count c l (e ∷ outer) = acts l.place (want.Bind e.frame 0 (plain (value.Int c.at))) (turned l.place (e ∷ outer) (in_turn l.test c l (e ∷ outer)))
 

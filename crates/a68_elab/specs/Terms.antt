@@ -5,7 +5,7 @@ use Rattle.std.specs.declared.option.Option.{Option}
 use Rattle.a68_acts.specs.Operations.{Operation}
 use Rattle.a68_acts.specs.declared.operation.Counter.{Counter}
 use Rattle.a68_acts.specs.declared.operation.Doing.{Doing}
-use Rattle.a68_elab.specs.Trees.{Order, collateral, serial, Tree, Trees, Specs, Turns, meaningless, no_trees, ◌and_tree◌, ParallelUnit}
+use Rattle.a68_elab.specs.Trees.{Order, collateral, serial, Tree, Trees, Specs, LoopTurns, meaningless, no_trees, ◌and_tree◌, ParallelUnit}
 use Rattle.a68_values.specs.Content.{Content, void}
 use Rattle.a68_values.specs.declared.chain.Environ.{Environ}
 use Rattle.a68_values.specs.declared.plain.Routine.{Routine}
@@ -38,26 +38,26 @@ pub data Job : Type 0 where
   -- the yield of the chosen part
   chosen : Job
   -- FROM, BY and TO are there, and TO alone is looked at
-  limiting : (l : Turns) → Job
+  limiting : (l : LoopTurns) → Job
   -- the counter of a loop, of the values of FROM, BY and TO
-  counting : (l : Turns) → Job
+  counting : (l : LoopTurns) → Job
   -- the question whether the counter has one more turn
-  stepping : (counter : Counter) (l : Turns) → Job
+  stepping : (counter : Counter) (l : LoopTurns) → Job
   -- a turn
-  turning : (counter : Counter) (l : Turns) → Job
+  turning : (counter : Counter) (l : LoopTurns) → Job
   -- the frame of FOR
-  opening : (counter : Counter) (l : Turns) → Job
+  opening : (counter : Counter) (l : LoopTurns) → Job
   -- the count, which is the value of FOR's tag
-  naming : (counter : Counter) (l : Turns) → Job
-  indexing : (counter : Counter) (l : Turns) → Job
+  naming : (counter : Counter) (l : LoopTurns) → Job
+  indexing : (counter : Counter) (l : LoopTurns) → Job
   -- the frame of WHILE
-  ranging : (counter : Counter) (l : Turns) (at slots : ℕ) (test : Tree) → Job
+  ranging : (counter : Counter) (l : LoopTurns) (at slots : ℕ) (test : Tree) → Job
   -- the body, by the value of WHILE
-  testing : (counter : Counter) (l : Turns) → Job
+  testing : (counter : Counter) (l : LoopTurns) → Job
   -- the end of a turn
-  running : (counter : Counter) (l : Turns) → Job
+  running : (counter : Counter) (l : LoopTurns) → Job
   -- so many frames are left, and the counter of the next turn comes
-  advancing : (frames : ℕ) (counter : Counter) (l : Turns) → Job
+  advancing : (frames : ℕ) (counter : Counter) (l : LoopTurns) → Job
   -- so many frames are left, and the loop ends
   quitting : (frames place : ℕ) (counter : Counter) → Job
   -- the end of the loop, with the counter that it had

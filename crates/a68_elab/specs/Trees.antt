@@ -63,7 +63,7 @@ count no_trees = 0
 count (tree and_tree trees) = suc (count trees)
 
 -- the turns of a loop: where it begins, whether FOR is there, its test and its body
-pub record Turns : Type 0 where
+pub record LoopTurns : Type 0 where
   pub place : ℕ
   pub counts : Bool
   pub test : Test
@@ -82,7 +82,7 @@ deeper_in (while_in at slots test) n = deeper slots n
 abbrev pub depth_of : (counts : Bool) → Test → ℕ
 depth_of counts test = deeper_in test (if counts then 1 else 0)
 
-abbrev pub depth : Turns → ℕ
+abbrev pub depth : LoopTurns → ℕ
 depth l = depth_of l.counts l.test
 
 -- a routine text: where it begins, whether its body leaves a value, and the body (Report, 5.4.1)

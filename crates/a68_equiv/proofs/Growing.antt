@@ -11,8 +11,8 @@ use Rattle.a68_modes.specs.declared.shape.Shape.{Shape}
 use Rattle.a68_modes.specs.declared.shape.Shape.TheVariants.{Union, Same, Blank}
 use Rattle.a68_modes.specs.Nodes.{shape_at, IsWithin, HoldsNodes}
 use Rattle.a68_equiv.specs.declared.mode.Mode.{Mode}
-use Rattle.a68_equiv.specs.declared.steps.Steps.{Steps}
-use Rattle.a68_equiv.specs.declared.steps.Steps.TheVariants.{BesidesNames, BesidesStructures, WithinUnions}
+use Rattle.a68_equiv.specs.declared.steps.Inward.{Inward}
+use Rattle.a68_equiv.specs.declared.steps.Inward.TheVariants.{BesidesNames, BesidesStructures, WithinUnions}
 use Rattle.a68_equiv.specs.Ways.{steps_of, row, Way, IsWellFormed, AreWellFormed}
 use Rattle.a68_equiv.specs.Ways.Way.{last_step, more_steps}
 use Rattle.a68_equiv.specs.Spread.{IsLed, IsSpread}
@@ -66,13 +66,13 @@ at_below nodes n m (Union ms) place x within f h = f h.1
 at_below nodes n m _ place x within f h = rw (← h.1) (within place 0 h.0)
 
 -- a step leads to a node of the list
-step_below : (nodes : List Shape) → HoldsNodes nodes → (which : Steps) (a b : ℕ) → a < length nodes → Contains (row (map (steps_of which) nodes) a) b → b < length nodes
+step_below : (nodes : List Shape) → HoldsNodes nodes → (which : Inward) (a b : ℕ) → a < length nodes → Contains (row (map (steps_of which) nodes) a) b → b < length nodes
 step_below nodes holds which a b h i =
     let l = length-map nodes (steps_of which) in
     let lt = All-contains (λ m. m < length (map (steps_of which) nodes)) (row (map (steps_of which) nodes) a) b (closed which nodes holds a (omega arith)) i in
     omega arith
 
-pub way_below : (nodes : List Shape) → HoldsNodes nodes → (which : Steps) (a b : ℕ) → a < length nodes → Way (map (steps_of which) nodes) a b → b < length nodes
+pub way_below : (nodes : List Shape) → HoldsNodes nodes → (which : Inward) (a b : ℕ) → a < length nodes → Way (map (steps_of which) nodes) a b → b < length nodes
 way_below nodes holds which a b h (last_step i) = step_below nodes holds which a b h i
 way_below nodes holds which a b h (more_steps {b = c} i w) = way_below nodes holds which c b (step_below nodes holds which a c h i) w
 
@@ -128,33 +128,33 @@ module _ (nodes : List Shape) (s : Shape) (holds : HoldsNodes nodes) (formed : A
           ap (shape_at (nodes ++ s ∷ [])) (same_behind (length nodes) t h) ∙ old_shape (behind nodes (length nodes) t) (behind_below nodes holds (length nodes) t h)
       go _ w e = e
 
-  row_old : (which : Steps) (a : ℕ) → a < length nodes → row (map (steps_of which) (nodes ++ s ∷ [])) a ≡ row (map (steps_of which) nodes) a
+  row_old : (which : Inward) (a : ℕ) → a < length nodes → row (map (steps_of which) (nodes ++ s ∷ [])) a ≡ row (map (steps_of which) nodes) a
   row_old which a h =
       row_of_map (steps_of which) (nodes ++ s ∷ []) a (let l = longer in omega arith) ∙ ap (steps_of which) (old_shape a h) ∙ sym (row_of_map (steps_of which) nodes a h)
 
-  row_new : (which : Steps) → row (map (steps_of which) (nodes ++ s ∷ [])) (length nodes) ≡ steps_of which s
+  row_new : (which : Inward) → row (map (steps_of which) (nodes ++ s ∷ [])) (length nodes) ≡ steps_of which s
   row_new which = row_of_map (steps_of which) (nodes ++ s ∷ []) (length nodes) (let l = longer in omega arith) ∙ ap (steps_of which) new_shape
 
-  way_out : (which : Steps) (a b : ℕ) → a < length nodes → Way (map (steps_of which) (nodes ++ s ∷ [])) a b → Way (map (steps_of which) nodes) a b
+  way_out : (which : Inward) (a b : ℕ) → a < length nodes → Way (map (steps_of which) (nodes ++ s ∷ [])) a b → Way (map (steps_of which) nodes) a b
   way_out which a b h (last_step i) = last_step (rw (row_old which a h) at i)
   way_out which a b h (more_steps {b = c} i w) =
       let j : Contains (row (map (steps_of which) nodes) a) c = rw (row_old which a h) at i in
       more_steps j (way_out which c b (step_below nodes holds which a c h j) w)
 
-  way_in : (which : Steps) (a b : ℕ) → a < length nodes → Way (map (steps_of which) nodes) a b → Way (map (steps_of which) (nodes ++ s ∷ [])) a b
+  way_in : (which : Inward) (a b : ℕ) → a < length nodes → Way (map (steps_of which) nodes) a b → Way (map (steps_of which) (nodes ++ s ∷ [])) a b
   way_in which a b h (last_step i) = last_step (rw (row_old which a h) i)
   way_in which a b h (more_steps {b = c} i w) =
       let j : Contains (row (map (steps_of which) (nodes ++ s ∷ [])) a) c = rw (row_old which a h) i in
       more_steps j (way_in which c b (step_below nodes holds which a c h i) w)
 
   -- from the new node
-  first_step : (which : Steps) (c : ℕ) → Contains (row (map (steps_of which) (nodes ++ s ∷ [])) (length nodes)) c → Contains (steps_of which s) c
+  first_step : (which : Inward) (c : ℕ) → Contains (row (map (steps_of which) (nodes ++ s ∷ [])) (length nodes)) c → Contains (steps_of which s) c
   first_step which c i = rw (row_new which) at i
 
-  first_below : (which : Steps) (c : ℕ) → Contains (steps_of which s) c → c < length nodes
+  first_below : (which : Inward) (c : ℕ) → Contains (steps_of which s) c → c < length nodes
   first_below which c i = All-contains (λ m. m < length nodes) (steps_of which s) c (steps_within which (length nodes) s within) i
 
-  new_below : (which : Steps) (b : ℕ) → Way (map (steps_of which) (nodes ++ s ∷ [])) (length nodes) b → b < length nodes
+  new_below : (which : Inward) (b : ℕ) → Way (map (steps_of which) (nodes ++ s ∷ [])) (length nodes) b → b < length nodes
   new_below which b (last_step i) = first_below which b (first_step which b i)
   new_below which b (more_steps {b = c} i w) =
       let lt = first_below which c (first_step which c i) in

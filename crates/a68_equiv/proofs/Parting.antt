@@ -6,7 +6,7 @@ use Rattle.a68_modes.specs.declared.shape.Shape.{Shape}
 use Rattle.a68_modes.specs.declared.shape.Shape.TheVariants.{Union}
 use Rattle.a68_modes.specs.Nodes.{shape_at, parts_of, HoldsNodes}
 use Rattle.a68_equiv.specs.declared.mode.Mode.{Mode}
-use Rattle.a68_equiv.specs.declared.steps.Steps.TheVariants.{WithinUnions}
+use Rattle.a68_equiv.specs.declared.steps.Inward.TheVariants.{WithinUnions}
 use Rattle.a68_equiv.specs.Ways.{steps_of}
 use Rattle.a68_equiv.specs.Spread.{IsSpread}
 use Rattle.a68_equiv.specs.Unfolding.{unfolded, behind, passes_on, is_union, IsMember}

@@ -8,7 +8,7 @@ use Rattle.a68_modes.specs.declared.shape.Shape.{Shape}
 use Rattle.a68_modes.specs.declared.shape.Shape.TheVariants.{Union, Same}
 use Rattle.a68_modes.specs.Nodes.{parts_of}
 use Rattle.a68_equiv.specs.declared.mode.Mode.{Mode}
-use Rattle.a68_equiv.specs.declared.steps.Steps.TheVariants.{WithinUnions}
+use Rattle.a68_equiv.specs.declared.steps.Inward.TheVariants.{WithinUnions}
 use Rattle.a68_equiv.specs.Ways.{steps_of, row, Way}
 use Rattle.a68_equiv.specs.Ways.Way.{last_step, more_steps}
 use Rattle.a68_equiv.specs.Unfolding.{unfolded, leads_within, passes_on, is_union, IsMember}

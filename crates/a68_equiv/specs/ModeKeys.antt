@@ -4,7 +4,7 @@ use Rattle.std.specs.Prelude.{◌≡◌, ℕ, List, [], ◌∷◌, ◌++◌, Boo
 use Rattle.a68_modes.specs.declared.shape.Shape.{Shape}
 use Rattle.a68_modes.specs.declared.shape.Shape.TheVariants.{Same}
 use Rattle.a68_equiv.specs.declared.mode.Mode.{Mode}
-use Rattle.a68_equiv.specs.declared.steps.Steps.TheVariants.{WithinUnions}
+use Rattle.a68_equiv.specs.declared.steps.Inward.TheVariants.{WithinUnions}
 use Rattle.a68_equiv.specs.Ways.{steps_of}
 use Rattle.a68_equiv.specs.Unfolding.{unfolded, is_union}
 use Rattle.a68_equiv.specs.Graph.{mode_of, code_of, IsRowOf, IsShapeRow}

@@ -4,7 +4,7 @@ use Rattle.a68_modes.specs.declared.shape.Shape.{Shape}
 use Rattle.a68_modes.specs.declared.shape.Shape.TheVariants.{Ref, Rows, Struct, Union, Proc, Same}
 use Rattle.a68_modes.specs.Nodes.{shape_at, parts_of}
 use Rattle.a68_equiv.specs.declared.mode.Mode.{Mode}
-use Rattle.a68_equiv.specs.declared.steps.Steps.TheVariants.{WithinUnions}
+use Rattle.a68_equiv.specs.declared.steps.Inward.TheVariants.{WithinUnions}
 use Rattle.a68_equiv.specs.Ways.{steps_of, Way}
 
 -- the node behind the mode words of m, as far as the steps go

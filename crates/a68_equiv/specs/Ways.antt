@@ -4,11 +4,11 @@ use Rattle.std.specs.List.{All, Contains}
 use Rattle.a68_modes.specs.declared.shape.Shape.{Shape}
 use Rattle.a68_modes.specs.declared.shape.Shape.TheVariants.{Ref, Struct, Union, Proc, Same}
 use Rattle.a68_modes.specs.Nodes.{parts_of}
-use Rattle.a68_equiv.specs.declared.steps.Steps.{Steps}
-use Rattle.a68_equiv.specs.declared.steps.Steps.TheVariants.{BesidesNames, BesidesStructures, WithinUnions}
+use Rattle.a68_equiv.specs.declared.steps.Inward.{Inward}
+use Rattle.a68_equiv.specs.declared.steps.Inward.TheVariants.{BesidesNames, BesidesStructures, WithinUnions}
 
 -- the modes within a shape, where the steps to them are taken
-abbrev pub steps_of : Steps → Shape → List ℕ
+abbrev pub steps_of : Inward → Shape → List ℕ
 -- no step leads from a REF or a PROC
 steps_of BesidesNames (Ref m) = []
 steps_of BesidesNames (Proc params m) = []

@@ -11,7 +11,7 @@ use crate::Mode;
 use crate::classes::Classes;
 use crate::graph::behind;
 use crate::spread::{is_union, spread};
-use crate::steps::{Steps, row};
+use crate::steps::{Inward, row};
 use a68_base::NoMemory;
 use a68_modes::{Members, ModeId, Modes, Shape};
 use std::alloc::Global;
@@ -44,7 +44,7 @@ pub fn among(alloc: Global, modes: &Modes, mode: ModeId) -> Result<Members, NoMe
     ensures below { IfOk result (λ among. All (λ m. m < length modes.now) among) }
 {
     if is_union(modes.shape(behind(modes, mode))) {
-        let start = row(alloc, Steps::WithinUnions, modes.shape(mode))?;
+        let start = row(alloc, Inward::WithinUnions, modes.shape(mode))?;
         let among = spread(alloc, modes, &start.items)?;
         return Ok(among);
     }

@@ -4,7 +4,7 @@ ghost use Rattle.std.specs.List.{All};
 ghost use Rattle.a68_equiv.specs.Dimensions.{HasDimensions, HaveDimensions};
 ghost use Rattle.a68_equiv.specs.Ways.{AreWellFormed, IsClosed, IsFirstIllFormed, Way};
 
-use crate::steps::{Steps, graph};
+use crate::steps::{Inward, graph};
 use crate::walk::reached;
 use a68_base::NoMemory;
 use a68_modes::{Members, ModeId, Modes, Shape};
@@ -16,8 +16,8 @@ pub fn ill_formed(alloc: Global, modes: &Modes, roots: &[ModeId]) -> Result<Opti
     requires few { length roots.now < 2 ^ 32 }
     ensures { IfOk result (λ place. IsFirstIllFormed modes.now roots.now place) }
 {
-    let besides_names = graph(alloc, modes, Steps::BesidesNames)?;
-    let besides_structures = graph(alloc, modes, Steps::BesidesStructures)?;
+    let besides_names = graph(alloc, modes, Inward::BesidesNames)?;
+    let besides_structures = graph(alloc, modes, Inward::BesidesStructures)?;
     for (place, root) in roots.iter().enumerate() {
         let by_names = comes_back(alloc, &besides_names, *root)?;
         let by_structures = comes_back(alloc, &besides_structures, *root)?;

@@ -7,7 +7,7 @@ ghost use Rattle.a68_equiv.specs.Graph.{mode_of, AreBehind, HasCode, AreRows, Is
 use crate::Mode;
 use crate::codes::code;
 use crate::rows::both_rows;
-use crate::steps::{Steps, row};
+use crate::steps::{Inward, row};
 use a68_base::NoMemory;
 use a68_modes::{ModeId, Modes, Shape};
 use a68_partition::{Row, Table, numbered};
@@ -93,7 +93,7 @@ fn rows(alloc: Global, modes: &Modes, behind: &[ModeId]) -> Result<Vec<Row>, NoM
     let mut rows = Vec::new(alloc);
     for id in 0..modes.len() {
         let shape = modes.shape(behind[id as usize]);
-        let start = row(alloc, Steps::WithinUnions, shape)?;
+        let start = row(alloc, Inward::WithinUnions, shape)?;
         let (with, without) = both_rows(alloc, modes, &start.items, shape)?;
         rows.push(with)?;
         rows.push(without)?;

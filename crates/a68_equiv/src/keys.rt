@@ -12,7 +12,7 @@ use crate::Mode;
 use crate::codes::code;
 use crate::graph::{ModeGraph, behind, mode_at};
 use crate::rows::{number, row_of};
-use crate::steps::{Steps, row};
+use crate::steps::{Inward, row};
 use a68_base::NoMemory;
 use a68_modes::{Modes, Shape};
 use a68_partition::{Row, Table, numbered, row_key};
@@ -125,7 +125,7 @@ pub fn shape_key(
     ensures key { IfOk result (λ key. IsNewKey modes.now classes.now shape.now fixed key.items) }
     ensures nodes { OnOk result (HoldsNodes modes.now) }
 {
-    let start = row(alloc, Steps::WithinUnions, shape)?;
+    let start = row(alloc, Inward::WithinUnions, shape)?;
     let bare = behind_shape(modes, shape);
     let row = row_of(alloc, modes, &start.items, bare, fixed)?;
     let key = key_of(alloc, bare, fixed, &row, classes)?;

@@ -20,4 +20,4 @@ pub use formed::{all_have_dimensions, all_well_formed, comes_back, ill_formed};
 pub use graph::behind;
 pub use interning::intern;
 pub use mode::Mode;
-pub use steps::{Steps, graph as graph_of};
+pub use steps::{Inward, graph as graph_of};

@@ -5,7 +5,7 @@ ghost use Rattle.a68_equiv.specs.Graph.{ArePlain};
 ghost use Rattle.a68_equiv.specs.Spread.{AreLast, IsLed, IsSpread, AreKnown, Notes};
 ghost use Rattle.a68_equiv.specs.Unfolding.{leads_within, is_union as is_union_lem};
 
-use crate::steps::{Steps, row};
+use crate::steps::{Inward, row};
 use a68_base::NoMemory;
 use a68_modes::{Members, ModeId, Modes, Shape};
 use std::alloc::Global;
@@ -72,7 +72,7 @@ fn lead(
     let mut i = 0;
     while i < found.len() {
         let at = found[i];
-        let steps = row(alloc, Steps::WithinUnions, modes.shape(at))?;
+        let steps = row(alloc, Inward::WithinUnions, modes.shape(at))?;
         note(found, known, &steps.items)?;
         i += 1;
     }

@@ -9,7 +9,7 @@ use std::alloc::Global;
 
 /// Which steps from a mode to the modes within it are taken.
 #[derive(Clone, Copy, PartialEq, Eq)]
-pub enum Steps {
+pub enum Inward {
     /// All but those from a REF or a PROC.
     BesidesNames,
     /// All but those from a STRUCT or from a PROC with parameters.
@@ -19,22 +19,22 @@ pub enum Steps {
 }
 
 /// Are such steps taken from this shape?
-fn are_taken(steps: Steps, shape: &Shape) -> bool
+fn are_taken(steps: Inward, shape: &Shape) -> bool
     ensures { MatchBool result (steps_of steps shape.now ≡ parts_of shape.now) (steps_of steps shape.now ≡ []) }
 {
     match shape {
-        Shape::Ref(_) => steps == Steps::BesidesStructures,
-        Shape::Rows { .. } => steps != Steps::WithinUnions,
-        Shape::Struct(_) => steps == Steps::BesidesNames,
+        Shape::Ref(_) => steps == Inward::BesidesStructures,
+        Shape::Rows { .. } => steps != Inward::WithinUnions,
+        Shape::Struct(_) => steps == Inward::BesidesNames,
         Shape::Proc { params, .. } => {
-            steps == Steps::BesidesStructures && params.items.is_empty()
+            steps == Inward::BesidesStructures && params.items.is_empty()
         }
         _ => true,
     }
 }
 
 /// The modes to which such a step leads from a shape.
-pub fn row(alloc: Global, steps: Steps, shape: &Shape) -> Result<Members, NoMemory>
+pub fn row(alloc: Global, steps: Inward, shape: &Shape) -> Result<Members, NoMemory>
     ensures { IfOk result (λ row. row ≡ steps_of steps shape.now) }
 {
     let taken = are_taken(steps, shape);
@@ -46,7 +46,7 @@ pub fn row(alloc: Global, steps: Steps, shape: &Shape) -> Result<Members, NoMemo
 }
 
 /// The graph of such steps: for each node those to which a step leads.
-pub fn graph(alloc: Global, modes: &Modes, which: Steps) -> Result<Vec<Members>, NoMemory>
+pub fn graph(alloc: Global, modes: &Modes, which: Inward) -> Result<Vec<Members>, NoMemory>
     ensures rows { IfOk result (λ graph. graph.items ≡ map (steps_of which) modes.now) }
     ensures closed { IfOk result (λ graph. IsClosed graph.items) }
 {

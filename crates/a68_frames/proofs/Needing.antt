@@ -11,7 +11,7 @@ use Rattle.a68_ranges.specs.Surroundings.{Lies}
 use Rattle.a68_ranges.specs.Standard.{IsTagOf}
 use Rattle.a68_ranges.specs.Tables.{at_key}
 use Rattle.a68_ranges.specs.declared.nests.Layer.{Layer}
-use Rattle.a68_ranges.specs.declared.sort.Sort.TheVariants as sorts
+use Rattle.a68_ranges.specs.declared.sort.IndicatorKind.TheVariants as sorts
 use Rattle.a68_frames.proofs.Finding.{no_slot, none_at, found_in, placed, Found}
 use Rattle.a68_frames.specs.Frames.{has_slot, with_slots, makes_frame, slots_in, frames_of, moved}
 use Rattle.a68_frames.specs.Needs.{Innermost, Uses, outside, within, DeclaresTag, HasSlotFor, UsesTag, IsNeed}

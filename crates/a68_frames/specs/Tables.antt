@@ -5,7 +5,7 @@ use Rattle.a68_frames.specs.Frames.{slots_in, makes_frame, moved, place_of, Stan
 use Rattle.a68_frames.specs.Needs.{UsesTag, UsesTagAt, UsesSlotAt, IsNeed}
 use Rattle.a68_ranges.specs.Nodes.{kind_at, name_at}
 use Rattle.a68_ranges.specs.Definitions.{IsDefinition, Undefined}
-use Rattle.a68_ranges.specs.declared.sort.Sort.TheVariants as sorts
+use Rattle.a68_ranges.specs.declared.sort.IndicatorKind.TheVariants as sorts
 use Rattle.a68_ranges.specs.Surroundings.{Lies}
 use Rattle.a68_ranges.specs.Links.{AreLinked}
 use Rattle.a68_ranges.specs.Tables.{at_key, Nested}

@@ -8,7 +8,7 @@ ghost use Rattle.a68_ranges.specs.Tables.{AreRanges};
 ghost use Rattle.a68_tree.specs.Trees.{Built};
 
 use crate::reading;
-use crate::slots::{Places, slot_at};
+use crate::slots::{SlotOf, slot_at};
 use a68_base::NoMemory;
 use a68_ranges::{Layer, Ranges};
 use a68_tree::{FrameStep, NodeId, Tree};
@@ -186,7 +186,7 @@ impl Chains {
 /// Where a definition has a slot: in the innermost of the frames from that one outwards that has a slot for it.
 pub fn find(
     chains: &Chains,
-    places: &Places,
+    places: &SlotOf,
     start: Option<usize>,
     definition: NodeId,
 ) -> Option<FrameStep>

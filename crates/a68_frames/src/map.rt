@@ -11,7 +11,7 @@ ghost use Rattle.a68_tree.specs.declared.kind.NodeKind.TheVariants as kind;
 
 use crate::chain::{Chains, count, find};
 use crate::needs::lower;
-use crate::slots::{Slots, slot_at};
+use crate::slots::{RangeSlots, slot_at};
 use a68_tree::{FrameStep, NodeId};
 use std::marker::Model;
 
@@ -20,7 +20,7 @@ use std::marker::Model;
 /// Contracts see its tables.
 #[derive(Drop)]
 pub struct FrameMap {
-    pub(crate) slots: Slots,
+    pub(crate) slots: RangeSlots,
     pub(crate) chains: Chains,
     pub(crate) needs: Vec<Option<u32>>,
 }

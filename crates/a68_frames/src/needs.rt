@@ -6,7 +6,7 @@ ghost use Rattle.a68_ranges.specs.Tables.{AreRanges};
 
 use crate::chain::{Chains, find};
 use crate::reading::is_tag;
-use crate::slots::Slots;
+use crate::slots::RangeSlots;
 use a68_base::NoMemory;
 use a68_ranges::Ranges;
 use a68_tree::{NodeId, Tree};
@@ -79,7 +79,7 @@ fn lower_tag(
     needs: &mut [Option<u32>],
     tree: &Tree,
     ranges: &Ranges,
-    slots: &Slots,
+    slots: &RangeSlots,
     chains: &Chains,
     at: NodeId,
 )
@@ -104,7 +104,7 @@ fn lower_tags(
     needs: &mut [Option<u32>],
     tree: &Tree,
     ranges: &Ranges,
-    slots: &Slots,
+    slots: &RangeSlots,
     chains: &Chains,
 )
     requires ranges { AreRanges tree.now ranges.now }
@@ -124,7 +124,7 @@ pub fn needs_of(
     alloc: Global,
     tree: &Tree,
     ranges: &Ranges,
-    slots: &Slots,
+    slots: &RangeSlots,
     chains: &Chains,
 ) -> Result<Vec<Option<u32>>, NoMemory>
     requires ranges { AreRanges tree.now ranges.now }

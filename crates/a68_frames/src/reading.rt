@@ -5,7 +5,7 @@ ghost use Rattle.a68_ranges.specs.Definitions as definitions;
 ghost use Rattle.a68_ranges.specs.Nodes as nodes;
 ghost use Rattle.a68_frames.specs.Tables as tables;
 
-use a68_ranges::{Sort, defines};
+use a68_ranges::{IndicatorKind, defines};
 use a68_tree::{NodeId, NodeKind, Tree};
 
 /// The kind of a node; a number of no node has that of a skip.
@@ -24,8 +24,8 @@ pub fn has_slot(kind: NodeKind) -> bool
     ensures { result ≡ frames.has_slot (definitions.defines kind) }
 {
     match defines(kind) {
-        Some(Sort::Tag) => true,
-        Some(Sort::Operator) => true,
+        Some(IndicatorKind::Tag) => true,
+        Some(IndicatorKind::Operator) => true,
         Some(_) => false,
         None => false,
     }

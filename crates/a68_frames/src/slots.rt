@@ -15,18 +15,18 @@ use std::alloc::Global;
 use std::collections::HashMap;
 
 /// The slots by range and definition.
-pub type Places = HashMap<(NodeId, NodeId), u32>;
+pub type SlotOf = HashMap<(NodeId, NodeId), u32>;
 
 /// The slots of each range: how many, whether it makes a frame, and of which definitions.
 #[derive(Drop)]
-pub struct Slots {
+pub struct RangeSlots {
     pub counts: Vec<u32>,
     pub makes: Vec<bool>,
-    pub places: Places,
+    pub places: SlotOf,
 }
 
 // Notes the slot of a node. The next free slot.
-fn place_slot(places: &mut Places, range: NodeId, id: NodeId, slot: u32) -> Result<u32, NoMemory>
+fn place_slot(places: &mut SlotOf, range: NodeId, id: NodeId, slot: u32) -> Result<u32, NoMemory>
     ensures { IfOk result (λ next. IsSlotNoted places.old.entries places.new.entries range id slot true next) }
 {
     if slot == u32::MAX {
@@ -38,7 +38,7 @@ fn place_slot(places: &mut Places, range: NodeId, id: NodeId, slot: u32) -> Resu
 
 // Notes the slot of a node, where it has one. The next free slot.
 fn note_slot(
-    places: &mut Places,
+    places: &mut SlotOf,
     tree: &Tree,
     range: NodeId,
     id: NodeId,
@@ -55,7 +55,7 @@ fn note_slot(
 
 // Notes the slots of a range. How many there are.
 fn note_slots(
-    places: &mut Places,
+    places: &mut SlotOf,
     tree: &Tree,
     range: NodeId,
     list: &[NodeId],
@@ -74,7 +74,12 @@ fn note_slots(
 }
 
 // Adds the slots of the next range.
-fn add_range(slots: &mut Slots, tree: &Tree, ranges: &Ranges, range: NodeId) -> Result<(), NoMemory>
+fn add_range(
+    slots: &mut RangeSlots,
+    tree: &Tree,
+    ranges: &Ranges,
+    range: NodeId,
+) -> Result<(), NoMemory>
     requires ranges { AreRanges tree.now ranges.now }
     requires there { range < length tree.now.nodes }
     requires before { AreSlotsBefore tree.now range slots.old.places.entries slots.old.counts.items slots.old.makes.items }
@@ -87,7 +92,7 @@ fn add_range(slots: &mut Slots, tree: &Tree, ranges: &Ranges, range: NodeId) -> 
 }
 
 // Adds the slots of all ranges.
-fn add_ranges(slots: &mut Slots, tree: &Tree, ranges: &Ranges) -> Result<(), NoMemory>
+fn add_ranges(slots: &mut RangeSlots, tree: &Tree, ranges: &Ranges) -> Result<(), NoMemory>
     requires ranges { AreRanges tree.now ranges.now }
     requires before { AreSlotsBefore tree.now 0 slots.old.places.entries slots.old.counts.items slots.old.makes.items }
     ensures { OnOk result (AreSlotsBefore tree.now (length tree.now.nodes) slots.new.places.entries slots.new.counts.items slots.new.makes.items) }
@@ -99,11 +104,11 @@ fn add_ranges(slots: &mut Slots, tree: &Tree, ranges: &Ranges) -> Result<(), NoM
 }
 
 /// The slots of the ranges of a tree.
-pub fn slots_of(alloc: Global, tree: &Tree, ranges: &Ranges) -> Result<Slots, NoMemory>
+pub fn slots_of(alloc: Global, tree: &Tree, ranges: &Ranges) -> Result<RangeSlots, NoMemory>
     requires { AreRanges tree.now ranges.now }
     ensures { IfOk result (λ slots. AreSlotsBefore tree.now (length tree.now.nodes) slots.places.entries slots.counts.items slots.makes.items) }
 {
-    let mut slots = Slots {
+    let mut slots = RangeSlots {
         counts: Vec::new(alloc),
         makes: Vec::new(alloc),
         places: HashMap::new(alloc),
@@ -113,7 +118,7 @@ pub fn slots_of(alloc: Global, tree: &Tree, ranges: &Ranges) -> Result<Slots, No
 }
 
 /// The slot of a definition in a range.
-pub fn slot_at(places: &Places, range: NodeId, definition: NodeId) -> Option<u32>
+pub fn slot_at(places: &SlotOf, range: NodeId, definition: NodeId) -> Option<u32>
     ensures { result ≡ at_key places.now.entries range definition }
 {
     places.get(&(range, definition)).copied()

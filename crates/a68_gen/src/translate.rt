@@ -74,7 +74,7 @@ fn write_asked(alloc: Global, program: &Numbered, wanted: bool, id: NodeId, out:
 
 // Where routine texts and units of parallel clauses begin, each by their numbers.
 #[derive(Drop)]
-struct Entrances {
+struct TextEntrances {
     texts: Vec<RoutineEntrance>,
     units: Vec<u32>,
 }
@@ -154,7 +154,7 @@ fn write_entered(
     alloc: Global,
     program: &Numbered,
     entered: Entered,
-    entrances: &mut Entrances,
+    entrances: &mut TextEntrances,
     out: &mut Writer,
 )
     requires { node_of entered < length program.now.tree.nodes }
@@ -169,7 +169,7 @@ fn write_entered(
 }
 
 // All routine texts and units, one behind the other.
-fn write_apart(alloc: Global, program: &Numbered, entrances: &mut Entrances, out: &mut Writer)
+fn write_apart(alloc: Global, program: &Numbered, entrances: &mut TextEntrances, out: &mut Writer)
     requires no_texts { entrances.old.texts.items ≡ [] }
     requires no_units { entrances.old.units.items ≡ [] }
     ensures writes { Wrote out.old out.new (apart_stretches (program_of program.now).apart (length out.old.list)) }
@@ -183,7 +183,7 @@ fn write_apart(alloc: Global, program: &Numbered, entrances: &mut Entrances, out
 }
 
 // The program, and its routine texts and units behind it.
-fn write_all(alloc: Global, program: &Numbered, entrances: &mut Entrances, out: &mut Writer)
+fn write_all(alloc: Global, program: &Numbered, entrances: &mut TextEntrances, out: &mut Writer)
     requires empty { out.old.list ≡ [] }
     requires no_texts { entrances.old.texts.items ≡ [] }
     requires no_units { entrances.old.units.items ≡ [] }
@@ -208,7 +208,7 @@ fn code_of(alloc: Global, program: &Annotated, runs: Vec<bool>) -> Result<Code, 
     ensures too_long { IfErr result (λ stop. Stops stop (listing (program_of program.now))) }
 {
     let numbered = Numbered::new(alloc, program, runs)?;
-    let mut entrances = Entrances {
+    let mut entrances = TextEntrances {
         texts: Vec::new(alloc),
         units: Vec::new(alloc),
     };
@@ -219,7 +219,7 @@ fn code_of(alloc: Global, program: &Annotated, runs: Vec<bool>) -> Result<Code, 
         return Err(stop);
     }
     let modes = program.modes.copy(alloc)?;
-    let Entrances { texts, units } = entrances;
+    let TextEntrances { texts, units } = entrances;
     let code = list.finish(Routines { items: texts }, Places { items: units }, modes);
     Ok(code)
 }

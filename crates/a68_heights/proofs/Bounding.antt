@@ -7,7 +7,7 @@ use Rattle.a68_code.specs.declared.code.Instr.{Instr}
 use Rattle.a68_code.specs.declared.owner.Owner.{Owner}
 use Rattle.a68_code.specs.declared.owner.Owner.TheVariants as owner
 use Rattle.a68_heights.proofs.Rising.{few_values}
-use Rattle.a68_heights.specs.Heights.{height, Awaits, Below, Calls, Enters, Fits, FitsBy, GoesOn, Stands}
+use Rattle.a68_heights.specs.Heights.{height, Awaits, Below, Calls, Enters, Fits, FitsBy, MayGoOn, MayStand}
 use Rattle.a68_instructions.specs.Machine.{State}
 use Rattle.a68_instructions.specs.declared.ask.Stance.{Stance}
 use Rattle.a68_instructions.specs.declared.ask.Stance.TheVariants.{Idle, Asking, Failed, Waits, Closed}
@@ -26,10 +26,10 @@ module _ (code : Code) (valid : IsValid code) where
   abbrev IsSmall : List Item → Type 0
   IsSmall items = (whose : Owner) × (height items < length code.list) × Below code whose items
 
-  stands-small : (at : ℕ) (items : List Item) → Stands code at items → IsSmall items
+  stands-small : (at : ℕ) (items : List Item) → MayStand code at items → IsSmall items
   stands-small at items (whose, r, l) = (whose, few_values code whose valid at (height items) r, l)
 
-  goes_on-small : (to left : ℕ) (items : List Item) → GoesOn code to left items → IsSmall items
+  goes_on-small : (to left : ℕ) (items : List Item) → MayGoOn code to left items → IsSmall items
   goes_on-small to left items (whose, r, l) = let few = few_values code whose valid to (height items + left) r in (whose, omega (arith, few), l)
 
   calls-small : (to text : ℕ) (items : List Item) → Calls code to text items → IsSmall items

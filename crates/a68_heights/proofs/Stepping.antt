@@ -16,7 +16,7 @@ use Rattle.a68_heights.proofs.Forking.{forks-fits}
 use Rattle.a68_heights.proofs.Leading.{behind, stays}
 use Rattle.a68_heights.proofs.Operating.{operates-fits}
 use Rattle.a68_heights.proofs.Steering.{cases-fits, enters-fits, jump-fits, leaves-fits, members-fits, unless-fits}
-use Rattle.a68_heights.specs.Heights.{height, Below, Fits, FitsBy, Stands}
+use Rattle.a68_heights.specs.Heights.{height, Below, Fits, FitsBy, MayStand}
 use Rattle.a68_instructions.specs.Machine.{State, at_end, controls, does_one, exec, fails, next_state, operates, operation_of, settle, settle_in, silently}
 use Rattle.a68_instructions.specs.declared.ask.Stance.{Stance}
 use Rattle.a68_instructions.specs.declared.ask.Stance.TheVariants.{Idle, Asking, Failed, Waits, Closed}
@@ -58,11 +58,11 @@ module _ (code : Code) (valid : IsValid code) where
     does_one-fits (Some d) is f = exec-fits d is f
 
   -- a strand that stands before an instruction fits its code once it has done that
-  idle-fits : (st : State) → Stands code st.at st.stack.items → Fits code st → Fits code (does_one code (does_at code.list st.at) st)
+  idle-fits : (st : State) → MayStand code st.at st.stack.items → Fits code st → Fits code (does_one code (does_at code.list st.at) st)
   idle-fits st s f = does_one-fits s.0 st s.1 s.2 (does_at code.list st.at) refl f
 
   -- a strand with that stance
-  standing : (st : State) → st.stance ≡ Idle → Fits code st → Stands code st.at st.stack.items
+  standing : (st : State) → st.stance ≡ Idle → Fits code st → MayStand code st.at st.stack.items
   standing st e f = subst (λ (m : Stance). FitsBy code st.at m st.stack.items) e f
 
   by_stance : (m : Stance) (st next : State) → st.stance ≡ m → Fits code st → silently code m st ≡ Some next → Fits code next

@@ -10,7 +10,7 @@ use Rattle.a68_code.specs.declared.owner.Owner.{Owner}
 use Rattle.a68_heights.proofs.Calling.{binds-fits, enters_body-fits, into_routine-fits}
 use Rattle.a68_heights.proofs.Forks.{resumed_forkless}
 use Rattle.a68_heights.proofs.Operating.{follows-fits}
-use Rattle.a68_heights.specs.Heights.{Awaits, Fits, FitsBy, Stands}
+use Rattle.a68_heights.specs.Heights.{Awaits, Fits, FitsBy, MayStand}
 use Rattle.a68_instructions.specs.Machine.{State, beginning, into_frame, leaves_at, replied, replied_in, told_by}
 use Rattle.a68_instructions.specs.declared.ask.Stance.{Stance}
 use Rattle.a68_instructions.specs.declared.ask.Stance.TheVariants.{Idle, Asking, Failed, Waits, Closed}
@@ -23,7 +23,7 @@ pub beginning-fits : (code : Code) (whose : Owner) (at : ℕ) (chain : List Envi
 beginning-fits code whose at chain i = (whose, begins i, tt)
 
 module _ (code : Code) (st : State) where
-  into_frame-fits : Stands code (suc st.at) st.stack.items → (told : List Environ) → Fits code (into_frame st told)
+  into_frame-fits : MayStand code (suc st.at) st.stack.items → (told : List Environ) → Fits code (into_frame st told)
   into_frame-fits s [] = refl
   into_frame-fits s (e ∷ about) = s
 

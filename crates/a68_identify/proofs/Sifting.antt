@@ -14,7 +14,7 @@ use Rattle.a68_ranges.specs.Definitions.{defines, declared_in}
 use Rattle.a68_ranges.specs.Links.{has_layer, layered}
 use Rattle.a68_ranges.specs.Nodes.{kind_at, name_at}
 use Rattle.a68_ranges.specs.Tables.{is_sort, same_sort, operators_among, operators_in}
-use Rattle.a68_ranges.specs.declared.sort.Sort.TheVariants as sorts
+use Rattle.a68_ranges.specs.declared.sort.IndicatorKind.TheVariants as sorts
 use Rattle.a68_tree.specs.Trees.{Built}
 use Rattle.a68_tree.specs.declared.kind.NodeKind.{NodeKind}
 use Rattle.a68_tree.specs.declared.kind.NodeKind.TheVariants as kind

@@ -13,14 +13,14 @@ use Rattle.a68_identify.specs.Identified.{FirstThatHolds, IsLow, IsOperator, Sta
 use Rattle.a68_identify.specs.declared.identified.Identified.TheVariants.{Standard}
 use Rattle.a68_modes.specs.declared.shape.Shape.{Shape}
 use Rattle.a68_tree.specs.Trees.{Built}
-use Rattle.a68_signs.specs.Signs.{Entry, entry_of, candidates, dyadic_entries, monadic_entries}
+use Rattle.a68_signs.specs.Signs.{SignGroup, entry_of, candidates, dyadic_entries, monadic_entries}
 use Rattle.a68_signs.specs.declared.signs.Operator.{Operator}
 
 abbrev are_low : List Operator → Bool
 are_low [] = true
 are_low (o ∷ os) = nat_lt o.left 13 && (nat_lt o.right 13 && (nat_lt o.result 13 && are_low os))
 
-abbrev entries_low : List Entry → Bool
+abbrev entries_low : List SignGroup → Bool
 entries_low [] = true
 entries_low (e ∷ es) = are_low e.operators && entries_low es
 
@@ -39,14 +39,14 @@ low_all (o ∷ os) e =
     let r = both (nat_lt o.result 13) (are_low os) q.1 in
     All-cons IsLow o os (below o.left 13 p.0, below o.right 13 q.0, below o.result 13 r.0) (low_all os r.1)
 
-entry_low : (entries : List Entry) (sign : List ℕ) → entries_low entries ≡ true → All IsLow (option_map_or (λ (e : Entry). e.operators) (entry_of entries sign) [])
+entry_low : (entries : List SignGroup) (sign : List ℕ) → entries_low entries ≡ true → All IsLow (option_map_or (λ (e : SignGroup). e.operators) (entry_of entries sign) [])
 entry_low [] sign low = All-nil IsLow
 entry_low (e ∷ es) sign low =
     let p = both (are_low e.operators) (entries_low es) low in
     go (is_listed e.signs sign) (low_all e.operators p.0) (entry_low es sign p.1)
   where
-    go : (b : Bool) → All IsLow e.operators → All IsLow (option_map_or (λ (e : Entry). e.operators) (entry_of es sign) [])
-        → All IsLow (option_map_or (λ (e : Entry). e.operators) (if b then Some e else entry_of es sign) [])
+    go : (b : Bool) → All IsLow e.operators → All IsLow (option_map_or (λ (e : SignGroup). e.operators) (entry_of es sign) [])
+        → All IsLow (option_map_or (λ (e : SignGroup). e.operators) (if b then Some e else entry_of es sign) [])
     go true here later = here
     go false here later = later
 

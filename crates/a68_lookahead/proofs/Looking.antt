@@ -9,12 +9,12 @@ use Rattle.a68_tree.specs.declared.sym.Sym.TheVariants.{Opens, Closes, Is}
 use Rattle.a68_lookahead.specs.Ahead.{word, word_or_void, test, named, more, colon, bracket, closing, token, step, behind}
 use Rattle.a68_lookahead.specs.declared.look.Due.{Due}
 use Rattle.a68_lookahead.specs.declared.look.Due.TheVariants as due
-use Rattle.a68_lookahead.specs.declared.look.Sought.{Sought}
-use Rattle.a68_lookahead.specs.declared.look.Sought.TheVariants as m
+use Rattle.a68_lookahead.specs.declared.look.Landmark.{Landmark}
+use Rattle.a68_lookahead.specs.declared.look.Landmark.TheVariants as m
 use Rattle.a68_lookahead.specs.declared.look.Look.{Look}
 use Rattle.a68_lookahead.specs.declared.look.Look.TheVariants.{Goes, Found, Missed}
 
-module _ (sought : Sought) (n : ℕ) (d : Due) (s : Sym) (text : List Sym) where
+module _ (sought : Landmark) (n : ℕ) (d : Due) (s : Sym) (text : List Sym) where
   pub goes : (m : ℕ) (e : Due) → step sought n d s ≡ Goes m e → behind sought n d (s ∷ text) ≡ behind sought m e text
   goes m e is = rw (behind, is) refl
 
@@ -45,14 +45,14 @@ word_or_void_within : (s : Token) → Within 1 (word_or_void s)
 word_or_void_within t.Void = omega arith
 word_or_void_within s = word_within s
 
-test_within : (sought : Sought) (s : Token) → Within 1 (test sought s)
+test_within : (sought : Landmark) (s : Token) → Within 1 (test sought s)
 test_within m.Colon t.Colon = tt
 test_within m.Tag t.Tag = tt
 test_within m.Parameters t.Tag = omega arith
 test_within m.Spec t.Tag = omega arith
 test_within _ _ = tt
 
-named_within : (sought : Sought) (s : Token) → Within 1 (named sought s)
+named_within : (sought : Landmark) (s : Token) → Within 1 (named sought s)
 named_within m.Parameters t.Comma = omega arith
 named_within _ _ = tt
 
@@ -73,13 +73,13 @@ bracket_within due.Fields b.Round = omega arith
 bracket_within due.More b.Square = omega arith
 bracket_within _ _ = tt
 
-closing_within : (sought : Sought) (d : Due) (o : Bracket) → Within 1 (closing sought d o)
+closing_within : (sought : Landmark) (d : Due) (o : Bracket) → Within 1 (closing sought d o)
 closing_within m.Parameters due.Named b.Round = tt
 closing_within m.Spec due.Ended b.Round = tt
 closing_within m.Spec due.Named b.Round = omega arith
 closing_within _ _ _ = tt
 
-token_within : (sought : Sought) (d : Due) (s : Token) → Within 1 (token sought d s)
+token_within : (sought : Landmark) (d : Due) (s : Token) → Within 1 (token sought d s)
 token_within sought due.Declarer s = word_within s
 token_within sought due.Result s = word_or_void_within s
 token_within sought due.Procedure s = word_or_void_within s
@@ -89,7 +89,7 @@ token_within sought due.Named s = named_within sought s
 token_within sought due.More s = more_within s
 token_within sought due.Colon s = colon_within s
 
-pub step_within : (sought : Sought) (n : ℕ) (d : Due) (s : Sym) → Within (n + 1) (step sought n d s)
+pub step_within : (sought : Landmark) (n : ℕ) (d : Due) (s : Sym) → Within (n + 1) (step sought n d s)
 step_within sought zero d (Opens o) = bracket_within d o
 step_within sought zero d (Closes o) = closing_within sought d o
 step_within sought zero d (Is s) = token_within sought d s

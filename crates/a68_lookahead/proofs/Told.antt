@@ -12,15 +12,15 @@ use Rattle.a68_tree.specs.Grammar.{IsSign, IsClosing, IsEnclosed, IsFor, IsFrom,
 use Rattle.a68_tree.proofs.Joining.{spells_joined}
 use Rattle.a68_lookahead.specs.declared.look.Due.TheVariants as due
 use Rattle.a68_lookahead.specs.declared.look.Due.{Due}
-use Rattle.a68_lookahead.specs.declared.look.Sought.{Sought}
-use Rattle.a68_lookahead.specs.declared.look.Sought.TheVariants as m
+use Rattle.a68_lookahead.specs.declared.look.Landmark.{Landmark}
+use Rattle.a68_lookahead.specs.declared.look.Landmark.TheVariants as m
 use Rattle.a68_lookahead.specs.Ahead.{behind, routine_ahead, phrase_ahead, spec_ahead}
 use Rattle.std.proofs.lemmas.Bool.{false≢true}
 use Rattle.a68_lookahead.specs.Sets as set
 use Rattle.a68_lookahead.specs.Symbols.{Follows, at_end, next}
 
 -- brackets that open in a forest close in it
-pub behind_forest : (sought : Sought) (n : ℕ) (d : Due) (f : Forest) (r : List Sym) → behind sought (suc n) d (spells f r) ≡ behind sought (suc n) d r
+pub behind_forest : (sought : Landmark) (n : ℕ) (d : Due) (f : Forest) (r : List Sym) → behind sought (suc n) d (spells f r) ≡ behind sought (suc n) d r
 behind_forest sought n d end r = refl
 behind_forest sought n d (mark s f) r = behind_forest sought n d f r
 behind_forest sought n d (group c i f) r = behind_forest sought (suc n) d i (Closes c ∷ spells f r) ∙ behind_forest sought n d f r
@@ -32,7 +32,7 @@ behind_forest sought n d (forget f) r = behind_forest sought n d f r
 
 -- where a result may stand a declarer does as well
 mutual
-  pub behind_declarer : (sought : Sought) → {d : Forest} → IsDeclarer d → (y : List Sym) → behind sought zero due.Declarer (spells d y) ≡ behind sought zero due.Ended y
+  pub behind_declarer : (sought : Landmark) → {d : Forest} → IsDeclarer d → (y : List Sym) → behind sought zero due.Declarer (spells d y) ≡ behind sought zero due.Ended y
   behind_declarer sought (g.plain g.plain_int) y = refl
   behind_declarer sought (g.plain g.plain_other) y = refl
   behind_declarer sought g.mode_word y = refl
@@ -44,7 +44,7 @@ mutual
   behind_declarer sought (g.proc p) y = behind_proc sought p y
   behind_declarer sought (g.proc_params {p = p} {f = f} l q) y = behind_forest sought zero due.Result p (Closes b.Round ∷ spells f y) ∙ behind_yield sought q y
 
-  as_result : (sought : Sought) → {d : Forest} → IsDeclarer d → (y : List Sym) → behind sought zero due.Result (spells d y) ≡ behind sought zero due.Ended y
+  as_result : (sought : Landmark) → {d : Forest} → IsDeclarer d → (y : List Sym) → behind sought zero due.Result (spells d y) ≡ behind sought zero due.Ended y
   as_result sought (g.plain g.plain_int) y = refl
   as_result sought (g.plain g.plain_other) y = refl
   as_result sought g.mode_word y = refl
@@ -56,7 +56,7 @@ mutual
   as_result sought (g.proc p) y = behind_proc sought p y
   as_result sought (g.proc_params {p = p} {f = f} l q) y = behind_forest sought zero due.Result p (Closes b.Round ∷ spells f y) ∙ behind_yield sought q y
 
-  as_proc : (sought : Sought) → {d : Forest} → IsDeclarer d → (y : List Sym) → behind sought zero due.Procedure (spells d y) ≡ behind sought zero due.Ended y
+  as_proc : (sought : Landmark) → {d : Forest} → IsDeclarer d → (y : List Sym) → behind sought zero due.Procedure (spells d y) ≡ behind sought zero due.Ended y
   as_proc sought (g.plain g.plain_int) y = refl
   as_proc sought (g.plain g.plain_other) y = refl
   as_proc sought g.mode_word y = refl
@@ -68,11 +68,11 @@ mutual
   as_proc sought (g.proc p) y = behind_proc sought p y
   as_proc sought (g.proc_params {p = p} {f = f} l q) y = behind_forest sought zero due.Result p (Closes b.Round ∷ spells f y) ∙ behind_yield sought q y
 
-  behind_yield : (sought : Sought) → {f : Forest} → IsYield f → (y : List Sym) → behind sought zero due.Result (spells f y) ≡ behind sought zero due.Ended y
+  behind_yield : (sought : Landmark) → {f : Forest} → IsYield f → (y : List Sym) → behind sought zero due.Result (spells f y) ≡ behind sought zero due.Ended y
   behind_yield sought (g.yield_ d) y = as_result sought d y
   behind_yield sought g.yield_void y = refl
 
-  behind_proc : (sought : Sought) → {f : Forest} → IsYield f → (y : List Sym) → behind sought zero due.Procedure (spells f y) ≡ behind sought zero due.Ended y
+  behind_proc : (sought : Landmark) → {f : Forest} → IsYield f → (y : List Sym) → behind sought zero due.Procedure (spells f y) ≡ behind sought zero due.Ended y
   behind_proc sought (g.yield_ d) y = as_proc sought d y
   behind_proc sought g.yield_void y = refl
 
@@ -92,7 +92,7 @@ result_seen : {f : Forest} → IsResult f → (r : List Sym) → routine_ahead (
 result_seen (g.result {u = u} d i) r = ahead_declarer d (Is t.Colon ∷ spells u r) ∙ as_result m.Colon d (Is t.Colon ∷ spells u r)
 result_seen (g.result_void i) r = refl
 
-declarer_more : (sought : Sought) → {d : Forest} → IsDeclarer d → (y : List Sym) → behind sought zero due.More (spells d y) ≡ behind sought zero due.Declarer (spells d y)
+declarer_more : (sought : Landmark) → {d : Forest} → IsDeclarer d → (y : List Sym) → behind sought zero due.More (spells d y) ≡ behind sought zero due.Declarer (spells d y)
 declarer_more sought (g.plain g.plain_int) y = refl
 declarer_more sought (g.plain g.plain_other) y = refl
 declarer_more sought g.mode_word y = refl
@@ -127,51 +127,51 @@ routine_seen (g.routine_plain q) r = result_seen q r
 -- ---- and no other unit
 
 -- what is looked for behind a declarer
-data Asks : Sought → Type 0 where
+data Asks : Landmark → Type 0 where
   asks_colon : Asks m.Colon
   asks_parameters : Asks m.Parameters
   asks_spec : Asks m.Spec
 
 -- what is looked for in brackets
-data Lists : Sought → Type 0 where
+data Lists : Landmark → Type 0 where
   lists_parameters : Lists m.Parameters
   lists_spec : Lists m.Spec
 
-asks : {sought : Sought} → Lists sought → Asks sought
+asks : {sought : Landmark} → Lists sought → Asks sought
 asks lists_parameters = asks_parameters
 asks lists_spec = asks_spec
 
-while_ends : {sought : Sought} → Asks sought → {f : Forest} → IsWhile f → (r : List Sym) → behind sought zero due.Ended (spells f r) ≡ false
+while_ends : {sought : Landmark} → Asks sought → {f : Forest} → IsWhile f → (r : List Sym) → behind sought zero due.Ended (spells f r) ≡ false
 while_ends asks_colon (g.while_ p q) r = refl
 while_ends asks_parameters (g.while_ p q) r = refl
 while_ends asks_spec (g.while_ p q) r = refl
 while_ends a (g.no_while p) r = refl
 
-to_ends : {sought : Sought} → Asks sought → {f : Forest} → IsTo f → (r : List Sym) → behind sought zero due.Ended (spells f r) ≡ false
+to_ends : {sought : Landmark} → Asks sought → {f : Forest} → IsTo f → (r : List Sym) → behind sought zero due.Ended (spells f r) ≡ false
 to_ends asks_colon (g.to_ p q) r = refl
 to_ends asks_parameters (g.to_ p q) r = refl
 to_ends asks_spec (g.to_ p q) r = refl
 to_ends a (g.no_to p) r = while_ends a p r
 
-by_ends : {sought : Sought} → Asks sought → {f : Forest} → IsBy f → (r : List Sym) → behind sought zero due.Ended (spells f r) ≡ false
+by_ends : {sought : Landmark} → Asks sought → {f : Forest} → IsBy f → (r : List Sym) → behind sought zero due.Ended (spells f r) ≡ false
 by_ends asks_colon (g.by_ p q) r = refl
 by_ends asks_parameters (g.by_ p q) r = refl
 by_ends asks_spec (g.by_ p q) r = refl
 by_ends a (g.no_by p) r = to_ends a p r
 
-from_ends : {sought : Sought} → Asks sought → {f : Forest} → IsFrom f → (r : List Sym) → behind sought zero due.Ended (spells f r) ≡ false
+from_ends : {sought : Landmark} → Asks sought → {f : Forest} → IsFrom f → (r : List Sym) → behind sought zero due.Ended (spells f r) ≡ false
 from_ends asks_colon (g.from_ p q) r = refl
 from_ends asks_parameters (g.from_ p q) r = refl
 from_ends asks_spec (g.from_ p q) r = refl
 from_ends a (g.no_from p) r = by_ends a p r
 
-for_ends : {sought : Sought} → Asks sought → {f : Forest} → IsFor f → (r : List Sym) → behind sought zero due.Ended (spells f r) ≡ false
+for_ends : {sought : Landmark} → Asks sought → {f : Forest} → IsFor f → (r : List Sym) → behind sought zero due.Ended (spells f r) ≡ false
 for_ends asks_colon (g.for_ p) r = refl
 for_ends asks_parameters (g.for_ p) r = refl
 for_ends asks_spec (g.for_ p) r = refl
 for_ends a (g.no_for p) r = from_ends a p r
 
-enclosed_ends : {sought : Sought} → Asks sought → {k : NodeKind} {u : Forest} → IsEnclosed k u → (r : List Sym) → behind sought zero due.Ended (spells u r) ≡ false
+enclosed_ends : {sought : Landmark} → Asks sought → {k : NodeKind} {u : Forest} → IsEnclosed k u → (r : List Sym) → behind sought zero due.Ended (spells u r) ≡ false
 enclosed_ends a (g.closed c p) r = refl
 enclosed_ends a (g.collateral c p) r = refl
 enclosed_ends a (g.vacuum c) r = refl
@@ -187,27 +187,27 @@ enclosed_ends a (g.conformity_brief p q e) r = refl
 enclosed_ends a (g.loop p) r = for_ends a p r
 
 -- no unit begins as parameters or a spec do, up to their bracket
-while_unlisted : (sought : Sought) → {f : Forest} → IsWhile f → (r : List Sym) → behind sought zero due.Declarer (spells f r) ≡ false
+while_unlisted : (sought : Landmark) → {f : Forest} → IsWhile f → (r : List Sym) → behind sought zero due.Declarer (spells f r) ≡ false
 while_unlisted sought (g.while_ p q) r = refl
 while_unlisted sought (g.no_while p) r = refl
 
-to_unlisted : (sought : Sought) → {f : Forest} → IsTo f → (r : List Sym) → behind sought zero due.Declarer (spells f r) ≡ false
+to_unlisted : (sought : Landmark) → {f : Forest} → IsTo f → (r : List Sym) → behind sought zero due.Declarer (spells f r) ≡ false
 to_unlisted sought (g.to_ p q) r = refl
 to_unlisted sought (g.no_to p) r = while_unlisted sought p r
 
-by_unlisted : (sought : Sought) → {f : Forest} → IsBy f → (r : List Sym) → behind sought zero due.Declarer (spells f r) ≡ false
+by_unlisted : (sought : Landmark) → {f : Forest} → IsBy f → (r : List Sym) → behind sought zero due.Declarer (spells f r) ≡ false
 by_unlisted sought (g.by_ p q) r = refl
 by_unlisted sought (g.no_by p) r = to_unlisted sought p r
 
-from_unlisted : (sought : Sought) → {f : Forest} → IsFrom f → (r : List Sym) → behind sought zero due.Declarer (spells f r) ≡ false
+from_unlisted : (sought : Landmark) → {f : Forest} → IsFrom f → (r : List Sym) → behind sought zero due.Declarer (spells f r) ≡ false
 from_unlisted sought (g.from_ p q) r = refl
 from_unlisted sought (g.no_from p) r = by_unlisted sought p r
 
-for_unlisted : (sought : Sought) → {f : Forest} → IsFor f → (r : List Sym) → behind sought zero due.Declarer (spells f r) ≡ false
+for_unlisted : (sought : Landmark) → {f : Forest} → IsFor f → (r : List Sym) → behind sought zero due.Declarer (spells f r) ≡ false
 for_unlisted sought (g.for_ p) r = refl
 for_unlisted sought (g.no_for p) r = from_unlisted sought p r
 
-enclosed_unlisted : (sought : Sought) → {k : NodeKind} {u : Forest} → IsEnclosed k u → (r : List Sym) → behind sought zero due.Declarer (spells u r) ≡ false
+enclosed_unlisted : (sought : Landmark) → {k : NodeKind} {u : Forest} → IsEnclosed k u → (r : List Sym) → behind sought zero due.Declarer (spells u r) ≡ false
 enclosed_unlisted sought (g.closed g.closing_round p) r = refl
 enclosed_unlisted sought (g.closed g.closing_begin p) r = refl
 enclosed_unlisted sought (g.collateral g.closing_round p) r = refl
@@ -223,7 +223,7 @@ enclosed_unlisted sought (g.conformity p q e) r = refl
 enclosed_unlisted sought (g.conformity_brief p q e) r = refl
 enclosed_unlisted sought (g.loop p) r = for_unlisted sought p r
 
-primary_unlisted : {sought : Sought} → Lists sought → {k : NodeKind} {u : Forest} → IsPrimary k u → (r : List Sym) → behind sought zero due.Declarer (spells u r) ≡ false
+primary_unlisted : {sought : Landmark} → Lists sought → {k : NodeKind} {u : Forest} → IsPrimary k u → (r : List Sym) → behind sought zero due.Declarer (spells u r) ≡ false
 primary_unlisted l (g.slice p i) r = primary_unlisted l p _
 primary_unlisted l (g.call p i) r = primary_unlisted l p _
 primary_unlisted l (g.cast {u = u} d e) r = behind_declarer _ d (spells u r) ∙ enclosed_ends (asks l) e r
@@ -237,13 +237,13 @@ primary_unlisted l (g.denotation g.denotation_true) r = refl
 primary_unlisted l (g.denotation g.denotation_false) r = refl
 primary_unlisted l (g.enclosed e) r = enclosed_unlisted _ e r
 
-secondary_unlisted : {sought : Sought} → Lists sought → {k : NodeKind} {u : Forest} → IsSecondary k u → (r : List Sym) → behind sought zero due.Declarer (spells u r) ≡ false
+secondary_unlisted : {sought : Landmark} → Lists sought → {k : NodeKind} {u : Forest} → IsSecondary k u → (r : List Sym) → behind sought zero due.Declarer (spells u r) ≡ false
 secondary_unlisted l (g.selection p) r = refl
 secondary_unlisted l (g.generator_loc d) r = refl
 secondary_unlisted l (g.generator_heap d) r = refl
 secondary_unlisted l (g.primary p) r = primary_unlisted l p r
 
-tertiary_unlisted : {sought : Sought} → Lists sought → {k : NodeKind} {u : Forest} → IsTertiary k u → (r : List Sym) → behind sought zero due.Declarer (spells u r) ≡ false
+tertiary_unlisted : {sought : Landmark} → Lists sought → {k : NodeKind} {u : Forest} → IsTertiary k u → (r : List Sym) → behind sought zero due.Declarer (spells u r) ≡ false
 tertiary_unlisted l g.nil r = refl
 tertiary_unlisted l (g.monadic g.monadic_plus o) r = refl
 tertiary_unlisted l (g.monadic g.monadic_minus o) r = refl
@@ -251,7 +251,7 @@ tertiary_unlisted l (g.monadic g.monadic_other o) r = refl
 tertiary_unlisted l (g.dyadic p s o) r = secondary_unlisted l p _
 tertiary_unlisted l (g.secondary p) r = secondary_unlisted l p r
 
-unit_unlisted : {sought : Sought} → Lists sought → {k : NodeKind} {u : Forest} → IsUnit k u → (r : List Sym) → behind sought zero due.Declarer (spells u r) ≡ false
+unit_unlisted : {sought : Landmark} → Lists sought → {k : NodeKind} {u : Forest} → IsUnit k u → (r : List Sym) → behind sought zero due.Declarer (spells u r) ≡ false
 unit_unlisted l (g.assignation p q) r = tertiary_unlisted l p _
 unit_unlisted l (g.identity_is p q) r = tertiary_unlisted l p _
 unit_unlisted l (g.identity_isnt p q) r = tertiary_unlisted l p _
@@ -263,7 +263,7 @@ unit_unlisted l g.skip r = refl
 unit_unlisted l (g.tertiary p) r = tertiary_unlisted l p r
 
 -- nor does a declaration, with neither a comma nor that bracket behind it
-identities_unlisted : {sought : Sought} → Lists sought → {f : Forest} → IsIdentities f → (y : List Sym) → behind sought zero due.Ended (spells f y) ≡ false
+identities_unlisted : {sought : Landmark} → Lists sought → {f : Forest} → IsIdentities f → (y : List Sym) → behind sought zero due.Ended (spells f y) ≡ false
 identities_unlisted lists_parameters (g.identity_one i) y = refl
 identities_unlisted lists_spec (g.identity_one i) y = refl
 identities_unlisted lists_parameters (g.identity_more i l) y = refl
@@ -275,7 +275,7 @@ variables_more (g.variable_one (g.variable_set i)) y h = refl
 variables_more (g.variable_more g.variable v) y h = variables_more v y h
 variables_more (g.variable_more (g.variable_set i) v) y h = refl
 
-variables_unlisted : {sought : Sought} → Lists sought → {f : Forest} → IsVariables f → (y : List Sym) → behind sought zero due.Named y ≡ false → behind sought zero due.Ended (spells f y) ≡ false
+variables_unlisted : {sought : Landmark} → Lists sought → {f : Forest} → IsVariables f → (y : List Sym) → behind sought zero due.Named y ≡ false → behind sought zero due.Ended (spells f y) ≡ false
 variables_unlisted lists_parameters (g.variable_one g.variable) y h = h
 variables_unlisted lists_spec (g.variable_one g.variable) y h = h
 variables_unlisted lists_parameters (g.variable_one (g.variable_set i)) y h = refl
@@ -290,11 +290,11 @@ data Leads : Due → Type 0 where
   leads_first : Leads due.Declarer
   leads_more : Leads due.More
 
-led : {d : Due} → Leads d → (sought : Sought) → {c : Forest} → IsDeclarer c → (y : List Sym) → behind sought zero d (spells c y) ≡ behind sought zero due.Ended y
+led : {d : Due} → Leads d → (sought : Landmark) → {c : Forest} → IsDeclarer c → (y : List Sym) → behind sought zero d (spells c y) ≡ behind sought zero due.Ended y
 led leads_first sought p y = behind_declarer sought p y
 led leads_more sought p y = declarer_more sought p y ∙ behind_declarer sought p y
 
-declared_unlisted : {sought : Sought} → Lists sought → {d : Due} → Leads d → {f : Forest} → IsDeclared f → (y : List Sym) → behind sought zero due.Named y ≡ false → behind sought zero d (spells f y) ≡ false
+declared_unlisted : {sought : Landmark} → Lists sought → {d : Due} → Leads d → {f : Forest} → IsDeclared f → (y : List Sym) → behind sought zero due.Named y ≡ false → behind sought zero d (spells f y) ≡ false
 declared_unlisted l leads_first (g.mode_ p) y h = refl
 declared_unlisted l leads_more (g.mode_ p) y h = refl
 declared_unlisted l leads_first (g.prio_ p) y h = refl
@@ -318,7 +318,7 @@ declared_unlisted l leads_more (g.proc_variables (g.procs_more p q)) y h = refl
 declared_unlisted l e (g.identities {f = f} p i) y h = led e _ p (spells f y) ∙ identities_unlisted l i y
 declared_unlisted l e (g.variables {f = f} p v) y h = led e _ p (spells f y) ∙ variables_unlisted l v y h
 
-definitions_unlisted : {sought : Sought} → Lists sought → {d : Due} → Leads d → {f : Forest} → IsDefinitions f → (y : List Sym) → behind sought zero due.Named y ≡ false → behind sought zero d (spells f y) ≡ false
+definitions_unlisted : {sought : Landmark} → Lists sought → {d : Due} → Leads d → {f : Forest} → IsDefinitions f → (y : List Sym) → behind sought zero due.Named y ≡ false → behind sought zero d (spells f y) ≡ false
 definitions_unlisted l e (g.declared p) y h = declared_unlisted l e p y h
 definitions_unlisted {sought = sought} lists_parameters {d = d} e (g.and_then {f = f} {h = z} p q) y h =
     ap (behind sought zero d) (spells_joined f (mark t.Comma (forget z)) y)
@@ -326,28 +326,28 @@ definitions_unlisted {sought = sought} lists_parameters {d = d} e (g.and_then {f
 definitions_unlisted {sought = sought} lists_spec {d = d} e (g.and_then {f = f} {h = z} p q) y h =
     ap (behind sought zero d) (spells_joined f (mark t.Comma (forget z)) y) ∙ declared_unlisted lists_spec e p (Is t.Comma ∷ spells z y) refl
 
-semicolon : {sought : Sought} → Lists sought → (y : List Sym) → behind sought zero due.Named (Is t.Semicolon ∷ y) ≡ false
+semicolon : {sought : Landmark} → Lists sought → (y : List Sym) → behind sought zero due.Named (Is t.Semicolon ∷ y) ≡ false
 semicolon lists_parameters y = refl
 semicolon lists_spec y = refl
 
-declaration_unlisted : {sought : Sought} → Lists sought → {f : Forest} → IsDeclaration f → (y : List Sym) → behind sought zero due.Declarer (spells f (Is t.Semicolon ∷ y)) ≡ false
+declaration_unlisted : {sought : Landmark} → Lists sought → {f : Forest} → IsDeclaration f → (y : List Sym) → behind sought zero due.Declarer (spells f (Is t.Semicolon ∷ y)) ≡ false
 declaration_unlisted l (g.single p s) y = definitions_unlisted l leads_first p (Is t.Semicolon ∷ y) (semicolon l y)
 declaration_unlisted l (g.joined_ p s) y = definitions_unlisted l leads_first p (Is t.Semicolon ∷ y) (semicolon l y)
 
 -- so no closed or collateral clause and no choice does, behind its bracket
-serial_unlisted : {sought : Sought} → Lists sought → {f : Forest} → IsSerial f → (r : List Sym) → behind sought zero due.Declarer (spells f r) ≡ false
+serial_unlisted : {sought : Landmark} → Lists sought → {f : Forest} → IsSerial f → (r : List Sym) → behind sought zero due.Declarer (spells f r) ≡ false
 serial_unlisted l (g.serial_one p) r = unit_unlisted l p r
 serial_unlisted l (g.serial_unit p q) r = unit_unlisted l p _
 serial_unlisted {sought = sought} l (g.serial_declaration {d = d} {f = f} p q) r =
     ap (behind sought zero due.Declarer) (spells_joined d (mark t.Semicolon f) r) ∙ declaration_unlisted l p (spells f r)
 
-enquiry_unlisted : {sought : Sought} → Lists sought → {f : Forest} → IsEnquiry f → (r : List Sym) → behind sought zero due.Declarer (spells f r) ≡ false
+enquiry_unlisted : {sought : Landmark} → Lists sought → {f : Forest} → IsEnquiry f → (r : List Sym) → behind sought zero due.Declarer (spells f r) ≡ false
 enquiry_unlisted l (g.enquiry_one p) r = unit_unlisted l p r
 enquiry_unlisted l (g.enquiry_unit p q) r = unit_unlisted l p _
 enquiry_unlisted {sought = sought} l (g.enquiry_declaration {d = d} {f = f} p q) r =
     ap (behind sought zero due.Declarer) (spells_joined d (mark t.Semicolon f) r) ∙ declaration_unlisted l p (spells f r)
 
-units_unlisted : {sought : Sought} → Lists sought → {f : Forest} → IsUnits2 f → (r : List Sym) → behind sought zero due.Declarer (spells f r) ≡ false
+units_unlisted : {sought : Landmark} → Lists sought → {f : Forest} → IsUnits2 f → (r : List Sym) → behind sought zero due.Declarer (spells f r) ≡ false
 units_unlisted l (g.two p q) r = unit_unlisted l p _
 
 while_unseen : {f : Forest} → IsWhile f → (r : List Sym) → routine_ahead (spells f r) ≡ false

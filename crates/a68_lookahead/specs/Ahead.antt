@@ -9,8 +9,8 @@ use Rattle.a68_tree.specs.declared.sym.Sym.{Sym}
 use Rattle.a68_tree.specs.declared.sym.Sym.TheVariants.{Opens, Closes, Is}
 use Rattle.a68_lookahead.specs.declared.look.Due.{Due}
 use Rattle.a68_lookahead.specs.declared.look.Due.TheVariants as due
-use Rattle.a68_lookahead.specs.declared.look.Sought.{Sought}
-use Rattle.a68_lookahead.specs.declared.look.Sought.TheVariants as m
+use Rattle.a68_lookahead.specs.declared.look.Landmark.{Landmark}
+use Rattle.a68_lookahead.specs.declared.look.Landmark.TheVariants as m
 use Rattle.a68_lookahead.specs.declared.look.Look.{Look}
 use Rattle.a68_lookahead.specs.declared.look.Look.TheVariants.{Goes, Found, Missed}
 
@@ -31,7 +31,7 @@ word_or_void t.Void = Goes 0 due.Ended
 word_or_void t = word t
 
 -- the token behind a declarer
-abbrev pub test : Sought → Token → Look
+abbrev pub test : Landmark → Token → Look
 test m.Colon t.Colon = Found
 test m.Tag t.Tag = Found
 test m.Parameters t.Tag = Goes 0 due.Named
@@ -39,7 +39,7 @@ test m.Spec t.Tag = Goes 0 due.Named
 test m t = Missed
 
 -- behind a tag in the brackets, if not their end: the comma before more parameters
-abbrev pub named : Sought → Token → Look
+abbrev pub named : Landmark → Token → Look
 named m.Parameters t.Comma = Goes 0 due.More
 named m t = Missed
 
@@ -65,14 +65,14 @@ bracket d b = Missed
 
 -- The bracket that closes those in which looking began. A declarer alone in them is no more than a spec, whatever stands
 -- behind it; a declarer and a tag are parameters where no colon does.
-abbrev pub closing : Sought → Due → Bracket → Look
+abbrev pub closing : Landmark → Due → Bracket → Look
 closing m.Parameters due.Named b.Round = Found
 closing m.Spec due.Ended b.Round = Found
 closing m.Spec due.Named b.Round = Goes 0 due.Colon
 closing m d b = Missed
 
 -- a token outside the brackets
-abbrev pub token : Sought → Due → Token → Look
+abbrev pub token : Landmark → Due → Token → Look
 token sought due.Declarer t = word t
 token sought due.Result t = word_or_void t
 token sought due.Procedure t = word_or_void t
@@ -83,7 +83,7 @@ token sought due.More t = more t
 token sought due.Colon t = colon t
 
 -- what one more symbol says, within so many brackets
-abbrev pub step : Sought → ℕ → Due → Sym → Look
+abbrev pub step : Landmark → ℕ → Due → Sym → Look
 step sought zero d (Opens b) = bracket d b
 step sought zero d (Closes b) = closing sought d b
 step sought zero d (Is t) = token sought d t
@@ -92,12 +92,12 @@ step sought (suc n) d (Closes b) = Goes n d
 step sought (suc n) d (Is t) = Goes (suc n) d
 
 -- Within so many brackets: whether what is looked for stands at the front, of which this is due.
-abbrev pub behind : Sought → ℕ → Due → List Sym → Bool
+abbrev pub behind : Landmark → ℕ → Due → List Sym → Bool
 behind sought n d [] = false
 behind sought n d (s ∷ text) = elim (step sought n d s) [ Goes m e ↦ behind sought m e text | Found ↦ true | Missed ↦ false ]
 
 -- whether that stands behind an opening bracket at the front
-abbrev pub inside : Sought → List Sym → Bool
+abbrev pub inside : Landmark → List Sym → Bool
 inside sought (Opens b.Round ∷ text) = behind sought 0 due.Declarer text
 inside sought text = false
 

@@ -6,7 +6,7 @@ ghost use Rattle.a68_tree.specs.Forest.{Forest, spells};
 ghost use Rattle.a68_tree.specs.Grammar.{IsUnit, IsRoutine, IsChoices};
 ghost use Rattle.a68_lookahead.specs.Ahead as spec;
 ghost use Rattle.a68_lookahead.specs.declared.look.Due.TheVariants as due;
-ghost use Rattle.a68_lookahead.specs.declared.look.Sought.TheVariants as sought;
+ghost use Rattle.a68_lookahead.specs.declared.look.Landmark.TheVariants as sought;
 ghost use Rattle.a68_lookahead.specs.Sets.{begins_unit};
 ghost use Rattle.a68_lookahead.specs.Symbols.{Begins};
 

@@ -27,7 +27,7 @@ pub enum Due {
 
 /// What is looked for.
 #[derive(Clone, Copy)]
-pub enum Sought {
+pub enum Landmark {
     /// A declarer and a colon.
     Colon,
     /// A declarer and a tag.
@@ -70,22 +70,22 @@ fn word_or_void(token: Token) -> Look
 }
 
 // The token behind a declarer.
-fn test(sought: Sought, token: Token) -> Look
+fn test(sought: Landmark, token: Token) -> Look
     ensures { result ≡ spec.test sought token }
 {
     match (sought, token) {
-        (Sought::Colon, Token::Colon) | (Sought::Tag, Token::Tag) => Look::Found,
-        (Sought::Parameters | Sought::Spec, Token::Tag) => Look::Goes(0, Due::Named),
+        (Landmark::Colon, Token::Colon) | (Landmark::Tag, Token::Tag) => Look::Found,
+        (Landmark::Parameters | Landmark::Spec, Token::Tag) => Look::Goes(0, Due::Named),
         _ => Look::Missed,
     }
 }
 
 // The token behind a tag in the brackets, where these do not end.
-fn named(sought: Sought, token: Token) -> Look
+fn named(sought: Landmark, token: Token) -> Look
     ensures { result ≡ spec.named sought token }
 {
     match (sought, token) {
-        (Sought::Parameters, Token::Comma) => Look::Goes(0, Due::More),
+        (Landmark::Parameters, Token::Comma) => Look::Goes(0, Due::More),
         _ => Look::Missed,
     }
 }
@@ -125,19 +125,19 @@ fn bracket(due: Due, bracket: Bracket) -> Look
 }
 
 // The bracket that closes those in which looking began.
-fn closing(sought: Sought, due: Due, bracket: Bracket) -> Look
+fn closing(sought: Landmark, due: Due, bracket: Bracket) -> Look
     ensures { result ≡ spec.closing sought due bracket }
 {
     match (sought, due, bracket) {
-        (Sought::Parameters, Due::Named, Bracket::Round) => Look::Found,
-        (Sought::Spec, Due::Ended, Bracket::Round) => Look::Found,
-        (Sought::Spec, Due::Named, Bracket::Round) => Look::Goes(0, Due::Colon),
+        (Landmark::Parameters, Due::Named, Bracket::Round) => Look::Found,
+        (Landmark::Spec, Due::Ended, Bracket::Round) => Look::Found,
+        (Landmark::Spec, Due::Named, Bracket::Round) => Look::Goes(0, Due::Colon),
         _ => Look::Missed,
     }
 }
 
 // A token outside the brackets.
-fn token(sought: Sought, due: Due, token: Token) -> Look
+fn token(sought: Landmark, due: Due, token: Token) -> Look
     ensures { result ≡ spec.token sought due token }
 {
     match due {
@@ -152,7 +152,7 @@ fn token(sought: Sought, due: Due, token: Token) -> Look
 }
 
 // A symbol outside the brackets.
-fn outside(sought: Sought, due: Due, sym: Sym) -> Look
+fn outside(sought: Landmark, due: Due, sym: Sym) -> Look
     ensures { result ≡ spec.step sought 0 due sym }
 {
     match sym {
@@ -163,7 +163,7 @@ fn outside(sought: Sought, due: Due, sym: Sym) -> Look
 }
 
 // A symbol, within so many brackets.
-fn step(sought: Sought, depth: usize, due: Due, sym: Sym) -> Look
+fn step(sought: Landmark, depth: usize, due: Due, sym: Sym) -> Look
     requires { depth < 2 ^ 63 }
     ensures { result ≡ spec.step sought depth due sym }
 {
@@ -178,7 +178,7 @@ fn step(sought: Sought, depth: usize, due: Due, sym: Sym) -> Look
 }
 
 // Whether what is looked for stands at the front, of which this is due.
-fn behind(sought: Sought, first: Due, text: &[Sym]) -> bool
+fn behind(sought: Landmark, first: Due, text: &[Sym]) -> bool
     ensures { result ≡ spec.behind sought 0 first text.now }
 {
     let mut depth = 0;
@@ -199,7 +199,7 @@ fn behind(sought: Sought, first: Due, text: &[Sym]) -> bool
 }
 
 // Whether it stands behind an opening bracket at the front.
-fn inside(sought: Sought, text: &[Sym]) -> bool
+fn inside(sought: Landmark, text: &[Sym]) -> bool
     ensures { result ≡ spec.inside sought text.now }
 {
     match text.split_first() {
@@ -212,14 +212,14 @@ fn inside(sought: Sought, text: &[Sym]) -> bool
 pub fn routine_ahead(text: &[Sym]) -> bool
     ensures { result ≡ spec.routine_ahead text.now }
 {
-    inside(Sought::Parameters, text) || behind(Sought::Colon, Due::Result, text)
+    inside(Landmark::Parameters, text) || behind(Landmark::Colon, Due::Result, text)
 }
 
 /// Whether the spec of a choice stands at the front, if any choice does.
 pub fn spec_ahead(text: &[Sym]) -> bool
     ensures { result ≡ spec.spec_ahead text.now }
 {
-    inside(Sought::Spec, text)
+    inside(Landmark::Spec, text)
 }
 
 // Whether a tag stands at the front.
@@ -239,9 +239,9 @@ pub fn phrase_ahead(text: &[Sym]) -> bool
     match text.split_first() {
         Some((Sym::Is(Token::Mode | Token::Prio | Token::Op), _)) => true,
         Some((Sym::Is(Token::Loc | Token::Heap), declarer)) => {
-            behind(Sought::Tag, Due::Declarer, declarer)
+            behind(Landmark::Tag, Due::Declarer, declarer)
         }
         Some((Sym::Is(Token::Proc), named)) if tag_first(named) => true,
-        _ => behind(Sought::Tag, Due::Declarer, text),
+        _ => behind(Landmark::Tag, Due::Declarer, text),
     }
 }

@@ -16,7 +16,7 @@ use Rattle.a68_equiv.specs.Related.{as_it_stands}
 use Rattle.a68_equiv.specs.Unfolding.{unfolded, constructor, is_union, leads_within, IsAt, IsPart, Alike}
 use Rattle.a68_equiv.specs.Ways.{steps_of}
 use Rattle.a68_equiv.specs.declared.mode.Mode.{Mode}
-use Rattle.a68_equiv.specs.declared.steps.Steps.TheVariants.{WithinUnions}
+use Rattle.a68_equiv.specs.declared.steps.Inward.TheVariants.{WithinUnions}
 use Rattle.a68_mode_table.proofs.Alike.{alike_by, shape_of_parts}
 use Rattle.a68_mode_table.specs.Growing.{AreSound}
 use Rattle.a68_mode_table.specs.Simple.{IsSimple}

@@ -7,8 +7,8 @@ use Rattle.a68_tree.specs.Forest.{Forest, forget, spells, Single, single_part, s
 use Rattle.a68_tree.specs.Nodes.{Entry, with_node, with_under}
 use Rattle.a68_nodes.specs.Stack.{Layer, node, begun}
 use Rattle.a68_nodes.specs.Pieces.{pieces_of}
-use Rattle.a68_nodes.specs.Views.{State, first_of}
-use Rattle.a68_nodes.specs.Built.{Built, state_of}
+use Rattle.a68_nodes.specs.Views.{DraftState, first_of}
+use Rattle.a68_nodes.specs.Built.{IsDraftOf, state_of}
 
 one_piece : {f : Forest} → Single f → (old : List Entry) (kept : List ℕ) (r : List Sym) → length (pieces_of old kept f r) ≡ 1
 one_piece single_part old kept r = refl
@@ -26,17 +26,17 @@ more_pieces (several_parts {k = k} {u = u} {f = f} s) old kept r = let h = some_
 more_pieces (several_mark s) old kept r = more_pieces s old kept r
 more_pieces (several_aside {k = k} {u = u} {f = f} s) old kept r = more_pieces s (with_node old kept k u (spells f r)) (kept ++ length (with_under old kept u (spells f r)) ∷ []) r
 
-counted : (whole : List Sym) (f : Forest) (ls : List Layer) (r : List Sym) (s : State) → Built whole (node (forget f) ∷ ls) r s
-    → (v : State) × (length s.pieces ≡ first_of s.frames + length (pieces_of v.drafts [] f r))
+counted : (whole : List Sym) (f : Forest) (ls : List Layer) (r : List Sym) (s : DraftState) → IsDraftOf whole (node (forget f) ∷ ls) r s
+    → (v : DraftState) × (length s.pieces ≡ first_of s.frames + length (pieces_of v.drafts [] f r))
 unfolding state_of
 counted whole f ls r s b =
-    let v : State = state_of ls (begun (node (forget f)).bracket (forget f) r) in
-    (v, ap (λ (x : State). length x.pieces) b.stands ∙ length-append v.pieces (pieces_of v.drafts [] f r) ∙ ap (λ (x : State). first_of x.frames + length (pieces_of v.drafts [] f r)) (sym b.stands))
+    let v : DraftState = state_of ls (begun (node (forget f)).bracket (forget f) r) in
+    (v, ap (λ (x : DraftState). length x.pieces) b.stands ∙ length-append v.pieces (pieces_of v.drafts [] f r) ∙ ap (λ (x : DraftState). first_of x.frames + length (pieces_of v.drafts [] f r)) (sym b.stands))
 
-pub one_counted : (whole rest : List Sym) (ls : List Layer) (f : Forest) (s : State) → Single f → Built whole (node (forget f) ∷ ls) rest s → length s.pieces ≡ first_of s.frames + 1
+pub one_counted : (whole rest : List Sym) (ls : List Layer) (f : Forest) (s : DraftState) → Single f → IsDraftOf whole (node (forget f) ∷ ls) rest s → length s.pieces ≡ first_of s.frames + 1
 one_counted whole rest ls f s p b = let c = counted whole f ls rest s b in c.1 ∙ ap (λ (n : ℕ). first_of s.frames + n) (one_piece p c.0.drafts [] rest)
 
-pub more_counted : (whole rest : List Sym) (ls : List Layer) (f : Forest) (s : State) → Several f → Built whole (node (forget f) ∷ ls) rest s → first_of s.frames + 1 < length s.pieces
+pub more_counted : (whole rest : List Sym) (ls : List Layer) (f : Forest) (s : DraftState) → Several f → IsDraftOf whole (node (forget f) ∷ ls) rest s → first_of s.frames + 1 < length s.pieces
 more_counted whole rest ls f s p b = let c = counted whole f ls rest s b in let h = more_pieces p c.0.drafts [] rest in let e = c.1 in omega (arith, h, e)
 
 pub one_is : (total first : ℕ) → total ≡ first + 1 → nat_eq (total - first) 1 ≡ true

@@ -4,7 +4,7 @@ use Rattle.std.specs.Prelude.{ℕ, ◌-◌, ◌≤◌, List, [], ◌∷◌, map,
 use Rattle.a68_tree.specs.Nodes.{Entry}
 use Rattle.a68_nodes.specs.declared.draft.Draft.{Draft}
 use Rattle.a68_nodes.specs.declared.draft.Piece.{Piece}
-use Rattle.a68_nodes.specs.declared.draft.Stretch.{Stretch}
+use Rattle.a68_nodes.specs.declared.draft.Section.{Section}
 use Rattle.a68_nodes.specs.declared.draft.OpenLayer.{OpenLayer}
 
 abbrev pub view : Draft → Entry
@@ -21,7 +21,7 @@ pub record Opened : Type 0 where
   pub kept : List ℕ
 
 -- the numbers of that stretch
-abbrev pub stretch : List ℕ → Stretch → List ℕ
+abbrev pub stretch : List ℕ → Section → List ℕ
 stretch asides s = take (s.to - s.from) (drop s.from asides)
 
 abbrev pub opened : List ℕ → OpenLayer → Opened
@@ -42,7 +42,7 @@ first_of [] = 0
 first_of (o ∷ os) = o.first
 
 -- a stretch among so many
-abbrev pub IsWithin : ℕ → Stretch → Type 0
+abbrev pub IsWithin : ℕ → Section → Type 0
 IsWithin n s = (s.from ≤ s.to) × (s.to ≤ n)
 
 abbrev pub AllWithin : ℕ → List OpenLayer → Type 0
@@ -50,7 +50,7 @@ AllWithin n [] = Unit {0}
 AllWithin n (f ∷ fs) = IsWithin n f.kept × AllWithin n fs
 
 -- the nodes, the layers, the innermost first, and the pieces of all layers, those of the innermost last
-pub record State : Type 0 where
+pub record DraftState : Type 0 where
   pub drafts : List Entry
   pub frames : List Opened
   pub pieces : List Piece

@@ -22,7 +22,7 @@ pub enum Piece {
 
 /// A stretch of a list, from one place up to another.
 #[derive(Clone, Copy)]
-pub struct Stretch {
+pub struct Section {
     pub from: usize,
     pub to: usize,
 }
@@ -33,5 +33,5 @@ pub struct Stretch {
 pub struct OpenLayer {
     pub first: usize,
     pub before: usize,
-    pub kept: Stretch,
+    pub kept: Section,
 }

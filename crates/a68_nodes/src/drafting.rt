@@ -10,10 +10,10 @@ ghost use Rattle.a68_tree.specs.Forest.{Forest, Single, Several, end, group, par
 ghost use Rattle.a68_tree.specs.Nodes.{with_node};
 ghost use Rattle.a68_nodes.specs.Stack.{Layer, node, inside, put};
 ghost use Rattle.a68_nodes.specs.Views.{views};
-ghost use Rattle.a68_nodes.specs.Built.{Built};
+ghost use Rattle.a68_nodes.specs.Built.{IsDraftOf};
 
 use crate::closing::{behind_first, close, close_within, unfinished};
-use crate::draft::{Draft, OpenLayer, Piece, Stretch};
+use crate::draft::{Draft, OpenLayer, Piece, Section};
 use crate::frames::{add_parts, is_one, keep, keep_one, kept, open};
 use a68_base::NoMemory;
 use a68_tree::{NodeKind, Sym};
@@ -33,9 +33,9 @@ pub struct Drafting {
 
 impl Model for Drafting {
     ghost use Rattle.std.specs.Prelude.{length};
-    ghost use Rattle.a68_nodes.specs.Views.{State, views, all_opened, AllWithin};
+    ghost use Rattle.a68_nodes.specs.Views.{DraftState, views, all_opened, AllWithin};
 
-    ghost Value = { State };
+    ghost Value = { DraftState };
 
     ghost view = { λ d. record { drafts = views d.drafts.items; frames = all_opened d.asides.items d.frames.items; pieces = d.pieces.items } };
 
@@ -45,7 +45,7 @@ impl Model for Drafting {
 impl Drafting {
     /// Before the first symbol of a text, with a layer for all of it.
     pub fn new(alloc: Global, text: &[Sym]) -> Result<Drafting, NoMemory>
-        ensures built { IfOk result (λ drafting. Built text.now (node end ∷ []) text.now drafting) }
+        ensures built { IfOk result (λ drafting. IsDraftOf text.now (node end ∷ []) text.now drafting) }
     {
         let mut frames = Vec::new(alloc);
         open(&mut frames, 0, text.len())?;
@@ -59,7 +59,7 @@ impl Drafting {
 
     /// Opens what may become a node.
     pub fn open(&mut self, rest: &[Sym]) -> Result<(), NoMemory>
-        ensures built { OnOk result ((whole : List Sym) (ls : List Layer) → Built whole ls rest.now self.old → Built whole (node end ∷ ls) rest.now self.new) }
+        ensures built { OnOk result ((whole : List Sym) (ls : List Layer) → IsDraftOf whole ls rest.now self.old → IsDraftOf whole (node end ∷ ls) rest.now self.new) }
     {
         open(&mut self.frames, self.pieces.len(), rest.len())
     }
@@ -67,7 +67,7 @@ impl Drafting {
     /// Leaves what was opened: what was read in it stands in the layer around.
     pub fn leave(&mut self)
         ensures built { (whole rest : List Sym) (l : Layer) (ls : List Layer) (f : Forest)
-            → Built whole (node f ∷ l ∷ ls) rest self.old → Built whole (put l f ∷ ls) rest self.new }
+            → IsDraftOf whole (node f ∷ l ∷ ls) rest self.old → IsDraftOf whole (put l f ∷ ls) rest self.new }
     {
         if let Some(frame) = self.frames.pop() {
             keep(&mut self.frames, frame.kept);
@@ -77,7 +77,7 @@ impl Drafting {
     /// A bracket is open, behind which that text is left.
     pub fn bracket(&mut self, rest: &[Sym]) -> Result<(), NoMemory>
         ensures built { OnOk result ((whole : List Sym) (ls : List Layer) (b : Bracket)
-            → Built whole ls (Opens b ∷ rest.now) self.old → Built whole (inside b end ∷ ls) rest.now self.new) }
+            → IsDraftOf whole ls (Opens b ∷ rest.now) self.old → IsDraftOf whole (inside b end ∷ ls) rest.now self.new) }
     {
         open(&mut self.frames, self.pieces.len(), rest.len())
     }
@@ -85,7 +85,7 @@ impl Drafting {
     /// A bracket is closed.
     pub fn unbracket(&mut self)
         ensures built { (whole rest : List Sym) (b : Bracket) (l : Layer) (ls : List Layer) (f : Forest)
-            → Built whole (inside b f ∷ l ∷ ls) (Closes b ∷ rest) self.old → Built whole (put l (group b f end) ∷ ls) rest self.new }
+            → IsDraftOf whole (inside b f ∷ l ∷ ls) (Closes b ∷ rest) self.old → IsDraftOf whole (put l (group b f end) ∷ ls) rest self.new }
     {
         let _ = self.frames.pop();
     }
@@ -93,7 +93,7 @@ impl Drafting {
     /// A sign of a formula is read, behind which that text is left.
     pub fn sign(&mut self, rest: &[Sym]) -> Result<(), NoMemory>
         ensures built { OnOk result ((whole : List Sym) (l : Layer) (ls : List Layer) (t : Token)
-            → Built whole (l ∷ ls) (Is t ∷ rest.now) self.old → Built whole (put l (sign t end) ∷ ls) rest.now self.new) }
+            → IsDraftOf whole (l ∷ ls) (Is t ∷ rest.now) self.old → IsDraftOf whole (put l (sign t end) ∷ ls) rest.now self.new) }
     {
         let after = rest.len();
         self.pieces.push(Piece::Sign {
@@ -106,7 +106,7 @@ impl Drafting {
     /// The nodes that are set aside are parts here.
     pub fn share(&mut self) -> Result<(), NoMemory>
         ensures built { OnOk result ((whole rest : List Sym) (l : Layer) (ls : List Layer)
-            → Built whole (l ∷ ls) rest self.old → Built whole (put l (shared end) ∷ ls) rest self.new) }
+            → IsDraftOf whole (l ∷ ls) rest self.old → IsDraftOf whole (put l (shared end) ∷ ls) rest self.new) }
     {
         let kept = kept(&self.frames);
         add_parts(&mut self.pieces, &self.asides, kept)
@@ -115,16 +115,16 @@ impl Drafting {
     /// From here on nothing is set aside.
     pub fn forget(&mut self)
         ensures built { (whole rest : List Sym) (l : Layer) (ls : List Layer)
-            → Built whole (l ∷ ls) rest self.old → Built whole (put l (forget end) ∷ ls) rest self.new }
+            → IsDraftOf whole (l ∷ ls) rest self.old → IsDraftOf whole (put l (forget end) ∷ ls) rest self.new }
     {
-        keep(&mut self.frames, Stretch { from: 0, to: 0 });
+        keep(&mut self.frames, Section { from: 0, to: 0 });
     }
 
     /// What was read in the innermost layer becomes a node of that kind, up to where that text is left. It is named by its
     /// first symbol.
     pub fn wrap(&mut self, alloc: Global, kind: NodeKind, rest: &[Sym]) -> Result<(), NoMemory>
         ensures built { OnOk result ((whole : List Sym) (ls : List Layer) (f : Forest) → (kind ≡ k.Identity → ⊥)
-            → Built whole (node f ∷ ls) rest.now self.old → Built whole (node (part kind f end) ∷ ls) rest.now self.new) }
+            → IsDraftOf whole (node f ∷ ls) rest.now self.old → IsDraftOf whole (node (part kind f end) ∷ ls) rest.now self.new) }
     {
         let Some(frame) = self.frames.pop() else {
             return Ok(());
@@ -145,7 +145,7 @@ impl Drafting {
     /// (5.2.2).
     pub fn wrap_identity(&mut self, alloc: Global, rest: &[Sym]) -> Result<(), NoMemory>
         ensures built { OnOk result ((whole : List Sym) (ls : List Layer) (kind : NodeKind) (under f : Forest)
-            → Built whole (node (part kind under f) ∷ ls) rest.now self.old → Built whole (node (part k.Identity (part kind under f) end) ∷ ls) rest.now self.new) }
+            → IsDraftOf whole (node (part kind under f) ∷ ls) rest.now self.old → IsDraftOf whole (node (part k.Identity (part kind under f) end) ∷ ls) rest.now self.new) }
     {
         let Some(frame) = self.frames.pop() else {
             return Ok(());
@@ -167,7 +167,7 @@ impl Drafting {
     /// symbol.
     pub fn set_aside(&mut self, alloc: Global, kind: NodeKind, rest: &[Sym]) -> Result<(), NoMemory>
         ensures built { OnOk result ((whole : List Sym) (l : Layer) (ls : List Layer) (f : Forest) → (kind ≡ k.Identity → ⊥)
-            → Built whole (node f ∷ l ∷ ls) rest.now self.old → Built whole (put l (aside kind f end) ∷ ls) rest.now self.new) }
+            → IsDraftOf whole (node f ∷ l ∷ ls) rest.now self.old → IsDraftOf whole (put l (aside kind f end) ∷ ls) rest.now self.new) }
     {
         let Some(frame) = self.frames.pop() else {
             return Ok(());
@@ -187,16 +187,16 @@ impl Drafting {
 
     /// Whether one part stands in the innermost layer, and no more.
     pub fn is_single(&self) -> bool
-        ensures one { (whole rest : List Sym) (ls : List Layer) (f : Forest) → Single f → Built whole (node (forget f) ∷ ls) rest self.now → result ≡ true }
-        ensures several { (whole rest : List Sym) (ls : List Layer) (f : Forest) → Several f → Built whole (node (forget f) ∷ ls) rest self.now → result ≡ false }
+        ensures one { (whole rest : List Sym) (ls : List Layer) (f : Forest) → Single f → IsDraftOf whole (node (forget f) ∷ ls) rest self.now → result ≡ true }
+        ensures several { (whole rest : List Sym) (ls : List Layer) (f : Forest) → Several f → IsDraftOf whole (node (forget f) ∷ ls) rest self.now → result ≡ false }
     {
         is_one(&self.frames, &self.pieces)
     }
 
     /// The list of nodes.
     pub fn finish(self) -> Vec<Draft>
-        ensures nodes { (whole : List Sym) (kind : NodeKind) (under : Forest) → Built whole (node (part kind under end) ∷ []) [] self → views result.items ≡ with_node [] [] kind under [] }
-        ensures spelled { (whole : List Sym) (kind : NodeKind) (under : Forest) → Built whole (node (part kind under end) ∷ []) [] self → whole ≡ spells under [] }
+        ensures nodes { (whole : List Sym) (kind : NodeKind) (under : Forest) → IsDraftOf whole (node (part kind under end) ∷ []) [] self → views result.items ≡ with_node [] [] kind under [] }
+        ensures spelled { (whole : List Sym) (kind : NodeKind) (under : Forest) → IsDraftOf whole (node (part kind under end) ∷ []) [] self → whole ≡ spells under [] }
     {
         let Drafting { drafts, .. } = self;
         drafts

@@ -1,20 +1,20 @@
 //! The layers that are open.
 ghost use Rattle.std.specs.Prelude.{◌≡◌, ◌-◌, ◌++◌, nat_eq, ℕ, List, [], ◌∷◌, length, IfOk, OnOk};
 ghost use Rattle.a68_nodes.specs.Pieces.{all_parts};
-ghost use Rattle.a68_nodes.specs.declared.draft.Stretch.{Stretch};
+ghost use Rattle.a68_nodes.specs.declared.draft.Section.{Section};
 ghost use Rattle.a68_nodes.specs.Views.{Opened, all_opened, inherited, first_of, stretch, IsWithin, AllWithin};
 
-use crate::draft::{OpenLayer, Piece, Stretch};
+use crate::draft::{OpenLayer, Piece, Section};
 use a68_base::NoMemory;
 
 /// What is set aside for the innermost layer.
-pub fn kept(frames: &[OpenLayer]) -> Stretch
+pub fn kept(frames: &[OpenLayer]) -> Section
     ensures is { (asides : List ℕ) → stretch asides result ≡ inherited (all_opened asides frames.now) }
     ensures within { (n : ℕ) → AllWithin n frames.now → IsWithin n result }
 {
     match frames.last() {
         Some(frame) => frame.kept,
-        None => Stretch { from: 0, to: 0 },
+        None => Section { from: 0, to: 0 },
     }
 }
 
@@ -36,7 +36,7 @@ pub fn is_one(frames: &[OpenLayer], pieces: &[Piece]) -> bool
 }
 
 /// Sets that aside for the innermost layer, in place of what was.
-pub fn keep(frames: &mut Vec<OpenLayer>, kept: Stretch)
+pub fn keep(frames: &mut Vec<OpenLayer>, kept: Section)
     ensures is { (asides : List ℕ) (o : Opened) (os : List Opened) → all_opened asides frames.old.items ≡ o ∷ os
         → all_opened asides frames.new.items ≡ record o { kept = stretch asides kept } ∷ os }
     ensures within { (n : ℕ) → AllWithin n frames.old.items → IsWithin n kept → AllWithin n frames.new.items }
@@ -63,7 +63,7 @@ pub fn open(frames: &mut Vec<OpenLayer>, first: usize, before: usize) -> Result<
 }
 
 /// Adds the nodes of that stretch of the list as parts.
-pub fn add_parts(pieces: &mut Vec<Piece>, asides: &[usize], kept: Stretch) -> Result<(), NoMemory>
+pub fn add_parts(pieces: &mut Vec<Piece>, asides: &[usize], kept: Section) -> Result<(), NoMemory>
     requires { IsWithin (length asides.now) kept }
     ensures { OnOk result (pieces.new.items ≡ pieces.old.items ++ all_parts (stretch asides.now kept)) }
 {
@@ -75,17 +75,17 @@ pub fn add_parts(pieces: &mut Vec<Piece>, asides: &[usize], kept: Stretch) -> Re
 }
 
 /// Sets one more node aside: adds what is set aside already to the list, and then that number.
-pub fn keep_one(asides: &mut Vec<usize>, kept: Stretch, id: usize) -> Result<Stretch, NoMemory>
+pub fn keep_one(asides: &mut Vec<usize>, kept: Section, id: usize) -> Result<Section, NoMemory>
     requires { IsWithin (length asides.old.items) kept }
     ensures is { IfOk result (λ s. stretch asides.new.items s ≡ stretch asides.old.items kept ++ id ∷ []) }
     ensures within { IfOk result (IsWithin (length asides.new.items)) }
-    ensures others { (s : Stretch) → IsWithin (length asides.old.items) s
+    ensures others { (s : Section) → IsWithin (length asides.old.items) s
         → IsWithin (length asides.new.items) s × (stretch asides.new.items s ≡ stretch asides.old.items s) }
 {
     let from = asides.len();
     asides.extend_from_within(kept.from..kept.to)?;
     asides.push(id)?;
-    Ok(Stretch {
+    Ok(Section {
         from,
         to: asides.len(),
     })

@@ -17,7 +17,7 @@ use Rattle.a68_ranges.specs.Nodes.{name_at}
 use Rattle.a68_ranges.specs.Standard.{IsModeWordOf}
 use Rattle.a68_ranges.specs.Surroundings.{Lies}
 use Rattle.a68_ranges.specs.Twice.{IsTwice}
-use Rattle.a68_ranges.specs.declared.sort.Sort.TheVariants as sorts
+use Rattle.a68_ranges.specs.declared.sort.IndicatorKind.TheVariants as sorts
 use Rattle.a68_tree.specs.Trees.{Built}
 use Rattle.a68_tree.specs.declared.kind.NodeKind.{NodeKind}
 use Rattle.a68_tree.specs.declared.kind.NodeKind.TheVariants as kind

@@ -11,7 +11,7 @@ use std::alloc::Global;
 use std::collections::HashSet;
 
 /// The rows without FLEX that are among the modes, by their dimensions and the modes of their elements.
-type Known = HashSet<(u32, ModeId)>;
+type PlainRows = HashSet<(u32, ModeId)>;
 
 // Gives the dimensions of a row without FLEX, and the mode of its elements.
 fn fixed_row(shape: &Shape) -> Option<(u32, ModeId)>
@@ -34,7 +34,7 @@ fn fewer_of(shape: &Shape) -> Option<(u32, ModeId)>
 }
 
 // Notes a mode, where it is a row without FLEX.
-fn note_row(known: &mut Known, shape: &Shape) -> Result<(), NoMemory>
+fn note_row(known: &mut PlainRows, shape: &Shape) -> Result<(), NoMemory>
     ensures { OnOk result ((dims of : ℕ) → has_key known.new.keys dims of ≡ (has_key known.old.keys dims of || rows.is_row dims of shape.now)) }
 {
     match fixed_row(shape) {
@@ -47,7 +47,7 @@ fn note_row(known: &mut Known, shape: &Shape) -> Result<(), NoMemory>
 }
 
 // Notes the rows without FLEX among the modes.
-fn note_rows(known: &mut Known, modes: &Modes) -> Result<(), NoMemory>
+fn note_rows(known: &mut PlainRows, modes: &Modes) -> Result<(), NoMemory>
     requires { known.old.keys ≡ [] }
     ensures { OnOk result (AreRowsKnown modes.now known.new.keys) }
 {
@@ -74,7 +74,7 @@ fn push_row(modes: &mut Modes, dims: u32, of: ModeId) -> Result<(), NoMemory>
 }
 
 // Adds a row without FLEX, where it is not among the modes.
-fn add_row(modes: &mut Modes, known: &mut Known, dims: u32, of: ModeId) -> Result<(), NoMemory>
+fn add_row(modes: &mut Modes, known: &mut PlainRows, dims: u32, of: ModeId) -> Result<(), NoMemory>
     requires of { of < length modes.old }
     requires known { AreRowsKnown modes.old known.old.keys }
     ensures known { OnOk result (AreRowsKnown modes.new known.new.keys) }
@@ -88,7 +88,12 @@ fn add_row(modes: &mut Modes, known: &mut Known, dims: u32, of: ModeId) -> Resul
 }
 
 // Adds the rows of 1 up to so many dimensions.
-fn add_rows_to(modes: &mut Modes, known: &mut Known, most: u32, of: ModeId) -> Result<(), NoMemory>
+fn add_rows_to(
+    modes: &mut Modes,
+    known: &mut PlainRows,
+    most: u32,
+    of: ModeId,
+) -> Result<(), NoMemory>
     requires of { of < length modes.old }
     requires known { AreRowsKnown modes.old known.old.keys }
     ensures known { OnOk result (AreRowsKnown modes.new known.new.keys) }
@@ -101,7 +106,7 @@ fn add_rows_to(modes: &mut Modes, known: &mut Known, most: u32, of: ModeId) -> R
 }
 
 // Adds the rows with fewer dimensions than a mode has.
-fn add_fewer(modes: &mut Modes, known: &mut Known, mode: ModeId) -> Result<(), NoMemory>
+fn add_fewer(modes: &mut Modes, known: &mut PlainRows, mode: ModeId) -> Result<(), NoMemory>
     requires there { mode < length modes.old }
     requires known { AreRowsKnown modes.old known.old.keys }
     ensures known { OnOk result (AreRowsKnown modes.new known.new.keys) }
@@ -117,7 +122,7 @@ fn add_fewer(modes: &mut Modes, known: &mut Known, mode: ModeId) -> Result<(), N
 }
 
 // Adds the rows with fewer dimensions than each of the modes has.
-fn add_all(modes: &mut Modes, known: &mut Known) -> Result<(), NoMemory>
+fn add_all(modes: &mut Modes, known: &mut PlainRows) -> Result<(), NoMemory>
     requires { AreRowsKnown modes.old known.old.keys }
     ensures { OnOk result (modes.new ≡ rows.with_rows modes.old) }
 {

@@ -9,8 +9,8 @@ use Rattle.a68_op_ident.specs.Shapes.{IsShaped, IsLeft, IsOperatorNode, Shaped, 
 use Rattle.a68_op_ident.specs.Lacking.{LacksPriority, IsUnshaped}
 use Rattle.a68_op_ident.specs.Inner.{Going, Same, IsLatePlace, IsLateToken, IsLeast, IsOrdered, lesser, late_of}
 use Rattle.a68_op_ident.specs.declared.formula.Operand.{Operand}
-use Rattle.a68_op_ident.specs.declared.formula.Token.{Token}
-use Rattle.a68_op_ident.specs.declared.formula.Token.TheVariants as token
+use Rattle.a68_op_ident.specs.declared.formula.FormulaPart.{FormulaPart}
+use Rattle.a68_op_ident.specs.declared.formula.FormulaPart.TheVariants as token
 use Rattle.a68_op_ident.proofs.Lists.{some_same, less_or_not, eq_or_more, all_at}
 use Rattle.a68_op_ident.proofs.Placing.{keeps}
 use Rattle.a68_op_ident.proofs.Parts.{reads_same, sign_nodes}
@@ -68,10 +68,10 @@ module _ (flat : Built) (nodes : List Node) (id : ℕ) (n : Node) (going : Going
   same_node m k e there = some_same (sym there ∙ ap (slice_get flat.nodes) e ∙ flat_at)
 
   -- a formula reads alike in both trees
-  to_flat : (ts : List Token) → Reads nodes (id + 1) false n.parts ts → Reads flat.nodes (id + 1) false n.parts ts
+  to_flat : (ts : List FormulaPart) → Reads nodes (id + 1) false n.parts ts → Reads flat.nodes (id + 1) false n.parts ts
   to_flat ts reads = reads_same nodes flat.nodes id (length nodes) (id + 1) false n.parts ts reads (going.sound.behind id n at) (λ k p. sym (going.rest k (omega arith)))
 
-  from_flat : (ts : List Token) → Reads flat.nodes (id + 1) false n.parts ts → Reads nodes (id + 1) false n.parts ts
+  from_flat : (ts : List FormulaPart) → Reads flat.nodes (id + 1) false n.parts ts → Reads nodes (id + 1) false n.parts ts
   from_flat ts reads = reads_same flat.nodes nodes id (length nodes) (id + 1) false n.parts ts reads (going.sound.behind id n at) (λ k p. going.rest k (omega arith))
 
   -- one node more, which stays as it is
@@ -116,19 +116,19 @@ module _ (flat : Built) (nodes : List Node) (id : ℕ) (n : Node) (going : Going
 
   -- ---- a formula that cannot be read
 
-  pub left : ((ts : List Token) → Reads nodes (id + 1) false n.parts ts → ⊥) → Going flat nodes (id + 1)
+  pub left : ((ts : List FormulaPart) → Reads nodes (id + 1) false n.parts ts → ⊥) → Going flat nodes (id + 1)
   left none = one_more (λ never f. record {
     unread = λ m ts there reads. none ts (from_flat ts (subst (λ (x : Node). Reads flat.nodes (id + 1) false x.parts ts) (same_node m id refl there) reads));
     same = at;
   })
 
-  pub left_late : ((ts : List Token) → Reads nodes (id + 1) false n.parts ts → ⊥) → IsLeast (IsLatePlace flat id (id + 1)) None
+  pub left_late : ((ts : List FormulaPart) → Reads nodes (id + 1) false n.parts ts → ⊥) → IsLeast (IsLatePlace flat id (id + 1)) None
   left_late none = λ place late.
       let begin = late.begin in
       let end = late.end in
       absurd (none late.lacks.tokens (from_flat late.lacks.tokens (lacks_here late.sign late.lacks (omega arith)).1))
 
-  module _ (ts : List Token) (formed : is_formula n.kind ≡ true) (reads : Reads nodes (id + 1) false n.parts ts) (priorities : Each (HasItsPriority flat) ts) where
+  module _ (ts : List FormulaPart) (formed : is_formula n.kind ≡ true) (reads : Reads nodes (id + 1) false n.parts ts) (priorities : Each (HasItsPriority flat) ts) where
     abbrev lacks_of : (k : ℕ) (s : _) → slice_get ts k ≡ Some (token.Dyad s None) → LacksPriority flat s.id
     lacks_of k s there = record {
       formula = id;
@@ -173,12 +173,12 @@ module _ (flat : Built) (nodes : List Node) (id : ℕ) (n : Node) (going : Going
               let end = late.end in
               let there = among late.sign late.lacks (omega arith) in
               let within = slice_get_within ts late.lacks.place (token.Dyad late.lacks.dyad None) there in
-              let le = least.1 late.lacks.dyad.from (late.lacks.place, within, ap (λ (o : Option Token). late_in o) there) in
+              let le = least.1 late.lacks.dyad.from (late.lacks.place, within, ap (λ (o : Option FormulaPart). late_in o) there) in
               let where_is : other ≡ late.lacks.dyad.from = late.here ∙ ap (place_at flat) (sym late.lacks.is) ∙ late_place late.lacks.place late.lacks.dyad None there in
               omega arith,
         )
       where
-        late_in : Option Token → Option ℕ
+        late_in : Option FormulaPart → Option ℕ
         late_in None = None
         late_in (Some t) = late_of t
 

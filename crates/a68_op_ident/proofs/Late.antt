@@ -6,8 +6,8 @@ use Rattle.std.proofs.lemmas.Option.{slice_get_within}
 use Rattle.a68_op_ident.specs.Formulas.{Each, IsToken, Reads, HasItsPriority, IsRanked, is_operand, signs_of, next_sign}
 use Rattle.a68_op_ident.specs.Inner.{IsLeast, IsLateToken, late_of}
 use Rattle.a68_op_ident.specs.declared.formula.Sign.{Sign}
-use Rattle.a68_op_ident.specs.declared.formula.Token.{Token}
-use Rattle.a68_op_ident.specs.declared.formula.Token.TheVariants as token
+use Rattle.a68_op_ident.specs.declared.formula.FormulaPart.{FormulaPart}
+use Rattle.a68_op_ident.specs.declared.formula.FormulaPart.TheVariants as token
 use Rattle.a68_op_ident.proofs.Lists.{some_same}
 use Rattle.a68_op_ident.proofs.Parts.{alike, next_is}
 use Rattle.a68_ranges.specs.Nodes.{place_at}
@@ -21,7 +21,7 @@ none_stays tree at name None a b = refl
 none_stays tree at name (Some p) a (inl b) = absurd (a.0 b.0 b.1)
 none_stays tree at name (Some p) a (inr b) = let e : None ≡ Some p = sym a.1 ∙ b.1 in absurd (cc)
 
-lacks_too : (tree : Built) (from : ℕ) (after : Bool) (p : ℕ) (s : Sign) (t : Token) → IsToken tree.nodes from after p (token.Dyad s None) → IsToken tree.nodes from after p t
+lacks_too : (tree : Built) (from : ℕ) (after : Bool) (p : ℕ) (s : Sign) (t : FormulaPart) → IsToken tree.nodes from after p (token.Dyad s None) → IsToken tree.nodes from after p t
     → HasItsPriority tree (token.Dyad s None) → HasItsPriority tree t → t ≡ token.Dyad s None
 lacks_too tree from false p s t a b u v = absurd a
 lacks_too tree from true p s (token.Operand o) a b u v = absurd b
@@ -32,7 +32,7 @@ lacks_too tree from true p s (token.Dyad r q) a b u v =
     ap (λ (x : Sign). token.Dyad x q) same ∙ ap (λ (o : Option ℕ). token.Dyad s o) none
 
 -- a sign that lacks a priority lacks it however its formula is read
-pub lacks_always : (tree : Built) (from : ℕ) (after : Bool) (parts : List ℕ) (ts us : List Token) (k : ℕ) (s : Sign) → Reads tree.nodes from after parts ts → Reads tree.nodes from after parts us
+pub lacks_always : (tree : Built) (from : ℕ) (after : Bool) (parts : List ℕ) (ts us : List FormulaPart) (k : ℕ) (s : Sign) → Reads tree.nodes from after parts ts → Reads tree.nodes from after parts us
     → Each (HasItsPriority tree) ts → Each (HasItsPriority tree) us → slice_get ts k ≡ Some (token.Dyad s None) → slice_get us k ≡ Some (token.Dyad s None)
 lacks_always tree from after [] [] us k s a b u v e = absurd (cc)
 lacks_always tree from after [] (t ∷ ts) us k s a b u v e = absurd a
@@ -40,7 +40,7 @@ lacks_always tree from after (p ∷ ps) [] us k s a b u v e = absurd a
 lacks_always tree from after (p ∷ ps) (t ∷ ts) [] k s a b u v e = absurd b
 lacks_always tree from after (p ∷ ps) (t ∷ ts) (x ∷ us) zero s a b u v e =
     let is : t ≡ token.Dyad s None = some_same e in
-    ap (λ (y : Token). Some y) (lacks_too tree from after p s x (subst (λ (y : Token). IsToken tree.nodes from after p y) is a.0) b.0 (subst (HasItsPriority tree) is u.0) v.0)
+    ap (λ (y : FormulaPart). Some y) (lacks_too tree from after p s x (subst (λ (y : FormulaPart). IsToken tree.nodes from after p y) is a.0) b.0 (subst (HasItsPriority tree) is u.0) v.0)
 lacks_always tree from after (p ∷ ps) (t ∷ ts) (x ∷ us) (suc k) s a b u v e =
     let same = alike tree.nodes from after p x t b.0 a.0 in
     lacks_always tree (from + signs_of t) (is_operand t) ps ts us k s a.1
@@ -65,40 +65,40 @@ dyad_stands : (tree : Built) (from : ℕ) (after : Bool) (p : ℕ) (s : Sign) (q
 dyad_stands tree from false p s q a = absurd a
 dyad_stands tree from true p s q a = sign_stands tree from p s a
 
-pub stands_at : (tree : Built) (from : ℕ) (after : Bool) (parts : List ℕ) (ts : List Token) (k : ℕ) (s : Sign) (q : Option ℕ) → Reads tree.nodes from after parts ts → slice_get ts k ≡ Some (token.Dyad s q) → StandsAt tree s
+pub stands_at : (tree : Built) (from : ℕ) (after : Bool) (parts : List ℕ) (ts : List FormulaPart) (k : ℕ) (s : Sign) (q : Option ℕ) → Reads tree.nodes from after parts ts → slice_get ts k ≡ Some (token.Dyad s q) → StandsAt tree s
 stands_at tree from after [] [] k s q r e = absurd (cc)
 stands_at tree from after [] (t ∷ ts) k s q r e = absurd r
 stands_at tree from after (p ∷ ps) [] k s q r e = absurd r
-stands_at tree from after (p ∷ ps) (t ∷ ts) zero s q r e = dyad_stands tree from after p s q (subst (λ (y : Token). IsToken tree.nodes from after p y) (some_same e) r.0)
+stands_at tree from after (p ∷ ps) (t ∷ ts) zero s q r e = dyad_stands tree from after p s q (subst (λ (y : FormulaPart). IsToken tree.nodes from after p y) (some_same e) r.0)
 stands_at tree from after (p ∷ ps) (t ∷ ts) (suc k) s q r e = stands_at tree (from + signs_of t) (is_operand t) ps ts k s q r.1 e
 
 -- ---- tokens that lack one
 
-pub record IsLacking (o : Option Token) (place : ℕ) : Type 0 where
+pub record IsLacking (o : Option FormulaPart) (place : ℕ) : Type 0 where
   pub dyad : Sign
   pub is : o ≡ Some (token.Dyad dyad None)
   pub here : dyad.from ≡ place
 
-pub late_is : (o : Option Token) (place : ℕ) → option_and_then late_of o ≡ Some place → IsLacking o place
+pub late_is : (o : Option FormulaPart) (place : ℕ) → option_and_then late_of o ≡ Some place → IsLacking o place
 late_is None place e = absurd (cc)
 late_is (Some (token.Operand o)) place e = absurd (cc)
 late_is (Some (token.Monad s)) place e = absurd (cc)
 late_is (Some (token.Dyad s (Some p))) place e = absurd (cc)
 late_is (Some (token.Dyad s None)) place e = record { dyad = s; is = refl; here = some_same e }
 
-ranked_one : (t : Token) → ((place : ℕ) → late_of t ≡ Some place → ⊥) → IsRanked t
+ranked_one : (t : FormulaPart) → ((place : ℕ) → late_of t ≡ Some place → ⊥) → IsRanked t
 ranked_one (token.Operand o) none = tt
 ranked_one (token.Monad s) none = tt
 ranked_one (token.Dyad s (Some p)) none = tt
 ranked_one (token.Dyad s None) none = none s.from refl
 
-all_ranked : (ts : List Token) → ((k place : ℕ) → option_and_then late_of (slice_get ts k) ≡ Some place → ⊥) → Each IsRanked ts
+all_ranked : (ts : List FormulaPart) → ((k place : ℕ) → option_and_then late_of (slice_get ts k) ≡ Some place → ⊥) → Each IsRanked ts
 all_ranked [] none = tt
 all_ranked (t ∷ ts) none = (ranked_one t (none 0), all_ranked ts (λ k. none (suc k)))
 
-late_there : (ts : List Token) (k place : ℕ) → option_and_then late_of (slice_get ts k) ≡ Some place → k < length ts
+late_there : (ts : List FormulaPart) (k place : ℕ) → option_and_then late_of (slice_get ts k) ≡ Some place → k < length ts
 late_there ts k place e = let l = late_is (slice_get ts k) place e in slice_get_within ts k (token.Dyad l.dyad None) l.is
 
 -- where none lacks a priority, all have one
-pub ranked : (ts : List Token) → IsLeast (IsLateToken ts (length ts)) None → Each IsRanked ts
+pub ranked : (ts : List FormulaPart) → IsLeast (IsLateToken ts (length ts)) None → Each IsRanked ts
 ranked ts none = all_ranked ts (λ k place e. none place (k, late_there ts k place e, e))

@@ -5,7 +5,7 @@ use Rattle.std.specs.Option.{option_and_then}
 use Rattle.std.specs.declared.option.Option.{Option}
 use Rattle.std.proofs.lemmas.Bool.{leb-true, leb-false}
 use Rattle.a68_op_ident.specs.Inner.{IsLeast, IsLateToken, lesser, late_of}
-use Rattle.a68_op_ident.specs.declared.formula.Token.{Token}
+use Rattle.a68_op_ident.specs.declared.formula.FormulaPart.{FormulaPart}
 use Rattle.a68_op_ident.proofs.Lists.{some_same, old_or_new}
 
 -- the least of two kinds is the lesser of the two
@@ -24,11 +24,11 @@ own : (o : Option ℕ) → IsLeast (λ p. o ≡ Some p) o
 own None = λ p e. absurd (cc)
 own (Some x) = (refl, λ p e. let same = some_same e in omega arith)
 
-pub none_late : (tokens : List Token) → IsLeast (IsLateToken tokens 0) None
+pub none_late : (tokens : List FormulaPart) → IsLeast (IsLateToken tokens 0) None
 none_late tokens = λ p l. let lt = l.1 in absurd (omega arith)
 
 -- one token more
-pub late_more : (tokens : List Token) (k : ℕ) (t : Token) (late : Option ℕ) → slice_get tokens k ≡ Some t → IsLeast (IsLateToken tokens k) late
+pub late_more : (tokens : List FormulaPart) (k : ℕ) (t : FormulaPart) (late : Option ℕ) → slice_get tokens k ≡ Some t → IsLeast (IsLateToken tokens k) late
     → IsLeast (IsLateToken tokens (k + 1)) (lesser late (late_of t))
 late_more tokens k t late at before =
     let here : option_and_then late_of (slice_get tokens k) ≡ late_of t = ap (option_and_then late_of) at in

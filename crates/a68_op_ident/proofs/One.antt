@@ -8,8 +8,8 @@ use Rattle.a68_op_ident.specs.Lacking.{LacksPriority, IsUnshaped}
 use Rattle.a68_op_ident.specs.Shapes.{Shaped, ShapedTo, IsShaped, IsLeft, IsOperatorNode}
 use Rattle.a68_op_ident.specs.declared.formula.Operand.{Operand}
 use Rattle.a68_op_ident.specs.declared.formula.Sign.{Sign}
-use Rattle.a68_op_ident.specs.declared.formula.Token.{Token}
-use Rattle.a68_op_ident.specs.declared.formula.Token.TheVariants as token
+use Rattle.a68_op_ident.specs.declared.formula.FormulaPart.{FormulaPart}
+use Rattle.a68_op_ident.specs.declared.formula.FormulaPart.TheVariants as token
 use Rattle.a68_op_ident.proofs.Lists.{some_same, eq_or_more, all_at}
 use Rattle.a68_op_ident.proofs.Parts.{alike, same_count}
 use Rattle.a68_op_ident.proofs.Late.{lacks_always}
@@ -30,26 +30,26 @@ same_lists (x ∷ xs) (y ∷ ys) long same =
 
 -- ---- the sign over all others is one
 
-head_same : {x y : Token} {xs ys : List Token} → x ∷ xs ≡ y ∷ ys → x ≡ y
+head_same : {x y : FormulaPart} {xs ys : List FormulaPart} → x ∷ xs ≡ y ∷ ys → x ≡ y
 head_same e = cc
 
-tail_same : {x y : Token} {xs ys : List Token} → x ∷ xs ≡ y ∷ ys → xs ≡ ys
+tail_same : {x y : FormulaPart} {xs ys : List FormulaPart} → x ∷ xs ≡ y ∷ ys → xs ≡ ys
 tail_same e = cc
 
 from_same : {s r : Sign} {p q : Option ℕ} → token.Dyad s p ≡ token.Dyad r q → (s ≡ r) × (p ≡ q)
 from_same e = (cc, cc)
 
 -- a sign is among those of which something holds
-there_holds : (P : Token → Type 0) (xs ys : List Token) (t : Token) → Each P (xs ++ t ∷ ys) → P t
+there_holds : (P : FormulaPart → Type 0) (xs ys : List FormulaPart) (t : FormulaPart) → Each P (xs ++ t ∷ ys) → P t
 there_holds P [] ys t a = a.0
 there_holds P (x ∷ xs) ys t a = there_holds P xs ys t a.1
 
-record SameSides (left right left' right' : List Token) (s s' : Sign) : Type 0 where
+record SameSides (left right left' right' : List FormulaPart) (s s' : Sign) : Type 0 where
   lefts : left ≡ left'
   rights : right ≡ right'
   signs_are : s ≡ s'
 
-same_sides : (left right left' right' : List Token) (s s' : Sign) (p p' : ℕ) → left ++ token.Dyad s (Some p) ∷ right ≡ left' ++ token.Dyad s' (Some p') ∷ right'
+same_sides : (left right left' right' : List FormulaPart) (s s' : Sign) (p p' : ℕ) → left ++ token.Dyad s (Some p) ∷ right ≡ left' ++ token.Dyad s' (Some p') ∷ right'
     → Each (BindsFrom p) left → Each (BindsAbove p) right → Each (BindsFrom p') left' → Each (BindsAbove p') right' → SameSides left right left' right' s s'
 same_sides [] right [] right' s s' p p' e l r l' r' = record { lefts = refl; rights = tail_same e; signs_are = (from_same (head_same e)).0 }
 same_sides [] right (x ∷ left') right' s s' p p' e l r l' r' =
@@ -71,13 +71,13 @@ same_sides (x ∷ left) right (y ∷ left') right' s s' p p' e l r l' r' =
     record { lefts = cc (head, tails); rights = rest.rights; signs_are = rest.signs_are }
 
 -- one operand is no formula of a dyadic sign
-no_operand : (o : Operand) (left right : List Token) (s : Sign) (p : ℕ) → token.Operand o ∷ [] ≡ left ++ token.Dyad s (Some p) ∷ right → ⊥
+no_operand : (o : Operand) (left right : List FormulaPart) (s : Sign) (p : ℕ) → token.Operand o ∷ [] ≡ left ++ token.Dyad s (Some p) ∷ right → ⊥
 no_operand o [] right s p e = let h : token.Operand o ≡ token.Dyad s (Some p) = head_same e in absurd (cc)
 no_operand o (x ∷ []) right s p e = let t : [] ≡ token.Dyad s (Some p) ∷ right = tail_same e in absurd (cc)
 no_operand o (x ∷ y ∷ left) right s p e = let t : [] ≡ y ∷ left ++ token.Dyad s (Some p) ∷ right = tail_same e in absurd (cc)
 
 -- nor is a monadic sign over what binds closest
-no_monad : (m : Sign) (ts left right : List Token) (s : Sign) (p : ℕ) → Each BindsClosest ts → token.Monad m ∷ ts ≡ left ++ token.Dyad s (Some p) ∷ right → ⊥
+no_monad : (m : Sign) (ts left right : List FormulaPart) (s : Sign) (p : ℕ) → Each BindsClosest ts → token.Monad m ∷ ts ≡ left ++ token.Dyad s (Some p) ∷ right → ⊥
 no_monad m ts [] right s p a e = let h : token.Monad m ≡ token.Dyad s (Some p) = head_same e in absurd (cc)
 no_monad m ts (x ∷ left) right s p a e =
     let none : Some p ≡ None = there_holds BindsClosest left right (token.Dyad s (Some p)) (subst (Each BindsClosest) (tail_same e) a) in absurd (cc)
@@ -88,19 +88,19 @@ record AreOne (a b : List Node) (id next next' : ℕ) (top top' : Operand) : Typ
   tops : top ≡ top'
   nodes : (k : ℕ) → id ≤ k → k < next → slice_get a k ≡ slice_get b k
 
-operand_same : {o q : Operand} {xs ys : List Token} → token.Operand o ∷ xs ≡ token.Operand q ∷ ys → o ≡ q
+operand_same : {o q : Operand} {xs ys : List FormulaPart} → token.Operand o ∷ xs ≡ token.Operand q ∷ ys → o ≡ q
 operand_same e = cc
 
-monad_same : {s r : Sign} {xs ys : List Token} → token.Monad s ∷ xs ≡ token.Monad r ∷ ys → s ≡ r
+monad_same : {s r : Sign} {xs ys : List FormulaPart} → token.Monad s ∷ xs ≡ token.Monad r ∷ ys → s ≡ r
 monad_same e = cc
 
-mixed : {o : Operand} {s : Sign} {xs ys : List Token} → token.Operand o ∷ xs ≡ token.Monad s ∷ ys → ⊥
+mixed : {o : Operand} {s : Sign} {xs ys : List FormulaPart} → token.Operand o ∷ xs ≡ token.Monad s ∷ ys → ⊥
 mixed e = absurd (cc)
 
 standing_same : {i i' : ℕ} {n n' : Node} → i ≡ i' → n ≡ n' → (let x : Operand = record { id = i; span = n.span } in x) ≡ (let y : Operand = record { id = i'; span = n'.span } in y)
 standing_same a b = rw (a, b) refl
 
-one_placed : {a b : List Node} {ts ts' : List Token} {id id' next next' : ℕ} {top top' : Operand} → Placed a ts id next top → Placed b ts' id' next' top' → ts ≡ ts' → id ≡ id' → AreOne a b id next next' top top'
+one_placed : {a b : List Node} {ts ts' : List FormulaPart} {id id' next next' : ℕ} {top top' : Operand} → Placed a ts id next top → Placed b ts' id' next' top' → ts ≡ ts' → id ≡ id' → AreOne a b id next next' top top'
 one_placed (alone o) (alone q) e i = record { ends = i; tops = operand_same e; nodes = λ k p q. absurd (omega arith) }
 one_placed (alone o) (under s q c n x) e i = absurd (mixed e)
 one_placed (alone o) (over left right s p middle u v parts l r n x y) e i = absurd (no_operand o left right s p (e ∙ parts))
@@ -140,7 +140,7 @@ one_placed {a = a} {b = b} {id = id} (over left right s p middle u v parts l r n
 -- ---- a formula is read in one way
 
 module _ (flat : Built) (one : (at name : ℕ) (p q : Option ℕ) → IsPriorityOf flat at name p → IsPriorityOf flat at name q → p ≡ q) where
-  one_token : (from : ℕ) (after : Bool) (p : ℕ) (t u : Token) → IsToken flat.nodes from after p t → IsToken flat.nodes from after p u → HasItsPriority flat t → HasItsPriority flat u → t ≡ u
+  one_token : (from : ℕ) (after : Bool) (p : ℕ) (t u : FormulaPart) → IsToken flat.nodes from after p t → IsToken flat.nodes from after p u → HasItsPriority flat t → HasItsPriority flat u → t ≡ u
   one_token from false p (token.Operand o) (token.Operand q) a b h j = ap (λ x. token.Operand x) (some_same (sym a ∙ b))
   one_token from false p (token.Operand o) (token.Monad s) a b h j = let e = (alike flat.nodes from false p (token.Operand o) (token.Monad s) a b).0 in absurd (omega arith)
   one_token from false p (token.Operand o) (token.Dyad s q) a b h j = absurd b
@@ -157,7 +157,7 @@ module _ (flat : Built) (one : (at name : ℕ) (p q : Option ℕ) → IsPriority
       let priority : q ≡ z = one s.id s.name q z h (subst (λ (x : Sign). IsPriorityOf flat x.id x.name z) (sym same) j) in
       ap (λ (x : Sign). token.Dyad x q) same ∙ ap (λ (x : Option ℕ). token.Dyad r x) priority
 
-  one_reading : (from : ℕ) (after : Bool) (parts : List ℕ) (ts us : List Token) → Reads flat.nodes from after parts ts → Reads flat.nodes from after parts us
+  one_reading : (from : ℕ) (after : Bool) (parts : List ℕ) (ts us : List FormulaPart) → Reads flat.nodes from after parts ts → Reads flat.nodes from after parts us
       → Each (HasItsPriority flat) ts → Each (HasItsPriority flat) us → ts ≡ us
   one_reading from after [] [] [] a b h j = refl
   one_reading from after [] [] (u ∷ us) a b h j = absurd b
@@ -166,12 +166,12 @@ module _ (flat : Built) (one : (at name : ℕ) (p q : Option ℕ) → IsPriority
   one_reading from after (p ∷ ps) (t ∷ ts) [] a b h j = absurd b
   one_reading from after (p ∷ ps) (t ∷ ts) (u ∷ us) a b h j =
       let head = one_token from after p t u a.0 b.0 h.0 j.0 in
-      let rest : Reads flat.nodes (from + signs_of t) (is_operand t) ps us = subst (λ (x : Token). Reads flat.nodes (from + signs_of x) (is_operand x) ps us) (sym head) b.1 in
+      let rest : Reads flat.nodes (from + signs_of t) (is_operand t) ps us = subst (λ (x : FormulaPart). Reads flat.nodes (from + signs_of x) (is_operand x) ps us) (sym head) b.1 in
       let tail = one_reading (from + signs_of t) (is_operand t) ps ts us a.1 rest h.1 j.1 in
-      ap (λ (x : Token). x ∷ ts) head ∙ ap (λ (xs : List Token). u ∷ xs) tail
+      ap (λ (x : FormulaPart). x ∷ ts) head ∙ ap (λ (xs : List FormulaPart). u ∷ xs) tail
 
   -- two shapes of a formula have the same nodes
-  one_shaped : {a b : List Node} {f id : ℕ} {parts : List ℕ} (ts : List Token) → Reads flat.nodes (f + 1) false parts ts → f ≤ id → id < f + signs ts
+  one_shaped : {a b : List Node} {f id : ℕ} {parts : List ℕ} (ts : List FormulaPart) → Reads flat.nodes (f + 1) false parts ts → f ≤ id → id < f + signs ts
       → IsShaped flat a (length flat.nodes) f parts → IsShaped flat b (length flat.nodes) f parts → slice_get a id ≡ slice_get b id
   one_shaped {f = f} {id = id} {parts = parts} ts reads from below is so =
       let same = one_reading (f + 1) false parts is.tokens so.tokens is.reads so.reads is.priorities so.priorities in

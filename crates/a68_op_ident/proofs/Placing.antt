@@ -6,20 +6,20 @@ use Rattle.a68_op_ident.specs.Formulas.{Each, Placed, alone, under, over, monadi
 use Rattle.a68_op_ident.specs.Inner.{Alternates, IsRoot, Same}
 use Rattle.a68_op_ident.specs.declared.formula.Operand.{Operand}
 use Rattle.a68_op_ident.specs.declared.formula.Sign.{Sign}
-use Rattle.a68_op_ident.specs.declared.formula.Token.{Token}
-use Rattle.a68_op_ident.specs.declared.formula.Token.TheVariants as token
+use Rattle.a68_op_ident.specs.declared.formula.FormulaPart.{FormulaPart}
+use Rattle.a68_op_ident.specs.declared.formula.FormulaPart.TheVariants as token
 use Rattle.a68_op_ident.proofs.Lists.{split_at, get-set_here, get-set_there, all_left, all_right}
 use Rattle.a68_op_ident.proofs.Roots.{binds_from, binds_above, binds_closest, root_first, sides_alternate, operand_alone, signs-append}
 use Rattle.a68_tree.specs.declared.node.Node.{Node}
 
 -- what is placed begins before it ends
-pub in_order : {ns : List Node} {ts : List Token} {id next : ℕ} {top : Operand} → Placed ns ts id next top → id ≤ next
+pub in_order : {ns : List Node} {ts : List FormulaPart} {id next : ℕ} {top : Operand} → Placed ns ts id next top → id ≤ next
 in_order (alone o) = omega arith
 in_order (under s o c n a) = let x = in_order a in omega arith
 in_order (over left right s p middle a b e l r n x y) = let u = in_order x in let v = in_order y in omega arith
 
 -- it stays where its nodes stay
-pub keeps : {ns ns' : List Node} {ts : List Token} {id next : ℕ} {top : Operand} → Placed ns ts id next top
+pub keeps : {ns ns' : List Node} {ts : List FormulaPart} {id next : ℕ} {top : Operand} → Placed ns ts id next top
     → ((k : ℕ) → id ≤ k → k < next → slice_get ns' k ≡ slice_get ns k) → Placed ns' ts id next top
 keeps (alone o) same = alone o
 keeps {id = id} (under s o c n a) same =
@@ -34,14 +34,14 @@ keeps {id = id} (over left right s p middle a b e l r n x y) same =
 -- ---- below a sign
 
 -- the parts of a formula whose sign stands at the root
-pub record Halves (tokens : List Token) (root : ℕ) : Type 0 where
+pub record Halves (tokens : List FormulaPart) (root : ℕ) : Type 0 where
   pub left_order : Alternates false (take root tokens)
   pub right_order : Alternates false (drop (root + 1) tokens)
   pub left_ranked : Each IsRanked (take root tokens)
   pub right_ranked : Each IsRanked (drop (root + 1) tokens)
   pub count : signs tokens ≡ signs (take root tokens) + (1 + signs (drop (root + 1) tokens))
 
-pub halves : (tokens : List Token) (root : ℕ) (s : Sign) (p : Option ℕ) → slice_get tokens root ≡ Some (token.Dyad s p) → Alternates false tokens → Each IsRanked tokens → Halves tokens root
+pub halves : (tokens : List FormulaPart) (root : ℕ) (s : Sign) (p : Option ℕ) → slice_get tokens root ≡ Some (token.Dyad s p) → Alternates false tokens → Each IsRanked tokens → Halves tokens root
 halves tokens root s p there order ranked =
     let left = take root tokens in
     let right = drop (root + 1) tokens in
@@ -57,19 +57,19 @@ halves tokens root s p there order ranked =
     }
 
 -- what stands behind a monadic sign at the root
-pub record Rest (tokens : List Token) (root : ℕ) : Type 0 where
+pub record Rest (tokens : List FormulaPart) (root : ℕ) : Type 0 where
   pub first : root ≡ 0
   pub order : Alternates false (drop (root + 1) tokens)
   pub ranked : Each IsRanked (drop (root + 1) tokens)
   pub count : signs tokens ≡ 1 + signs (drop (root + 1) tokens)
 
 -- all tokens are the first one and the rest
-from_first : (tokens : List Token) (root : ℕ) (t : Token) → slice_get tokens root ≡ Some t → root ≡ 0 → tokens ≡ t ∷ drop (root + 1) tokens
+from_first : (tokens : List FormulaPart) (root : ℕ) (t : FormulaPart) → slice_get tokens root ≡ Some t → root ≡ 0 → tokens ≡ t ∷ drop (root + 1) tokens
 from_first tokens root t there first =
     let split = split_at tokens root t there in
     split ∙ ap (λ (k : ℕ). take k tokens ++ t ∷ drop (root + 1) tokens) first
 
-pub rest : (tokens : List Token) (root : ℕ) (s : Sign) → IsRoot tokens (length tokens) root → slice_get tokens root ≡ Some (token.Monad s) → Alternates false tokens → Each IsRanked tokens → Rest tokens root
+pub rest : (tokens : List FormulaPart) (root : ℕ) (s : Sign) → IsRoot tokens (length tokens) root → slice_get tokens root ≡ Some (token.Monad s) → Alternates false tokens → Each IsRanked tokens → Rest tokens root
 rest tokens root s is there order ranked =
     let first = root_first tokens root (token.Monad s) is there refl in
     let whole = from_first tokens root (token.Monad s) there first in
@@ -83,27 +83,27 @@ rest tokens root s is there order ranked =
 
 -- ---- what is placed
 
-pub one_operand : (tokens : List Token) (nodes : List Node) (root id : ℕ) (o : Operand) → IsRoot tokens (length tokens) root → slice_get tokens root ≡ Some (token.Operand o)
+pub one_operand : (tokens : List FormulaPart) (nodes : List Node) (root id : ℕ) (o : Operand) → IsRoot tokens (length tokens) root → slice_get tokens root ≡ Some (token.Operand o)
     → Alternates false tokens → Each IsRanked tokens → Placed nodes tokens id id o × (signs tokens ≡ 0)
 one_operand tokens nodes root id o is there order ranked =
     let first = root_first tokens root (token.Operand o) is there refl in
     let whole = from_first tokens root (token.Operand o) there first in
     let all : Each IsRanked (token.Operand o ∷ drop (root + 1) tokens) = subst (Each IsRanked) whole ranked in
     let none = operand_alone o (drop (root + 1) tokens) (subst (Alternates false) whole order) (binds_closest tokens root (token.Operand o) is there refl) all.1 in
-    let one : tokens ≡ token.Operand o ∷ [] = whole ∙ ap (λ (r : List Token). token.Operand o ∷ r) none in
-    (subst (λ (ts : List Token). Placed nodes ts id id o) (sym one) (alone o), ap signs one)
+    let one : tokens ≡ token.Operand o ∷ [] = whole ∙ ap (λ (r : List FormulaPart). token.Operand o ∷ r) none in
+    (subst (λ (ts : List FormulaPart). Placed nodes ts id id o) (sym one) (alone o), ap signs one)
 
-pub put_under : (tokens : List Token) (n1 : List Node) (root id next : ℕ) (s : Sign) (o : Operand) → IsRoot tokens (length tokens) root → slice_get tokens root ≡ Some (token.Monad s)
+pub put_under : (tokens : List FormulaPart) (n1 : List Node) (root id next : ℕ) (s : Sign) (o : Operand) → IsRoot tokens (length tokens) root → slice_get tokens root ≡ Some (token.Monad s)
     → Placed n1 (drop (root + 1) tokens) (id + 1) next o → id < length n1
     → Placed (slice_set n1 id (monadic_node s o)) tokens id next (standing id (monadic_node s o))
 put_under tokens n1 root id next s o is there a within =
     let first = root_first tokens root (token.Monad s) is there refl in
     let whole = from_first tokens root (token.Monad s) there first in
-    subst (λ (ts : List Token). Placed (slice_set n1 id (monadic_node s o)) ts id next (standing id (monadic_node s o))) (sym whole)
+    subst (λ (ts : List FormulaPart). Placed (slice_set n1 id (monadic_node s o)) ts id next (standing id (monadic_node s o))) (sym whole)
     (under s o (binds_closest tokens root (token.Monad s) is there refl) (get-set_here n1 id (monadic_node s o) within)
     (keeps a (λ k p q. get-set_there n1 id k (monadic_node s o) (λ e. absurd (omega arith)))))
 
-pub put_over : (tokens : List Token) (n1 n2 : List Node) (root id middle next p : ℕ) (s : Sign) (a b : Operand) → IsRoot tokens (length tokens) root → slice_get tokens root ≡ Some (token.Dyad s (Some p))
+pub put_over : (tokens : List FormulaPart) (n1 n2 : List Node) (root id middle next p : ℕ) (s : Sign) (a b : Operand) → IsRoot tokens (length tokens) root → slice_get tokens root ≡ Some (token.Dyad s (Some p))
     → Placed n1 (take root tokens) (id + 1) middle a → Placed n2 (drop (root + 1) tokens) middle next b → Same n1 n2 middle next → id < length n2
     → Placed (slice_set n2 id (dyadic_node s a b)) tokens id next (standing id (dyadic_node s a b))
 put_over tokens n1 n2 root id middle next p s a b is there x y same within =
@@ -117,10 +117,10 @@ put_over tokens n1 n2 root id middle next p s a b is there x y same within =
     (keeps y (λ k p q. other k node (λ e. absurd (omega arith))))
 
 -- a dyadic sign that has a priority, since all have
-pub ranked_at : (tokens : List Token) (root : ℕ) (s : Sign) (p : Option ℕ) → Each IsRanked tokens → slice_get tokens root ≡ Some (token.Dyad s p) → (q : ℕ) × (p ≡ Some q)
+pub ranked_at : (tokens : List FormulaPart) (root : ℕ) (s : Sign) (p : Option ℕ) → Each IsRanked tokens → slice_get tokens root ≡ Some (token.Dyad s p) → (q : ℕ) × (p ≡ Some q)
 ranked_at tokens root s None ranked there = absurd (all_ranked tokens root ranked there)
   where
-    all_ranked : (ts : List Token) (k : ℕ) → Each IsRanked ts → slice_get ts k ≡ Some (token.Dyad s None) → ⊥
+    all_ranked : (ts : List FormulaPart) (k : ℕ) → Each IsRanked ts → slice_get ts k ≡ Some (token.Dyad s None) → ⊥
     all_ranked [] k a e = absurd (cc)
     all_ranked (t ∷ ts) zero a e = let same : t ≡ token.Dyad s None = cc in subst IsRanked same a.0
     all_ranked (t ∷ ts) (suc k) a e = all_ranked ts k a.1 e

@@ -4,8 +4,8 @@ use Rattle.std.specs.Option.{option_and_then}
 use Rattle.std.specs.declared.option.Option.{Option}
 use Rattle.a68_op_ident.specs.declared.formula.Operand.{Operand}
 use Rattle.a68_op_ident.specs.declared.formula.Sign.{Sign}
-use Rattle.a68_op_ident.specs.declared.formula.Token.{Token}
-use Rattle.a68_op_ident.specs.declared.formula.Token.TheVariants as token
+use Rattle.a68_op_ident.specs.declared.formula.FormulaPart.{FormulaPart}
+use Rattle.a68_op_ident.specs.declared.formula.FormulaPart.TheVariants as token
 use Rattle.a68_ranges.specs.Standard.{IsPriorityOf}
 use Rattle.a68_tree.specs.Trees.{Built}
 use Rattle.a68_tree.specs.declared.kind.NodeKind.{NodeKind}
@@ -43,44 +43,44 @@ operand_at nodes id = option_and_then (operand_of id) (slice_get nodes id)
 abbrev pub next_sign : List Node → (from part : ℕ) → Option Sign
 next_sign nodes from part = if nat_eq part from then sign_at nodes part else None
 
-abbrev pub is_operand : Token → Bool
+abbrev pub is_operand : FormulaPart → Bool
 is_operand (token.Operand o) = true
 is_operand _ = false
 
-abbrev pub signs_of : Token → ℕ
+abbrev pub signs_of : FormulaPart → ℕ
 signs_of (token.Operand o) = 0
 signs_of _ = 1
 
 -- how many signs there are
-abbrev pub signs : List Token → ℕ
+abbrev pub signs : List FormulaPart → ℕ
 signs [] = 0
 signs (t ∷ ts) = signs_of t + signs ts
 
 -- What a part is: a sign behind an operand is dyadic, every other one monadic; two operands do not meet. The signs of a
 -- formula stand one behind the other in the list of nodes, and `from` is the next one.
-abbrev pub IsToken : List Node → (from : ℕ) → (after_operand : Bool) → (part : ℕ) → Token → Type 0
+abbrev pub IsToken : List Node → (from : ℕ) → (after_operand : Bool) → (part : ℕ) → FormulaPart → Type 0
 IsToken nodes from false part (token.Operand o) = operand_at nodes part ≡ Some o
 IsToken nodes from false part (token.Monad s) = next_sign nodes from part ≡ Some s
 IsToken nodes from true part (token.Dyad s priority) = next_sign nodes from part ≡ Some s
 IsToken nodes from _ part _ = ⊥
 
 -- the parts of a formula, one by one; the last one is an operand
-abbrev pub Reads : List Node → (from : ℕ) → (after_operand : Bool) → (parts : List ℕ) → List Token → Type 0
+abbrev pub Reads : List Node → (from : ℕ) → (after_operand : Bool) → (parts : List ℕ) → List FormulaPart → Type 0
 Reads nodes from after [] [] = after ≡ true
 Reads nodes from after (p ∷ ps) (t ∷ ts) = IsToken nodes from after p t × Reads nodes (from + signs_of t) (is_operand t) ps ts
 Reads nodes from after _ _ = ⊥
 
 -- a dyadic sign has the priority that is declared for it about its node, or none where none is
-abbrev pub HasItsPriority : Built → Token → Type 0
+abbrev pub HasItsPriority : Built → FormulaPart → Type 0
 HasItsPriority tree (token.Dyad s priority) = IsPriorityOf tree s.id s.name priority
 HasItsPriority tree _ = Unit {0}
 
 -- a dyadic sign has a priority
-abbrev pub IsRanked : Token → Type 0
+abbrev pub IsRanked : FormulaPart → Type 0
 IsRanked (token.Dyad s None) = ⊥
 IsRanked _ = Unit {0}
 
-abbrev pub priority_of : Token → Option ℕ
+abbrev pub priority_of : FormulaPart → Option ℕ
 priority_of (token.Dyad s priority) = priority
 priority_of _ = None
 
@@ -89,7 +89,7 @@ FromPriority lowest None = Unit {0}
 FromPriority lowest (Some p) = lowest ≤ p
 
 -- no dyadic sign of a lower priority
-abbrev pub BindsFrom : (lowest : ℕ) → Token → Type 0
+abbrev pub BindsFrom : (lowest : ℕ) → FormulaPart → Type 0
 BindsFrom lowest t = FromPriority lowest (priority_of t)
 
 abbrev pub AbovePriority : (bound : ℕ) → Option ℕ → Type 0
@@ -97,11 +97,11 @@ AbovePriority bound None = Unit {0}
 AbovePriority bound (Some p) = bound < p
 
 -- a dyadic sign has a higher priority
-abbrev pub BindsAbove : (bound : ℕ) → Token → Type 0
+abbrev pub BindsAbove : (bound : ℕ) → FormulaPart → Type 0
 BindsAbove bound t = AbovePriority bound (priority_of t)
 
 -- no dyadic sign with a priority
-abbrev pub BindsClosest : Token → Type 0
+abbrev pub BindsClosest : FormulaPart → Type 0
 BindsClosest t = priority_of t ≡ None
 
 -- a sign over one operand: from its own first byte to behind its operand
@@ -120,11 +120,11 @@ standing id n = record { id = id; span = n.span }
 -- below it, and `top` over all. A monadic sign stands over what is behind it up to the end of that operand, and binds
 -- closer than any dyadic sign. A dyadic sign stands over no lower priority on its left, and over higher ones alone on its
 -- right.
-pub data Placed (nodes : List Node) : List Token → (id next : ℕ) → (top : Operand) → Type 0 where
+pub data Placed (nodes : List Node) : List FormulaPart → (id next : ℕ) → (top : Operand) → Type 0 where
   alone : {id : ℕ} (o : Operand) → Placed nodes (token.Operand o ∷ []) id id o
-  under : {ts : List Token} {id next : ℕ} (s : Sign) (o : Operand) → Each BindsClosest ts → slice_get nodes id ≡ Some (monadic_node s o)
+  under : {ts : List FormulaPart} {id next : ℕ} (s : Sign) (o : Operand) → Each BindsClosest ts → slice_get nodes id ≡ Some (monadic_node s o)
       → Placed nodes ts (id + 1) next o → Placed nodes (token.Monad s ∷ ts) id next (standing id (monadic_node s o))
-  over : {ts : List Token} {id next : ℕ} (left right : List Token) (s : Sign) (priority middle : ℕ) (a b : Operand)
+  over : {ts : List FormulaPart} {id next : ℕ} (left right : List FormulaPart) (s : Sign) (priority middle : ℕ) (a b : Operand)
       → ts ≡ left ++ token.Dyad s (Some priority) ∷ right → Each (BindsFrom priority) left → Each (BindsAbove priority) right
       → slice_get nodes id ≡ Some (dyadic_node s a b)
       → Placed nodes left (id + 1) middle a → Placed nodes right middle next b → Placed nodes ts id next (standing id (dyadic_node s a b))

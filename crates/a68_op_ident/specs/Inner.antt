@@ -6,14 +6,14 @@ use Rattle.std.specs.declared.option.Option.{Option}
 use Rattle.a68_op_ident.specs.Formulas.{priority_of}
 use Rattle.a68_op_ident.specs.Lacking.{LacksPriority}
 use Rattle.a68_op_ident.specs.Shapes.{ShapedTo}
-use Rattle.a68_op_ident.specs.declared.formula.Token.{Token}
-use Rattle.a68_op_ident.specs.declared.formula.Token.TheVariants as token
+use Rattle.a68_op_ident.specs.declared.formula.FormulaPart.{FormulaPart}
+use Rattle.a68_op_ident.specs.declared.formula.FormulaPart.TheVariants as token
 use Rattle.a68_ranges.specs.Nodes.{place_at}
 use Rattle.a68_tree.specs.Trees.{Built, IsSound, AllBetween}
 use Rattle.a68_tree.specs.declared.node.Node.{Node}
 
 -- operands and signs in an order that a formula can have
-abbrev pub Alternates : (after_operand : Bool) → List Token → Type 0
+abbrev pub Alternates : (after_operand : Bool) → List FormulaPart → Type 0
 Alternates after [] = after ≡ true
 Alternates false (token.Operand o ∷ ts) = Alternates true ts
 Alternates false (token.Monad s ∷ ts) = Alternates false ts
@@ -21,7 +21,7 @@ Alternates true (token.Dyad s p ∷ ts) = Alternates false ts
 Alternates _ _ = ⊥
 
 -- an operand stands behind the last sign, within the list of nodes
-abbrev pub StandsBetween : (last count : ℕ) → Token → Type 0
+abbrev pub StandsBetween : (last count : ℕ) → FormulaPart → Type 0
 StandsBetween last count (token.Operand o) = (last < o.id) × (o.id < count)
 StandsBetween last count _ = Unit {0}
 
@@ -32,10 +32,10 @@ stands_over (Some p) None = true
 stands_over (Some p) (Some q) = nat_le p q
 
 -- of the first tokens, the one that stands over all others: the last sign of the lowest priority; else the first token
-pub record IsRoot (tokens : List Token) (count root : ℕ) : Type 0 where
+pub record IsRoot (tokens : List FormulaPart) (count root : ℕ) : Type 0 where
   pub below : root < count
-  pub left : (k : ℕ) (t r : Token) → k < root → slice_get tokens k ≡ Some t → slice_get tokens root ≡ Some r → stands_over (priority_of r) (priority_of t) ≡ true
-  pub right : (k : ℕ) (t r : Token) → root < k → k < count → slice_get tokens k ≡ Some t → slice_get tokens root ≡ Some r → stands_over (priority_of t) (priority_of r) ≡ false
+  pub left : (k : ℕ) (t r : FormulaPart) → k < root → slice_get tokens k ≡ Some t → slice_get tokens root ≡ Some r → stands_over (priority_of r) (priority_of t) ≡ true
+  pub right : (k : ℕ) (t r : FormulaPart) → root < k → k < count → slice_get tokens k ≡ Some t → slice_get tokens root ≡ Some r → stands_over (priority_of t) (priority_of r) ≡ false
 
 -- the nodes are the same but for those from one place up to another
 pub record Same (old new : List Node) (from to : ℕ) : Type 0 where
@@ -49,7 +49,7 @@ pub record IsOrdered (nodes : List Node) : Type 0 where
   pub behind : (i : ℕ) (n : Node) → slice_get nodes i ≡ Some n → AllBetween i (length nodes) n.parts
 
 -- the place of a dyadic sign without a priority
-abbrev pub late_of : Token → Option ℕ
+abbrev pub late_of : FormulaPart → Option ℕ
 late_of (token.Dyad s None) = Some s.from
 late_of _ = None
 
@@ -65,7 +65,7 @@ IsLeast P None = (place : ℕ) → P place → ⊥
 IsLeast P (Some place) = P place × ((other : ℕ) → P other → place ≤ other)
 
 -- one of the first tokens lacks a priority there
-abbrev pub IsLateToken : List Token → (count place : ℕ) → Type 0
+abbrev pub IsLateToken : List FormulaPart → (count place : ℕ) → Type 0
 IsLateToken tokens count place = (k : ℕ) × (k < count) × (option_and_then late_of (slice_get tokens k) ≡ Some place)
 
 -- a sign of a formula from one node up to another lacks a priority there

@@ -4,8 +4,8 @@ use Rattle.a68_base.specs.declared.refusal.Refusal.{Refusal}
 use Rattle.a68_base.specs.declared.refusal.Rule.TheVariants.{O3}
 use Rattle.a68_op_ident.specs.Formulas.{Each, is_formula, Reads, HasItsPriority}
 use Rattle.a68_op_ident.specs.declared.formula.Sign.{Sign}
-use Rattle.a68_op_ident.specs.declared.formula.Token.{Token}
-use Rattle.a68_op_ident.specs.declared.formula.Token.TheVariants as token
+use Rattle.a68_op_ident.specs.declared.formula.FormulaPart.{FormulaPart}
+use Rattle.a68_op_ident.specs.declared.formula.FormulaPart.TheVariants as token
 use Rattle.a68_ranges.specs.Nodes.{place_at}
 use Rattle.a68_ranges.specs.Twice.{IsFirstInText}
 use Rattle.a68_tree.specs.Trees.{Built}
@@ -17,7 +17,7 @@ pub record LacksPriority (tree : Built) (sign : ℕ) : Type 0 where
   pub node : Node
   pub there : slice_get tree.nodes formula ≡ Some node
   pub formed : is_formula node.kind ≡ true
-  pub tokens : List Token
+  pub tokens : List FormulaPart
   pub reads : Reads tree.nodes (formula + 1) false node.parts tokens
   pub priorities : Each (HasItsPriority tree) tokens
   pub place : ℕ

@@ -2,14 +2,14 @@
 use Rattle.std.specs.Prelude.{◌≡◌, ◌<◌, ◌≤◌, ◌+◌, ◌⊎◌, ℕ, true, false, List, length, Some, slice_get}
 use Rattle.a68_op_ident.specs.Formulas.{Each, is_formula, signs, Reads, HasItsPriority, IsRanked, Placed}
 use Rattle.a68_op_ident.specs.declared.formula.Operand.{Operand}
-use Rattle.a68_op_ident.specs.declared.formula.Token.{Token}
+use Rattle.a68_op_ident.specs.declared.formula.FormulaPart.{FormulaPart}
 use Rattle.a68_tree.specs.Trees.{Built, IsSound}
 use Rattle.a68_tree.specs.declared.node.Node.{Node}
 
 -- The nodes of a formula's signs stand from its own number on: each sign one number before its own, so that the number
 -- of the last sign stays as it was. Every dyadic sign has a priority.
 pub record IsShaped (flat : Built) (shaped : List Node) (bound formula : ℕ) (parts : List ℕ) : Type 0 where
-  pub tokens : List Token
+  pub tokens : List FormulaPart
   pub reads : Reads flat.nodes (formula + 1) false parts tokens
   pub priorities : Each (HasItsPriority flat) tokens
   pub ranked : Each IsRanked tokens
@@ -19,7 +19,7 @@ pub record IsShaped (flat : Built) (shaped : List Node) (bound formula : ℕ) (p
 
 -- the parts of the node are no operands and signs of a formula
 abbrev pub IsUnread : List Node → (formula : ℕ) → Type 0
-IsUnread nodes formula = (n : Node) (tokens : List Token) → slice_get nodes formula ≡ Some n → Reads nodes (formula + 1) false n.parts tokens → ⊥
+IsUnread nodes formula = (n : Node) (tokens : List FormulaPart) → slice_get nodes formula ≡ Some n → Reads nodes (formula + 1) false n.parts tokens → ⊥
 
 -- a formula that stays as it was, since its parts do not read so
 pub record IsLeft (flat : Built) (shaped : List Node) (formula : ℕ) (node : Node) : Type 0 where
@@ -33,7 +33,7 @@ pub record IsOperatorNode (flat : Built) (id : ℕ) : Type 0 where
   pub node : Node
   pub there : slice_get flat.nodes formula ≡ Some node
   pub formed : is_formula node.kind ≡ true
-  pub tokens : List Token
+  pub tokens : List FormulaPart
   pub reads : Reads flat.nodes (formula + 1) false node.parts tokens
   pub from : formula ≤ id
   pub below : id < formula + signs tokens

@@ -19,7 +19,7 @@ pub struct Sign {
 
 /// A part of a formula.
 #[derive(Clone, Copy)]
-pub enum Token {
+pub enum FormulaPart {
     Operand(Operand),
     /// A sign before its one operand.
     Monad(Sign),

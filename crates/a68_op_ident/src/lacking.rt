@@ -3,7 +3,7 @@ ghost use Rattle.std.specs.Prelude.{◌≡◌, length};
 ghost use Rattle.a68_op_ident.specs.Inner as inner;
 ghost use Rattle.a68_op_ident.specs.Inner.{IsLeast, IsLateToken};
 
-use crate::Token;
+use crate::FormulaPart;
 
 /// The lesser one of two, if any.
 pub fn lesser(one: Option<u32>, other: Option<u32>) -> Option<u32>
@@ -19,13 +19,13 @@ pub fn lesser(one: Option<u32>, other: Option<u32>) -> Option<u32>
 }
 
 // The place of a dyadic sign that has no priority.
-fn late_of(token: Token) -> Option<u32>
+fn late_of(token: FormulaPart) -> Option<u32>
     ensures { result ≡ inner.late_of token }
 {
     match token {
-        Token::Operand(_) => None,
-        Token::Monad(_) => None,
-        Token::Dyad(sign, priority) => match priority {
+        FormulaPart::Operand(_) => None,
+        FormulaPart::Monad(_) => None,
+        FormulaPart::Dyad(sign, priority) => match priority {
             None => Some(sign.from),
             Some(_) => None,
         },
@@ -33,7 +33,7 @@ fn late_of(token: Token) -> Option<u32>
 }
 
 /// The first place in the text of a dyadic sign that has no priority.
-pub fn first_late(tokens: &[Token]) -> Option<u32>
+pub fn first_late(tokens: &[FormulaPart]) -> Option<u32>
     ensures { IsLeast (IsLateToken tokens.now (length tokens.now)) result }
 {
     let mut late = None;

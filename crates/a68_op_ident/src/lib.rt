@@ -7,5 +7,5 @@ mod place;
 mod reading;
 mod trees;
 
-pub use formula::{Operand, Sign, Token};
+pub use formula::{FormulaPart, Operand, Sign};
 pub use trees::{shape, shaped_trees_begin_alike, shapes_are_one};

@@ -5,7 +5,7 @@ ghost use Rattle.a68_op_ident.specs.Formulas.{Each, IsRanked, Placed, signs, mon
 ghost use Rattle.a68_op_ident.specs.Inner as inner;
 ghost use Rattle.a68_op_ident.specs.Inner.{Alternates, IsRoot, Same, StandsBetween};
 
-use crate::{Operand, Sign, Token};
+use crate::{FormulaPart, Operand, Sign};
 use a68_base::{NoMemory, Span};
 use a68_tree::{Node, NodeId, NodeKind, Parts};
 use std::alloc::Global;
@@ -18,13 +18,13 @@ pub struct Placement {
 }
 
 // The priority of a dyadic sign.
-fn priority_of(token: Token) -> Option<u32>
+fn priority_of(token: FormulaPart) -> Option<u32>
     ensures { result ≡ formulas.priority_of token }
 {
     match token {
-        Token::Operand(_) => None,
-        Token::Monad(_) => None,
-        Token::Dyad(_, priority) => priority,
+        FormulaPart::Operand(_) => None,
+        FormulaPart::Monad(_) => None,
+        FormulaPart::Dyad(_, priority) => priority,
     }
 }
 
@@ -42,7 +42,7 @@ fn stands_over(priority: Option<u32>, earlier: Option<u32>) -> bool
 }
 
 // Which token stands over all others up to one, where that is known of those before it.
-fn root_to(tokens: &[Token], root: usize, k: usize) -> usize
+fn root_to(tokens: &[FormulaPart], root: usize, k: usize) -> usize
     requires order { root < k }
     requires there { k < length tokens.now }
     ensures { IsRoot tokens.now k root → IsRoot tokens.now (k + 1) result }
@@ -54,7 +54,7 @@ fn root_to(tokens: &[Token], root: usize, k: usize) -> usize
 }
 
 // Which token stands over all others: the last dyadic sign of the lowest priority; where there is none, the first token.
-fn root(tokens: &[Token]) -> usize
+fn root(tokens: &[FormulaPart]) -> usize
     requires { 0 < length tokens.now }
     ensures { IsRoot tokens.now (length tokens.now) result }
 {
@@ -66,7 +66,7 @@ fn root(tokens: &[Token]) -> usize
 }
 
 // The tokens before a place.
-fn before(tokens: &[Token], place: usize) -> &[Token]
+fn before(tokens: &[FormulaPart], place: usize) -> &[FormulaPart]
     requires { place < length tokens.now }
     ensures are { result.now ≡ take place tokens.now }
     ensures fewer { length result.now < length tokens.now }
@@ -75,7 +75,7 @@ fn before(tokens: &[Token], place: usize) -> &[Token]
 }
 
 // The tokens behind a place.
-fn behind(tokens: &[Token], place: usize) -> &[Token]
+fn behind(tokens: &[FormulaPart], place: usize) -> &[FormulaPart]
     requires { place < length tokens.now }
     ensures are { result.now ≡ drop (place + 1) tokens.now }
     ensures fewer { length result.now < length tokens.now }
@@ -143,7 +143,7 @@ fn put_dyadic(
 pub fn place(
     alloc: Global,
     nodes: &mut Vec<Node>,
-    tokens: &[Token],
+    tokens: &[FormulaPart],
     id: NodeId,
 ) -> Result<Placement, NoMemory>
     requires order { Alternates false tokens.now }
@@ -156,11 +156,11 @@ pub fn place(
 {
     let root = root(tokens);
     match tokens[root] {
-        Token::Operand(operand) => Ok(Placement {
+        FormulaPart::Operand(operand) => Ok(Placement {
             top: operand,
             next: id,
         }),
-        Token::Monad(sign) => {
+        FormulaPart::Monad(sign) => {
             let under = place(alloc, nodes, behind(tokens, root), id + 1)?;
             let top = put_monadic(alloc, nodes, sign, under.top, id)?;
             Ok(Placement {
@@ -168,7 +168,7 @@ pub fn place(
                 next: under.next,
             })
         }
-        Token::Dyad(sign, _) => {
+        FormulaPart::Dyad(sign, _) => {
             let left = place(alloc, nodes, before(tokens, root), id + 1)?;
             let right = place(alloc, nodes, behind(tokens, root), left.next)?;
             let top = put_dyadic(alloc, nodes, sign, left.top, right.top, id)?;

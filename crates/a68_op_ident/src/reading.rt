@@ -2,11 +2,11 @@
 ghost use Rattle.std.specs.Prelude.{◌≡◌, ◌≤◌, ◌+◌, ◌<◌, ◌^◌, List, false, true, length, IfOk, IfSome, IfNone};
 ghost use Rattle.a68_op_ident.specs.Formulas as formulas;
 ghost use Rattle.a68_op_ident.specs.Formulas.{Each, IsToken, Reads, HasItsPriority};
-ghost use Rattle.a68_op_ident.specs.declared.formula.Token.{Token as Part};
+ghost use Rattle.a68_op_ident.specs.declared.formula.FormulaPart.{FormulaPart as Part};
 ghost use Rattle.a68_ranges.specs.Tables.{AreRanges};
 ghost use Rattle.a68_tree.specs.Trees.{Built};
 
-use crate::{Operand, Sign, Token};
+use crate::{FormulaPart, Operand, Sign};
 use a68_base::NoMemory;
 use a68_ranges::Ranges;
 use a68_tree::{Node, NodeId, NodeKind};
@@ -65,22 +65,22 @@ fn next_sign(nodes: &[Node], from: NodeId, part: NodeId) -> Option<Sign>
 }
 
 // The part of a formula that begins an operand.
-fn first_token(nodes: &[Node], from: NodeId, part: NodeId) -> Option<Token>
+fn first_token(nodes: &[Node], from: NodeId, part: NodeId) -> Option<FormulaPart>
     ensures is { IfSome result (λ t. IsToken nodes.now from false part t) }
     ensures none { IfNone result ((t : Part) → IsToken nodes.now from false part t → ⊥) }
     ensures free { (tree : Built) → IfSome result (λ t. HasItsPriority tree t) }
 {
     match operand_at(nodes, part) {
-        Some(operand) => Some(Token::Operand(operand)),
+        Some(operand) => Some(FormulaPart::Operand(operand)),
         None => match next_sign(nodes, from, part) {
-            Some(sign) => Some(Token::Monad(sign)),
+            Some(sign) => Some(FormulaPart::Monad(sign)),
             None => None,
         },
     }
 }
 
 // The part of a formula that stands behind an operand.
-fn next_token(nodes: &[Node], ranges: &Ranges, from: NodeId, part: NodeId) -> Option<Token>
+fn next_token(nodes: &[Node], ranges: &Ranges, from: NodeId, part: NodeId) -> Option<FormulaPart>
     requires { length nodes.now ≤ length ranges.now.nests.about }
     ensures is { IfSome result (λ t. IsToken nodes.now from true part t) }
     ensures none { IfNone result ((t : Part) → IsToken nodes.now from true part t → ⊥) }
@@ -89,7 +89,7 @@ fn next_token(nodes: &[Node], ranges: &Ranges, from: NodeId, part: NodeId) -> Op
     match next_sign(nodes, from, part) {
         Some(sign) => {
             let priority = ranges.priority(sign.id, sign.name);
-            Some(Token::Dyad(sign, priority))
+            Some(FormulaPart::Dyad(sign, priority))
         }
         None => None,
     }
@@ -102,7 +102,7 @@ fn token_at(
     from: NodeId,
     after_operand: bool,
     part: NodeId,
-) -> Option<Token>
+) -> Option<FormulaPart>
     requires { length nodes.now ≤ length ranges.now.nests.about }
     ensures is { IfSome result (λ t. IsToken nodes.now from after_operand part t) }
     ensures none { IfNone result ((t : Part) → IsToken nodes.now from after_operand part t → ⊥) }
@@ -115,19 +115,19 @@ fn token_at(
     }
 }
 
-fn is_operand(token: Token) -> bool
+fn is_operand(token: FormulaPart) -> bool
     ensures { result ≡ formulas.is_operand token }
 {
-    matches!(token, Token::Operand(_))
+    matches!(token, FormulaPart::Operand(_))
 }
 
-fn signs_of(token: Token) -> u32
+fn signs_of(token: FormulaPart) -> u32
     ensures { result ≡ formulas.signs_of token }
 {
     match token {
-        Token::Operand(_) => 0,
-        Token::Monad(_) => 1,
-        Token::Dyad(_, _) => 1,
+        FormulaPart::Operand(_) => 0,
+        FormulaPart::Monad(_) => 1,
+        FormulaPart::Dyad(_, _) => 1,
     }
 }
 
@@ -138,7 +138,7 @@ pub fn tokens(
     ranges: &Ranges,
     parts: &[NodeId],
     formula: NodeId,
-) -> Result<Option<Vec<Token>>, NoMemory>
+) -> Result<Option<Vec<FormulaPart>>, NoMemory>
     requires there { formula < length nodes.now }
     requires few { length nodes.now < 2 ^ 32 }
     requires ranges { length nodes.now ≤ length ranges.now.nests.about }

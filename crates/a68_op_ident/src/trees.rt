@@ -20,7 +20,7 @@ use std::alloc::Global;
 
 /// The node with which shaping goes on, and the first place of a sign without a priority that was met.
 #[derive(Clone, Copy)]
-pub struct Step {
+pub struct ShapingStep {
     pub next: NodeId,
     pub late: Option<u32>,
 }
@@ -37,7 +37,7 @@ fn shape_at(
     nodes: &mut Vec<Node>,
     ranges: &Ranges,
     id: NodeId,
-) -> Result<Step, NoMemory>
+) -> Result<ShapingStep, NoMemory>
     requires there { id < vec_len nodes.old }
     requires ordered { IsOrdered nodes.old.items }
     requires ranges { vec_len nodes.old ≤ length ranges.now.nests.about }
@@ -45,7 +45,7 @@ fn shape_at(
     ensures late { IfOk result (λ step. (flat : Built) → AreRanges flat ranges.now → Going flat nodes.old.items id → IsLeast (IsLatePlace flat id step.next) step.late) }
     ensures onward { IfOk result (λ step. (id < step.next) × (step.next ≤ vec_len nodes.new) × (vec_len nodes.new ≡ vec_len nodes.old)) }
 {
-    let on = Step {
+    let on = ShapingStep {
         next: id + 1,
         late: None,
     };
@@ -57,13 +57,13 @@ fn shape_at(
         return Ok(on);
     };
     match first_late(&tokens) {
-        Some(place) => Ok(Step {
+        Some(place) => Ok(ShapingStep {
             next: id + 1,
             late: Some(place),
         }),
         None => {
             let placed = place(alloc, nodes, &tokens, id)?;
-            Ok(Step {
+            Ok(ShapingStep {
                 next: placed.next + 1,
                 late: None,
             })

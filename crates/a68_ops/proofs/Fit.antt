@@ -15,7 +15,7 @@ use Rattle.a68_ops.specs.Bits.{shifted, element}
 use Rattle.a68_ops.specs.Fitting.{has_mode, is_silent, IsOf, IsFitting}
 use Rattle.a68_ops.specs.Integers.{abs_of, modulo, divided, raised, sign_of, char_of, bits_of}
 use Rattle.a68_ops.specs.Operators.{dyadic_of}
-use Rattle.a68_signs.specs.Signs.{op, Entry, candidates, entry_of, dyadic_entries, monadic_entries}
+use Rattle.a68_signs.specs.Signs.{op, SignGroup, candidates, entry_of, dyadic_entries, monadic_entries}
 use Rattle.a68_ops.specs.Texts.{are_chars, codes_in, text_of, on_texts, text_times, repeated, times}
 use Rattle.a68_ops.specs.Yields.{yield_of, is_unset, some_unset, is_int, int, text, text_row, char_values, most_parts}
 use Rattle.a68_ops.specs.declared.operator.Dyadic.{Dyadic}
@@ -237,7 +237,7 @@ later row left right res e s v w hv hw = absurd (false≢true (sym e ∙ s))
 -- ---- the table
 
 -- the operators of each entry fit
-abbrev EachFits : List Entry → Type 0
+abbrev EachFits : List SignGroup → Type 0
 EachFits [] = Unit {0}
 EachFits (entry ∷ more) = ByRecursion IsFitting entry.operators × EachFits more
 
@@ -568,13 +568,13 @@ dyadic_fit = (fit_1, (fit_2, (fit_3, (fit_4, (fit_5, (fit_6, (fit_7, (fit_8, (fi
 monadic_fit : EachFits monadic_entries
 monadic_fit = (fit_26, (fit_27, (fit_28, (fit_29, (fit_30, (fit_31, (fit_32, (fit_33, (fit_34, (fit_35, (fit_36, (fit_37, (fit_38, tt)))))))))))))
 
-found_by : (here : Bool) (entry : Entry) (rest : Option Entry) → ByRecursion IsFitting entry.operators
+found_by : (here : Bool) (entry : SignGroup) (rest : Option SignGroup) → ByRecursion IsFitting entry.operators
     → All IsFitting (option_map_or (λ one. one.operators) rest []) → All IsFitting (option_map_or (λ one. one.operators) (cond here (Some entry) rest) [])
 found_by true entry rest fit others = All-from_recursion IsFitting entry.operators fit
 found_by false entry rest fit others = others
 
 -- an entry that is found is one of them
-found : (entries : List Entry) → EachFits entries → (sign : List ℕ) → All IsFitting (option_map_or (λ one. one.operators) (entry_of entries sign) [])
+found : (entries : List SignGroup) → EachFits entries → (sign : List ℕ) → All IsFitting (option_map_or (λ one. one.operators) (entry_of entries sign) [])
 found [] fit sign = All-from_recursion IsFitting [] tt
 found (entry ∷ more) fit sign = found_by (is_listed entry.signs sign) entry (entry_of more sign) fit.0 (found more fit.1 sign)
 

@@ -21,7 +21,7 @@ use Rattle.a68_tree.specs.declared.kind.NodeKind.TheVariants as kind
 use Rattle.a68_yields.specs.Found.{IsFound}
 use Rattle.a68_yields.specs.Yields.{Known}
 use Rattle.a68_yields.specs.declared.sought.Sought.TheVariants as sought
-use Rattle.a68_yields.specs.declared.sought.Want.TheVariants as want
+use Rattle.a68_yields.specs.declared.sought.Expectation.TheVariants as want
 use Rattle.a68_yields.specs.declared.yielding.Finding.{Finding}
 use Rattle.a68_yields.specs.declared.yielding.Finding.TheVariants as finding
 use Rattle.a68_yields.specs.declared.yielding.Yielding.{Yielding}

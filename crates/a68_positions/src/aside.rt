@@ -16,7 +16,7 @@ use a68_identify::Identified;
 use a68_mode_table::ModeTable;
 use a68_modes::{ModeId, Modes, Shape, Sort};
 use a68_tree::{NodeId, NodeKind, Tree};
-use a68_yields::{Finding, Want, Yielding, part_found};
+use a68_yields::{Expectation, Finding, Yielding, part_found};
 use std::alloc::Global;
 
 /// Nothing; a mode without its FLEX; a row; or the row, or name of one, to which the units of that part are balanced.
@@ -129,7 +129,7 @@ pub fn set_aside(
         Aside::WithoutFlex(mode) => Ok(modes.without_flex(mode)),
         Aside::Row { dims, flex, of } => modes.row_of(alloc, dims, flex, of),
         Aside::AnyRow(part) => {
-            let row = Want::ModeForm(ModeForm::Row);
+            let row = Expectation::ModeForm(ModeForm::Row);
             let found = part_found(alloc, tree, modes, of, yields, part, Sort::Weak, row, part)?;
             Ok(mode_or_void(found))
         }

@@ -24,7 +24,7 @@ use std::process::Abort;
 
 /// A mode: a standard one by its number; or what it is made of, the modes within it by their numbers.
 #[derive(Clone, Copy)]
-pub enum Mode {
+pub enum Named {
     Is(ModeId),
     /// The dimensions of a row, whether it is FLEX, and its element.
     Row(u32, bool, ModeId),
@@ -38,13 +38,13 @@ pub enum Mode {
 
 /// What is asked of a node; of a goal the kind of the node that sets it.
 #[derive(Clone, Copy)]
-pub enum Asked {
+pub enum Question {
     Nowhere,
     Unlooked,
     Called,
     Items,
-    Goal(Mode, Option<NodeKind>),
-    Asks(Sort, Option<Mode>),
+    Goal(Named, Option<NodeKind>),
+    Asks(Sort, Option<Named>),
 }
 
 fn tree_of(rt: &impl Abort, alloc: Global, text: &str) -> Tree {
@@ -174,25 +174,30 @@ fn referred(rt: &impl Abort, modes: &ModeTable, mode: ModeId) -> ModeId
     of
 }
 
-fn is_mode(rt: &impl Abort, modes: &ModeTable, mode: ModeId, told: Mode) -> bool {
+fn is_mode(rt: &impl Abort, modes: &ModeTable, mode: ModeId, told: Named) -> bool {
     let of = referred(rt, modes, mode);
     match told {
-        Mode::Is(other) => mode == other,
-        Mode::Row(dims, flex, element) => {
+        Named::Is(other) => mode == other,
+        Named::Row(dims, flex, element) => {
             mode == of && is_row(modes.shape(of), (dims, flex, element))
         }
-        Mode::NameOfRow(dims, flex, element) => {
+        Named::NameOfRow(dims, flex, element) => {
             mode != of && is_row(modes.shape(of), (dims, flex, element))
         }
-        Mode::NameOfStructure(count) => mode != of && is_structure(modes.shape(of), count),
-        Mode::Union(count) => mode == of && is_union(modes.shape(of), count),
-        Mode::Proc(params, result_mode) => {
+        Named::NameOfStructure(count) => mode != of && is_structure(modes.shape(of), count),
+        Named::Union(count) => mode == of && is_union(modes.shape(of), count),
+        Named::Proc(params, result_mode) => {
             mode == of && is_procedure(modes.shape(of), params, result_mode)
         }
     }
 }
 
-fn is_found(rt: &impl Abort, modes: &ModeTable, found: Option<ModeId>, told: Option<Mode>) -> bool {
+fn is_found(
+    rt: &impl Abort,
+    modes: &ModeTable,
+    found: Option<ModeId>,
+    told: Option<Named>,
+) -> bool {
     match told {
         None => found.is_none(),
         Some(told) => match found {
@@ -217,27 +222,28 @@ fn is_asked(
     tree: &Tree,
     modes: &ModeTable,
     position: Position,
-    told: Asked,
+    told: Question,
 ) -> bool {
     match position {
-        Position::Nowhere => matches!(told, Asked::Nowhere),
-        Position::Unlooked => matches!(told, Asked::Unlooked),
-        Position::Called => matches!(told, Asked::Called),
-        Position::Items(_) => matches!(told, Asked::Items),
+        Position::Nowhere => matches!(told, Question::Nowhere),
+        Position::Unlooked => matches!(told, Question::Unlooked),
+        Position::Called => matches!(told, Question::Called),
+        Position::Items(_) => matches!(told, Question::Items),
         Position::Goal(mode, setter) => match told {
-            Asked::Goal(goal, kind) => {
+            Question::Goal(goal, kind) => {
                 is_mode(rt, modes, mode, goal) && is_set_by(tree, setter, kind)
             }
             _ => false,
         },
         Position::Asks(sort, found) => match told {
-            Asked::Asks(told_sort, mode) => sort == told_sort && is_found(rt, modes, found, mode),
+            Question::Asks(told_sort, mode) => sort == told_sort
+                && is_found(rt, modes, found, mode),
             _ => false,
         },
     }
 }
 
-fn row_is_asked(rt: &impl Abort, alloc: Global, row: &(&str, NodeKind, u32, Asked)) {
+fn row_is_asked(rt: &impl Abort, alloc: Global, row: &(&str, NodeKind, u32, Question)) {
     let tree = shaped(rt, alloc, row.0);
     let node = node_at(rt, &tree, row.1, row.2, row.0);
     let (modes, asked) = asked_of_all(rt, alloc, &tree, row.0);
@@ -249,7 +255,7 @@ fn row_is_asked(rt: &impl Abort, alloc: Global, row: &(&str, NodeKind, u32, Aske
 }
 
 /// All rows of a table hold.
-pub fn all_are_asked(rt: &impl Abort, alloc: Global, rows: &[(&str, NodeKind, u32, Asked)]) {
+pub fn all_are_asked(rt: &impl Abort, alloc: Global, rows: &[(&str, NodeKind, u32, Question)]) {
     for row in rows {
         row_is_asked(rt, alloc, row);
     }

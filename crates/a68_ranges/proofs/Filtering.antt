@@ -6,7 +6,7 @@ use Rattle.a68_ranges.proofs.Taking.{take_next}
 use Rattle.a68_ranges.specs.Nodes.{kind_at}
 use Rattle.a68_ranges.specs.Definitions.{defines}
 use Rattle.a68_ranges.specs.Tables.{operators_among, is_sort}
-use Rattle.a68_ranges.specs.declared.sort.Sort.TheVariants as sorts
+use Rattle.a68_ranges.specs.declared.sort.IndicatorKind.TheVariants as sorts
 use Rattle.a68_tree.specs.Trees.{Built}
 
 operators_append : (tree : Built) (xs ys : List ℕ) → operators_among tree (xs ++ ys) ≡ operators_among tree xs ++ operators_among tree ys

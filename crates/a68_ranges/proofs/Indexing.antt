@@ -8,7 +8,7 @@ use Rattle.a68_ranges.specs.Nodes.{kind_at, name_at, place_at}
 use Rattle.a68_ranges.specs.Definitions.{defines, declared_in, declared_by}
 use Rattle.a68_ranges.specs.Indexed.{IsNoted, IsOneNoted, IsLateAt, IsLateIn, IsLateBefore, IsLeast, AreIndexed, earlier_of}
 use Rattle.a68_ranges.specs.Tables.{at_key, first_named, has_name, is_sort, AreFirst}
-use Rattle.a68_ranges.specs.declared.sort.Sort.{Sort}
+use Rattle.a68_ranges.specs.declared.sort.IndicatorKind.{IndicatorKind}
 use Rattle.a68_tree.specs.Trees.{Built}
 use Rattle.a68_tree.specs.declared.kind.NodeKind.TheVariants as kind
 use Rattle.a68_tree.specs.declared.node.Node.{Node}
@@ -16,7 +16,7 @@ use Rattle.std.specs.Option.{option_map_or}
 
 -- ---- the first one of a name
 
-module _ (tree : Built) (sort : Sort) where
+module _ (tree : Built) (sort : IndicatorKind) where
   choice : (b : Bool) (d : ℕ) (o p : Option ℕ) → o ≡ p → (if b then Some d else o) ≡ (if b then Some d else p)
   choice b d o p e = ap (λ x. if b then Some d else x) e
 
@@ -73,12 +73,12 @@ least_one tree P Q R (Some x) (Some y) both p q a b = go (nat_le (place_at tree 
 
 -- ---- one node more of a range
 
-pub record Noted (tree : Built) (sort : Sort) (range : ℕ) (list : List ℕ) (i : ℕ) (old new : List ((ℕ × ℕ) × ℕ)) (late : Option ℕ) : Type 0 where
+pub record Noted (tree : Built) (sort : IndicatorKind) (range : ℕ) (list : List ℕ) (i : ℕ) (old new : List ((ℕ × ℕ) × ℕ)) (late : Option ℕ) : Type 0 where
   pub named : (name : ℕ) → at_key new range name ≡ first_named tree sort name (take (i + 1) list)
   pub others : (r name : ℕ) → (r ≡ range → ⊥) → at_key new r name ≡ at_key old r name
   pub least : IsLeast tree (IsLateAt tree sort list i) late
 
-module _ (tree : Built) (sort : Sort) (range : ℕ) (list : List ℕ) (i d : ℕ) (old new : List ((ℕ × ℕ) × ℕ)) (is : slice_get list i ≡ Some d)
+module _ (tree : Built) (sort : IndicatorKind) (range : ℕ) (list : List ℕ) (i d : ℕ) (old new : List ((ℕ × ℕ) × ℕ)) (is : slice_get list i ≡ Some d)
     (before : (name : ℕ) → at_key old range name ≡ first_named tree sort name (take i list)) where
   next : (name : ℕ) → first_named tree sort name (take (i + 1) list) ≡ first_named tree sort name (take i list ++ d ∷ [])
   next name = ap (first_named tree sort name) (take_next list i d is)
@@ -137,7 +137,7 @@ module _ (tree : Built) (sort : Sort) (range : ℕ) (list : List ℕ) (i d : ℕ
       go true e (Some x) one = subst (λ y. Noted tree sort range list i old new (Some y)) (sym one.0) (again e one.1)
 
 -- what is late before one place more
-pub late_more : (tree : Built) (sort : Sort) (list : List ℕ) (i : ℕ) (one other : Option ℕ) → IsLeast tree (IsLateIn tree sort list i) one → IsLeast tree (IsLateAt tree sort list i) other
+pub late_more : (tree : Built) (sort : IndicatorKind) (list : List ℕ) (i : ℕ) (one other : Option ℕ) → IsLeast tree (IsLateIn tree sort list i) one → IsLeast tree (IsLateAt tree sort list i) other
     → IsLeast tree (IsLateIn tree sort list (i + 1)) (earlier_of tree one other)
 late_more tree sort list i one other a b =
     least_one tree (IsLateIn tree sort list i) (IsLateAt tree sort list i) (IsLateIn tree sort list (i + 1)) one other
@@ -146,7 +146,7 @@ late_more tree sort list i one other a b =
     (λ x l. (i, omega arith, l)) a b
 
 -- one range more
-pub indexed_more : (tree : Built) (sort : Sort) (count : ℕ) (old new : List ((ℕ × ℕ) × ℕ)) → AreIndexed tree sort old count
+pub indexed_more : (tree : Built) (sort : IndicatorKind) (count : ℕ) (old new : List ((ℕ × ℕ) × ℕ)) → AreIndexed tree sort old count
     → ((name : ℕ) → at_key new count name ≡ first_named tree sort name (declared_in tree count)) → ((r name : ℕ) → (r ≡ count → ⊥) → at_key new r name ≡ at_key old r name)
     → AreIndexed tree sort new (count + 1)
 indexed_more tree sort count old new before named others = (
@@ -155,7 +155,7 @@ indexed_more tree sort count old new before named others = (
   λ r name h. others r name (λ e. absurd (omega arith)) ∙ before.1 r name (omega arith),
 )
 
-pub late_ranges : (tree : Built) (sort : Sort) (count : ℕ) (one other : Option ℕ) → IsLeast tree (IsLateBefore tree sort count) one
+pub late_ranges : (tree : Built) (sort : IndicatorKind) (count : ℕ) (one other : Option ℕ) → IsLeast tree (IsLateBefore tree sort count) one
     → IsLeast tree (IsLateIn tree sort (declared_in tree count) (length (declared_in tree count))) other → IsLeast tree (IsLateBefore tree sort (count + 1)) (earlier_of tree one other)
 late_ranges tree sort count one other a b =
     least_one tree (IsLateBefore tree sort count) (IsLateIn tree sort (declared_in tree count) (length (declared_in tree count))) (IsLateBefore tree sort (count + 1)) one other
@@ -172,7 +172,7 @@ declares_nothing tree range h =
     ap (λ (o : Option Node). declared_by tree (option_map_or (λ (n : Node). n.kind) o kind.Skip) (option_map_or (λ (n : Node). n.parts) o [])) e
 
 -- all ranges
-pub indexed_all : (tree : Built) (sort : Sort) (entries : List ((ℕ × ℕ) × ℕ)) → AreIndexed tree sort entries (length tree.nodes) → AreFirst tree sort entries
+pub indexed_all : (tree : Built) (sort : IndicatorKind) (entries : List ((ℕ × ℕ) × ℕ)) → AreIndexed tree sort entries (length tree.nodes) → AreFirst tree sort entries
 indexed_all tree sort entries all range name =
     ⊎_elim (λ h. all.0 range name h)
     (λ h. all.1 range name h ∙ ap (first_named tree sort name) (sym (declares_nothing tree range h)))

@@ -17,8 +17,8 @@ use Rattle.a68_signs.specs.Signs.{priority_of}
 use Rattle.a68_ranges.specs.Tables.{Nested, outermost, within, FindsOut, at_key, first_named, has_name, is_sort, same_sort, AreFirst, AreRanges, Tables, priority_or}
 use Rattle.a68_ranges.specs.Tables.{here as out_here, further as out_further, nothing}
 use Rattle.a68_ranges.specs.declared.nests.Layer.{Layer}
-use Rattle.a68_ranges.specs.declared.sort.Sort.{Sort}
-use Rattle.a68_ranges.specs.declared.sort.Sort.TheVariants as sorts
+use Rattle.a68_ranges.specs.declared.sort.IndicatorKind.{IndicatorKind}
+use Rattle.a68_ranges.specs.declared.sort.IndicatorKind.TheVariants as sorts
 use Rattle.a68_ranges.specs.declared.standard.Standard.{Standard}
 use Rattle.a68_tree.specs.Trees.{Built}
 use Rattle.a68_tree.specs.declared.node.Node.{Node}
@@ -45,7 +45,7 @@ lies_one {tree = tree} {p = p} {q = q} (part {n = n} j a u is) (part {n = m} k b
 
 -- ---- the first of a name
 
-same_is : (a b : Sort) → same_sort a b ≡ true → a ≡ b
+same_is : (a b : IndicatorKind) → same_sort a b ≡ true → a ≡ b
 unfolding same_sort
 same_is sorts.Tag sorts.Tag e = refl
 same_is sorts.ModeWord sorts.ModeWord e = refl
@@ -54,7 +54,7 @@ same_is sorts.Operator sorts.Operator e = refl
 same_is sorts.Field sorts.Field e = refl
 same_is _ _ e = absurd (false≢true e)
 
-pub same_refl : (a : Sort) → same_sort a a ≡ true
+pub same_refl : (a : IndicatorKind) → same_sort a a ≡ true
 unfolding same_sort
 same_refl sorts.Tag = refl
 same_refl sorts.ModeWord = refl
@@ -62,7 +62,7 @@ same_refl sorts.Priority = refl
 same_refl sorts.Operator = refl
 same_refl sorts.Field = refl
 
-sort_is : (sort : Sort) (o : Option Sort) → is_sort sort o ≡ true → o ≡ Some sort
+sort_is : (sort : IndicatorKind) (o : Option IndicatorKind) → is_sort sort o ≡ true → o ≡ Some sort
 sort_is sort None e = absurd (false≢true e)
 sort_is sort (Some other) e = ap (λ s. Some s) (same_is other sort e)
 
@@ -71,15 +71,15 @@ both_true true b e = (refl, e)
 both_true false b e = absurd (false≢true e)
 
 -- what has the name with that sort
-pub has : (tree : Built) (sort : Sort) (name id : ℕ) → has_name tree sort name id ≡ true → (defines (kind_at tree id) ≡ Some sort) × (name_at tree id ≡ name)
+pub has : (tree : Built) (sort : IndicatorKind) (name id : ℕ) → has_name tree sort name id ≡ true → (defines (kind_at tree id) ≡ Some sort) × (name_at tree id ≡ name)
 has tree sort name id e =
     let b = both_true (is_sort sort (defines (kind_at tree id))) (nat_eq (name_at tree id) name) e in
     (sort_is sort (defines (kind_at tree id)) b.0, eqb-true (name_at tree id) name b.1)
 
-pub has_so : (tree : Built) (sort : Sort) (name id : ℕ) → defines (kind_at tree id) ≡ Some sort → name_at tree id ≡ name → has_name tree sort name id ≡ true
+pub has_so : (tree : Built) (sort : IndicatorKind) (name id : ℕ) → defines (kind_at tree id) ≡ Some sort → name_at tree id ≡ name → has_name tree sort name id ≡ true
 has_so tree sort name id s n = rw (s, same_refl sort) (eq-eqb (name_at tree id) name n)
 
-pub named_among : (tree : Built) (sort : Sort) (name d : ℕ) (list : List ℕ) → first_named tree sort name list ≡ Some d → (k : ℕ) × (slice_get list k ≡ Some d) × (has_name tree sort name d ≡ true)
+pub named_among : (tree : Built) (sort : IndicatorKind) (name d : ℕ) (list : List ℕ) → first_named tree sort name list ≡ Some d → (k : ℕ) × (slice_get list k ≡ Some d) × (has_name tree sort name d ≡ true)
 named_among tree sort name d [] e = absurd (cc)
 named_among tree sort name d (x ∷ xs) e = go (has_name tree sort name x) refl e (λ h. named_among tree sort name d xs h)
   where
@@ -89,7 +89,7 @@ named_among tree sort name d (x ∷ xs) e = go (has_name tree sort name x) refl 
     go true h e rest = (0, e, subst (λ y. has_name tree sort name y ≡ true) (some_one e) h)
     go false h e rest = let r = rest e in (suc r.0, r.1, r.2)
 
-pub named_some : (tree : Built) (sort : Sort) (name d k : ℕ) (list : List ℕ) → slice_get list k ≡ Some d → has_name tree sort name d ≡ true → (e : ℕ) × (first_named tree sort name list ≡ Some e)
+pub named_some : (tree : Built) (sort : IndicatorKind) (name d k : ℕ) (list : List ℕ) → slice_get list k ≡ Some d → has_name tree sort name d ≡ true → (e : ℕ) × (first_named tree sort name list ≡ Some e)
 named_some tree sort name d k [] is h = absurd (cc)
 named_some tree sort name d zero (x ∷ xs) is h = (x, ap (λ b. if b then Some x else first_named tree sort name xs) (subst (λ y. has_name tree sort name y ≡ true) (sym (some_one is)) h))
 named_some tree sort name d (suc k) (x ∷ xs) is h = go (has_name tree sort name x) (named_some tree sort name d k xs is h)
@@ -100,14 +100,14 @@ named_some tree sort name d (suc k) (x ∷ xs) is h = go (has_name tree sort nam
 
 -- ---- the definition in the innermost range
 
-pub declares_some : (tree : Built) (sort : Sort) (name range d : ℕ) → first_named tree sort name (declared_in tree range) ≡ Some d → Declares tree range sort name d
+pub declares_some : (tree : Built) (sort : IndicatorKind) (name range d : ℕ) → first_named tree sort name (declared_in tree range) ≡ Some d → Declares tree range sort name d
 declares_some tree sort name range d e =
     let r = named_among tree sort name d (declared_in tree range) e in
     let h = has tree sort name d r.2 in
     let low = is_there (declared_in tree range) r.0 d r.1 in
     record { among = (r.0, low, some_one (sym (read (declared_in tree range) r.0 d low) ∙ r.1)); sort_is = h.0; name_is = h.1 }
 
-pub declares_none : (tree : Built) (sort : Sort) (name range d : ℕ) → first_named tree sort name (declared_in tree range) ≡ None → Declares tree range sort name d → ⊥
+pub declares_none : (tree : Built) (sort : IndicatorKind) (name range d : ℕ) → first_named tree sort name (declared_in tree range) ≡ None → Declares tree range sort name d → ⊥
 declares_none tree sort name range d e declares =
     let a = declares.among in
     let is : slice_get (declared_in tree range) a.0 ≡ Some d = read (declared_in tree range) a.0 d a.1 ∙ ap (λ x. Some x) a.2 in
@@ -116,14 +116,14 @@ declares_none tree sort name range d e declares =
     absurd (cc)
 
 -- what was found in these ranges
-abbrev pub Found : Built → Sort → (name : ℕ) → List ℕ → Option ℕ → Type 0
+abbrev pub Found : Built → IndicatorKind → (name : ℕ) → List ℕ → Option ℕ → Type 0
 Found tree sort name ranges None = (d : ℕ) → FirstDefinition tree sort name ranges d → ⊥
 Found tree sort name ranges (Some d) = FirstDefinition tree sort name ranges d
 
-none_here : {tree : Built} {sort : Sort} {name d : ℕ} → FirstDefinition tree sort name [] d → ⊥
+none_here : {tree : Built} {sort : IndicatorKind} {name d : ℕ} → FirstDefinition tree sort name [] d → ⊥
 none_here f = elim f [ ]
 
-further_none : (tree : Built) (sort : Sort) (name range : ℕ) (ranges : List ℕ) (found : Option ℕ) → ((d : ℕ) → Declares tree range sort name d → ⊥) → Found tree sort name ranges found → Found tree sort name (range ∷ ranges) found
+further_none : (tree : Built) (sort : IndicatorKind) (name range : ℕ) (ranges : List ℕ) (found : Option ℕ) → ((d : ℕ) → Declares tree range sort name d → ⊥) → Found tree sort name ranges found → Found tree sort name (range ∷ ranges) found
 further_none tree sort name range ranges None none f = λ d g. go g
   where
     go : {d : ℕ} → FirstDefinition tree sort name (range ∷ ranges) d → ⊥
@@ -131,7 +131,7 @@ further_none tree sort name range ranges None none f = λ d g. go g
     go {d = d} (further n more) = f d more
 further_none tree sort name range ranges (Some d) none f = further none f
 
-module _ (tree : Built) (sort : Sort) (name : ℕ) (layers : List Layer) (entries : List ((ℕ × ℕ) × ℕ)) (are : AreFirst tree sort entries) where
+module _ (tree : Built) (sort : IndicatorKind) (name : ℕ) (layers : List Layer) (entries : List ((ℕ × ℕ) × ℕ)) (are : AreFirst tree sort entries) where
   found_in : {nest found : Option ℕ} {ranges : List ℕ} (to : Option ℕ) → nest ≡ to → FindsOut layers entries name nest found → Nested layers to ranges → Found tree sort name ranges found
   found_in to e nothing outermost = λ d f. none_here f
   found_in to e (out_here {id = id} i layer is at) (within {ranges = ranges} j other it more) =
@@ -152,7 +152,7 @@ nothing_declared tree range d e among =
     let low : among.0 < 0 = subst (λ (ds : List ℕ). among.0 < length ds) (layerless tree range e).0 among.1 in
     absurd (omega arith)
 
-module _ (tree : Built) (sort : Sort) (name : ℕ) where
+module _ (tree : Built) (sort : IndicatorKind) (name : ℕ) where
   none_declared : (range : ℕ) → has_layer tree range ≡ false → (d : ℕ) → Declares tree range sort name d → ⊥
   none_declared range e d declares = nothing_declared tree range d e declares.among
 
@@ -190,11 +190,11 @@ module _ (tree : Built) (sort : Sort) (name : ℕ) where
   found_on ranges (Some d) f = first_on ranges d f
 
 -- what was found at a node
-abbrev pub FoundAt : Built → (at : ℕ) → Sort → (name : ℕ) → Option ℕ → Type 0
+abbrev pub FoundAt : Built → (at : ℕ) → IndicatorKind → (name : ℕ) → Option ℕ → Type 0
 FoundAt tree at sort name None = Undefined tree at sort name
 FoundAt tree at sort name (Some d) = IsDefinition tree at sort name d
 
-pub found_at : (tree : Built) (t : Tables) (at name : ℕ) (sort : Sort) (entries : List ((ℕ × ℕ) × ℕ)) (found : Option ℕ) → AreRanges tree t → at < length t.nests.about → AreFirst tree sort entries
+pub found_at : (tree : Built) (t : Tables) (at name : ℕ) (sort : IndicatorKind) (entries : List ((ℕ × ℕ) × ℕ)) (found : Option ℕ) → AreRanges tree t → at < length t.nests.about → AreFirst tree sort entries
     → FindsOut t.nests.layers entries name (slice_index_or t.nests.about at None) found → FoundAt tree at sort name found
 found_at tree t at name sort entries found are there first out =
     let nest : Option ℕ = slice_index_or t.nests.about at None in
@@ -261,14 +261,14 @@ mode_word_found tree t at name found are there out = go found (found_at tree t a
     go (Some d) f = f
 
 -- what a node defines is a node
-pub defines_there : (tree : Built) (d : ℕ) (sort : Sort) → defines (kind_at tree d) ≡ Some sort → d < length tree.nodes
+pub defines_there : (tree : Built) (d : ℕ) (sort : IndicatorKind) → defines (kind_at tree d) ≡ Some sort → d < length tree.nodes
 unfolding defines
 defines_there tree d sort e =
     ⊎_elim (λ h. h)
     (λ h. let f : None ≡ Some sort = sym (ap (λ (o : Option Node). defines (option_map_or (λ (n : Node). n.kind) o kind.Skip)) (past tree.nodes d h)) ∙ e in absurd (cc))
     (below_or d (length tree.nodes))
 
-first_there : {tree : Built} {sort : Sort} {name d : ℕ} {ranges : List ℕ} → FirstDefinition tree sort name ranges d → d < length tree.nodes
+first_there : {tree : Built} {sort : IndicatorKind} {name d : ℕ} {ranges : List ℕ} → FirstDefinition tree sort name ranges d → d < length tree.nodes
 first_there {tree = tree} {sort = sort} {d = d} (here s) = defines_there tree d sort s.sort_is
 first_there (further n more) = first_there more
 

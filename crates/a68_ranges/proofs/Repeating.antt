@@ -7,8 +7,8 @@ use Rattle.a68_ranges.specs.Nodes.{name_at}
 use Rattle.a68_ranges.specs.Definitions.{declared_in}
 use Rattle.a68_ranges.specs.Indexed.{IsLateBefore, IsLeast, earlier_of}
 use Rattle.a68_ranges.specs.Twice.{IsTwice, IsSingle, single_tag, single_mode_word, single_priority, single_field, IsFirstInText}
-use Rattle.a68_ranges.specs.declared.sort.Sort.{Sort}
-use Rattle.a68_ranges.specs.declared.sort.Sort.TheVariants as sorts
+use Rattle.a68_ranges.specs.declared.sort.IndicatorKind.{IndicatorKind}
+use Rattle.a68_ranges.specs.declared.sort.IndicatorKind.TheVariants as sorts
 use Rattle.a68_tree.specs.Trees.{Built}
 
 get_take : {X : Type 0} (xs : List X) (n i : ℕ) (x : X) → slice_get (take n xs) i ≡ Some x → (i < n) × (slice_get xs i ≡ Some x)
@@ -25,7 +25,7 @@ take_get (y ∷ ys) (suc n) zero x h e = e
 take_get (y ∷ ys) (suc n) (suc i) x h e = take_get ys n i x (omega arith) e
 
 -- late in a range is twice
-late_twice : (tree : Built) (sort : Sort) (id : ℕ) → IsSingle sort → IsLateBefore tree sort (length tree.nodes) id → IsTwice tree id
+late_twice : (tree : Built) (sort : IndicatorKind) (id : ℕ) → IsSingle sort → IsLateBefore tree sort (length tree.nodes) id → IsTwice tree id
 late_twice tree sort id single late =
     let list = declared_in tree late.0 in
     let l = late.2.2 in
@@ -55,7 +55,7 @@ twice_late tree id t =
     let some = named_some tree t.sort (name_at tree id) t.earlier t.i (take t.j list) (take_get list t.j t.i t.earlier t.before t.earlier_is) (has_so tree t.sort (name_at tree id) t.earlier t.earlier_sort t.same) in
     (t.range, t.there, (t.j, is_there list t.j id t.later_is, record { is = t.later_is; names = has_so tree t.sort (name_at tree id) id t.later_sort refl; earlier = some.0; before = some.1 }))
 
-by_sort : (tree : Built) (id : ℕ) (sort : Sort) → IsSingle sort → IsLateBefore tree sort (length tree.nodes) id
+by_sort : (tree : Built) (id : ℕ) (sort : IndicatorKind) → IsSingle sort → IsLateBefore tree sort (length tree.nodes) id
     → (IsLateBefore tree sorts.Tag (length tree.nodes) id ⊎ IsLateBefore tree sorts.ModeWord (length tree.nodes) id)
     ⊎ (IsLateBefore tree sorts.Priority (length tree.nodes) id ⊎ IsLateBefore tree sorts.Field (length tree.nodes) id)
 by_sort tree id sort single_tag l = inl (inl l)

@@ -7,8 +7,8 @@ use Rattle.a68_ranges.proofs.Looking.{lies_one}
 use Rattle.a68_ranges.specs.Definitions.{declared_in, declared_by, Declares, FirstDefinition, here, further, IsDefinition}
 use Rattle.a68_ranges.specs.Standard.{IsPriorityOf, written_priority}
 use Rattle.a68_ranges.specs.Twice.{IsTwice, IsSingle, single_priority}
-use Rattle.a68_ranges.specs.declared.sort.Sort.{Sort}
-use Rattle.a68_ranges.specs.declared.sort.Sort.TheVariants as sorts
+use Rattle.a68_ranges.specs.declared.sort.IndicatorKind.{IndicatorKind}
+use Rattle.a68_ranges.specs.declared.sort.IndicatorKind.TheVariants as sorts
 use Rattle.a68_tree.specs.Trees.{Built}
 use Rattle.a68_tree.specs.declared.kind.NodeKind.TheVariants as kind
 use Rattle.a68_tree.specs.declared.node.Node.{Node}
@@ -34,7 +34,7 @@ three zero (suc j) = inl (omega arith)
 three (suc i) zero = inr (inr (omega arith))
 three (suc i) (suc j) = ⊎_elim (λ h. inl (omega arith)) (λ r. ⊎_elim (λ e. inr (inl (ap suc e))) (λ h. inr (inr (omega arith))) r) (three i j)
 
-module _ (tree : Built) (sort : Sort) (name : ℕ) (single : IsSingle sort) (once : (id : ℕ) → IsTwice tree id → ⊥) where
+module _ (tree : Built) (sort : IndicatorKind) (name : ℕ) (single : IsSingle sort) (once : (id : ℕ) → IsTwice tree id → ⊥) where
   never : (range i j d e : ℕ) → i < j → slice_get (declared_in tree range) i ≡ Some d → slice_get (declared_in tree range) j ≡ Some e
       → Declares tree range sort name d → Declares tree range sort name e → ⊥
   never range i j d e lt first second a b = once e record {

@@ -3,14 +3,14 @@ use Rattle.std.specs.Prelude.{◌≡◌, ◌<◌, ℕ, Bool, true, false, List, 
 use Rattle.std.specs.List.{Contains}
 use Rattle.a68_ranges.specs.Nodes.{parts_at, kind_at, name_at}
 use Rattle.a68_ranges.specs.Surroundings.{Lies}
-use Rattle.a68_ranges.specs.declared.sort.Sort.{Sort}
-use Rattle.a68_ranges.specs.declared.sort.Sort.TheVariants as sorts
+use Rattle.a68_ranges.specs.declared.sort.IndicatorKind.{IndicatorKind}
+use Rattle.a68_ranges.specs.declared.sort.IndicatorKind.TheVariants as sorts
 use Rattle.a68_tree.specs.Trees.{Built}
 use Rattle.a68_tree.specs.declared.kind.NodeKind.{NodeKind}
 use Rattle.a68_tree.specs.declared.kind.NodeKind.TheVariants as kind
 
 -- what a node of that kind defines
-unfoldable pub defines : NodeKind → Option Sort
+unfoldable pub defines : NodeKind → Option IndicatorKind
 defines kind.Variable = Some sorts.Tag
 defines kind.IdentityDefinition = Some sorts.Tag
 defines kind.Parameter = Some sorts.Tag
@@ -22,7 +22,7 @@ defines kind.Field = Some sorts.Field
 defines _ = None
 
 -- the node, where it defines something
-abbrev pub if_defines : (id : ℕ) → Option Sort → List ℕ
+abbrev pub if_defines : (id : ℕ) → Option IndicatorKind → List ℕ
 if_defines id (Some sort) = id ∷ []
 if_defines id None = []
 
@@ -63,22 +63,22 @@ pub record AreDeclared (tree : Built) (count : ℕ) (declared : List (List ℕ))
   pub each : (range : ℕ) → range < count → slice_get declared range ≡ Some (declared_in tree range)
 
 -- the range declares the word, by that definition
-pub record Declares (tree : Built) (range : ℕ) (sort : Sort) (name definition : ℕ) : Type 0 where
+pub record Declares (tree : Built) (range : ℕ) (sort : IndicatorKind) (name definition : ℕ) : Type 0 where
   pub among : Contains (declared_in tree range) definition
   pub sort_is : defines (kind_at tree definition) ≡ Some sort
   pub name_is : name_at tree definition ≡ name
 
 -- the definition in the innermost of these ranges that has one
-pub data FirstDefinition (tree : Built) (sort : Sort) (name : ℕ) : List ℕ → ℕ → Type 0 where
+pub data FirstDefinition (tree : Built) (sort : IndicatorKind) (name : ℕ) : List ℕ → ℕ → Type 0 where
   here : {range definition : ℕ} {more : List ℕ} → Declares tree range sort name definition → FirstDefinition tree sort name (range ∷ more) definition
   further : {range definition : ℕ} {more : List ℕ} → ((d : ℕ) → Declares tree range sort name d → ⊥) → FirstDefinition tree sort name more definition → FirstDefinition tree sort name (range ∷ more) definition
 
 -- the definition of a word that is applied at a node, in a surrounding range
-pub record IsDefinition (tree : Built) (at : ℕ) (sort : Sort) (name definition : ℕ) : Type 0 where
+pub record IsDefinition (tree : Built) (at : ℕ) (sort : IndicatorKind) (name definition : ℕ) : Type 0 where
   pub ranges : List ℕ
   pub lies : Lies tree at ranges
   pub first : FirstDefinition tree sort name ranges definition
 
 -- no surrounding range has one
-abbrev pub Undefined : Built → (at : ℕ) → Sort → (name : ℕ) → Type 0
+abbrev pub Undefined : Built → (at : ℕ) → IndicatorKind → (name : ℕ) → Type 0
 Undefined tree at sort name = (definition : ℕ) → IsDefinition tree at sort name definition → ⊥

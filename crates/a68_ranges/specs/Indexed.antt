@@ -3,7 +3,7 @@ use Rattle.std.specs.Prelude.{◌≡◌, ◌<◌, ◌≤◌, ℕ, Bool, true, fa
 use Rattle.a68_ranges.specs.Nodes.{name_at, place_at}
 use Rattle.a68_ranges.specs.Definitions.{declared_in}
 use Rattle.a68_ranges.specs.Tables.{at_key, first_named, has_name}
-use Rattle.a68_ranges.specs.declared.sort.Sort.{Sort}
+use Rattle.a68_ranges.specs.declared.sort.IndicatorKind.{IndicatorKind}
 use Rattle.a68_tree.specs.Trees.{Built}
 
 -- the name is noted in the range for this node; or it is late, since another one has it
@@ -20,18 +20,18 @@ IsOneNoted tree old new range id true None = IsNoted old new range (name_at tree
 IsOneNoted tree old new range id true (Some other) = (other ≡ id) × IsNoted old new range (name_at tree id) id true
 
 -- the node at a place of the list defines a name that an earlier one there defines with that sort
-pub record IsLateAt (tree : Built) (sort : Sort) (list : List ℕ) (place id : ℕ) : Type 0 where
+pub record IsLateAt (tree : Built) (sort : IndicatorKind) (list : List ℕ) (place id : ℕ) : Type 0 where
   pub is : slice_get list place ≡ Some id
   pub names : has_name tree sort (name_at tree id) id ≡ true
   pub earlier : ℕ
   pub before : first_named tree sort (name_at tree id) (take place list) ≡ Some earlier
 
 -- at a place before the end
-abbrev pub IsLateIn : Built → Sort → List ℕ → (end : ℕ) → (id : ℕ) → Type 0
+abbrev pub IsLateIn : Built → IndicatorKind → List ℕ → (end : ℕ) → (id : ℕ) → Type 0
 IsLateIn tree sort list end id = (place : ℕ) × (place < end) × IsLateAt tree sort list place id
 
 -- what is declared too late in a range before that one
-abbrev pub IsLateBefore : Built → Sort → (count : ℕ) → (id : ℕ) → Type 0
+abbrev pub IsLateBefore : Built → IndicatorKind → (count : ℕ) → (id : ℕ) → Type 0
 IsLateBefore tree sort count id = (range : ℕ) × (range < count) × IsLateIn tree sort (declared_in tree range) (length (declared_in tree range)) id
 
 -- the one that stands first in the text, if any
@@ -46,7 +46,7 @@ earlier_of tree (Some id) None = Some id
 earlier_of tree (Some id) (Some other) = if nat_le (place_at tree id) (place_at tree other) then Some id else Some other
 
 -- the index has the first definitions of the ranges before one, and no others
-abbrev pub AreIndexed : Built → Sort → List ((ℕ × ℕ) × ℕ) → (count : ℕ) → Type 0
+abbrev pub AreIndexed : Built → IndicatorKind → List ((ℕ × ℕ) × ℕ) → (count : ℕ) → Type 0
 AreIndexed tree sort entries count =
     ((range name : ℕ) → range < count → at_key entries range name ≡ first_named tree sort name (declared_in tree range))
     × ((range name : ℕ) → count ≤ range → at_key entries range name ≡ None)

@@ -4,7 +4,7 @@ use Rattle.std.specs.Option.{option_and_then, option_map_or}
 use Rattle.a68_base.specs.Tables.{find}
 use Rattle.a68_ranges.specs.Nodes.{parts_at, spelling_at}
 use Rattle.a68_ranges.specs.Definitions.{IsDefinition, Undefined}
-use Rattle.a68_ranges.specs.declared.sort.Sort.TheVariants as sorts
+use Rattle.a68_ranges.specs.declared.sort.IndicatorKind.TheVariants as sorts
 use Rattle.a68_ranges.specs.declared.standard.Standard.{Standard}
 use Rattle.a68_signs.specs.Signs.{priority_of}
 use Rattle.a68_tree.specs.Trees.{Built}

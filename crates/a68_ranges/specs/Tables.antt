@@ -8,8 +8,8 @@ use Rattle.a68_ranges.specs.Standard.{standard_of, AreWritten}
 use Rattle.a68_ranges.specs.declared.nests.Layer.{Layer}
 use Rattle.a68_ranges.specs.declared.nests.Parent.{Parent}
 use Rattle.a68_ranges.specs.Links.{AreLinked, AreEntered, layered}
-use Rattle.a68_ranges.specs.declared.sort.Sort.{Sort}
-use Rattle.a68_ranges.specs.declared.sort.Sort.TheVariants as sorts
+use Rattle.a68_ranges.specs.declared.sort.IndicatorKind.{IndicatorKind}
+use Rattle.a68_ranges.specs.declared.sort.IndicatorKind.TheVariants as sorts
 use Rattle.a68_ranges.specs.declared.standard.Standard.{Standard}
 use Rattle.a68_tree.specs.Trees.{Built}
 
@@ -46,7 +46,7 @@ pub record AreNestsBefore (tree : Built) (count : ℕ) (about : List (Option ℕ
   pub tells : (at : ℕ) (nest : Option ℕ) → slice_get about at ≡ Some nest → TellsAbout tree layers at nest
 
 -- whether two sorts are one
-unfoldable pub same_sort : Sort → Sort → Bool
+unfoldable pub same_sort : IndicatorKind → IndicatorKind → Bool
 same_sort sorts.Tag sorts.Tag = true
 same_sort sorts.ModeWord sorts.ModeWord = true
 same_sort sorts.Priority sorts.Priority = true
@@ -54,16 +54,16 @@ same_sort sorts.Operator sorts.Operator = true
 same_sort sorts.Field sorts.Field = true
 same_sort _ _ = false
 
-abbrev pub is_sort : Sort → Option Sort → Bool
+abbrev pub is_sort : IndicatorKind → Option IndicatorKind → Bool
 is_sort sort None = false
 is_sort sort (Some other) = same_sort other sort
 
 -- whether a node defines that name with that sort
-abbrev pub has_name : Built → Sort → (name id : ℕ) → Bool
+abbrev pub has_name : Built → IndicatorKind → (name id : ℕ) → Bool
 has_name tree sort name id = is_sort sort (defines (kind_at tree id)) && nat_eq (name_at tree id) name
 
 -- the first of these nodes that does
-abbrev pub first_named : Built → Sort → (name : ℕ) → List ℕ → Option ℕ
+abbrev pub first_named : Built → IndicatorKind → (name : ℕ) → List ℕ → Option ℕ
 first_named tree sort name [] = None
 first_named tree sort name (d ∷ ds) = if has_name tree sort name d then Some d else first_named tree sort name ds
 
@@ -98,7 +98,7 @@ priority_or (Some id) written standard = slice_get written id
 priority_or None written standard = standard
 
 -- the first definition of each name in each range
-abbrev pub AreFirst : Built → Sort → List ((ℕ × ℕ) × ℕ) → Type 0
+abbrev pub AreFirst : Built → IndicatorKind → List ((ℕ × ℕ) × ℕ) → Type 0
 AreFirst tree sort entries = (range name : ℕ) → at_key entries range name ≡ first_named tree sort name (declared_in tree range)
 
 -- all tables of the ranges of a tree

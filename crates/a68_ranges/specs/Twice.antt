@@ -6,12 +6,12 @@ use Rattle.a68_base.specs.declared.refusal.Stop.{Stop}
 use Rattle.a68_base.specs.declared.refusal.Stop.TheVariants.{Refused, NoMemory}
 use Rattle.a68_ranges.specs.Nodes.{kind_at, name_at, place_at}
 use Rattle.a68_ranges.specs.Definitions.{declared_in, defines}
-use Rattle.a68_ranges.specs.declared.sort.Sort.{Sort}
-use Rattle.a68_ranges.specs.declared.sort.Sort.TheVariants as sorts
+use Rattle.a68_ranges.specs.declared.sort.IndicatorKind.{IndicatorKind}
+use Rattle.a68_ranges.specs.declared.sort.IndicatorKind.TheVariants as sorts
 use Rattle.a68_tree.specs.Trees.{Built}
 
 -- a tag, a mode word, a priority or a field tag; operators may have many definitions
-pub data IsSingle : Sort → Type 0 where
+pub data IsSingle : IndicatorKind → Type 0 where
   single_tag : IsSingle sorts.Tag
   single_mode_word : IsSingle sorts.ModeWord
   single_priority : IsSingle sorts.Priority
@@ -23,7 +23,7 @@ pub record IsTwice (tree : Built) (later : ℕ) : Type 0 where
   pub i : ℕ
   pub j : ℕ
   pub earlier : ℕ
-  pub sort : Sort
+  pub sort : IndicatorKind
   pub there : range < length tree.nodes
   pub before : i < j
   pub earlier_is : slice_get (declared_in tree range) i ≡ Some earlier

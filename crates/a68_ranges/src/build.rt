@@ -6,14 +6,14 @@ ghost use Rattle.a68_ranges.specs.Indexed.{IsLeast};
 ghost use Rattle.a68_ranges.specs.Nodes as nodes;
 ghost use Rattle.a68_ranges.specs.Tables.{AreFirst, AreRanges};
 ghost use Rattle.a68_ranges.specs.Twice.{IsTwice, IsFirstInText, IsRefused, StopsBy};
-ghost use Rattle.a68_ranges.specs.declared.sort.Sort.TheVariants as sorts;
+ghost use Rattle.a68_ranges.specs.declared.sort.IndicatorKind.TheVariants as sorts;
 
 use crate::declared::declared_of;
 use crate::index::{Index, index_of};
 use crate::nests::nests_of;
 use crate::operators::operators_of;
 use crate::reading::{earlier, place_of};
-use crate::sort::Sort;
+use crate::sort::IndicatorKind;
 use crate::standard::standard_names;
 use crate::tables::Ranges;
 use crate::written::written_of;
@@ -38,10 +38,10 @@ fn indices_of(alloc: Global, tree: &Tree, declared: &[Parts]) -> Result<Indices,
     ensures priorities { IfOk result (λ found. AreFirst tree.now sorts.Priority found.priorities.entries) }
     ensures late { IfOk result (λ found. IsLeast tree.now (IsTwice tree.now) found.late) }
 {
-    let tags = index_of(alloc, tree, Sort::Tag, declared)?;
-    let mode_words = index_of(alloc, tree, Sort::ModeWord, declared)?;
-    let priorities = index_of(alloc, tree, Sort::Priority, declared)?;
-    let fields = index_of(alloc, tree, Sort::Field, declared)?;
+    let tags = index_of(alloc, tree, IndicatorKind::Tag, declared)?;
+    let mode_words = index_of(alloc, tree, IndicatorKind::ModeWord, declared)?;
+    let priorities = index_of(alloc, tree, IndicatorKind::Priority, declared)?;
+    let fields = index_of(alloc, tree, IndicatorKind::Field, declared)?;
     let words = earlier(tree, tags.late, mode_words.late);
     let others = earlier(tree, priorities.late, fields.late);
     let late = earlier(tree, words, others);

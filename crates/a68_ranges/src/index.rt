@@ -8,7 +8,7 @@ ghost use Rattle.a68_ranges.specs.Tables as tables;
 ghost use Rattle.a68_ranges.specs.Indexed.{IsNoted, IsOneNoted, IsLateIn, IsLateBefore, IsLeast, AreIndexed};
 
 use crate::reading::{earlier, kind_of, name_of};
-use crate::sort::{Sort, is_sort};
+use crate::sort::{IndicatorKind, is_sort};
 use a68_base::NoMemory;
 use a68_tree::{NodeId, Parts, Tree};
 use std::alloc::Global;
@@ -39,7 +39,7 @@ fn note(index: &mut Index, range: NodeId, name: u32, id: NodeId) -> Result<bool,
 fn note_one(
     index: &mut Index,
     tree: &Tree,
-    sort: Sort,
+    sort: IndicatorKind,
     range: NodeId,
     id: NodeId,
 ) -> Result<Option<NodeId>, NoMemory>
@@ -58,7 +58,7 @@ fn note_one(
 fn note_list(
     index: &mut Index,
     tree: &Tree,
-    sort: Sort,
+    sort: IndicatorKind,
     range: NodeId,
     list: &[NodeId],
 ) -> Result<Option<NodeId>, NoMemory>
@@ -85,7 +85,7 @@ pub fn items(parts: &Parts) -> &[NodeId]
 fn note_all(
     index: &mut Index,
     tree: &Tree,
-    sort: Sort,
+    sort: IndicatorKind,
     declared: &[Parts],
 ) -> Result<Option<NodeId>, NoMemory>
     requires declared { AreDeclared tree.now (length tree.now.nodes) declared.now }
@@ -105,7 +105,7 @@ fn note_all(
 pub fn index_of(
     alloc: Global,
     tree: &Tree,
-    sort: Sort,
+    sort: IndicatorKind,
     declared: &[Parts],
 ) -> Result<Indexed, NoMemory>
     requires { AreDeclared tree.now (length tree.now.nodes) declared.now }

@@ -17,5 +17,5 @@ mod written;
 pub use build::ranges;
 pub use laws::priorities_are_one;
 pub use nests::Layer;
-pub use sort::{Sort, defines};
+pub use sort::{IndicatorKind, defines};
 pub use tables::Ranges;

@@ -6,7 +6,7 @@ ghost use Rattle.a68_ranges.specs.Tables as tables;
 
 use crate::index::items;
 use crate::reading::kind_of;
-use crate::sort::{Sort, is_sort};
+use crate::sort::{IndicatorKind, is_sort};
 use a68_base::NoMemory;
 use a68_tree::{NodeId, Parts, Tree};
 use std::alloc::Global;
@@ -15,7 +15,7 @@ use std::alloc::Global;
 fn add_operator(found: &mut Vec<NodeId>, tree: &Tree, id: NodeId) -> Result<(), NoMemory>
     ensures { OnOk result (found.new.items ≡ found.old.items ++ operators_among tree.now (id ∷ [])) }
 {
-    if !is_sort(Sort::Operator, kind_of(tree, id)) {
+    if !is_sort(IndicatorKind::Operator, kind_of(tree, id)) {
         return Ok(());
     }
     found.push(id)?;

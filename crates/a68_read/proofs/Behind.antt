@@ -13,7 +13,7 @@ use Rattle.a68_lookahead.specs.Symbols.{starts, Follows, next}
 use Rattle.a68_lookahead.specs.Sets as set
 use Rattle.a68_lookahead.specs.Ahead.{behind, phrase_ahead, spec_ahead}
 use Rattle.a68_lookahead.specs.declared.look.Due.TheVariants as due
-use Rattle.a68_lookahead.specs.declared.look.Sought.TheVariants as lm
+use Rattle.a68_lookahead.specs.declared.look.Landmark.TheVariants as lm
 use Rattle.a68_lookahead.proofs.Firsts.{here, first_unit, first_declarer, no_first, closes_clause, closes_unit, clause_unit}
 use Rattle.a68_lookahead.proofs.Told.{behind_declarer, plain_ahead, declarer_unspecced}
 use Rattle.a68_unit_productions.specs.declared.goal.Defining.{Defining}

@@ -3,7 +3,7 @@ use Rattle.std.proofs.Common.{◌≡◌, ℕ, ◌+◌, ◌<◌, Bool, true, fals
 use Rattle.std.proofs.lemmas.Bool.{false≢true, ltb-true}
 use Rattle.std.proofs.lemmas.List.{reverse-append}
 use Rattle.a68_tree.specs.declared.sym.Sym.{Sym}
-use Rattle.a68_nodes.specs.Views.{State}
+use Rattle.a68_nodes.specs.Views.{DraftState}
 use Rattle.a68_unit_productions.specs.declared.goal.Goal.{Goal}
 use Rattle.a68_unit_productions.specs.declared.goal.Goal.TheVariants as g
 use Rattle.a68_productions.specs.Expand.{expand}
@@ -24,7 +24,7 @@ await_same K [] ys = refl
 await_same K (x ∷ xs) ys = ap (awaits x) (await_same K xs ys)
 
 -- a form is what it is made of
-pub expanded : (goal : Goal) (more goals : List Goal) (rest whole : List Sym) (s : State) → expand goal rest ≡ Some more → Reading whole (goal ∷ goals) rest s → Reading whole (more ++ goals) rest s
+pub expanded : (goal : Goal) (more goals : List Goal) (rest whole : List Sym) (s : DraftState) → expand goal rest ≡ Some more → Reading whole (goal ∷ goals) rest s → Reading whole (more ++ goals) rest s
 expanded goal more goals rest whole s e r =
     let on : OnGoals (Some more) (λ xs. all_fit xs (all_fit goals IsWhole) r.stack) =
     subst (λ (o : Option (List Goal)). OnGoals o (λ xs. all_fit xs (all_fit goals IsWhole) r.stack)) e (fits_on (all_fit goals IsWhole) goal r.stack rest r.fits) in

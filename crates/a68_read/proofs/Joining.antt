@@ -6,15 +6,15 @@ use Rattle.a68_tree.specs.declared.sym.Sym.{Sym}
 use Rattle.a68_tree.specs.Forest.{Forest, end, part, forget, Single, Several}
 use Rattle.a68_tree.proofs.Phrases as phrases
 use Rattle.a68_nodes.specs.Stack.{Layer, node, put}
-use Rattle.a68_nodes.specs.Views.{State}
-use Rattle.a68_nodes.specs.Built.{Built}
+use Rattle.a68_nodes.specs.Views.{DraftState}
+use Rattle.a68_nodes.specs.Built.{IsDraftOf}
 use Rattle.a68_unit_productions.specs.declared.goal.Goal.{Goal}
 use Rattle.a68_unit_productions.specs.declared.goal.Goal.TheVariants as g
 use Rattle.a68_read.specs.Fits as f
 use Rattle.a68_read.specs.Fits.{all_fit}
 use Rattle.a68_read.specs.Awaits as a
 use Rattle.a68_read.specs.Awaits.{Run, all_await}
-use Rattle.a68_read.specs.Readings.{IsWhole, IsEnd, Reading, Does}
+use Rattle.a68_read.specs.Readings.{IsWhole, IsEnd, Reading, IsDone}
 use Rattle.a68_read.proofs.Acting.{Leaves, Wraps, Goes, not_identity}
 
 none : (b : Bool) → b ≡ true → b ≡ false → ⊥
@@ -31,9 +31,9 @@ more_awaits : (K : Run) (x : Forest) (l : Layer) (S : List Layer) (rest : List S
 more_awaits K x l S rest no_ y z e i (a.joins_more {f = v} s h) = let q = unforget (ap (λ (w : Layer). w.forest) e) in rw (← q, ← i) h
 more_awaits K x l S rest no_ y z e i (a.joins_one {f = v} s h) = let q = unforget (ap (λ (w : Layer). w.forest) e) in absurd (no_ (subst Single q s))
 
-module _ (rest : List Sym) (old : State) (single : Bool) where
-  one_at : (new : State) → single ≡ true → ((whole rest : List Sym) (ls : List Layer) (f : Forest) → Several f → Built whole (node (forget f) ∷ ls) rest old → single ≡ false)
-      → Leaves rest old new → (whole : List Sym) (goals : List Goal) (S : List Layer) → Built whole S rest old → f.FitsJoin (all_fit goals IsWhole) S
+module _ (rest : List Sym) (old : DraftState) (single : Bool) where
+  one_at : (new : DraftState) → single ≡ true → ((whole rest : List Sym) (ls : List Layer) (f : Forest) → Several f → IsDraftOf whole (node (forget f) ∷ ls) rest old → single ≡ false)
+      → Leaves rest old new → (whole : List Sym) (goals : List Goal) (S : List Layer) → IsDraftOf whole S rest old → f.FitsJoin (all_fit goals IsWhole) S
       → Goes (λ i u. a.AwaitsJoin (all_await goals (IsEnd i u))) whole S rest → Reading whole goals rest new
   one_at new e several leaves whole goals S b (f.fits_join {f = x} {l = l} {S = T} p one_ more_) w =
       let no_ : Several x → ⊥ = λ s. none single e (several whole rest (l ∷ T) x s b) in
@@ -49,12 +49,12 @@ module _ (rest : List Sym) (old : State) (single : Bool) where
       chosen x (inl s) n = s
       chosen x (inr s) n = absurd (n s)
 
-  pub join_one : (new : State) → single ≡ true → ((whole rest : List Sym) (ls : List Layer) (f : Forest) → Several f → Built whole (node (forget f) ∷ ls) rest old → single ≡ false)
-      → Leaves rest old new → Does g.Join rest rest old new
+  pub join_one : (new : DraftState) → single ≡ true → ((whole rest : List Sym) (ls : List Layer) (f : Forest) → Several f → IsDraftOf whole (node (forget f) ∷ ls) rest old → single ≡ false)
+      → Leaves rest old new → IsDone g.Join rest rest old new
   join_one new e several leaves whole goals r = one_at new e several leaves whole goals r.stack r.built r.fits r.awaits
 
-  more_at : (middle new : State) → single ≡ false → ((whole rest : List Sym) (ls : List Layer) (f : Forest) → Single f → Built whole (node (forget f) ∷ ls) rest old → single ≡ true)
-      → Wraps rest old middle k.Joined → Leaves rest middle new → (whole : List Sym) (goals : List Goal) (S : List Layer) → Built whole S rest old → f.FitsJoin (all_fit goals IsWhole) S
+  more_at : (middle new : DraftState) → single ≡ false → ((whole rest : List Sym) (ls : List Layer) (f : Forest) → Single f → IsDraftOf whole (node (forget f) ∷ ls) rest old → single ≡ true)
+      → Wraps rest old middle k.Joined → Leaves rest middle new → (whole : List Sym) (goals : List Goal) (S : List Layer) → IsDraftOf whole S rest old → f.FitsJoin (all_fit goals IsWhole) S
       → Goes (λ i u. a.AwaitsJoin (all_await goals (IsEnd i u))) whole S rest → Reading whole goals rest new
   more_at middle new e single_ wraps leaves whole goals S b (f.fits_join {f = x} {l = l} {S = T} p one_ more_) w =
       let no_ : Single x → ⊥ = λ s. none single (single_ whole rest (l ∷ T) x s b) e in
@@ -70,6 +70,6 @@ module _ (rest : List Sym) (old : State) (single : Bool) where
       chosen x (inl s) n = absurd (n s)
       chosen x (inr s) n = s
 
-  pub join_more : (middle new : State) → single ≡ false → ((whole rest : List Sym) (ls : List Layer) (f : Forest) → Single f → Built whole (node (forget f) ∷ ls) rest old → single ≡ true)
-      → Wraps rest old middle k.Joined → Leaves rest middle new → Does g.Join rest rest old new
+  pub join_more : (middle new : DraftState) → single ≡ false → ((whole rest : List Sym) (ls : List Layer) (f : Forest) → Single f → IsDraftOf whole (node (forget f) ∷ ls) rest old → single ≡ true)
+      → Wraps rest old middle k.Joined → Leaves rest middle new → IsDone g.Join rest rest old new
   join_more middle new e single_ wraps leaves whole goals r = more_at middle new e single_ wraps leaves whole goals r.stack r.built r.fits r.awaits

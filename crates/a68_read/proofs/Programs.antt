@@ -11,15 +11,15 @@ use Rattle.a68_tree.specs.Forest.{Forest, end, part, spells}
 use Rattle.a68_tree.specs.Grammar.{IsEnclosed}
 use Rattle.a68_tree.specs.Nodes.{Entry, with_node}
 use Rattle.a68_nodes.specs.Stack.{Layer, node}
-use Rattle.a68_nodes.specs.Views.{State}
-use Rattle.a68_nodes.specs.Built.{Built}
+use Rattle.a68_nodes.specs.Views.{DraftState}
+use Rattle.a68_nodes.specs.Built.{IsDraftOf}
 use Rattle.a68_unit_productions.specs.declared.goal.Goal.TheVariants as g
 use Rattle.a68_read.specs.Fits as f
 use Rattle.a68_read.specs.Awaits as a
-use Rattle.a68_read.specs.Readings.{IsWhole, is_whole, IsEnd, Reading, HasNoTree, Stands, OnFault, Fails, ReadProgram}
+use Rattle.a68_read.specs.Readings.{IsWhole, is_whole, IsEnd, Reading, HasNoTree, TakesFirst, OnFault, Fails, ReadProgram}
 
 -- before the first symbol
-pub begun : (text : List Sym) (s : State) → Built text (node end ∷ []) text s → Reading text (g.Enclosed ∷ []) text s
+pub begun : (text : List Sym) (s : DraftState) → IsDraftOf text (node end ∷ []) text s → Reading text (g.Enclosed ∷ []) text s
 begun text s b = record {
   stack = node end ∷ [];
   built = b;
@@ -45,12 +45,12 @@ same_node {i = i} {j = j} {u = u} {v = v} e h =
     under_of w = cc
 
 -- behind the last one
-ended_at : (text rest : List Sym) (s : State) (new : List Entry) (S : List Layer) → rest ≡ [] → IsWhole S → Built text S rest s
+ended_at : (text rest : List Sym) (s : DraftState) (new : List Entry) (S : List Layer) → rest ≡ [] → IsWhole S → IsDraftOf text S rest s
     → ((j : NodeKind) (u : Forest) → IsEnclosed j u → text ≡ spells u [] → IsEnd j u S rest)
-    → ((whole : List Sym) (kind : NodeKind) (under : Forest) → Built whole (node (part kind under end) ∷ []) [] s → new ≡ with_node [] [] kind under [])
-    → ((whole : List Sym) (kind : NodeKind) (under : Forest) → Built whole (node (part kind under end) ∷ []) [] s → whole ≡ spells under []) → ReadProgram text new
+    → ((whole : List Sym) (kind : NodeKind) (under : Forest) → IsDraftOf whole (node (part kind under end) ∷ []) [] s → new ≡ with_node [] [] kind under [])
+    → ((whole : List Sym) (kind : NodeKind) (under : Forest) → IsDraftOf whole (node (part kind under end) ∷ []) [] s → whole ≡ spells under []) → ReadProgram text new
 ended_at text rest s new S e (is_whole {j = i} {u = v} p) b w nodes spelled =
-    let c = subst (λ (x : List Sym). Built text (node (part i v end) ∷ []) x s) e b in
+    let c = subst (λ (x : List Sym). IsDraftOf text (node (part i v end) ∷ []) x s) e b in
     record {
       kind = i;
       under = v;
@@ -60,12 +60,12 @@ ended_at text rest s new S e (is_whole {j = i} {u = v} p) b w nodes spelled =
       added = nodes text i v c;
     }
 
-pub ended : (text rest : List Sym) (s : State) (new : List Entry) → rest ≡ [] → Reading text [] rest s
-    → ((whole : List Sym) (kind : NodeKind) (under : Forest) → Built whole (node (part kind under end) ∷ []) [] s → new ≡ with_node [] [] kind under [])
-    → ((whole : List Sym) (kind : NodeKind) (under : Forest) → Built whole (node (part kind under end) ∷ []) [] s → whole ≡ spells under []) → ReadProgram text new
+pub ended : (text rest : List Sym) (s : DraftState) (new : List Entry) → rest ≡ [] → Reading text [] rest s
+    → ((whole : List Sym) (kind : NodeKind) (under : Forest) → IsDraftOf whole (node (part kind under end) ∷ []) [] s → new ≡ with_node [] [] kind under [])
+    → ((whole : List Sym) (kind : NodeKind) (under : Forest) → IsDraftOf whole (node (part kind under end) ∷ []) [] s → whole ≡ spells under []) → ReadProgram text new
 ended text rest s new e r nodes spelled = ended_at text rest s new r.stack e r.fits r.built r.awaits nodes spelled
 
-pub not_ended : (text rest : List Sym) (s : State) → (rest ≡ [] → ⊥) → Reading text [] rest s → HasNoTree text
+pub not_ended : (text rest : List Sym) (s : DraftState) → (rest ≡ [] → ⊥) → Reading text [] rest s → HasNoTree text
 not_ended text rest s more r j u p e = more (r.awaits j u p e).1
 
 pub some_rest : (rest : List Sym) (r : Bool) → r ≡ nat_eq (length rest) 0 → r ≡ false → rest ≡ [] → ⊥
@@ -75,13 +75,13 @@ pub empty_rest : (rest : List Sym) (r : Bool) → r ≡ nat_eq (length rest) 0 �
 empty_rest rest r e f = nil_from_length rest (eqb-true (length rest) 0 (sym e ∙ f))
 
 -- where no goal is left, and where one is
-pub none_left : (text rest : List Sym) (s : State) (goals : List Goal) (next : Option Goal) → next ≡ None → Stands text rest s goals next → Reading text [] rest s
-none_left text rest s goals next e r = subst (Stands text rest s goals) e r
+pub none_left : (text rest : List Sym) (s : DraftState) (goals : List Goal) (next : Option Goal) → next ≡ None → TakesFirst text rest s goals next → Reading text [] rest s
+none_left text rest s goals next e r = subst (TakesFirst text rest s goals) e r
 
-pub one_left : (text rest : List Sym) (s : State) (goals : List Goal) (next : Option Goal) (goal : Goal) → next ≡ Some goal → Stands text rest s goals next → Reading text (goal ∷ goals) rest s
-one_left text rest s goals next goal e r = subst (Stands text rest s goals) e r
+pub one_left : (text rest : List Sym) (s : DraftState) (goals : List Goal) (next : Option Goal) (goal : Goal) → next ≡ Some goal → TakesFirst text rest s goals next → Reading text (goal ∷ goals) rest s
+one_left text rest s goals next goal e r = subst (TakesFirst text rest s goals) e r
 
 -- a symbol that cannot be taken
-pub failed : (goal : Goal) (text rest : List Sym) (old : State) (goals : List Goal) (e : Unread) → OnFault e (Fails goal rest old) → Reading text (goal ∷ goals) rest old → OnFault e (HasNoTree text)
+pub failed : (goal : Goal) (text rest : List Sym) (old : DraftState) (goals : List Goal) (e : Unread) → OnFault e (Fails goal rest old) → Reading text (goal ∷ goals) rest old → OnFault e (HasNoTree text)
 failed goal text rest old goals Memory t r = tt
 failed goal text rest old goals (NoTree left) t r = t text goals r

@@ -9,8 +9,8 @@ use Rattle.a68_tree.specs.Forest.{Forest, end, part, spells}
 use Rattle.a68_tree.specs.Grammar.{IsEnclosed}
 use Rattle.a68_tree.specs.Nodes.{Entry, with_node}
 use Rattle.a68_nodes.specs.Stack.{Layer, node}
-use Rattle.a68_nodes.specs.Views.{State}
-use Rattle.a68_nodes.specs.Built.{Built}
+use Rattle.a68_nodes.specs.Views.{DraftState}
+use Rattle.a68_nodes.specs.Built.{IsDraftOf}
 use Rattle.a68_unit_productions.specs.declared.goal.Goal.{Goal}
 use Rattle.a68_read.specs.Fits.{all_fit}
 use Rattle.a68_read.specs.Awaits.{all_await}
@@ -27,9 +27,9 @@ IsEnd j u S text = (S ≡ node (part j u end) ∷ []) × (text ≡ [])
 
 -- Where such a text is left of a whole one, with these goals: what has been read, what the goals lead to, and how each
 -- derivation of the whole text goes on.
-pub record Reading (whole : List Sym) (goals : List Goal) (rest : List Sym) (s : State) : Type 0 where
+pub record Reading (whole : List Sym) (goals : List Goal) (rest : List Sym) (s : DraftState) : Type 0 where
   pub stack : List Layer
-  pub built : Built whole stack rest s
+  pub built : IsDraftOf whole stack rest s
   pub fits : all_fit goals IsWhole stack
   pub awaits : (j : NodeKind) (u : Forest) → IsEnclosed j u → whole ≡ spells u [] → all_await goals (IsEnd j u) stack rest
 
@@ -38,11 +38,11 @@ abbrev pub HasNoTree : List Sym → Type 0
 HasNoTree whole = (j : NodeKind) (u : Forest) → IsEnclosed j u → whole ≡ spells u [] → ⊥
 
 -- the first goal is done
-abbrev pub Does : Goal → List Sym → List Sym → State → State → Type 0
-Does goal rest after old new = (whole : List Sym) (goals : List Goal) → Reading whole (goal ∷ goals) rest old → Reading whole goals after new
+abbrev pub IsDone : Goal → List Sym → List Sym → DraftState → DraftState → Type 0
+IsDone goal rest after old new = (whole : List Sym) (goals : List Goal) → Reading whole (goal ∷ goals) rest old → Reading whole goals after new
 
 -- the first goal cannot be done
-abbrev pub Fails : Goal → List Sym → State → Type 0
+abbrev pub Fails : Goal → List Sym → DraftState → Type 0
 Fails goal rest old = (whole : List Sym) (goals : List Goal) → Reading whole (goal ∷ goals) rest old → HasNoTree whole
 
 -- where memory was there
@@ -51,8 +51,8 @@ OnFault Memory P = Unit {0}
 OnFault (NoTree left) P = P
 
 -- a symbol is taken, or it does not stand there
-abbrev pub Takes : {X : Type 0} → (X → List Sym) → Goal → List Sym → State → State → Result X Unread → Type 0
-Takes view goal rest old new (Ok x) = Does goal rest (view x) old new
+abbrev pub Takes : {X : Type 0} → (X → List Sym) → Goal → List Sym → DraftState → DraftState → Result X Unread → Type 0
+Takes view goal rest old new (Ok x) = IsDone goal rest (view x) old new
 Takes view goal rest old new (Err e) = OnFault e (Fails goal rest old)
 
 -- the text does not begin with that symbol
@@ -70,9 +70,9 @@ pub record FirstOf (Such : Token → Type 0) (text rest : List Sym) : Type 0 whe
   pub first : text ≡ Is token ∷ rest
 
 -- a goal that is to take a symbol, if any is left
-abbrev pub Stands : List Sym → List Sym → State → List Goal → Option Goal → Type 0
-Stands whole rest s goals None = Reading whole [] rest s
-Stands whole rest s goals (Some goal) = Reading whole (goal ∷ goals) rest s
+abbrev pub TakesFirst : List Sym → List Sym → DraftState → List Goal → Option Goal → Type 0
+TakesFirst whole rest s goals None = Reading whole [] rest s
+TakesFirst whole rest s goals (Some goal) = Reading whole (goal ∷ goals) rest s
 
 -- the one derivation of all the symbols, and its nodes
 pub record ReadProgram (text : List Sym) (new : List Entry) : Type 0 where

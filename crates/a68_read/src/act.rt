@@ -2,7 +2,7 @@
 ghost use Rattle.std.specs.Prelude.{◌≡◌, true, OnOk};
 ghost use Rattle.a68_unit_productions.specs.declared.goal.Goal.TheVariants as g;
 ghost use Rattle.a68_read.specs.Acts.{is_acting};
-ghost use Rattle.a68_read.specs.Readings.{Does};
+ghost use Rattle.a68_read.specs.Readings.{IsDone};
 
 use a68_base::NoMemory;
 use a68_nodes::Drafting;
@@ -17,7 +17,7 @@ fn close(
     rest: &[Sym],
     drafting: &mut Drafting,
 ) -> Result<(), NoMemory>
-    ensures { OnOk result (Does (g.Close kind) rest.now rest.now drafting.old drafting.new) }
+    ensures { OnOk result (IsDone (g.Close kind) rest.now rest.now drafting.old drafting.new) }
 {
     drafting.wrap(alloc, kind, rest)?;
     drafting.leave();
@@ -26,7 +26,7 @@ fn close(
 
 // Several definitions become a node.
 fn join(alloc: Global, rest: &[Sym], drafting: &mut Drafting) -> Result<(), NoMemory>
-    ensures { OnOk result (Does g.Join rest.now rest.now drafting.old drafting.new) }
+    ensures { OnOk result (IsDone g.Join rest.now rest.now drafting.old drafting.new) }
 {
     if drafting.is_single() {
         drafting.leave();
@@ -37,10 +37,10 @@ fn join(alloc: Global, rest: &[Sym], drafting: &mut Drafting) -> Result<(), NoMe
     Ok(())
 }
 
-/// Does with what was read what the goal is to do.
+/// IsDone with what was read what the goal is to do.
 pub fn act(alloc: Global, goal: Goal, rest: &[Sym], drafting: &mut Drafting) -> Result<(), NoMemory>
     requires { is_acting goal ≡ true }
-    ensures { OnOk result (Does goal rest.now rest.now drafting.old drafting.new) }
+    ensures { OnOk result (IsDone goal rest.now rest.now drafting.old drafting.new) }
 {
     match goal {
         Goal::Begin => drafting.open(rest),

@@ -2,7 +2,7 @@
 ghost use Rattle.std.specs.Prelude.{◌≡◌, ◌++◌, List, reverse, true, OnOk, IfOk, IfSome};
 ghost use Rattle.a68_tree.specs.declared.sym.Sym.{Sym};
 ghost use Rattle.a68_read.specs.Weights.{is_taking};
-ghost use Rattle.a68_read.specs.Readings.{Reading, Stands};
+ghost use Rattle.a68_read.specs.Readings.{Reading, TakesFirst};
 
 use crate::act::act;
 use crate::kinds::is_taking;
@@ -34,7 +34,7 @@ pub fn ready(
 ) -> Result<Option<Goal>, NoMemory>
     ensures taking { IfOk result (λ next. IfSome next (λ goal. is_taking goal ≡ true)) }
     ensures stands { IfOk result (λ next. (whole : List Sym) → Reading whole (reverse goals.old.items) rest.now drafting.old
-        → Stands whole rest.now drafting.new (reverse goals.new.items) next) }
+        → TakesFirst whole rest.now drafting.new (reverse goals.new.items) next) }
 {
     while let Some(goal) = goals.pop() {
         if is_taking(goal) {

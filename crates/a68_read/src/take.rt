@@ -3,7 +3,7 @@ ghost use Rattle.std.specs.Prelude.{◌≡◌, ◌<◌, ◌∷◌, length, true,
 ghost use Rattle.a68_unit_productions.specs.declared.goal.Goal.TheVariants as g;
 ghost use Rattle.a68_read.specs.Weights.{is_taking};
 ghost use Rattle.a68_tree.specs.Grammar.{IsMonadic, IsSign, IsDenotation, IsPlain};
-ghost use Rattle.a68_nodes.specs.Views.{State};
+ghost use Rattle.a68_nodes.specs.Views.{DraftState};
 ghost use Rattle.a68_read.specs.Readings.{Lacks, LacksAny, FirstOf, Takes};
 
 use crate::unread::Unread;
@@ -120,7 +120,7 @@ fn dyadic<'a>(rest: &'a [Sym], drafting: &mut Drafting) -> Result<&'a [Sym], Unr
 // A token.
 fn token<'a>(rest: &'a [Sym], wanted: Token) -> Result<&'a [Sym], Unread>
     ensures shorter { IfOk result (λ after. length after.now < length rest.now) }
-    ensures takes { (s : State) → Takes (λ after. after.now) (g.Take wanted) rest.now s s result }
+    ensures takes { (s : DraftState) → Takes (λ after. after.now) (g.Take wanted) rest.now s s result }
 {
     match behind(rest, Sym::Is(wanted)) {
         Some(after) => Ok(after),
@@ -131,7 +131,7 @@ fn token<'a>(rest: &'a [Sym], wanted: Token) -> Result<&'a [Sym], Unread>
 // An operator that is defined.
 fn operator<'a>(rest: &'a [Sym]) -> Result<&'a [Sym], Unread>
     ensures shorter { IfOk result (λ after. length after.now < length rest.now) }
-    ensures takes { (s : State) → Takes (λ after. after.now) g.Operator rest.now s s result }
+    ensures takes { (s : DraftState) → Takes (λ after. after.now) g.Operator rest.now s s result }
 {
     match behind_operator(rest) {
         Some(after) => Ok(after),
@@ -142,7 +142,7 @@ fn operator<'a>(rest: &'a [Sym]) -> Result<&'a [Sym], Unread>
 // A denotation.
 fn denotation<'a>(rest: &'a [Sym]) -> Result<&'a [Sym], Unread>
     ensures shorter { IfOk result (λ after. length after.now < length rest.now) }
-    ensures takes { (s : State) → Takes (λ after. after.now) g.Denotation rest.now s s result }
+    ensures takes { (s : DraftState) → Takes (λ after. after.now) g.Denotation rest.now s s result }
 {
     match behind_denotation(rest) {
         Some(after) => Ok(after),
@@ -153,7 +153,7 @@ fn denotation<'a>(rest: &'a [Sym]) -> Result<&'a [Sym], Unread>
 // The word of a mode.
 fn plain<'a>(rest: &'a [Sym]) -> Result<&'a [Sym], Unread>
     ensures shorter { IfOk result (λ after. length after.now < length rest.now) }
-    ensures takes { (s : State) → Takes (λ after. after.now) g.Plain rest.now s s result }
+    ensures takes { (s : DraftState) → Takes (λ after. after.now) g.Plain rest.now s s result }
 {
     match behind_plain(rest) {
         Some(after) => Ok(after),

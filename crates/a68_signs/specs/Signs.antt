@@ -8,7 +8,7 @@ use Rattle.a68_signs.specs.declared.signs.Operator.{Operator}
 
 -- Signs that mean the same, their priority, and the operators that they have, by the modes of their operands. Of monadic
 -- signs the priority is 10.
-pub record Entry : Type 0 where
+pub record SignGroup : Type 0 where
   pub signs : List (List ℕ)
   pub priority : ℕ
   pub operators : List Operator
@@ -19,12 +19,12 @@ pub record Entry : Type 0 where
 abbrev pub op : (row left right result : ℕ) → Operator
 op row left right result = record { row = row; left = left; right = right; result = result }
 
-abbrev pub entry : (signs : List (List ℕ)) (priority : ℕ) (operators : List Operator) → Entry
+abbrev pub entry : (signs : List (List ℕ)) (priority : ℕ) (operators : List Operator) → SignGroup
 entry signs priority operators = record { signs = signs; priority = priority; operators = operators }
 
 -- Signs between two operands (Report, 10.2.3.0 for the priorities, 10.2.3.1 to 10.2.3.11 for the operators). `[] CHAR` and
 -- CHAR stand in the place of the Report's STRING. SHL and SHR have the names of the Report; `%*:=` is MODAB.
-abbrev pub dyadic_entries : List Entry
+abbrev pub dyadic_entries : List SignGroup
 dyadic_entries =
     entry (codes "+:=" ∷ codes "PLUSAB" ∷ []) 1 (op 1 9 1 9 ∷ op 1 10 7 10 ∷ op 1 10 3 10 ∷ []) ∷
     entry (codes "-:=" ∷ codes "MINUSAB" ∷ []) 1 (op 2 9 1 9 ∷ []) ∷
@@ -58,7 +58,7 @@ dyadic_entries =
     []
 
 -- Signs before one operand (Report, 10.2.1, 10.2.3.1 to 10.2.3.8 and 10.2.4).
-abbrev pub monadic_entries : List Entry
+abbrev pub monadic_entries : List SignGroup
 monadic_entries =
     entry (codes "+" ∷ []) 10 (op 26 0 1 1 ∷ []) ∷
     entry (codes "-" ∷ []) 10 (op 27 0 1 1 ∷ []) ∷
@@ -76,13 +76,13 @@ monadic_entries =
     []
 
 -- the entries of the signs for so many operands, 1 or 2
-abbrev pub entries_for : (operands : ℕ) → List Entry
+abbrev pub entries_for : (operands : ℕ) → List SignGroup
 entries_for (suc zero) = monadic_entries
 entries_for (suc (suc zero)) = dyadic_entries
 entries_for _ = []
 
 -- the entry of a sign
-abbrev pub entry_of : List Entry → (sign : List ℕ) → Option Entry
+abbrev pub entry_of : List SignGroup → (sign : List ℕ) → Option SignGroup
 entry_of [] sign = None
 entry_of (entry ∷ more) sign = if is_listed entry.signs sign then Some entry else entry_of more sign
 

@@ -20,7 +20,7 @@ pub struct Operator {
 
 /// Signs that mean the same, their priority, and the operators that they have.
 #[derive(Clone, Copy)]
-struct Entry {
+struct SignGroup {
     signs: &'static [&'static str],
     priority: u32,
     operators: &'static [Operator],
@@ -38,48 +38,48 @@ macro_rules! op {
 }
 
 // The signs between two operands.
-const DYADIC: &[Entry] = &[
-    Entry {
+const DYADIC: &[SignGroup] = &[
+    SignGroup {
         signs: &["+:=", "PLUSAB"],
         priority: 1,
         operators: &[op!(1, 9, 1, 9), op!(1, 10, 7, 10), op!(1, 10, 3, 10)],
     },
-    Entry {
+    SignGroup {
         signs: &["-:=", "MINUSAB"],
         priority: 1,
         operators: &[op!(2, 9, 1, 9)],
     },
-    Entry {
+    SignGroup {
         signs: &["*:=", "TIMESAB"],
         priority: 1,
         operators: &[op!(3, 9, 1, 9), op!(3, 10, 1, 10)],
     },
-    Entry {
+    SignGroup {
         signs: &["%:=", "OVERAB"],
         priority: 1,
         operators: &[op!(4, 9, 1, 9)],
     },
-    Entry {
+    SignGroup {
         signs: &["%*:=", "MODAB"],
         priority: 1,
         operators: &[op!(5, 9, 1, 9)],
     },
-    Entry {
+    SignGroup {
         signs: &["+=:", "PLUSTO"],
         priority: 1,
         operators: &[op!(6, 7, 10, 10), op!(6, 3, 10, 10)],
     },
-    Entry {
+    SignGroup {
         signs: &["OR"],
         priority: 2,
         operators: &[op!(7, 2, 2, 2), op!(7, 4, 4, 4)],
     },
-    Entry {
+    SignGroup {
         signs: &["AND", "&"],
         priority: 3,
         operators: &[op!(8, 2, 2, 2), op!(8, 4, 4, 4)],
     },
-    Entry {
+    SignGroup {
         signs: &["=", "EQ"],
         priority: 4,
         operators: &[
@@ -92,7 +92,7 @@ const DYADIC: &[Entry] = &[
             op!(9, 3, 7, 2),
         ],
     },
-    Entry {
+    SignGroup {
         signs: &["/=", "NE"],
         priority: 4,
         operators: &[
@@ -105,7 +105,7 @@ const DYADIC: &[Entry] = &[
             op!(10, 3, 7, 2),
         ],
     },
-    Entry {
+    SignGroup {
         signs: &["<", "LT"],
         priority: 5,
         operators: &[
@@ -116,7 +116,7 @@ const DYADIC: &[Entry] = &[
             op!(11, 3, 3, 2),
         ],
     },
-    Entry {
+    SignGroup {
         signs: &["<=", "LE"],
         priority: 5,
         operators: &[
@@ -128,7 +128,7 @@ const DYADIC: &[Entry] = &[
             op!(12, 4, 4, 2),
         ],
     },
-    Entry {
+    SignGroup {
         signs: &[">=", "GE"],
         priority: 5,
         operators: &[
@@ -140,7 +140,7 @@ const DYADIC: &[Entry] = &[
             op!(13, 4, 4, 2),
         ],
     },
-    Entry {
+    SignGroup {
         signs: &[">", "GT"],
         priority: 5,
         operators: &[
@@ -151,7 +151,7 @@ const DYADIC: &[Entry] = &[
             op!(14, 3, 3, 2),
         ],
     },
-    Entry {
+    SignGroup {
         signs: &["+"],
         priority: 6,
         operators: &[
@@ -162,12 +162,12 @@ const DYADIC: &[Entry] = &[
             op!(15, 3, 3, 7),
         ],
     },
-    Entry {
+    SignGroup {
         signs: &["-"],
         priority: 6,
         operators: &[op!(16, 1, 1, 1)],
     },
-    Entry {
+    SignGroup {
         signs: &["*"],
         priority: 7,
         operators: &[
@@ -178,42 +178,42 @@ const DYADIC: &[Entry] = &[
             op!(17, 1, 3, 7),
         ],
     },
-    Entry {
+    SignGroup {
         signs: &["OVER", "%"],
         priority: 7,
         operators: &[op!(18, 1, 1, 1)],
     },
-    Entry {
+    SignGroup {
         signs: &["MOD", "%*"],
         priority: 7,
         operators: &[op!(19, 1, 1, 1)],
     },
-    Entry {
+    SignGroup {
         signs: &["ELEM"],
         priority: 7,
         operators: &[op!(20, 1, 4, 2)],
     },
-    Entry {
+    SignGroup {
         signs: &["**"],
         priority: 8,
         operators: &[op!(21, 1, 1, 1)],
     },
-    Entry {
+    SignGroup {
         signs: &["SHL"],
         priority: 8,
         operators: &[op!(22, 4, 1, 4)],
     },
-    Entry {
+    SignGroup {
         signs: &["SHR"],
         priority: 8,
         operators: &[op!(23, 4, 1, 4)],
     },
-    Entry {
+    SignGroup {
         signs: &["LWB"],
         priority: 8,
         operators: &[op!(24, 1, 0, 1)],
     },
-    Entry {
+    SignGroup {
         signs: &["UPB"],
         priority: 8,
         operators: &[op!(25, 1, 0, 1)],
@@ -221,23 +221,23 @@ const DYADIC: &[Entry] = &[
 ];
 
 // The signs before one operand.
-const MONADIC: &[Entry] = &[
-    Entry {
+const MONADIC: &[SignGroup] = &[
+    SignGroup {
         signs: &["+"],
         priority: 10,
         operators: &[op!(26, 0, 1, 1)],
     },
-    Entry {
+    SignGroup {
         signs: &["-"],
         priority: 10,
         operators: &[op!(27, 0, 1, 1)],
     },
-    Entry {
+    SignGroup {
         signs: &["NOT"],
         priority: 10,
         operators: &[op!(28, 0, 2, 2), op!(28, 0, 4, 4)],
     },
-    Entry {
+    SignGroup {
         signs: &["ABS"],
         priority: 10,
         operators: &[
@@ -247,47 +247,47 @@ const MONADIC: &[Entry] = &[
             op!(29, 0, 4, 1),
         ],
     },
-    Entry {
+    SignGroup {
         signs: &["SIGN"],
         priority: 10,
         operators: &[op!(30, 0, 1, 1)],
     },
-    Entry {
+    SignGroup {
         signs: &["ODD"],
         priority: 10,
         operators: &[op!(31, 0, 1, 2)],
     },
-    Entry {
+    SignGroup {
         signs: &["REPR"],
         priority: 10,
         operators: &[op!(32, 0, 1, 3)],
     },
-    Entry {
+    SignGroup {
         signs: &["BIN"],
         priority: 10,
         operators: &[op!(33, 0, 1, 4)],
     },
-    Entry {
+    SignGroup {
         signs: &["LEVEL"],
         priority: 10,
         operators: &[op!(34, 0, 1, 5), op!(34, 0, 5, 1)],
     },
-    Entry {
+    SignGroup {
         signs: &["UP"],
         priority: 10,
         operators: &[op!(35, 0, 5, 0)],
     },
-    Entry {
+    SignGroup {
         signs: &["DOWN"],
         priority: 10,
         operators: &[op!(36, 0, 5, 0)],
     },
-    Entry {
+    SignGroup {
         signs: &["LWB"],
         priority: 10,
         operators: &[op!(37, 0, 0, 1)],
     },
-    Entry {
+    SignGroup {
         signs: &["UPB"],
         priority: 10,
         operators: &[op!(38, 0, 0, 1)],
@@ -295,7 +295,7 @@ const MONADIC: &[Entry] = &[
 ];
 
 // Finds the entries of the signs for so many operands.
-fn entries_for(operands: u32) -> &'static [Entry]
+fn entries_for(operands: u32) -> &'static [SignGroup]
     ensures { map entry_value result.now ≡ signs.entries_for operands }
 {
     match operands {
@@ -306,7 +306,7 @@ fn entries_for(operands: u32) -> &'static [Entry]
 }
 
 // Finds the entry of a sign.
-fn entry_of(entries: &'static [Entry], sign: &[u8]) -> Option<Entry>
+fn entry_of(entries: &'static [SignGroup], sign: &[u8]) -> Option<SignGroup>
     ensures { option_map entry_value result ≡ signs.entry_of (map entry_value entries.now) sign.now }
 {
     for entry in entries {

@@ -24,7 +24,7 @@ use Rattle.a68_sim.proofs.Quiet.{Quiet, IsOpen, opens_at, ActsNext}
 use Rattle.a68_sim.proofs.Routines.{TextsStand}
 use Rattle.a68_sim.proofs.Settling.{Yields, SettledIn}
 use Rattle.a68_sim.proofs.Worlds.{next_acts, Joint}
-use Rattle.a68_strand.specs.Ends.{HasEnded, fault_in, fault_of, CanAct}
+use Rattle.a68_strand.specs.Ends.{HasEnded, fault_in, fault_of, CanActNow}
 use Rattle.a68_strand.specs.Ends as run
 use Rattle.a68_instructions.specs.Machine.{State, told_by, place_at}
 use Rattle.a68_exec.specs.Runs.{World, IfNext, acted}
@@ -158,7 +158,7 @@ module _ (program : Program) (code : Code) (same_modes : code.modes ≡ program.
         subst (λ (x : ℕ). Ends (ends.Fault why x n)) (sym is)
         (fault_stance n st why there st.stance refl (sym (ap (option_and_then (λ (x : State). fault_in x.stance w.store)) there) ∙ f))
 
-    spent_too : (n : ℕ) → entries ≡ fuel → CanAct code w n → Ends ends.Spent
+    spent_too : (n : ℕ) → entries ≡ fuel → CanActNow code w n → Ends ends.Spent
     spent_too n full can = by_next (acted code w n) refl
       where
         by_next : (o : Option (Act × World)) → acted code w n ≡ o → Ends ends.Spent
@@ -167,7 +167,7 @@ module _ (program : Program) (code : Code) (same_modes : code.modes ≡ program.
             let a = next_acts code w n x.0 (λ behind. Unit {0}) (subst (λ (o : Option (Act × World)). IfNext o x.0 (λ behind. Unit {0})) (sym e) (refl, tt)) in
             able_too n a.2.st a.2.there a.2.want a.2.wait a.2.stance x.0 a.2.told a.2.store full a.2.done
 
-    halted_too : (HasEnded w 0 → ⊥) → ((n : ℕ) → CanAct code w n → ⊥) → ((n : ℕ) → fault_of w n ≡ None) → Ends ends.AllHalted
+    halted_too : (HasEnded w 0 → ⊥) → ((n : ℕ) → CanActNow code w n → ⊥) → ((n : ℕ) → fault_of w n ≡ None) → Ends ends.AllHalted
     halted_too unended no_act no_fault = by_found (finds program code w j.calm no_act no_fault j.kin how t j.lives)
       where
         by_found : Finds program code w j.calm no_act no_fault (number j.kin) how t → Ends ends.AllHalted
@@ -177,7 +177,7 @@ module _ (program : Program) (code : Code) (same_modes : code.modes ≡ program.
             let x : Halts program code w j.calm no_act no_fault 0 t = subst (λ (n : ℕ). Halts program code w j.calm no_act no_fault n t) j.root h in
             (x.term, x.quiet, all_halted x.halted)
 
-    pub ends_too : (es : List Entry) (k : End) → entries ≡ length es → run.EndsWith code fuel es w k → Ends k
+    pub ends_too : (es : List Entry) (k : End) → entries ≡ length es → run.RunEndsWith code fuel es w k → Ends k
     ends_too es k e (run.done h) = done_too h
     ends_too es k e (run.fault {strand = n} {place = place} {kind = why} {st = st} unended f there is) = fault_too n place st why f there is
     ends_too es k e (run.all_halted unended no_act no_fault) = halted_too unended no_act no_fault

@@ -9,7 +9,7 @@ use Rattle.a68_elab.specs.Places.{ProgramBeginsBy}
 use Rattle.a68_elab.specs.Trees.{Program}
 use Rattle.a68_gen.proofs.Places.{code_begins_by}
 use Rattle.a68_emit.specs.Stretches.{Translates}
-use Rattle.a68_strand.specs.Ends.{EndsWith, done, fault, all_halted, spent}
+use Rattle.a68_strand.specs.Ends.{RunEndsWith, done, fault, all_halted, spent}
 use Rattle.a68_instructions.specs.Machine.{place_at}
 use Rattle.a68_strand.specs.RunOf.{RunOf}
 use Rattle.a68_exec.specs.Runs.{World}
@@ -32,7 +32,7 @@ module _ (program : Program) (code : Code) (end : ℕ) (t : Translates program c
       by_instr None h = omega arith
       by_instr (Some i) h = h i refl
 
-  end_lies : (fuel : ℕ) (entries : List Entry) (w : World) (k : End) → EndsWith code fuel entries w k → place_of k ≤ end
+  end_lies : (fuel : ℕ) (entries : List Entry) (w : World) (k : End) → RunEndsWith code fuel entries w k → place_of k ≤ end
   end_lies fuel entries w k (done h) = omega arith
   end_lies fuel entries w k (fault {st = st} unended f there is) = subst (λ (x : ℕ). x ≤ end) (sym is) (place_lies st.at)
   end_lies fuel entries w k (all_halted unended no_act no_fault) = omega arith

@@ -11,7 +11,7 @@ use Rattle.a68_code.specs.declared.does.Does.TheVariants as does
 use Rattle.a68_elab.specs.Positions.{within, OpensIn, in_this, past}
 use Rattle.a68_elab.specs.Rows.{meets, acts, within_frame, body_in}
 use Rattle.a68_elab.specs.Terms.{only, Job, operating, resuming, gathering, preceding, ending, ranged, choosing, casing, conforming, specifying, tagging, passing, chosen, limiting, counting, stepping, turning, opening, naming, indexing, ranging, testing, running, advancing, quitting, leaving, calling, entering, binding, inside, forking, joining, closing, Term, todo, part, yielded, unit_of, Terms, no_terms, ◌and_term◌, todos, order_of}
-use Rattle.a68_elab.specs.Trees.{Tree, Trees, operation, together, phrases, range, choice, cases, conformity, loop, call, parallel, meaningless, Turns, no_trees, ◌and_tree◌, count, Order, Body, Program, texts_of}
+use Rattle.a68_elab.specs.Trees.{Tree, Trees, operation, together, phrases, range, choice, cases, conformity, loop, call, parallel, meaningless, LoopTurns, no_trees, ◌and_tree◌, count, Order, Body, Program, texts_of}
 use Rattle.a68_emit.specs.Stretches.{Has, Stands, StandAll, member_places, wholes_of, leave}
 use Rattle.a68_sim.proofs.Conforming.{conforming_done, specifying_done, tagging_done, passing_done}
 use Rattle.a68_sim.proofs.Calling.{calling_done, entering_done, binding_one, inside_done}
@@ -161,7 +161,7 @@ module _ (program : Program) (code : Code) (same : code.modes ≡ program.modes)
         (tree_progress enquiry c z.0 base c true st (record { a = s.a; stands = z.6; chain = refl; state = s.state ∙ ap (λ x. idle s.a base x) (sym s.chain) })))
     tree_progress (loop p controls true counts test body) c b base home g st s =
         let z = s.stands in
-        let l : Turns = record { place = p; counts = counts; test = test; body = body } in
+        let l : LoopTurns = record { place = p; counts = counts; test = test; body = body } in
         let x : LoopAt code l z.2 b =
         record { t' = z.3; u = z.4; w = z.5; x = z.6; n = z.7; n' = z.8; v = z.9; f = z.10; e = z.11; step = z.17; turn = z.18; index = z.19; tests = z.20; body_at = z.21; out = z.22; advance = z.23; jump = z.24; quit = z.25; forget = z.26 } in
         progress_row program code _ _ _ st refl
@@ -169,7 +169,7 @@ module _ (program : Program) (code : Code) (same : code.modes ≡ program.modes)
         (z.12, s.chain, count_todos controls c ∙ z.13, z.1, z.2, z.15, z.16, x) (limiting_done program code b base home g l c z.0))
     tree_progress (loop p controls false counts test body) c b base home g st s =
         let z = s.stands in
-        let l : Turns = record { place = p; counts = counts; test = test; body = body } in
+        let l : LoopTurns = record { place = p; counts = counts; test = test; body = body } in
         let x : LoopAt code l z.2 b =
         record { t' = z.3; u = z.4; w = z.5; x = z.6; n = z.7; n' = z.8; v = z.9; f = z.10; e = z.11; step = z.17; turn = z.18; index = z.19; tests = z.20; body_at = z.21; out = z.22; advance = z.23; jump = z.24; quit = z.25; forget = z.26 } in
         let counter : Has code p does.Counter z.0 z.2 = subst (λ (y : ℕ). Has code p does.Counter y z.2) (sym z.15) z.16 in

@@ -17,7 +17,7 @@ use Rattle.a68_sim.proofs.Finishing.{Finish, unit_end, Works, Closes}
 use Rattle.a68_sim.proofs.Quiet.{ActsNext, has_open}
 use Rattle.a68_sim.proofs.Settling.{Yields, SettledIn}
 use Rattle.a68_strand.proofs.Waking.{IsCalm}
-use Rattle.a68_strand.specs.Ends.{CanAct, fault_in, fault_of}
+use Rattle.a68_strand.specs.Ends.{CanActNow, fault_in, fault_of}
 use Rattle.a68_instructions.specs.Machine.{State, told_by, place_at}
 use Rattle.a68_exec.specs.Runs.{World, has_closed, is_closed, all_closed, acts_in, after}
 use Rattle.a68_instructions.specs.declared.ask.Stance.{Stance}
@@ -59,7 +59,7 @@ none_or : (o : Option (List Content)) → ((vs : List Content) → o ≡ Some vs
 none_or None h = refl
 none_or (Some vs) h = absurd (h vs refl)
 
-module _ (program : Program) (code : Code) (w : World) (calm : IsCalm code w.strands) (no_act : (n : ℕ) → CanAct code w n → ⊥) (no_fault : (n : ℕ) → fault_of w n ≡ None) where
+module _ (program : Program) (code : Code) (w : World) (calm : IsCalm code w.strands) (no_act : (n : ℕ) → CanActNow code w n → ⊥) (no_fault : (n : ℕ) → fault_of w n ≡ None) where
   abbrev store : Store
   store = w.store
 

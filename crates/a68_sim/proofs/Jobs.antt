@@ -21,7 +21,7 @@ use Rattle.a68_elab.specs.Positions.{here}
 use Rattle.a68_elab.specs.Rows.{in_turn, goes, acts, meets, goes_with, counted, turned, finish, row}
 use Rattle.a68_elab.specs.Rows as rows
 use Rattle.a68_elab.specs.Terms.{Job, operating, resuming, gathering, ending, ranged, choosing, casing, chosen, limiting, counting, stepping, turning, opening, naming, indexing, ranging, testing, running, advancing, quitting, leaving, Term, todo, part, yielded, no_terms, ◌and_term◌, only}
-use Rattle.a68_elab.specs.Trees.{Tree, Trees, no_trees, ◌and_tree◌, count, Order, Test, no_test, while_in, Turns, depth, depth_of, Program}
+use Rattle.a68_elab.specs.Trees.{Tree, Trees, no_trees, ◌and_tree◌, count, Order, Test, no_test, while_in, LoopTurns, depth, depth_of, Program}
 use Rattle.a68_emit.specs.Stretches.{Indexes, Leaves, Has, Stands, StandArms, Tests, with_last, does_of, leave}
 use Rattle.a68_modes.specs.declared.shape.Shape.{Shape}
 use Rattle.a68_ops.specs.Applied.{applied}
@@ -258,7 +258,7 @@ module _ (program : Program) (code : Code) where
             (inl (refl, inl jump.3)) (ap (λ c. idle b (push g v base) c) tail.0)
 
     -- TO is looked at alone
-    pub limiting_done : (l : Turns) (ch : List Environ) (k : ℕ) → Done program code (limiting l) ch k b base home g
+    pub limiting_done : (l : LoopTurns) (ch : List Environ) (k : ℕ) → Done program code (limiting l) ch k b base home g
     unfolding start
     limiting_done l ch k [] tail = absurd (omega (arith, tail.2))
     limiting_done l ch k (v ∷ []) tail = absurd (omega (arith, tail.2))
@@ -283,7 +283,7 @@ module _ (program : Program) (code : Code) where
         by_result (Err why) e a =
             moves_fault program code _ t _ why l.place e (a ∙ ap (λ x. Some (meets why x)) (place_is code k l.place (does.Apply 26) tail.5.0)) (is_inside code k l.place (does.Apply 26) tail.5.0)
 
-    pub counting_done : (l : Turns) (ch : List Environ) (k : ℕ) → Done program code (counting l) ch k b base home g
+    pub counting_done : (l : LoopTurns) (ch : List Environ) (k : ℕ) → Done program code (counting l) ch k b base home g
     counting_done l ch k [] tail = absurd (omega (arith, tail.2))
     counting_done l ch k (v ∷ []) tail = absurd (omega (arith, tail.2))
     counting_done l ch k (v ∷ (w ∷ [])) tail = absurd (omega (arith, tail.2))
@@ -307,7 +307,7 @@ module _ (program : Program) (code : Code) where
             moves_fault program code _ t _ why l.place e (a ∙ ap (λ x. Some (meets why x)) (place_is code k l.place does.Counter tail.4.0)) (is_inside code k l.place does.Counter tail.4.0)
 
     -- the places of a loop, in order
-    in_loop : (l : Turns) (t : ℕ) (x : LoopAt code l t b) → (t < x.e) × (x.x ≤ x.f) × (suc x.n' < x.e)
+    in_loop : (l : LoopTurns) (t : ℕ) (x : LoopAt code l t b) → (t < x.e) × (x.x ≤ x.f) × (suc x.n' < x.e)
     in_loop l t x =
         let i = forward_index code l.counts l.place x.u x.w x.index in let o = forward_test code l.test l.place x.f x.w x.x x.tests in
         let c = forward code false l.body x.x x.n x.body_at in
@@ -315,7 +315,7 @@ module _ (program : Program) (code : Code) where
         let p2 = x.step.1 in let p3 = x.turn.1 in let p5 = x.advance.1 in let p6 = x.jump.1 in
         (omega arith, omega arith, omega arith)
 
-    pub stepping_done : (c : Counter) (l : Turns) (ch : List Environ) (k : ℕ) → Done program code (stepping c l) ch k b base home g
+    pub stepping_done : (c : Counter) (l : LoopTurns) (ch : List Environ) (k : ℕ) → Done program code (stepping c l) ch k b base home g
     stepping_done c l ch k acc tail =
         on_bare (stepping c l) ch k acc (item.Counter c ∷ base)
         (by_test (has_turn c) (row_done program (stepping c l) ch acc) (at_instr code k l.place (item.Counter c ∷ base) ch (does.Step tail.2.e) tail.2.step.0 refl))
@@ -334,7 +334,7 @@ module _ (program : Program) (code : Code) where
             (inl (refl, inl (in_loop l k x).0)) (x.e, refl, (tail.0, tail.1, l.place, inl x.forget))
 
     -- a turn: the test, or at once the body
-    turn_sim : (c : Counter) (l : Turns) (test : Test) → l.test ≡ test → (ch : List Environ) → g ≡ false → drops (bit_of l.counts) ch ≡ home → (t : ℕ) (x : LoopAt code l t b)
+    turn_sim : (c : Counter) (l : LoopTurns) (test : Test) → l.test ≡ test → (ch : List Environ) → g ≡ false → drops (bit_of l.counts) ch ≡ home → (t : ℕ) (x : LoopAt code l t b)
         → (st : State) → st ≡ idle x.w (item.Counter c ∷ base) ch → Sim code b base home g (in_turn test c l ch) st
     turn_sim c l no_test is ch eg hangs t x st e =
         let same : x.w ≡ x.x = subst (λ (z : Test). Tests code z l.place x.f x.w x.x) is x.tests in
@@ -354,7 +354,7 @@ module _ (program : Program) (code : Code) where
         let y : Tests code (while_in at (suc s) test) l.place x.f x.w x.x = subst (λ (z : Test). Tests code z l.place x.f x.w x.x) is x.tests in
         (x.w, e, (eg, hangs, t, x, ap (depth_of l.counts) is, y.0, y.1, y.2, y.3, y.4))
 
-    pub turning_done : (c : Counter) (l : Turns) (ch : List Environ) (k : ℕ) → Done program code (turning c l) ch k b base home g
+    pub turning_done : (c : Counter) (l : LoopTurns) (ch : List Environ) (k : ℕ) → Done program code (turning c l) ch k b base home g
     turning_done c l ch k acc tail =
         let x = tail.3 in
         let turn : Has code l.place does.Turn k x.u = subst (λ (y : ℕ). Has code l.place does.Turn y x.u) (sym tail.4) x.turn in
@@ -411,7 +411,7 @@ module _ (program : Program) (code : Code) where
         told (reply.Base cell) = mis p (does.Enter n) has.0
         told (reply.Held h) = mis p (does.Enter n) has.0
 
-    pub opening_done : (c : Counter) (l : Turns) (ch : List Environ) (k : ℕ) → Done program code (opening c l) ch k b base home g
+    pub opening_done : (c : Counter) (l : LoopTurns) (ch : List Environ) (k : ℕ) → Done program code (opening c l) ch k b base home g
     opening_done c l ch k acc tail =
         let x = tail.3 in
         let i : Indexes code true l.place x.u x.w = subst (λ (y : Bool). Indexes code y l.place x.u x.w) tail.5 x.index in
@@ -421,7 +421,7 @@ module _ (program : Program) (code : Code) where
         (λ e. (i.0, refl, (tail.0, tail.1, tail.2, x, tail.5, i.1, i.3, i.4)))
         (λ q d h. misled_sim code b base home g q k d ch h))
 
-    pub ranging_done : (c : Counter) (l : Turns) (at slots : ℕ) (test : Tree) (ch : List Environ) (k : ℕ) → Done program code (ranging c l at slots test) ch k b base home g
+    pub ranging_done : (c : Counter) (l : LoopTurns) (at slots : ℕ) (test : Tree) (ch : List Environ) (k : ℕ) → Done program code (ranging c l at slots test) ch k b base home g
     ranging_done c l at slots test ch k acc tail =
         let x = tail.3 in
         on_bare (ranging c l at slots test) ch k acc (item.Counter c ∷ base)
@@ -433,7 +433,7 @@ module _ (program : Program) (code : Code) where
         ))
         (λ q d h. misled_sim code b base home g q k d ch h))
 
-    pub naming_done : (c : Counter) (l : Turns) (ch : List Environ) (k : ℕ) → Done program code (naming c l) ch k b base home g
+    pub naming_done : (c : Counter) (l : LoopTurns) (ch : List Environ) (k : ℕ) → Done program code (naming c l) ch k b base home g
     naming_done c l ch k acc tail =
         let items = item.Value (plain (value.Int c.at)) ∷ (item.Counter c ∷ base) in
         on_bare (naming c l) ch k acc (item.Counter c ∷ base)
@@ -441,7 +441,7 @@ module _ (program : Program) (code : Code) where
         (at_instr code k l.place (item.Counter c ∷ base) ch does.Index tail.6.0 refl) (is_inside code k l.place does.Index tail.6.0) (inl (refl, inl (omega arith)))
         (tail.5, ap (λ n. idle n items ch) (next_is k tail.5 tail.6.1), (tail.0, tail.1, tail.2, tail.3, tail.4, tail.7)))
 
-    pub indexing_done : (c : Counter) (l : Turns) (ch : List Environ) (k : ℕ) → Done program code (indexing c l) ch k b base home g
+    pub indexing_done : (c : Counter) (l : LoopTurns) (ch : List Environ) (k : ℕ) → Done program code (indexing c l) ch k b base home g
     unfolding start resumed
     indexing_done c l [] k acc tail =
         let items = item.Value (plain (value.Int c.at)) ∷ (item.Counter c ∷ base) in
@@ -484,7 +484,7 @@ module _ (program : Program) (code : Code) where
         told : (r : Reply) → Sim code b base home g (turned l.place (e ∷ outer) (in_turn l.test c l (e ∷ outer)) r) (told_by code st (waiting.Operation next.Void) r)
         told r = by_leaves (leaves_at code k) leaves_none r
 
-    pub testing_done : (c : Counter) (l : Turns) (ch : List Environ) (k : ℕ) → Done program code (testing c l) ch k b base home g
+    pub testing_done : (c : Counter) (l : LoopTurns) (ch : List Environ) (k : ℕ) → Done program code (testing c l) ch k b base home g
     testing_done c l ch k [] tail = absurd (omega (arith, tail.2))
     testing_done c l ch k (v ∷ (w ∷ acc)) tail = absurd (two_or_more v w acc tail.2)
     testing_done c l ch k (v ∷ []) tail =
@@ -514,7 +514,7 @@ module _ (program : Program) (code : Code) where
         moves_on program code _ _ _ _ (idle (suc k) items (o ∷ outer)) e (at_instr code k p items (x ∷ (o ∷ outer)) (does.Leave 0) has.0 refl) (is_inside code k p (does.Leave 0) has.0)
         (inl (refl, inl (omega arith))) (subst (λ (y : ℕ). Sim code b base home g (f (o ∷ outer)) (idle y items (o ∷ outer))) (sym (next_is k k2 has.1)) keeps)
 
-    pub advancing_done : (j : ℕ) (c : Counter) (l : Turns) (ch : List Environ) (k : ℕ) → Done program code (advancing j c l) ch k b base home g
+    pub advancing_done : (j : ℕ) (c : Counter) (l : LoopTurns) (ch : List Environ) (k : ℕ) → Done program code (advancing j c l) ch k b base home g
     advancing_done (suc j) c l ch k acc tail =
         on_bare (advancing (suc j) c l) ch k acc (item.Counter c ∷ base)
         (goes_outwards _ l.place k tail.4.0 (item.Counter c ∷ base) (λ out. part (advancing j c l) out no_terms) ch tail.4.1 (row_done program (advancing (suc j) c l) ch acc)
@@ -555,7 +555,7 @@ module _ (program : Program) (code : Code) where
             moves_on program code _ _ _ _ (idle (suc k) (item.Counter c ∷ base) ch) e a (is_inside code k l.place (does.Advance tail.2) advance.0) (inl (refl, inl (omega arith)))
             (tail.3.v, ap (λ n. idle n (item.Counter c ∷ base) ch) (next_is k tail.3.v advance.1), (tail.0, tail.1, l.place, inr (tail.3.e, tail.3.f, tail.3.jump, (let y = (in_loop l tail.2 tail.3).2 in let z = advance.1 in let w = tail.4 in omega arith), tail.3.forget)))
 
-    pub running_done : (c : Counter) (l : Turns) (ch : List Environ) (k : ℕ) → Done program code (running c l) ch k b base home g
+    pub running_done : (c : Counter) (l : LoopTurns) (ch : List Environ) (k : ℕ) → Done program code (running c l) ch k b base home g
     running_done c l ch k acc tail =
         on_bare (running c l) ch k acc (item.Counter c ∷ base)
         (progress_row program code _ _ _ _ (row_done program (running c l) ch acc)

@@ -16,7 +16,7 @@ use Rattle.a68_ops.specs.Applied.{applied}
 use Rattle.a68_sim.proofs.Examples.{instr, whole, not_ended}
 use Rattle.a68_sim.proofs.Whole.{law}
 use Rattle.a68_strand.specs.Ends as run
-use Rattle.a68_strand.specs.Ends.{CanAct, fault_of}
+use Rattle.a68_strand.specs.Ends.{CanActNow, fault_of}
 use Rattle.a68_instructions.specs.Machine.{State, stack_of, settle}
 use Rattle.a68_strand.specs.RunOf.{RunOf}
 use Rattle.a68_exec.specs.Runs.{World}
@@ -190,7 +190,7 @@ at_down = Asking (want.Down 0) (waiting.Operation next.Void)
 abbrev halted_world : World
 halted_world = record { store = last_store; strands = bare 4 within (Waits 1 2) ∷ bare 8 within at_down ∷ bare 11 within at_down ∷ [] }
 
-none_acts : (n : ℕ) → CanAct (code 36) halted_world n → ⊥
+none_acts : (n : ℕ) → CanActNow (code 36) halted_world n → ⊥
 unfolding does
 none_acts zero can = can refl
 none_acts (suc zero) can = can refl
@@ -295,7 +295,7 @@ nested = law nested_program nested_code 6 (nested_kept (by 1 act.Close ∷ []) e
 abbrev spent_world : World
 spent_world = nested_world (bare 0 standard (Waits 1 2)) (bare 3 standard (Asking want.Close waiting.Close))
 
-can_close : CanAct nested_code spent_world 1
+can_close : CanActNow nested_code spent_world 1
 unfolding does
 can_close e = absurd (cc)
 

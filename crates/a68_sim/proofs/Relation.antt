@@ -12,7 +12,7 @@ use Rattle.a68_code.specs.declared.code.RoutineEntrance.{RoutineEntrance}
 use Rattle.a68_code.specs.declared.does.Does.{Does}
 use Rattle.a68_code.specs.declared.does.Does.TheVariants as does
 use Rattle.a68_elab.specs.Terms.{Job, operating, resuming, gathering, preceding, ending, ranged, choosing, casing, conforming, specifying, tagging, passing, chosen, limiting, counting, stepping, turning, opening, naming, indexing, ranging, testing, running, advancing, quitting, leaving, calling, entering, binding, inside, forking, joining, closing, Term, todo, part, yielded, unit_of, Terms, no_terms, ◌and_term◌, todos, values}
-use Rattle.a68_elab.specs.Trees.{Tree, Turns, depth, Trees, no_trees, ◌and_tree◌, count}
+use Rattle.a68_elab.specs.Trees.{Tree, LoopTurns, depth, Trees, no_trees, ◌and_tree◌, count}
 use Rattle.a68_emit.specs.Stretches.{AreEntrances, Indexes, Leaves, Has, Stands, StandAll, StandArms, StandSpecs, Tests, member_places, wholes_of, with_last, does_of, leave}
 use Rattle.a68_modes.specs.Nodes.{shape_at}
 use Rattle.a68_sim.proofs.Asking.{idle}
@@ -116,7 +116,7 @@ Continues code p (doing.Asks w next) ch k b home g = (op : Operation) × (n : �
 Continues code p (doing.Meets why) ch k b home g = (d : Does) × (slice_get code.list k ≡ Some (record { place = p; does = d }))
 
 -- a loop's stretch, from its Step at t up to b
-pub record LoopAt (code : Code) (l : Turns) (t b : ℕ) : Type 0 where
+pub record LoopAt (code : Code) (l : LoopTurns) (t b : ℕ) : Type 0 where
   pub t' : ℕ
   pub u : ℕ
   pub w : ℕ

@@ -22,7 +22,7 @@ use Rattle.a68_sim.proofs.Worlds.{next_acts, Joint, steps}
 use Rattle.a68_exec.proofs.Alive.{active}
 use Rattle.a68_exec.proofs.Settled.{settle_rests}
 use Rattle.a68_strand.proofs.Waking.{IsCalm}
-use Rattle.a68_strand.specs.Ends.{HasEnded, CanAct}
+use Rattle.a68_strand.specs.Ends.{HasEnded, CanActNow}
 use Rattle.a68_instructions.specs.Machine.{State, beginning, settle, next_state}
 use Rattle.a68_strand.specs.RunOf.{RunOf}
 use Rattle.a68_exec.specs.Runs.{World, Machine, opening, acted, acts_in, all_closed, is_passive}
@@ -126,7 +126,7 @@ module _ (program : Program) (code : Code) (tr : Translates program code) where
     calm = first_calm code home;
   }
 
-  pub none_acts : (es : List Entry) (w : World) → Machine code (opening code) es w → HasEnded w 0 → (n : ℕ) → CanAct code w n → ⊥
+  pub none_acts : (es : List Entry) (w : World) → Machine code (opening code) es w → HasEnded w 0 → (n : ℕ) → CanActNow code w n → ⊥
   none_acts es w m h n can =
       let all = follow_run program code tr.modes texts_of_code how_ends end_is es begins_so.0 (opening code) w begun m in
       can (still_behind program code tr.modes texts_of_code tr.end home end_is w all.0 all.2 h n)

@@ -7,7 +7,7 @@ ghost use Rattle.a68_elab.specs.Permitted.{Permitted};
 ghost use Rattle.a68_elab.specs.Places.{ProgramBeginsBy};
 ghost use Rattle.a68_elab.specs.Trees.{Program};
 ghost use Rattle.a68_emit.specs.Stretches.{Translates};
-ghost use Rattle.a68_strand.specs.Ends.{CanAct, HasEnded};
+ghost use Rattle.a68_strand.specs.Ends.{CanActNow, HasEnded};
 ghost use Rattle.a68_strand.specs.RunOf.{RunOf};
 ghost use Rattle.a68_exec.specs.Runs.{Machine, World, opening};
 ghost use Rattle.a68_values.specs.declared.act.Entry.{Entry};
@@ -29,7 +29,7 @@ pub fn permitted_law()
 /// other one.
 pub fn ended_programs_do_no_more()
     ensures { (program : Program) (code : Code) → Translates program code → (entries : List Entry) (world : World) → Machine code (opening code) entries world
-        → HasEnded world 0 → (strand : ℕ) → CanAct code world strand → ⊥ }
+        → HasEnded world 0 → (strand : ℕ) → CanActNow code world strand → ⊥ }
 {}
 
 /// A law: where each construct of a program begins at a byte or before it, a fault of a run does too. The fault of a

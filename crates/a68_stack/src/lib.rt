@@ -2,7 +2,7 @@
 #![tactic(auto)]
 
 mod caller;
-mod kept;
+mod packed;
 mod stack;
 
 pub use caller::Caller;

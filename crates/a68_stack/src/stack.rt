@@ -9,7 +9,7 @@ ghost use Rattle.a68_stack.specs.Below.{may_yield, plain_below};
 ghost use Rattle.a68_stack.specs.Values.{callers, is_caller, pop_values, top_counter, top_plain, top_three, top_two, top_value};
 
 use crate::Caller;
-use crate::kept::Kept;
+use crate::packed::Packed;
 use a68_acts::Counter;
 use a68_base::NoMemory;
 use a68_values::{Plain, Value, Values};
@@ -27,7 +27,7 @@ pub enum Item {
 
 /// A stack. Contracts see the list of its items, the topmost first.
 pub struct Stack {
-    items: Vec<Kept>,
+    items: Vec<Packed>,
     // How many callers stand on it, so that nobody has to count them.
     open_calls: usize,
 }
@@ -90,7 +90,7 @@ impl Stack {
         ensures err { OnErr result (self.new ≡ self.old) }
     {
         let calls = is_caller(&item);
-        let kept = Kept::of(*self.items.allocator(), item)?;
+        let kept = Packed::of(*self.items.allocator(), item)?;
         self.items.push(kept)?;
         if calls {
             self.open_calls += 1;
@@ -133,7 +133,7 @@ impl Stack {
         ensures ok { OnOk result (self.new ≡ Item.Caller caller ∷ self.old) }
         ensures err { OnErr result (self.new ≡ self.old) }
     {
-        let kept = Kept::of_caller(*self.items.allocator(), caller)?;
+        let kept = Packed::of_caller(*self.items.allocator(), caller)?;
         self.items.push(kept)?;
         self.open_calls += 1;
         Ok(())
@@ -145,7 +145,7 @@ impl Stack {
         ensures ok { OnOk result (self.new ≡ Item.Value value ∷ self.old) }
         ensures err { OnErr result (self.new ≡ self.old) }
     {
-        let kept = Kept::of_value(*self.items.allocator(), value)?;
+        let kept = Packed::of_value(*self.items.allocator(), value)?;
         self.items.push(kept)?;
         Ok(())
     }
@@ -156,7 +156,7 @@ impl Stack {
         ensures ok { OnOk result (self.new ≡ Item.Value (plain held) ∷ self.old) }
         ensures err { OnErr result (self.new ≡ self.old) }
     {
-        self.items.push(Kept::of_plain(held))?;
+        self.items.push(Packed::of_plain(held))?;
         Ok(())
     }
 
@@ -285,7 +285,7 @@ impl Stack {
         let below = self.items.len() - 2;
         // Neither holds any memory, and nothing is looked at again.
         mem::forget(self.items.pop());
-        mem::forget(mem::replace(&mut self.items[below], Kept::of_plain(held)));
+        mem::forget(mem::replace(&mut self.items[below], Packed::of_plain(held)));
         true
     }
 

@@ -2,7 +2,7 @@
 use Rattle.std.specs.Prelude.{◌≡◌, ◌≢◌, ◌<◌, ◌≤◌, ◌⊎◌, ⊤, ℕ, List, [], ◌∷◌, None, Some}
 use Rattle.std.specs.declared.option.Option.{Option}
 use Rattle.a68_code.specs.declared.code.Code.{Code}
-use Rattle.a68_strand.specs.Ends.{fault_of, CanAct}
+use Rattle.a68_strand.specs.Ends.{fault_of, CanActNow}
 use Rattle.a68_exec.specs.Runs.{World, Machine, IfNext, opening, acted}
 use Rattle.a68_values.specs.declared.act.Entry.{Entry}
 use Rattle.a68_values.specs.declared.kept.End.{End}
@@ -11,7 +11,7 @@ use Rattle.a68_values.specs.declared.kept.Kept.{Kept}
 
 -- a strand that can act, or stands before a fault: at its turn there is something to do
 abbrev pub HasTurn : Code → World → ℕ → Type 0
-HasTurn code w n = CanAct code w n ⊎ (fault_of w n ≢ None)
+HasTurn code w n = CanActNow code w n ⊎ (fault_of w n ≢ None)
 
 -- one strand is sooner than another in the order that begins behind a third, goes on by numbers and then from 0 up to
 -- that third one

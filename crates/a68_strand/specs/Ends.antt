@@ -30,14 +30,14 @@ pub record HasEnded (w : World) (n : ℕ) : Type 0 where
   pub idle : st.stance ≡ Idle
 
 -- the strand can act: its next act meets no fault
-abbrev pub CanAct : Code → World → ℕ → Type 0
-CanAct code w n = acted code w n ≢ None
+abbrev pub CanActNow : Code → World → ℕ → Type 0
+CanActNow code w n = acted code w n ≢ None
 
 -- A run with this fuel, which stands here after these entries, has this end. But for Done strand 0 has not ended.
-pub data EndsWith (code : Code) (fuel : ℕ) (entries : List Entry) (w : World) : End → Type 0 where
-  done : HasEnded w 0 → EndsWith code fuel entries w ends.Done
+pub data RunEndsWith (code : Code) (fuel : ℕ) (entries : List Entry) (w : World) : End → Type 0 where
+  done : HasEnded w 0 → RunEndsWith code fuel entries w ends.Done
   fault : {strand place : ℕ} {kind : FaultKind} {st : State} → (HasEnded w 0 → ⊥) → fault_of w strand ≡ Some kind → slice_get w.strands strand ≡ Some st
-      → place ≡ place_at code.list st.at → EndsWith code fuel entries w (ends.Fault kind place strand)
-  all_halted : (HasEnded w 0 → ⊥) → ((n : ℕ) → CanAct code w n → ⊥) → ((n : ℕ) → fault_of w n ≡ None)
-      → EndsWith code fuel entries w ends.AllHalted
-  spent : (strand : ℕ) → (HasEnded w 0 → ⊥) → length entries ≡ fuel → CanAct code w strand → EndsWith code fuel entries w ends.Spent
+      → place ≡ place_at code.list st.at → RunEndsWith code fuel entries w (ends.Fault kind place strand)
+  all_halted : (HasEnded w 0 → ⊥) → ((n : ℕ) → CanActNow code w n → ⊥) → ((n : ℕ) → fault_of w n ≡ None)
+      → RunEndsWith code fuel entries w ends.AllHalted
+  spent : (strand : ℕ) → (HasEnded w 0 → ⊥) → length entries ≡ fuel → CanActNow code w strand → RunEndsWith code fuel entries w ends.Spent

@@ -2,7 +2,7 @@
 use Rattle.std.specs.Prelude.{◌≤◌, ℕ, length}
 use Rattle.a68_acts.specs.Keeping.{IsKept}
 use Rattle.a68_code.specs.declared.code.Code.{Code}
-use Rattle.a68_strand.specs.Ends.{EndsWith}
+use Rattle.a68_strand.specs.Ends.{RunEndsWith}
 use Rattle.a68_exec.specs.Runs.{World, Machine, opening}
 use Rattle.a68_values.specs.declared.kept.Kept.{Kept}
 
@@ -12,4 +12,4 @@ pub record RunOf (code : Code) (fuel : ℕ) (kept : Kept) : Type 0 where
   pub runs : Machine code (opening code) kept.journal.entries world
   pub keeps : IsKept world.store kept
   pub within : length kept.journal.entries ≤ fuel
-  pub ends : EndsWith code fuel kept.journal.entries world kept.end
+  pub ends : RunEndsWith code fuel kept.journal.entries world kept.end

@@ -8,7 +8,7 @@ use Rattle.a68_base.specs.declared.status.Status.{Status}
 use Rattle.a68_base.specs.declared.status.Status.TheVariants.{Done, Refused, Usage, Fault, AllHalted, Spent, ReadFault, WriteFault, NoMemory}
 use Rattle.a68_top.specs.declared.finish.Finish.{Finish}
 use Rattle.a68_top.specs.Words.{Task}
-use Rattle.a68_top.specs.Outcome.{IsAnswer, Answered, Broke, Outcome, Owes, Sunk, Whole}
+use Rattle.a68_top.specs.Outcome.{IsAnswer, Answered, Broke, FinishIs, Owes, Sunk, Whole}
 use Rattle.a68_outside.specs.Cause.{Rose, HasCause}
 use Rattle.a68_outside.specs.Known.{ReceivesFront}
 
@@ -23,7 +23,7 @@ front_written (Err e) old new text before now all front cause = (front, inr caus
 
 -- where the status is one of an answer, the answer is the outcome
 pub outcome_of : (status : Status) (old new : ℕ) {task : Option Task} {under : List ℕ → Option (List ℕ)} {out notes : Sunk} {finish : Finish}
-    → IsAnswer status → Answered task under out notes finish → Outcome status task under old new out notes finish
+    → IsAnswer status → Answered task under out notes finish → FinishIs status task under old new out notes finish
 outcome_of Done old new is answered = answered
 outcome_of Refused old new is answered = answered
 outcome_of Usage old new is answered = answered
@@ -41,11 +41,11 @@ calm_no old new e more = omega arith
 pub outcome_after : {T E : Type 0} (done : Result T E) (due finish : Finish) (old new : ℕ) {task : Option Task} {under : List ℕ → Option (List ℕ)} (out notes : Sunk) (on_out on_notes : List ℕ)
     → OnOk done (finish ≡ due) → OnErr done (finish ≡ record due { status = WriteFault }) → IsAnswer due.status → Owes task under due on_out on_notes
     → OnOk done (Whole out on_out) → OnOk done (Whole notes on_notes) → OnErr done (Broke out notes on_out on_notes)
-    → Outcome finish.status task under old new out notes finish
+    → FinishIs finish.status task under old new out notes finish
 outcome_after (Ok x) due finish old new {task} {under} out notes on_out on_notes ok err is owed out_whole notes_whole broke =
-    subst (λ (f : Finish). Outcome f.status task under old new out notes f) (sym ok) (outcome_of due.status old new is (record { on_out = on_out; on_notes = on_notes; owed = owed; out_whole = out_whole; notes_whole = notes_whole }))
+    subst (λ (f : Finish). FinishIs f.status task under old new out notes f) (sym ok) (outcome_of due.status old new is (record { on_out = on_out; on_notes = on_notes; owed = owed; out_whole = out_whole; notes_whole = notes_whole }))
 outcome_after (Err e) due finish old new {task} {under} out notes on_out on_notes ok err is owed out_whole notes_whole broke =
-    subst (λ (f : Finish). Outcome f.status task under old new out notes f) (sym err) (record { due = due; on_out = on_out; on_notes = on_notes; owed = owed; finish_is = refl; broke = broke })
+    subst (λ (f : Finish). FinishIs f.status task under old new out notes f) (sym err) (record { due = due; on_out = on_out; on_notes = on_notes; owed = owed; finish_is = refl; broke = broke })
 
 -- where the faults of a sink have become more, a write has failed
 pub fault_told : {T E : Type 0} (done : Result T E) (due finish : Finish) (old new : ℕ) → OnOk done (new ≡ old) → OnErr done (finish ≡ record due { status = WriteFault }) → old < new → finish.status ≡ WriteFault

@@ -95,8 +95,8 @@ IsAnswer WriteFault = ⊥
 IsAnswer NoMemory = ⊥
 IsAnswer _ = ⊤
 
-abbrev pub Outcome : Status → Option Task → (List ℕ → Option (List ℕ)) → ℕ → ℕ → Sunk → Sunk → Finish → Type 0
-Outcome ReadFault task under old new out notes finish = Unread old new out notes finish
-Outcome WriteFault task under old new out notes finish = BrokenOff task under out notes finish
-Outcome NoMemory task under old new out notes finish = Empty out notes finish
-Outcome _ task under old new out notes finish = Answered task under out notes finish
+abbrev pub FinishIs : Status → Option Task → (List ℕ → Option (List ℕ)) → ℕ → ℕ → Sunk → Sunk → Finish → Type 0
+FinishIs ReadFault task under old new out notes finish = Unread old new out notes finish
+FinishIs WriteFault task under old new out notes finish = BrokenOff task under out notes finish
+FinishIs NoMemory task under old new out notes finish = Empty out notes finish
+FinishIs _ task under old new out notes finish = Answered task under out notes finish

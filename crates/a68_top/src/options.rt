@@ -25,7 +25,7 @@ pub enum NextWord {
 
 /// What the words give so far.
 #[derive(Clone, Copy)]
-pub struct Found {
+pub struct WordsSoFar {
     pub due: NextWord,
     /// The number of the word that names the file.
     pub file: Option<usize>,
@@ -60,13 +60,13 @@ pub fn number_in(most: u32, word: &[u8]) -> Option<u32>
 }
 
 // The number of workers.
-fn workers_in(found: Found, word: &[u8]) -> Option<Found>
+fn workers_in(found: WordsSoFar, word: &[u8]) -> Option<WordsSoFar>
     requires { HasRange found }
     ensures found { result ≡ spec.workers_in found word.now }
     ensures range { IfSome result HasRange }
 {
     match number_in(MOST_WORKERS, word) {
-        Some(workers) if found.workers.is_none() => Some(Found {
+        Some(workers) if found.workers.is_none() => Some(WordsSoFar {
             due: NextWord::Word,
             workers: Some(workers),
             ..found
@@ -76,13 +76,13 @@ fn workers_in(found: Found, word: &[u8]) -> Option<Found>
 }
 
 // The fuel.
-fn fuel_in(found: Found, word: &[u8]) -> Option<Found>
+fn fuel_in(found: WordsSoFar, word: &[u8]) -> Option<WordsSoFar>
     requires { HasRange found }
     ensures found { result ≡ spec.fuel_in found word.now }
     ensures range { IfSome result HasRange }
 {
     match number_in(MOST_FUEL, word) {
-        Some(fuel) if found.fuel.is_none() => Some(Found {
+        Some(fuel) if found.fuel.is_none() => Some(WordsSoFar {
             due: NextWord::Word,
             fuel: Some(fuel),
             ..found
@@ -92,7 +92,7 @@ fn fuel_in(found: Found, word: &[u8]) -> Option<Found>
 }
 
 // The names are asked for, once at most.
-fn with_names(found: Found) -> Option<Found>
+fn with_names(found: WordsSoFar) -> Option<WordsSoFar>
     requires { HasRange found }
     ensures found { result ≡ spec.with_names found }
     ensures range { IfSome result HasRange }
@@ -100,14 +100,14 @@ fn with_names(found: Found) -> Option<Found>
     if found.names {
         return None;
     }
-    Some(Found {
+    Some(WordsSoFar {
         names: true,
         ..found
     })
 }
 
 // The word of this number names the file.
-fn with_file(found: Found, at: usize) -> Option<Found>
+fn with_file(found: WordsSoFar, at: usize) -> Option<WordsSoFar>
     requires { HasRange found }
     ensures found { result ≡ spec.with_file found at }
     ensures range { IfSome result HasRange }
@@ -115,7 +115,7 @@ fn with_file(found: Found, at: usize) -> Option<Found>
     if found.file.is_some() {
         return None;
     }
-    Some(Found {
+    Some(WordsSoFar {
         file: Some(at),
         ..found
     })
@@ -130,7 +130,7 @@ fn behind<'a>(beginning: &[u8], word: &'a [u8]) -> Option<&'a [u8]>
 }
 
 // A word with an option and its number.
-fn joined(found: Found, word: &[u8]) -> Option<Found>
+fn joined(found: WordsSoFar, word: &[u8]) -> Option<WordsSoFar>
     requires { HasRange found }
     ensures found { result ≡ spec.joined found word.now }
     ensures range { IfSome result HasRange }
@@ -145,25 +145,25 @@ fn joined(found: Found, word: &[u8]) -> Option<Found>
 }
 
 // A word where options may stand.
-fn any_word(found: Found, at: usize, word: &str) -> Option<Found>
+fn any_word(found: WordsSoFar, at: usize, word: &str) -> Option<WordsSoFar>
     requires { HasRange found }
     ensures found { result ≡ spec.any_word found at word.now }
     ensures range { IfSome result HasRange }
 {
     if word == "--" {
-        return Some(Found {
+        return Some(WordsSoFar {
             due: NextWord::Operand,
             ..found
         });
     }
     if word == "--workers" {
-        return Some(Found {
+        return Some(WordsSoFar {
             due: NextWord::Workers,
             ..found
         });
     }
     if word == "--fuel" {
-        return Some(Found {
+        return Some(WordsSoFar {
             due: NextWord::Fuel,
             ..found
         });
@@ -179,7 +179,7 @@ fn any_word(found: Found, at: usize, word: &str) -> Option<Found>
 }
 
 // What the words up to this one give; none where it may not stand here.
-fn step(found: Found, at: usize, word: &str) -> Option<Found>
+fn step(found: WordsSoFar, at: usize, word: &str) -> Option<WordsSoFar>
     requires { HasRange found }
     ensures found { result ≡ spec.step found at word.now }
     ensures range { IfSome result HasRange }
@@ -193,11 +193,11 @@ fn step(found: Found, at: usize, word: &str) -> Option<Found>
 }
 
 /// What the words behind the first one give; none where one of them may not stand where it does.
-pub fn found_in(words: &[String]) -> Option<Found>
+pub fn found_in(words: &[String]) -> Option<WordsSoFar>
     ensures found { result ≡ spec.steps spec.start 0 (map string_bytes words.now) }
     ensures range { IfSome result HasRange }
 {
-    let mut found = Found {
+    let mut found = WordsSoFar {
         due: NextWord::Word,
         file: None,
         workers: None,

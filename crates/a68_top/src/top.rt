@@ -1,7 +1,7 @@
 //! The top call.
 ghost use Rattle.std.specs.Prelude.{◌≡◌, ◌≢◌, ◌<◌, ◌⊎◌, map, string_bytes, []};
 ghost use Rattle.a68_top.specs.Words.{MayAskFor, task_in, files_of};
-ghost use Rattle.a68_top.specs.Outcome.{Outcome, sunk};
+ghost use Rattle.a68_top.specs.Outcome.{FinishIs, sunk};
 
 use crate::deliver::deliver;
 use crate::finish::{Finish, bare, delivered};
@@ -31,7 +31,7 @@ pub fn a68<R: Threads + Wait + Sync, F: Shelf, K: Sink, N: Sink, G: Gate>(
     requires { MayAskFor F.may_ask (task_in (map string_bytes words.now)) }
 
     // The headline: what the status says is what was done.
-    ensures outcome { Outcome result.status (task_in (map string_bytes words.now))
+    ensures outcome { FinishIs result.status (task_in (map string_bytes words.now))
         (F.under shelf.old) (F.faults shelf.old) (F.faults shelf.new)
         (sunk K.faults K.received out.old out.new) (sunk N.faults N.received notes.old notes.new) result }
 

@@ -8,7 +8,7 @@ ghost use Rattle.a68_workers.specs.Workers.{most_workers};
 ghost use Rattle.a68_top.specs.Commands as commands;
 ghost use Rattle.a68_top.specs.Commands.{task_of};
 
-use crate::options::{Found, NextWord, found_in, number_in};
+use crate::options::{NextWord, WordsSoFar, found_in, number_in};
 use a68_base::{MOST_FUEL, NoMemory, USUAL_FUEL};
 use a68_maker::{FEWEST_UNITS, MOST_UNITS};
 use std::alloc::Global;
@@ -95,14 +95,14 @@ fn workers_or_one(workers: Option<u32>) -> u32
 }
 
 // Is no option given?
-fn has_no_option(found: Found) -> bool
+fn has_no_option(found: WordsSoFar) -> bool
     ensures { result ≡ has_no_option found }
 {
     found.workers.is_none() && found.fuel.is_none() && !found.names
 }
 
 // Is no option given but the number of workers?
-fn has_workers_alone(found: Found) -> bool
+fn has_workers_alone(found: WordsSoFar) -> bool
     ensures { result ≡ has_workers_alone found }
 {
     found.fuel.is_none() && !found.names
@@ -120,7 +120,7 @@ fn unit_count_in(word: &str) -> Option<u32>
 }
 
 // What `make` asks for.
-fn made_by(found: Found, operand: &str) -> Option<Command>
+fn made_by(found: WordsSoFar, operand: &str) -> Option<Command>
     requires { HasRange found }
     ensures task { option_map task_of result
         ≡ (if has_workers_alone found then option_map (λ units. make_units units (workers_or_one found.workers)) (unit_count_in operand.now) else None) }
@@ -158,7 +158,7 @@ fn compiled_by(alloc: Global, verb: &str, file: &str) -> Result<Option<Command>,
 fn command_by(
     alloc: Global,
     verb: &str,
-    found: Found,
+    found: WordsSoFar,
     operand: &str,
 ) -> Result<Option<Command>, NoMemory>
     requires { HasRange found }
@@ -191,7 +191,7 @@ fn command_in(
     alloc: Global,
     verb: &str,
     words: &[String],
-    found: Found,
+    found: WordsSoFar,
 ) -> Result<Option<Command>, NoMemory>
     requires { HasRange found }
     ensures task { IfOk result (λ command. option_map task_of command ≡ task_of_found verb.now (map string_bytes words.now) found) }

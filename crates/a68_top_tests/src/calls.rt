@@ -11,7 +11,7 @@ use std::thread::Threads;
 
 /// What is handed to a call. The shelf has the text under `f` and the text "BEGIN print(1) END" under `g`.
 #[derive(Clone, Copy)]
-pub struct Given<'a> {
+pub struct Words<'a> {
     pub words: &'a [&'a str],
     pub text: &'a [u8],
     pub reads_fail: &'a [u64],
@@ -21,8 +21,8 @@ pub struct Given<'a> {
 }
 
 /// A call of `run f` where nothing fails.
-pub fn run_f(text: &str) -> Given<'_> {
-    Given {
+pub fn run_f(text: &str) -> Words<'_> {
+    Words {
         words: &["run", "f"],
         text: text.as_bytes(),
         reads_fail: &[],
@@ -33,8 +33,8 @@ pub fn run_f(text: &str) -> Given<'_> {
 }
 
 /// A call with these words where nothing fails.
-pub fn of_words<'a>(words: &'a [&'a str], text: &'a str) -> Given<'a> {
-    Given {
+pub fn of_words<'a>(words: &'a [&'a str], text: &'a str) -> Words<'a> {
+    Words {
         words,
         ..run_f(text)
     }
@@ -42,7 +42,7 @@ pub fn of_words<'a>(words: &'a [&'a str], text: &'a str) -> Given<'a> {
 
 /// What a call left.
 #[derive(Drop)]
-pub struct Left {
+pub struct Remainder {
     pub status: u8,
     /// How many entries the kept journal has.
     pub events: usize,
@@ -50,7 +50,7 @@ pub struct Left {
     pub notes: MemorySink,
 }
 
-fn shelf(rt: &impl Abort, alloc: Global, given: Given<'_>) -> MemoryShelf {
+fn shelf(rt: &impl Abort, alloc: Global, given: Words<'_>) -> MemoryShelf {
     let (text, fails) = (given.text, given.reads_fail);
     let mut shelf = MemoryShelf::new(alloc, "f", text, 4, fails).expect(rt, "memory");
     shelf.put("g", b"BEGIN print(1) END").expect(rt, "memory");
@@ -66,7 +66,11 @@ fn status_and_events(finish: &Finish) -> (u8, usize) {
 }
 
 /// A call whose sinks have the room that is handed in.
-pub fn call<R: Threads + Wait + Sync + Abort>(rt: &R, alloc: Global, given: Given<'_>) -> Left {
+pub fn call<R: Threads + Wait + Sync + Abort>(
+    rt: &R,
+    alloc: Global,
+    given: Words<'_>,
+) -> Remainder {
     let out = MemorySink::new(alloc, given.room, 4, given.writes_fail).expect(rt, "memory");
     call_over(rt, alloc, given, out)
 }
@@ -75,9 +79,9 @@ pub fn call<R: Threads + Wait + Sync + Abort>(rt: &R, alloc: Global, given: Give
 pub fn call_over<R: Threads + Wait + Sync + Abort>(
     rt: &R,
     alloc: Global,
-    given: Given<'_>,
+    given: Words<'_>,
     mut out: MemorySink,
-) -> Left {
+) -> Remainder {
     let words = strings(rt, alloc, given.words);
     let mut shelf = shelf(rt, alloc, given);
     let mut notes = MemorySink::new(alloc, given.notes_room, 5, &[]).expect(rt, "memory");
@@ -88,7 +92,7 @@ pub fn call_over<R: Threads + Wait + Sync + Abort>(
     drop(finish);
     drop(shelf);
     drop(words);
-    Left {
+    Remainder {
         status,
         events,
         out,
@@ -97,7 +101,7 @@ pub fn call_over<R: Threads + Wait + Sync + Abort>(
 }
 
 /// Whether a call ends with this status, and prints this.
-pub fn prints(rt: &impl Abort, left: &Left, status: u8, out: &str) {
+pub fn prints(rt: &impl Abort, left: &Remainder, status: u8, out: &str) {
     holds(rt, left.status == status, "the status");
     holds(rt, left.out.taken() == out.as_bytes(), "what is printed");
 }
@@ -106,7 +110,7 @@ pub fn prints(rt: &impl Abort, left: &Left, status: u8, out: &str) {
 pub fn answers<R: Threads + Wait + Sync + Abort>(
     rt: &R,
     alloc: Global,
-    given: Given<'_>,
+    given: Words<'_>,
     status: u8,
     texts: (&str, &str),
 ) -> usize {

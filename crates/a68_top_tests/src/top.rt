@@ -1,5 +1,5 @@
 //! The worked rows of the top call, over shelves and sinks in memory.
-use crate::calls::{Given, answers, call, of_words, prints, run_f};
+use crate::calls::{Words, answers, call, of_words, prints, run_f};
 use crate::table::holds;
 
 const FORMULA: &str = "BEGIN print(1 + 2 * 3) END";
@@ -407,7 +407,7 @@ const BLANKS: &[(usize, &str)] = &[
 fn long_texts_are_refused(rt: HostRuntime) {
     for (length, notes) in BLANKS {
         let blanks = vec![in rt.alloc(); b' '; *length].expect(&rt, "memory");
-        let given = Given {
+        let given = Words {
             text: &blanks,
             ..run_f("")
         };
@@ -549,7 +549,7 @@ const LISTED: &[(&str, &str)] = &[
 #[test]
 fn codes_are_listed(rt: HostRuntime) {
     for (text, listing) in LISTED {
-        let given = Given {
+        let given = Words {
             room: 1000,
             ..of_words(&["code", "f"], text)
         };
@@ -588,7 +588,7 @@ fn texts_whose_code_is_asked_for_are_refused(rt: HostRuntime) {
 
 #[test]
 fn listings_are_broken_off(rt: HostRuntime) {
-    let given = Given {
+    let given = Words {
         room: 10,
         ..of_words(&["code", "f"], FORMULA)
     };
@@ -625,7 +625,7 @@ fn words_name_the_file(rt: HostRuntime) {
 fn failed_reads_are_answered(rt: HostRuntime) {
     // The text is begun by the first call and given by the next eight, four bytes each.
     for failing in 1..10u64 {
-        let given = Given {
+        let given = Words {
             reads_fail: &[failing],
             ..run_f(FORMULA)
         };
@@ -639,7 +639,7 @@ const ABSENT: &[&str] = &["-", "h"];
 #[test]
 fn files_that_are_not_there_are_answered(rt: HostRuntime) {
     for name in ABSENT {
-        let given = Given {
+        let given = Words {
             words: &["run", name],
             notes_room: 3,
             ..run_f(FORMULA)
@@ -654,7 +654,7 @@ const WRITES: &[(u32, &[u64], &str)] = &[(10, &[], "          "), (100, &[3], " 
 #[test]
 fn failed_writes_are_answered(rt: HostRuntime) {
     for (room, writes_fail, out) in WRITES {
-        let given = Given {
+        let given = Words {
             room: *room,
             writes_fail,
             ..run_f(FORMULA)
@@ -667,7 +667,7 @@ fn failed_writes_are_answered(rt: HostRuntime) {
 
 #[test]
 fn failed_notes_are_answered(rt: HostRuntime) {
-    let little_room = Given {
+    let little_room = Words {
         notes_room: 5,
         ..run_f("")
     };

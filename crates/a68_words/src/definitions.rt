@@ -9,7 +9,7 @@ ghost use Rattle.a68_words.specs.Levels.{IsTooDeep};
 ghost use Rattle.a68_words.specs.Steps as steps;
 
 use crate::known::{BrokenRule, Known, earlier};
-use crate::places::{Places, first};
+use crate::places::{DefinedWords, first};
 use crate::role::Role;
 use a68_base::{NoMemory, Rule};
 use std::alloc::Global;
@@ -83,7 +83,7 @@ impl Definitions {
         alloc: Global,
         roles: Vec<Role>,
         names: Vec<u32>,
-        places: Places,
+        places: DefinedWords,
     ) -> Result<Definitions, NoMemory>
         requires same { length names.items ≡ length roles.items }
         requires modes { steps.AreFlags (λ i. Defines roles.items i ModeWord) (length roles.items) places.modes.items }

@@ -15,7 +15,7 @@ use std::alloc::Global;
 /// For each symbol whether it is defined as a mode and whether it is defined as an operator there; and the first symbol
 /// that is too deep.
 #[derive(Drop)]
-pub struct Places {
+pub struct DefinedWords {
     pub modes: Vec<bool>,
     pub operators: Vec<bool>,
     pub too_deep: Option<usize>,
@@ -85,7 +85,7 @@ fn as_operator(previous: Role, role: Role, next: Role, level: &OpenLevel) -> boo
 }
 
 /// Walks over the levels of a text.
-pub fn walk(alloc: Global, roles: &[Role]) -> Result<Places, NoMemory>
+pub fn walk(alloc: Global, roles: &[Role]) -> Result<DefinedWords, NoMemory>
     requires { length roles.now < 2 ^ 32 }
     ensures modes { IfOk result (λ found. steps.AreFlags (λ i. Defines roles.now i ModeWord) (length roles.now) found.modes.items) }
     ensures operators { IfOk result (λ found. steps.AreFlags (λ i. Defines roles.now i OperatorWord) (length roles.now) found.operators.items) }
@@ -106,7 +106,7 @@ pub fn walk(alloc: Global, roles: &[Role]) -> Result<Places, NoMemory>
         too_deep = first(too_deep, levels.is_over(role), i);
         levels.leave(i, previous, role)?;
     }
-    Ok(Places {
+    Ok(DefinedWords {
         modes,
         operators,
         too_deep,

@@ -3,8 +3,8 @@ use denote.Param.Send.{IsSend, IsSync, sendable}
 use denote.RattleType.{RattleType}
 use Rattle.std.proofs.Crossing.{crosses}
 use Rattle.std.specs.contracts.sync.Mutex as mutex
-use Rattle.a68_workers.specs.contracts.held.Held as held
-use Rattle.a68_workers.specs.declared.held.Given as given
+use Rattle.a68_workers.specs.contracts.held.HeldWorld as held
+use Rattle.a68_workers.specs.declared.held.GivenRun as given
 use Rattle.a68_world.proofs.Sends.{world_field_send}
 
 module _ (J : RattleType) (g : given.Ghosts J.Denot) (j : IsSend J) where

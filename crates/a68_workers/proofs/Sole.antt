@@ -5,7 +5,7 @@ use Rattle.std.specs.declared.option.Option.{Option}
 use Rattle.a68_acts.specs.Keeping.{outer_slots}
 use Rattle.a68_code.specs.declared.code.Code.{Code}
 use Rattle.a68_strand.specs.Cyclic.{TakeTurns, IsTurnOf, EndsInTurn, last_of, Cyclic}
-use Rattle.a68_strand.specs.Ends.{fault_of, CanAct, EndsWith, HasEnded, done, fault, all_halted, spent}
+use Rattle.a68_strand.specs.Ends.{fault_of, CanActNow, RunEndsWith, HasEnded, done, fault, all_halted, spent}
 use Rattle.a68_instructions.specs.Machine.{State, place_at}
 use Rattle.a68_strand.specs.RunOf.{RunOf}
 use Rattle.a68_exec.specs.Runs.{World, Machine, IfNext, opening, acted}
@@ -24,10 +24,10 @@ can_next : (o : Option (Act × World)) (a : Act) (P : World → Type 0) → IfNe
 can_next None a P p = absurd p
 can_next (Some m) a P p = λ e. absurd (cc)
 
-module _ (code : Code) (fuel : ℕ) (still : (es : List Entry) (w : World) → Machine code (opening code) es w → HasEnded w 0 → (n : ℕ) → CanAct code w n → ⊥) where
+module _ (code : Code) (fuel : ℕ) (still : (es : List Entry) (w : World) → Machine code (opening code) es w → HasEnded w 0 → (n : ℕ) → CanActNow code w n → ⊥) where
   -- where the run has an end, the strand whose turn it is does no act
-  no_more : (count : ℕ) (before : Option ℕ) (v : World) (past all : List Entry) (end : End) (n : ℕ) → Machine code (opening code) past v → EndsWith code fuel all v end → EndsInTurn code v before end
-      → length all ≡ count → count + 1 ≤ fuel → IsTurnOf code v before n → CanAct code v n → ⊥
+  no_more : (count : ℕ) (before : Option ℕ) (v : World) (past all : List Entry) (end : End) (n : ℕ) → Machine code (opening code) past v → RunEndsWith code fuel all v end → EndsInTurn code v before end
+      → length all ≡ count → count + 1 ≤ fuel → IsTurnOf code v before n → CanActNow code v n → ⊥
   no_more count before v past all ends.Done n runs (done h) t long room turn can = still past v runs h n can
   no_more count before v past all (ends.Fault k p s) n runs (fault un f there at) t long room turn can =
       let same : s ≡ n = one_turn_of code v before s n t turn in
@@ -36,7 +36,7 @@ module _ (code : Code) (fuel : ℕ) (still : (es : List Entry) (w : World) → M
   no_more count before v past all ends.Spent n runs (spent s un full act) t long room turn can = absurd (omega (arith, full, long, room))
 
   -- a run that stands at one world has one end
-  one_end : (before : Option ℕ) (v : World) (all others : List Entry) (a b : End) → EndsWith code fuel all v a → EndsInTurn code v before a → EndsWith code fuel others v b → EndsInTurn code v before b → a ≡ b
+  one_end : (before : Option ℕ) (v : World) (all others : List Entry) (a b : End) → RunEndsWith code fuel all v a → EndsInTurn code v before a → RunEndsWith code fuel others v b → EndsInTurn code v before b → a ≡ b
   one_end before v all others ends.Done ends.Done (done h) t (done i) u = refl
   one_end before v all others ends.Done (ends.Fault k p s) (done h) t (fault un f there at) u = absurd (un h)
   one_end before v all others ends.Done ends.AllHalted (done h) t (all_halted un none free) u = absurd (un h)
@@ -71,7 +71,7 @@ module _ (code : Code) (fuel : ℕ) (still : (es : List Entry) (w : World) → M
     pub runs : Machine code v es world
     pub turns : TakeTurns code v before es
     pub within : length all ≤ fuel
-    pub ends_so : EndsWith code fuel all world end
+    pub ends_so : RunEndsWith code fuel all world end
     pub in_turn : EndsInTurn code world (last_of before es) end
 
   record Same (es fs : List Entry) (a b : End) (x y : World) : Type 0 where
@@ -80,9 +80,9 @@ module _ (code : Code) (fuel : ℕ) (still : (es : List Entry) (w : World) → M
     pub worlds : x ≡ y
 
   module _ (a b : End) where
-    ended_there : (count : ℕ) (before : Option ℕ) (v : World) (end : End) (r : Rest count before v [] end) → EndsWith code fuel r.all v end × EndsInTurn code v before end
+    ended_there : (count : ℕ) (before : Option ℕ) (v : World) (end : End) (r : Rest count before v [] end) → RunEndsWith code fuel r.all v end × EndsInTurn code v before end
     ended_there count before v end r =
-        (subst (λ (w : World). EndsWith code fuel r.all w end) (sym r.runs) r.ends_so, subst (λ (w : World). EndsInTurn code w before end) (sym r.runs) r.in_turn)
+        (subst (λ (w : World). RunEndsWith code fuel r.all w end) (sym r.runs) r.ends_so, subst (λ (w : World). EndsInTurn code w before end) (sym r.runs) r.in_turn)
 
     -- one of them has ended, and the other one goes on
     goes_not : (count : ℕ) (before : Option ℕ) (v : World) (past : List Entry) (e : Entry) (es : List Entry) (x y : End) → Machine code (opening code) past v

@@ -10,7 +10,7 @@ use Rattle.a68_acts.specs.Does.{Outcome, did, refuses, waits, does, refused}
 use Rattle.a68_acts.specs.declared.want.Want.{Want}
 use Rattle.a68_code.specs.declared.code.Code.{Code}
 use Rattle.a68_strand.specs.Cyclic.{HasTurn, Sooner, IsFirstBehind, TakeTurns, IsTurnOf, EndsInTurn, last_of, Cyclic}
-use Rattle.a68_strand.specs.Ends.{fault_of, fault_in, CanAct}
+use Rattle.a68_strand.specs.SetsEnd.{fault_of, fault_in, CanAct}
 use Rattle.a68_instructions.specs.Machine.{State}
 use Rattle.a68_exec.specs.Runs.{World, Machine, IfNext, opening, acted, acts_in, after}
 use Rattle.a68_instructions.specs.declared.ask.Stance.{Stance}
@@ -22,10 +22,10 @@ use Rattle.a68_values.specs.declared.kept.End.TheVariants as ends
 use Rattle.a68_values.specs.declared.kept.Kept.{Kept}
 use Rattle.a68_workers.specs.Runs.{GoesFrom, TookTurns}
 use Rattle.a68_world.specs.Run.{Run, AllHome, EndsWithoutTurn, Begins, IsNumber, IsRun, world}
-use Rattle.a68_world.specs.Turns.{Acts, Ends, EndsAt, EndsHere, HadEnded, IsReady, IsAble, last_strand, Finishes}
+use Rattle.a68_world.specs.Turns.{Acts, SetsEnd, EndsAt, EndsHere, HadEnded, IsReady, IsAble, last_strand, Finishes}
 use Rattle.a68_world.specs.Worlds.{behind, goes, world_of}
-use Rattle.a68_world.specs.declared.status.Status.{Status}
-use Rattle.a68_world.specs.declared.status.Status.TheVariants as status
+use Rattle.a68_world.specs.declared.status.StrandState.{StrandState}
+use Rattle.a68_world.specs.declared.status.StrandState.TheVariants as status
 
 -- ---- a journal with one entry more
 
@@ -115,7 +115,7 @@ module _ (run : Run) (known : IsRun run) (kept : run.lost ≡ false) where
   pub all_home : AllHome run.status
   all_home k spent = let lost = known.spent k spent in absurd (cc)
 
-  home_in : (k : ℕ) (s : Status) → slice_get run.status k ≡ Some s → IsNumber run k status.Home
+  home_in : (k : ℕ) (s : StrandState) → slice_get run.status k ≡ Some s → IsNumber run k status.Home
   home_in k status.Home e = e
   home_in k status.Spent e = absurd (all_home k e)
 
@@ -168,7 +168,7 @@ silent_end code w before ends.AllHalted p = tt
 silent_end code w before (ends.Fault why place strand) p = absurd p
 silent_end code w before ends.Spent p = absurd p
 
-end_without : (new : Run) (before : Option ℕ) (e : End) → Ends new → new.end ≡ Some e → EndsInTurn new.code (world new) before e
+end_without : (new : Run) (before : Option ℕ) (e : End) → SetsEnd new → new.end ≡ Some e → EndsInTurn new.code (world new) before e
 end_without new before e h is =
     let home : AllHome new.status = λ k spent. let none = h.parted k spent in absurd (cc) in
     silent_end new.code (world new) before e (subst (λ o. EndsWithoutTurn new.code (world new) o) is (h.whole home))

@@ -7,7 +7,7 @@ use Rattle.a68_code.specs.declared.code.Code.{Code}
 use Rattle.a68_exec.specs.Runs.{World, Machine, IfNext, acted, begun, woken}
 use Rattle.a68_instructions.specs.Machine.{State, replied, settle}
 use Rattle.a68_strand.specs.Cyclic.{HasTurn, Sooner, TakeTurns, IsTurnOf, EndsInTurn, last_of}
-use Rattle.a68_strand.specs.Ends.{CanAct}
+use Rattle.a68_strand.specs.Ends.{CanActNow}
 use Rattle.a68_strand.proofs.Machines.{machine_join}
 use Rattle.a68_values.specs.declared.act.Act.{Act}
 use Rattle.a68_values.specs.declared.act.Entry.{Entry}
@@ -56,7 +56,7 @@ not-sooner behind one other e f (inr s) = absurd (omega (arith, s.0, e, f))
 only-strand : (code : Code) (w : World) (n : ℕ) → length w.strands ≤ 1 → HasTurn code w n → n ≡ 0
 only-strand code w n few turn = let inside = within w.strands n (turn_is_there code w n turn) in omega (arith, inside, few)
 
-has-turn : (code : Code) (w : World) (before : Option ℕ) (n : ℕ) → length w.strands ≤ 1 → CanAct code w n → IsTurnOf code w before n
+has-turn : (code : Code) (w : World) (before : Option ℕ) (n : ℕ) → length w.strands ≤ 1 → CanActNow code w n → IsTurnOf code w before n
 has-turn code w None n few can = only-strand code w n few (inl can)
 has-turn code w (Some b) n few can = record {
   such = inl can;

@@ -13,7 +13,7 @@ use std::marker::{Brand, PhantomData};
 
 /// What was handed in: the code, the fuel and the entries so far. A code stands in a list of one, so that `Brand` has a
 /// code to name too.
-pub trait Given {
+pub trait GivenRun {
     ghost code: { List Code };
 
     ghost fuel: { ℕ };
@@ -21,7 +21,7 @@ pub trait Given {
     ghost first: { List Entry };
 }
 
-impl Given for Brand {
+impl GivenRun for Brand {
     ghost code = { [] };
 
     ghost fuel = { 0 };
@@ -31,7 +31,7 @@ impl Given for Brand {
 
 /// A world of that run, gone on.
 #[derive(Drop)]
-pub struct Held<J: Given> {
+pub struct HeldWorld<J: GivenRun> {
     world: World,
     of: PhantomData<J>,
     ghost same_code: { world.code ∷ [] ≡ J.code } by { Coded-set (coded_list code.the_row.coded) _ _ },
@@ -49,15 +49,15 @@ fn turn_any(alloc: Global, world: &mut World, strand: u32) -> bool
     }
 }
 
-impl<J: Given> Held<J> {
+impl<J: GivenRun> HeldWorld<J> {
     /// The world that was handed in.
-    pub fn new(world: World) -> Held<J>
+    pub fn new(world: World) -> HeldWorld<J>
         requires code { world.code ∷ [] ≡ J.code }
         requires fuel { world.fuel ≡ J.fuel }
         requires first { world.entries ≡ J.first }
         ensures { result.world ≡ world }
     {
-        Held {
+        HeldWorld {
             world,
             of: PhantomData,
         }
@@ -69,7 +69,7 @@ impl<J: Given> Held<J> {
         ensures fuel { result.fuel ≡ J.fuel }
         ensures goes_on { take (length J.first) result.entries ≡ J.first }
     {
-        let Held { world, of: _ } = self;
+        let HeldWorld { world, of: _ } = self;
         world
     }
 

@@ -2,7 +2,7 @@
 ghost use Rattle.std.specs.Prelude.{◌≡◌, ℕ, List};
 ghost use Rattle.a68_code.specs.declared.code.Code.{Code};
 ghost use Rattle.a68_strand.specs.Cyclic.{Cyclic};
-ghost use Rattle.a68_strand.specs.Ends.{CanAct, HasEnded};
+ghost use Rattle.a68_strand.specs.Ends.{CanActNow, HasEnded};
 ghost use Rattle.a68_strand.specs.RunOf.{RunOf};
 ghost use Rattle.a68_exec.specs.Runs.{Machine, World, opening};
 ghost use Rattle.a68_values.specs.declared.act.Entry.{Entry};
@@ -12,6 +12,6 @@ ghost use Rattle.a68_values.specs.declared.kept.Kept.{Kept};
 /// one has come to its end.
 pub fn one_worker_has_one_run()
     ensures { (code : Code) (fuel : ℕ)
-        → ((entries : List Entry) (world : World) → Machine code (opening code) entries world → HasEnded world 0 → (strand : ℕ) → CanAct code world strand → ⊥)
+        → ((entries : List Entry) (world : World) → Machine code (opening code) entries world → HasEnded world 0 → (strand : ℕ) → CanActNow code world strand → ⊥)
         → (a b : Kept) → RunOf code fuel a → Cyclic code a → RunOf code fuel b → Cyclic code b → a ≡ b }
 {}

@@ -7,6 +7,6 @@ mod laws;
 mod runs;
 mod shared;
 
-pub use held::Given;
+pub use held::GivenRun;
 pub use laws::one_worker_has_one_run;
 pub use runs::{run, run_all};

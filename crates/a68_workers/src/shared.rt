@@ -2,7 +2,7 @@
 ghost use Rattle.std.specs.Prelude.{◌≡◌, ◌∷◌, []};
 ghost use Rattle.a68_workers.specs.Runs.{GoesFrom};
 
-use crate::held::{Given, Held};
+use crate::held::{GivenRun, HeldWorld};
 use a68_outside::Gate;
 use a68_world::World;
 use std::alloc::Global;
@@ -12,10 +12,10 @@ use std::thread;
 use std::thread::Threads;
 
 // Turns strands until none can be turned, or memory ran out. The gate is called behind each turn, with no lock held.
-fn work<J: Given, R: Wait, G: Gate>(
+fn work<J: GivenRun, R: Wait, G: Gate>(
     rt: &R,
     alloc: Global,
-    lock: &Mutex<Held<J>>,
+    lock: &Mutex<HeldWorld<J>>,
     worker: u32,
     gate: &G,
 ) {
@@ -34,7 +34,7 @@ fn work<J: Given, R: Wait, G: Gate>(
 
 /// So many workers turn the strands of one world. What they leave undone, where memory ran out or no thread could be made,
 /// is left to the caller.
-pub fn run_shared<J: Given + Send + Sync, R: Threads + Wait + Sync, G: Gate>(
+pub fn run_shared<J: GivenRun + Send + Sync, R: Threads + Wait + Sync, G: Gate>(
     rt: &R,
     alloc: Global,
     world: World,
@@ -46,7 +46,7 @@ pub fn run_shared<J: Given + Send + Sync, R: Threads + Wait + Sync, G: Gate>(
     requires first { world.entries ≡ J.first }
     ensures { GoesFrom world result }
 {
-    let lock = Mutex::new(Held::<J>::new(world));
+    let lock = Mutex::new(HeldWorld::<J>::new(world));
     let shared = &lock;
     // Where threads fail the caller turns what is left.
     let _ = thread::map_indices(

@@ -3,7 +3,7 @@ use Rattle.std.proofs.Common.{◌≡◌, ◌∙◌, ℕ, ◌+◌, ◌<◌, true,
 use Rattle.std.specs.Prelude.{None, Some, IfSome, slice_get}
 use Rattle.std.specs.Option.{option_map}
 use Rattle.std.specs.declared.option.Option.{Option}
-use Rattle.a68_strand.specs.Ends.{HasEnded, EndsWith, fault, spent}
+use Rattle.a68_strand.specs.Ends.{HasEnded, RunEndsWith, fault, spent}
 use Rattle.a68_instructions.specs.Machine.{State, place_at}
 use Rattle.a68_exec.specs.Runs.{World, acted}
 use Rattle.a68_values.specs.declared.act.Act.{Act}
@@ -12,7 +12,7 @@ use Rattle.a68_values.specs.declared.kept.End.TheVariants as ends
 use Rattle.a68_world.specs.Run.{Run, IsRun, AllHome, IsNumber, EndsWithoutTurn, world}
 use Rattle.a68_world.specs.Turns.{GoesOn, Acts, EndsAt, IsSpentBy, IsDue, IsOf, noted}
 use Rattle.a68_world.specs.Worlds.{world_of, IsJournal}
-use Rattle.a68_world.specs.declared.status.Status.TheVariants.{Spent}
+use Rattle.a68_world.specs.declared.status.StrandState.TheVariants.{Spent}
 use Rattle.a68_strand.proofs.Machines.{entry_of}
 use Rattle.a68_world.proofs.Journals.{world_more, journal_more}
 use Rattle.a68_world.proofs.Showing.{is_end}
@@ -47,7 +47,7 @@ record Grown (old new : Run) (n : ℕ) : Type 0 where
   pub entries : new.entries ≡ noted old n act
   pub many : length new.status ≡ length (world new).strands
 
-grown : (old new : Run) (n : ℕ) → Grown old new n → IfSome new.end (EndsWith new.code new.fuel new.entries (world new)) → (new.end ≡ None → AllHome new.status → EndsWithoutTurn new.code (world new) None)
+grown : (old new : Run) (n : ℕ) → Grown old new n → IfSome new.end (RunEndsWith new.code new.fuel new.entries (world new)) → (new.end ≡ None → AllHome new.status → EndsWithoutTurn new.code (world new) None)
     → (new.lost ≡ true → new.end ≡ None) → ((k : ℕ) → IsNumber new k Spent → new.lost ≡ true) → IsRun new
 grown old new n g ended goes lost gone =
     let run = g.run in
@@ -75,7 +75,7 @@ acts_keep old new n run a =
     home : (e : End) → new.end ≡ Some e → AllHome new.status
     home e is k there = let none = a.ends.parted k there in absurd (cc)
 
-    ended : (o : Option End) → new.end ≡ o → IfSome new.end (EndsWith new.code new.fuel new.entries (world new))
+    ended : (o : Option End) → new.end ≡ o → IfSome new.end (RunEndsWith new.code new.fuel new.entries (world new))
     ended None is = rw is tt
     ended (Some e) is = is_end new.code new.fuel new.entries (world new) new.end (a.ends.whole (home e is))
 
@@ -110,7 +110,7 @@ place-at : (run : Run) (n place : ℕ) (o : Option State) → slice_get (world r
 place-at run n place None e p = absurd (cc)
 place-at run n place (Some st) e p = (st, e, cc)
 
-ends_with : (run : Run) (n : ℕ) (e : End) → IsRun run → GoesOn run → EndsAt run n e → EndsWith run.code run.fuel run.entries (world run) e
+ends_with : (run : Run) (n : ℕ) (e : End) → IsRun run → GoesOn run → EndsAt run n e → RunEndsWith run.code run.fuel run.entries (world run) e
 ends_with run n ends.Done r goes h = absurd h
 ends_with run n ends.AllHalted r goes h = absurd h
 ends_with run n ends.Spent r goes h = spent n (open_ run r goes) h.0 h.1

@@ -30,8 +30,8 @@ use Rattle.a68_world.specs.Turns.{IsDue, Acts, GoesOnIn, IsSpentBy, FindsNoMemor
 use Rattle.a68_world.specs.Waking.{IsReleased, StaysBelow, WaitBelow, Wakes, WakesBehind}
 use Rattle.a68_world.specs.declared.seat.Seat.{Seat}
 use Rattle.a68_world.specs.declared.seat.Seat.TheVariants as seat
-use Rattle.a68_world.specs.declared.status.Status.{Status}
-use Rattle.a68_world.specs.declared.status.Status.TheVariants as status
+use Rattle.a68_world.specs.declared.status.StrandState.{StrandState}
+use Rattle.a68_world.specs.declared.status.StrandState.TheVariants as status
 use Rattle.a68_world.specs.declared.world.World.TheInside.{Inside}
 use Rattle.a68_world.proofs.Behind as b
 use Rattle.a68_world.proofs.Behind.{Moved, Noted, now, many_seats, all_sit}
@@ -243,11 +243,11 @@ module _ (s : Inside) (n : ℕ) (act : Act) (store : Store) (units : List Seat) 
             | inr p ↦ let x = is_there s.seats.items k p in absurd (cc (number_of s.seats.items k x.0 x.1, none))
           ]
 
-          fresh_is : (k : ℕ) (x : Status) → slice_get (map status_of s.seats.items) k ≡ None → IsNumber (run_of told_run) k x → x ≡ status.Home
+          fresh_is : (k : ℕ) (x : StrandState) → slice_get (map status_of s.seats.items) k ≡ None → IsNumber (run_of told_run) k x → x ≡ status.Home
           fresh_is k status.Home none e = refl
           fresh_is k status.Spent none e = absurd (born k (beyond k none) (gone k e).0)
 
-          stays_is : (k : ℕ) (x : Status) → IsNumber (run_of s) k x → (k ≡ n → ⊥)
+          stays_is : (k : ℕ) (x : StrandState) → IsNumber (run_of s) k x → (k ≡ n → ⊥)
               → IsNumber (run_of told_run) k x ⊎ ((x ≡ status.Home) × IsNumber (run_of told_run) k status.Spent × GoesOnIn (now s) (world (run_of told_run)) k × (lost ≡ true))
           stays_is k status.Spent old ne = absurd (all_home (run_of s) m.sound.run m.goes k old)
           stays_is k status.Home old ne =
@@ -298,17 +298,17 @@ module _ (s : Inside) (n : ℕ) (act : Act) (store : Store) (units : List Seat) 
       spent = number_of seats.items n seat.Spent (ap (λ l. slice_get l n) are ∙ get_front (slice_set s.seats.items n seat.Spent) units n seat.Spent (set_same s.seats.items n (seat.Home m.strand) seat.Spent m.there));
       stays = λ k x old ne.
           let o = get_mapped status_of s.seats.items k x old in
-          number_of seats.items k o.0 (ap (λ l. slice_get l k) are ∙ get_front (slice_set s.seats.items n seat.Spent) units k o.0 (get_other s.seats.items n k seat.Spent o.0 ne o.1)) ∙ ap (λ (y : Status). Some y) o.2;
+          number_of seats.items k o.0 (ap (λ l. slice_get l k) are ∙ get_front (slice_set s.seats.items n seat.Spent) units k o.0 (get_other s.seats.items n k seat.Spent o.0 ne o.1)) ∙ ap (λ (y : StrandState). Some y) o.2;
       fresh = λ k x none e. fresh_is k x none (get_mapped status_of seats.items k x e);
       many =
           length_map status_of seats.items ∙ ap (λ l. length l) are ∙ b.long s n act store units m seat.Spent ∙ sym (ap (λ l. length l) untold-strands);
     }
       where
-        of_unit : (i : ℕ) (x : Status) (y : Seat) → IsUnit s.code (b.new s n act store units m) (length s.seats.items) i y → status_of y ≡ x → x ≡ status.Home
+        of_unit : (i : ℕ) (x : StrandState) (y : Seat) → IsUnit s.code (b.new s n act store units m) (length s.seats.items) i y → status_of y ≡ x → x ≡ status.Home
         of_unit i x (seat.Home u) p e = sym e
         of_unit i x seat.Spent p e = absurd p
 
-        fresh_is : (k : ℕ) (x : Status) → slice_get (map status_of s.seats.items) k ≡ None → (y : Seat) × (slice_get seats.items k ≡ Some y) × (status_of y ≡ x) → x ≡ status.Home
+        fresh_is : (k : ℕ) (x : StrandState) → slice_get (map status_of s.seats.items) k ≡ None → (y : Seat) × (slice_get seats.items k ≡ Some y) × (status_of y ≡ x) → x ≡ status.Home
         fresh_is k x none y = elim (parted (slice_set s.seats.items n seat.Spent) units k y.0 (sym (ap (λ l. slice_get l k) are) ∙ y.1)) [
           | inl front ↦
               let p = is_within (slice_set s.seats.items n seat.Spent) k y.0 front in

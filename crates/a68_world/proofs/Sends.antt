@@ -29,8 +29,8 @@ use Rattle.a68_instructions.specs.contracts.ask.Waiting as waiting
 use Rattle.a68_instructions.specs.contracts.body.About as about
 use Rattle.a68_instructions.specs.contracts.body.Body as body
 use Rattle.a68_stack.specs.contracts.caller.Caller as caller
-use Rattle.a68_stack.specs.contracts.kept.Form as form
-use Rattle.a68_stack.specs.contracts.kept.Kept as kept
+use Rattle.a68_stack.specs.contracts.packed.Form as form
+use Rattle.a68_stack.specs.contracts.packed.Packed as kept
 use Rattle.a68_stack.specs.contracts.stack.Stack as stack
 use Rattle.a68_strand.specs.contracts.strand.Strand as strand
 use Rattle.a68_world.specs.contracts.seat.Seat as seat

@@ -10,7 +10,7 @@ use Rattle.a68_code.specs.declared.code.Code.{Code}
 use Rattle.a68_store.specs.Acts.{has_to_wait}
 use Rattle.a68_instructions.specs.Bodies.{stance_in}
 use Rattle.a68_strand.specs.Cyclic.{HasTurn}
-use Rattle.a68_strand.specs.Ends.{fault_in, fault_of, HasEnded, EndsWith, done, all_halted}
+use Rattle.a68_strand.specs.Ends.{fault_in, fault_of, HasEnded, RunEndsWith, done, all_halted}
 use Rattle.a68_instructions.specs.Machine.{State, asked, place_at}
 use Rattle.a68_exec.specs.Runs.{World, after, acts_in, acted}
 use Rattle.a68_strand.specs.Strands.{Shows, standing}
@@ -170,7 +170,7 @@ end_seen code w seats (Some (ends.Fault why place strand)) seated sit long p = a
 end_seen code w seats (Some ends.Spent) seated sit long p = absurd p
 
 -- such an end is the machine's
-pub is_end : (code : Code) (fuel : ℕ) (entries : List Entry) (w : World) (end : Option End) → EndsWithoutTurn code w end → IfSome end (EndsWith code fuel entries w)
+pub is_end : (code : Code) (fuel : ℕ) (entries : List Entry) (w : World) (end : Option End) → EndsWithoutTurn code w end → IfSome end (RunEndsWith code fuel entries w)
 is_end code fuel entries w None h = tt
 is_end code fuel entries w (Some ends.Done) h = done h
 is_end code fuel entries w (Some ends.AllHalted) h = all_halted h.0 (λ n can. h.1 n (inl can)) (λ n. whole n (fault_of w n) refl)

@@ -17,7 +17,7 @@ use Rattle.a68_code.specs.Valid.{IsValid}
 use Rattle.a68_code.specs.declared.code.Code.{Code}
 use Rattle.a68_store.specs.Acts.{has_to_wait}
 use Rattle.a68_strand.specs.Cyclic.{IsFirstBehind}
-use Rattle.a68_strand.specs.Ends.{fault_of, fault_in, EndsWith}
+use Rattle.a68_strand.specs.Ends.{fault_of, fault_in, RunEndsWith}
 use Rattle.a68_instructions.specs.Machine.{State, asked, beginning, settle}
 use Rattle.a68_instructions.specs.Machine as machine
 use Rattle.a68_exec.specs.Runs.{World, opening, after as runs_after}
@@ -35,15 +35,15 @@ use Rattle.a68_values.specs.declared.act.FaultKind.TheVariants as fault
 use Rattle.a68_values.specs.declared.kept.End.{End}
 use Rattle.a68_values.specs.declared.kept.End.TheVariants as ends
 use Rattle.a68_values.specs.declared.kept.Kept.{Kept}
-use Rattle.a68_world.specs.Ending.{EndShown, Turns, end_asked, end_at}
+use Rattle.a68_world.specs.Ending.{EndShown, HasTurn, end_asked, end_at}
 use Rattle.a68_world.specs.Inside.{run_of, IsSound}
 use Rattle.a68_world.specs.Run.{Begins, EndsWithoutTurn, most_fuel, world}
 use Rattle.a68_world.specs.Scopes.{WantBelow, StanceBelow}
 use Rattle.a68_world.specs.Stepping.{IsAsking, IsAskingAt, BringsRoom, FewUnitsAt, units_asked}
-use Rattle.a68_world.specs.Turns.{GoesOn, IsReady, IsDue, EndsAt, StandsAt, IsAble, Finishes}
+use Rattle.a68_world.specs.HasTurn.{GoesOn, IsReady, IsDue, EndsAt, StandsAt, IsAble, Finishes}
 use Rattle.a68_world.specs.declared.seat.Seat.{Seat}
 use Rattle.a68_world.specs.declared.seat.Seat.TheVariants as seat
-use Rattle.a68_world.specs.declared.status.Status.TheVariants as status
+use Rattle.a68_world.specs.declared.status.StrandState.TheVariants as status
 use Rattle.a68_world.specs.declared.world.World.TheInside.{Inside}
 use Rattle.a68_world.specs.Seats.{Sits, SitsAt, SitsHere, AreSeated, AllSit, IsFirst, status_of, turn_at, turn_shown}
 use Rattle.a68_world.proofs.Behind.{now, many_seats}
@@ -184,7 +184,7 @@ module _ (s : Inside) (sound : IsSound s) where
       by false e = absurd (ready_not n e r)
 
   -- the first that shows a turn is the first that can be turned
-  pub able_first : (after : ℕ) (found : Option ℕ) → s.end ≡ None → IfSome found (IsFirstBehind (Turns s.seats.items s.store) after) → IfSome found (IsFirstBehind (IsAble (run_of s)) after)
+  pub able_first : (after : ℕ) (found : Option ℕ) → s.end ≡ None → IfSome found (IsFirstBehind (HasTurn s.seats.items s.store) after) → IfSome found (IsFirstBehind (IsAble (run_of s)) after)
   able_first after None none f = tt
   able_first after (Some n) none f = record {
     such = record { unended = none; ready = ready_is n f.such };
@@ -195,7 +195,7 @@ module _ (s : Inside) (sound : IsSound s) where
   able_none n e able = ready_not n e able.ready
 
   -- there is none exactly where no seat shows a turn
-  pub able_exactly : (after : ℕ) (found : Option ℕ) → s.end ≡ None → IfSome found (IsFirstBehind (Turns s.seats.items s.store) after)
+  pub able_exactly : (after : ℕ) (found : Option ℕ) → s.end ≡ None → IfSome found (IsFirstBehind (HasTurn s.seats.items s.store) after)
       → (IsNone found → (n : ℕ) → turn_at s.seats.items s.store n ≡ false) → IsNone found ↔ ((n : ℕ) → IsAble (run_of s) n → ⊥)
   able_exactly after None none first lacks = (λ e n. able_none n (lacks e n), λ h. refl)
   able_exactly after (Some n) none first lacks = (λ e. absurd (cc), λ h. absurd (h n (record { unended = none; ready = ready_is n first.such })))
@@ -338,7 +338,7 @@ ends_seat s n seat.Spent full found sound ready goes there by e =
 pub finish_is : (s : Inside) (e : End) (kept : Kept) → IsSound s → s.end ≡ Some e → kept.end ≡ e → kept.journal.entries ≡ s.journal.items → kept.journal.text ≡ s.store.text
     → kept.cells ≡ s.store.cells → kept.outer ≡ outer_slots s.store → Finishes (run_of s) s.code kept
 finish_is s e kept sound ended end entries text cells outer =
-    let ends : EndsWith s.code s.fuel s.journal.items (now s) e = subst (λ (o : Option End). IfSome o (EndsWith s.code s.fuel s.journal.items (now s))) ended sound.run.ended in
+    let ends : RunEndsWith s.code s.fuel s.journal.items (now s) e = subst (λ (o : Option End). IfSome o (RunEndsWith s.code s.fuel s.journal.items (now s))) ended sound.run.ended in
     record {
       code = refl;
       entries = entries;

@@ -10,12 +10,12 @@ use Rattle.a68_values.specs.contracts.kept.End as end
 use Rattle.a68_values.specs.declared.act.Entry.{Entry}
 use Rattle.a68_values.specs.declared.kept.End.{End}
 use Rattle.a68_world.specs.Run.{Run}
-use Rattle.a68_world.specs.contracts.status.Status as status
-use Rattle.a68_world.specs.declared.status.Status.{Status}
+use Rattle.a68_world.specs.contracts.status.StrandState as status
+use Rattle.a68_world.specs.declared.status.StrandState.{StrandState}
 
 abbrev pub run_code : Coded Run
 run_code =
-    code_by (Code × (ℕ × (List Entry × (List Status × (Bool × Option End)))))
+    code_by (Code × (ℕ × (List Entry × (List StrandState × (Bool × Option End)))))
     (coded× code.the_row.coded (coded× coded_ℕ (coded× (coded_list entry.the_row.coded) (coded× (coded_list status.the_row.coded) (coded× coded_bool (coded_option end.the_row.coded))))))
     (λ r. (r.code, (r.fuel, (r.entries, (r.status, (r.lost, r.end))))))
     (λ p. record { code = p.0; fuel = p.1.0; entries = p.1.1.0; status = p.1.1.1.0; lost = p.1.1.1.1.0; end = p.1.1.1.1.1 })

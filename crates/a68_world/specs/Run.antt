@@ -6,14 +6,14 @@ use Rattle.a68_base.specs.declared.limits.TheConstants.{MOST_FUEL}
 use Rattle.a68_code.specs.Valid.{IsValid}
 use Rattle.a68_code.specs.declared.code.Code.{Code}
 use Rattle.a68_strand.specs.Cyclic.{HasTurn}
-use Rattle.a68_strand.specs.Ends.{HasEnded, EndsWith}
+use Rattle.a68_strand.specs.Ends.{HasEnded, RunEndsWith}
 use Rattle.a68_exec.specs.Runs.{World, opening}
 use Rattle.a68_values.specs.declared.act.Entry.{Entry}
 use Rattle.a68_values.specs.declared.kept.End.{End}
 use Rattle.a68_values.specs.declared.kept.End.TheVariants as ends
 use Rattle.a68_world.specs.Worlds.{world_of, IsJournal}
-use Rattle.a68_world.specs.declared.status.Status.{Status}
-use Rattle.a68_world.specs.declared.status.Status.TheVariants.{Home, Spent}
+use Rattle.a68_world.specs.declared.status.StrandState.{StrandState}
+use Rattle.a68_world.specs.declared.status.StrandState.TheVariants.{Home, Spent}
 
 -- a run: its code and its fuel, its journal, where its strands are, and how it has ended; the machine's world is that after
 -- the journal
@@ -21,7 +21,7 @@ pub record Run : Type 0 where
   pub code : Code
   pub fuel : ℕ
   pub entries : List Entry
-  pub status : List Status
+  pub status : List StrandState
   -- no memory was found, so no further act is done
   pub lost : Bool
   pub end : Option End
@@ -35,11 +35,11 @@ abbrev pub world : Run → World
 world run = world_of run.code run.entries
 
 -- where a strand is
-abbrev pub IsNumber : Run → ℕ → Status → Type 0
+abbrev pub IsNumber : Run → ℕ → StrandState → Type 0
 IsNumber run k where_ = slice_get run.status k ≡ Some where_
 
 -- every strand stands in the world
-abbrev pub AllHome : List Status → Type 0
+abbrev pub AllHome : List StrandState → Type 0
 AllHome status = (k : ℕ) → slice_get status k ≡ Some Spent → ⊥
 
 -- The end that a run has without a further turn (own): Done where strand 0 has ended, AllHalted where it has not and no
@@ -60,7 +60,7 @@ pub record IsRun (run : Run) : Type 0 where
   pub runs : IsJournal run.code run.entries
   pub all : length run.status ≡ length (world run).strands
   -- an end that is set is the machine's
-  pub ended : IfSome run.end (EndsWith run.code run.fuel run.entries (world run))
+  pub ended : IfSome run.end (RunEndsWith run.code run.fuel run.entries (world run))
   -- where no end is set and every strand stands in the world, there is a turn to take
   pub goes_on : run.end ≡ None → AllHome run.status → EndsWithoutTurn run.code (world run) None
   -- a run that is lost sets no end, and one with a spent strand is lost

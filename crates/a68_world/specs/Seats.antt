@@ -14,10 +14,10 @@ use Rattle.a68_instructions.specs.declared.ask.Ask.TheVariants as ask
 use Rattle.a68_strand.specs.declared.strand.Strand.{Strand}
 use Rattle.a68_world.specs.declared.seat.Seat.{Seat}
 use Rattle.a68_world.specs.declared.seat.Seat.TheVariants as seat
-use Rattle.a68_world.specs.declared.status.Status.{Status}
-use Rattle.a68_world.specs.declared.status.Status.TheVariants as status
+use Rattle.a68_world.specs.declared.status.StrandState.{StrandState}
+use Rattle.a68_world.specs.declared.status.StrandState.TheVariants as status
 
-abbrev pub status_of : Seat → Status
+abbrev pub status_of : Seat → StrandState
 status_of (seat.Home strand) = status.Home
 status_of seat.Spent = status.Spent
 

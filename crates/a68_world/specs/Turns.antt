@@ -5,7 +5,7 @@ use Rattle.std.specs.Option.{option_map, option_map_or}
 use Rattle.a68_acts.specs.declared.want.Want.{Want}
 use Rattle.a68_code.specs.declared.code.Code.{Code}
 use Rattle.a68_strand.specs.Cyclic.{HasTurn}
-use Rattle.a68_strand.specs.Ends.{fault_of, CanAct}
+use Rattle.a68_strand.specs.SetsEnd.{fault_of, CanAct}
 use Rattle.a68_instructions.specs.Machine.{State, place_at}
 use Rattle.a68_strand.specs.RunOf.{RunOf}
 use Rattle.a68_exec.specs.Runs.{World, acted}
@@ -17,8 +17,8 @@ use Rattle.a68_values.specs.declared.kept.End.{End}
 use Rattle.a68_values.specs.declared.kept.End.TheVariants as ends
 use Rattle.a68_values.specs.declared.kept.Kept.{Kept}
 use Rattle.a68_world.specs.Run.{Run, EndsWithoutTurn, AllHome, IsNumber, world}
-use Rattle.a68_world.specs.declared.status.Status.{Status}
-use Rattle.a68_world.specs.declared.status.Status.TheVariants.{Home, Spent}
+use Rattle.a68_world.specs.declared.status.StrandState.{StrandState}
+use Rattle.a68_world.specs.declared.status.StrandState.TheVariants.{Home, Spent}
 use Rattle.a68_world.specs.declared.turned.Turned.{Turned}
 use Rattle.a68_world.specs.declared.turned.Turned.TheVariants as turned
 
@@ -52,12 +52,12 @@ pub record GoesOnIn (old new : World) (k : ℕ) : Type 0 where
 -- Where the strands are behind an act of one of them. Those that it makes stand in the world. Each other one stays where it
 -- was; one that is told to go on may find no memory, and then the run is lost.
 pub record Seated (old new : Run) (but : ℕ) : Type 0 where
-  pub fresh : (k : ℕ) (s : Status) → slice_get old.status k ≡ None → IsNumber new k s → s ≡ Home
-  pub stays : (k : ℕ) (s : Status) → IsNumber old k s → (k ≡ but → ⊥) → IsNumber new k s ⊎ ((s ≡ Home) × IsNumber new k Spent × GoesOnIn (world old) (world new) k × (new.lost ≡ true))
+  pub fresh : (k : ℕ) (s : StrandState) → slice_get old.status k ≡ None → IsNumber new k s → s ≡ Home
+  pub stays : (k : ℕ) (s : StrandState) → IsNumber old k s → (k ≡ but → ⊥) → IsNumber new k s ⊎ ((s ≡ Home) × IsNumber new k Spent × GoesOnIn (world old) (world new) k × (new.lost ≡ true))
   pub many : length new.status ≡ length (world new).strands
 
 -- The end that an act sets: where every strand stands in the world, the one that needs no further turn; else none.
-pub record Ends (new : Run) : Type 0 where
+pub record SetsEnd (new : Run) : Type 0 where
   pub whole : AllHome new.status → EndsWithoutTurn new.code (world new) new.end
   pub parted : (k : ℕ) → IsNumber new k Spent → new.end ≡ None
 
@@ -77,7 +77,7 @@ pub record Acts (old : Run) (n : ℕ) (new : Run) : Type 0 where
   -- the run is lost where a strand that was told to go on is spent, and only there
   pub lost : new.lost ≡ true → (k : ℕ) × IsNumber new k Spent
   pub spent : (k : ℕ) → IsNumber new k Spent → new.lost ≡ true
-  pub ends : Ends new
+  pub ends : SetsEnd new
 
 -- the place of the construct whose instruction the strand stands at
 abbrev pub StandsAt : Run → ℕ → ℕ → Type 0
@@ -115,8 +115,8 @@ pub record IsSpentBy (old : Run) (n : ℕ) (new : Run) : Type 0 where
   pub next : acted old.code (world old) n ≡ Some (act, behind)
   pub entries : new.entries ≡ noted old n act
   pub spent : IsNumber new n Spent
-  pub stays : (k : ℕ) (s : Status) → IsNumber old k s → (k ≡ n → ⊥) → IsNumber new k s
-  pub fresh : (k : ℕ) (s : Status) → slice_get old.status k ≡ None → IsNumber new k s → s ≡ Home
+  pub stays : (k : ℕ) (s : StrandState) → IsNumber old k s → (k ≡ n → ⊥) → IsNumber new k s
+  pub fresh : (k : ℕ) (s : StrandState) → slice_get old.status k ≡ None → IsNumber new k s → s ≡ Home
   pub many : length new.status ≡ length (world new).strands
 
 -- the strand asks for an act for which it need not wait, and there is fuel

@@ -13,6 +13,6 @@ mod units;
 mod waking;
 mod world;
 
-pub use status::Status;
+pub use status::StrandState;
 pub use turned::Turned;
 pub use world::World;

@@ -2,7 +2,7 @@
 
 /// Where a strand is.
 #[derive(Clone, Copy)]
-pub enum Status {
+pub enum StrandState {
     /// It stands in the world.
     Home,
     /// It found no memory.

@@ -24,8 +24,8 @@ use Rattle.a68_yields.specs.Below.{IsFindingBelow, IsSoughtBelow, IsWantBelow}
 use Rattle.a68_yields.specs.Found.{IsFound, IsModeFound, IsNameFound, IsOperatorFound, for_nothing, for_operand, for_operands, for_part, for_sides, for_unknown_operand, for_unknown_operands, for_unknown_part, for_unknown_sides}
 use Rattle.a68_yields.specs.Leaves.{AllHaveLeaves, HasLeaves, HasNoLeaves, and_more, chosen, handed, is_open, left_out, no_more, one, several, yield_at}
 use Rattle.a68_yields.specs.declared.sought.Sought.{Sought}
-use Rattle.a68_yields.specs.declared.sought.Want.{Want}
-use Rattle.a68_yields.specs.declared.sought.Want.TheVariants as want
+use Rattle.a68_yields.specs.declared.sought.Expectation.{Expectation}
+use Rattle.a68_yields.specs.declared.sought.Expectation.TheVariants as want
 use Rattle.a68_yields.specs.declared.yielding.Finding.{Finding}
 use Rattle.a68_yields.specs.declared.yielding.Finding.TheVariants as finding
 use Rattle.a68_yields.specs.declared.yielding.Yielding.{Yielding}
@@ -94,7 +94,7 @@ module _ (nodes : List Shape) where
     node_at_one : (to other : Mode) (x y : ℕ) → to ≡ other → IsNode nodes to x → IsNode nodes other y → Some x ≡ Some y
     node_at_one to other x y same p q = ap (λ i. Some i) (one_node nodes sound other x y (subst (λ m. IsNode nodes m x) same p) q)
 
-    mode_found_one : (s : Sort) (w : Want) (leaves : List Leaf) (a b : Option ℕ) → IsModeFound nodes s w leaves a → IsModeFound nodes s w leaves b → a ≡ b
+    mode_found_one : (s : Sort) (w : Expectation) (leaves : List Leaf) (a b : Option ℕ) → IsModeFound nodes s w leaves a → IsModeFound nodes s w leaves b → a ≡ b
     mode_found_one s w leaves None None p q = refl
     mode_found_one s (want.Mode m) leaves (Some x) (Some y) p q = ap (λ i. Some i) (p.0 ∙ sym q.0)
     mode_found_one s (want.Mode m) leaves (Some x) None p q = absurd (q p.1 p.2.0)
@@ -181,7 +181,7 @@ module _ (nodes : List Shape) where
 -- ---- what is found is there
 
 module _ (tree : Built) (nodes : List Shape) (of : ByNode) (ys : List Yielding) (n : ℕ) (many : 13 ≤ length nodes) where
-  mode_there : (s : Sort) (w : Want) (leaves : List Leaf) (found : Option ℕ) → IsWantBelow (length nodes) w → IsModeFound nodes s w leaves found → IsFindingBelow (length nodes) (finding.Mode found)
+  mode_there : (s : Sort) (w : Expectation) (leaves : List Leaf) (found : Option ℕ) → IsWantBelow (length nodes) w → IsModeFound nodes s w leaves found → IsFindingBelow (length nodes) (finding.Mode found)
   mode_there s w leaves None below is = tt
   mode_there s (want.Mode m) leaves (Some x) below is = subst (λ i. i < length nodes) (sym is.0) below
   mode_there s (want.ModeForm f) leaves (Some x) below is = is.2.there

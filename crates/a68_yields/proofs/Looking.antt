@@ -7,11 +7,11 @@ use Rattle.a68_tree.specs.declared.kind.NodeKind.{NodeKind}
 use Rattle.a68_tree.specs.declared.kind.NodeKind.TheVariants as kind
 use Rattle.a68_yields.specs.Below.{IsSoughtBelow, IsWantBelow}
 use Rattle.a68_yields.specs.Sought.{asks_by, is_subscript, of_call, of_first, operands, sides, sought_by}
-use Rattle.a68_yields.specs.declared.sought.Want.{Want}
-use Rattle.a68_yields.specs.declared.sought.Want.TheVariants as want
+use Rattle.a68_yields.specs.declared.sought.Expectation.{Expectation}
+use Rattle.a68_yields.specs.declared.sought.Expectation.TheVariants as want
 
 module _ (n : ℕ) (some : 2 < n) where
-  AskedBelow : Option (Sort × Want) → Type 0
+  AskedBelow : Option (Sort × Expectation) → Type 0
   AskedBelow None = Unit {0}
   AskedBelow (Some asked) = IsWantBelow n asked.1
 
@@ -28,7 +28,7 @@ module _ (n : ℕ) (some : 2 < n) where
   asks_below kind.At = omega arith
   asks_below _ = tt
 
-  first_below : (parts : List ℕ) (asked : Option (Sort × Want)) → AskedBelow asked → IsSoughtBelow n (of_first parts asked)
+  first_below : (parts : List ℕ) (asked : Option (Sort × Expectation)) → AskedBelow asked → IsSoughtBelow n (of_first parts asked)
   unfolding AskedBelow
   first_below [] asked below = tt
   first_below (p ∷ ps) None below = tt

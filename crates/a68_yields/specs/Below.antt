@@ -8,8 +8,8 @@ use Rattle.a68_tree.specs.Trees.{Built}
 use Rattle.a68_yields.specs.Leaves.{AllHaveLeaves, HasLeaves, HasNoLeaves, yield_at}
 use Rattle.a68_yields.specs.declared.sought.Sought.{Sought}
 use Rattle.a68_yields.specs.declared.sought.Sought.TheVariants as sought
-use Rattle.a68_yields.specs.declared.sought.Want.{Want}
-use Rattle.a68_yields.specs.declared.sought.Want.TheVariants as want
+use Rattle.a68_yields.specs.declared.sought.Expectation.{Expectation}
+use Rattle.a68_yields.specs.declared.sought.Expectation.TheVariants as want
 use Rattle.a68_yields.specs.declared.told.Told.{Told}
 use Rattle.a68_yields.specs.declared.told.Told.TheVariants as tell
 use Rattle.a68_yields.specs.declared.yielding.Finding.{Finding}
@@ -53,7 +53,7 @@ AreCollected tree ys ns old new true = (leaves : List Leaf) × AllHaveLeaves tre
 AreCollected tree ys ns old new false = (leaves : List Leaf) → AllHaveLeaves tree ys ns leaves → ⊥
 
 -- what is looked for is among the first n modes
-abbrev pub IsWantBelow : ℕ → Want → Type 0
+abbrev pub IsWantBelow : ℕ → Expectation → Type 0
 IsWantBelow n (want.Mode m) = m < n
 IsWantBelow n (want.ModeForm f) = Unit {0}
 

@@ -15,14 +15,14 @@ use Rattle.a68_tree.specs.Trees.{Built}
 use Rattle.a68_yields.specs.Leaves.{HasLeaves, HasNoLeaves}
 use Rattle.a68_yields.specs.declared.sought.Sought.{Sought}
 use Rattle.a68_yields.specs.declared.sought.Sought.TheVariants as sought
-use Rattle.a68_yields.specs.declared.sought.Want.{Want}
-use Rattle.a68_yields.specs.declared.sought.Want.TheVariants as want
+use Rattle.a68_yields.specs.declared.sought.Expectation.{Expectation}
+use Rattle.a68_yields.specs.declared.sought.Expectation.TheVariants as want
 use Rattle.a68_yields.specs.declared.yielding.Finding.{Finding}
 use Rattle.a68_yields.specs.declared.yielding.Finding.TheVariants as finding
 use Rattle.a68_yields.specs.declared.yielding.Yielding.{Yielding}
 
 -- the mode that these leaves are balanced to, where a mode or a form is wanted
-abbrev pub IsModeFound : List Shape → Sort → Want → List Leaf → Option ℕ → Type 0
+abbrev pub IsModeFound : List Shape → Sort → Expectation → List Leaf → Option ℕ → Type 0
 IsModeFound nodes sort (want.Mode m) leaves (Some x) = (x ≡ m) × (i : ℕ) × IsBalanced nodes sort (as_it_stands m) leaves (Some i)
 IsModeFound nodes sort (want.Mode m) leaves None = IsBalanced nodes sort (as_it_stands m) leaves None
 IsModeFound nodes sort (want.ModeForm f) leaves (Some x) = (b : Balanced) × IsFormed nodes sort f leaves (Some b) × IsNode nodes b.mode x
@@ -42,9 +42,9 @@ IsOperatorFound tree nodes of n operands None = (found : Identified) → IsOpera
 -- what is found at a node for what is looked for there
 pub data IsFound (tree : Built) (nodes : List Shape) (of : ByNode) (ys : List Yielding) (n : ℕ) : Sought → Finding → Type 0 where
   for_nothing : IsFound tree nodes of ys n sought.Nothing finding.Nothing
-  for_part : {sort : Sort} {w : Want} {p : ℕ} {found : Option ℕ} (leaves : List Leaf) → HasLeaves tree ys p leaves → IsModeFound nodes sort w leaves found
+  for_part : {sort : Sort} {w : Expectation} {p : ℕ} {found : Option ℕ} (leaves : List Leaf) → HasLeaves tree ys p leaves → IsModeFound nodes sort w leaves found
       → IsFound tree nodes of ys n (sought.Part sort w p) (finding.Mode found)
-  for_unknown_part : {sort : Sort} {w : Want} {p : ℕ} → HasNoLeaves tree ys p → IsFound tree nodes of ys n (sought.Part sort w p) (finding.Mode None)
+  for_unknown_part : {sort : Sort} {w : Expectation} {p : ℕ} → HasNoLeaves tree ys p → IsFound tree nodes of ys n (sought.Part sort w p) (finding.Mode None)
   for_sides : {l r : ℕ} {found : Option ℕ} (left right : List Leaf) → HasLeaves tree ys l left → HasLeaves tree ys r right → IsNameFound nodes left right found
       → IsFound tree nodes of ys n (sought.Sides l r) (finding.Mode found)
   for_unknown_sides : {l r : ℕ} → HasNoLeaves tree ys l ⊎ HasNoLeaves tree ys r → IsFound tree nodes of ys n (sought.Sides l r) (finding.Mode None)

@@ -10,12 +10,12 @@ use Rattle.a68_tree.specs.declared.kind.NodeKind.{NodeKind}
 use Rattle.a68_tree.specs.declared.kind.NodeKind.TheVariants as kind
 use Rattle.a68_yields.specs.declared.sought.Sought.{Sought}
 use Rattle.a68_yields.specs.declared.sought.Sought.TheVariants as sought
-use Rattle.a68_yields.specs.declared.sought.Want.{Want}
-use Rattle.a68_yields.specs.declared.sought.Want.TheVariants as want
+use Rattle.a68_yields.specs.declared.sought.Expectation.{Expectation}
+use Rattle.a68_yields.specs.declared.sought.Expectation.TheVariants as want
 
 -- of the first part of a node of that kind a mode or a form is asked, by a sort: BOOL (2) or INT (1), or a union, of enquiries; INT of the
 -- parts of loops, bounds and trimmers; a name of a destination; and so on
-abbrev pub asks_by : NodeKind → Option (Sort × Want)
+abbrev pub asks_by : NodeKind → Option (Sort × Expectation)
 asks_by kind.Conditional = Some (by.Meek, want.Mode 2)
 asks_by kind.While = Some (by.Meek, want.Mode 2)
 asks_by kind.Case = Some (by.Meek, want.Mode 1)
@@ -45,7 +45,7 @@ is_subscript tree (p ∷ []) = if is_bound (kind_at tree p) then false else true
 is_subscript tree (p ∷ q ∷ ps) = false
 
 -- that of the first part, where there is one
-abbrev pub of_first : List ℕ → Option (Sort × Want) → Sought
+abbrev pub of_first : List ℕ → Option (Sort × Expectation) → Sought
 of_first [] asked = sought.Nothing
 of_first (p ∷ ps) None = sought.Nothing
 of_first (p ∷ ps) (Some asked) = sought.Part asked.0 asked.1 p

@@ -8,7 +8,7 @@ ghost use Rattle.a68_yields.specs.Below.{AreAhead, AreUnitsBelow, IsFindingBelow
 ghost use Rattle.a68_yields.specs.Found.{IsFound, IsModeFound, IsNameFound, IsOperatorFound};
 
 use crate::leaves::leaves_of;
-use crate::sought::{Sought, Want};
+use crate::sought::{Expectation, Sought};
 use crate::yielding::{Finding, Yielding};
 use a68_base::NoMemory;
 use a68_coerce::{Leaf, ModeForm, balance, balance_sides, balance_to_form};
@@ -31,7 +31,7 @@ fn mode_found(
     requires leaves { All (IsLeafBelow (length modes.now)) leaves.now }
     requires few { length leaves.now < 2 ^ 32 }
     requires mode { mode < length modes.now }
-    ensures found { IfOk result (IsModeFound modes.now sort (Want.Mode mode) leaves.now) }
+    ensures found { IfOk result (IsModeFound modes.now sort (Expectation.Mode mode) leaves.now) }
     ensures there { IfOk result (λ found. IfSome found (λ m. m < length modes.now)) }
 {
     let found = balance(alloc, modes.modes(), modes.classes(), sort, leaves, mode)?;
@@ -51,7 +51,7 @@ fn form_found(
 ) -> Result<Option<ModeId>, NoMemory>
     requires leaves { All (IsLeafBelow (length modes.now)) leaves.now }
     requires few { length leaves.now < 2 ^ 32 }
-    ensures found { IfOk result (IsModeFound modes.now sort (Want.ModeForm form) leaves.now) }
+    ensures found { IfOk result (IsModeFound modes.now sort (Expectation.ModeForm form) leaves.now) }
     ensures there { IfOk result (λ found. IfSome found (λ m. m < length modes.now)) }
 {
     let found = balance_to_form(alloc, modes.modes(), modes.classes(), sort, form, leaves)?;
@@ -66,7 +66,7 @@ fn wanted(
     alloc: Global,
     modes: &ModeTable,
     sort: Sort,
-    want: Want,
+    want: Expectation,
     leaves: &[Leaf],
 ) -> Result<Option<ModeId>, NoMemory>
     requires leaves { All (IsLeafBelow (length modes.now)) leaves.now }
@@ -76,8 +76,8 @@ fn wanted(
     ensures there { IfOk result (λ found. IfSome found (λ m. m < length modes.now)) }
 {
     match want {
-        Want::Mode(mode) => mode_found(alloc, modes, sort, mode, leaves),
-        Want::ModeForm(form) => form_found(alloc, modes, sort, form, leaves),
+        Expectation::Mode(mode) => mode_found(alloc, modes, sort, mode, leaves),
+        Expectation::ModeForm(form) => form_found(alloc, modes, sort, form, leaves),
     }
 }
 
@@ -90,7 +90,7 @@ pub fn part_found(
     yields: &[Yielding],
     node: NodeId,
     sort: Sort,
-    want: Want,
+    want: Expectation,
     part: NodeId,
 ) -> Result<Finding, NoMemory>
     requires ahead { AreAhead (length tree.now.nodes) yields.now }

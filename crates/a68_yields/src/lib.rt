@@ -15,7 +15,7 @@ pub use found::part_found;
 pub use laws::{yields_are_one, yields_are_sound, yields_keep_nodes};
 pub use leaves::leaves_of;
 pub use parts::{Rowed, Structured, as_row, as_structure, field_mode};
-pub use sought::{Sought, Want, is_subscript};
+pub use sought::{Expectation, Sought, is_subscript};
 pub use table::{Yields, find_yields};
 pub use told::is_unknown;
 pub use yielding::{Finding, Yielding, yield_of};

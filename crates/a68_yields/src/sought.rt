@@ -9,7 +9,7 @@ use a68_tree::{NodeId, NodeKind, Tree};
 
 /// A mode, or a form that modes have.
 #[derive(Clone, Copy)]
-pub enum Want {
+pub enum Expectation {
     Mode(ModeId),
     ModeForm(ModeForm),
 }
@@ -19,7 +19,7 @@ pub enum Want {
 pub enum Sought {
     Nothing,
     /// The mode that a part is balanced to, by the sort of its position (6.1.1).
-    Part(Sort, Want, NodeId),
+    Part(Sort, Expectation, NodeId),
     /// The name to which both sides of an identity relation lead (5.2.2).
     Sides(NodeId, NodeId),
     /// The operator of a formula of one operand (5.4.2).
@@ -29,23 +29,23 @@ pub enum Sought {
 }
 
 /// Tells what a node of that kind asks of its first part, and by which sort.
-fn asks_by(kind: NodeKind) -> Option<(Sort, Want)>
+fn asks_by(kind: NodeKind) -> Option<(Sort, Expectation)>
     ensures { result ≡ specs.asks_by kind }
 {
     match kind {
-        NodeKind::Conditional | NodeKind::While => Some((Sort::Meek, Want::Mode(2))),
+        NodeKind::Conditional | NodeKind::While => Some((Sort::Meek, Expectation::Mode(2))),
         NodeKind::Case
         | NodeKind::From
         | NodeKind::By
         | NodeKind::To
         | NodeKind::Lower
         | NodeKind::Upper
-        | NodeKind::At => Some((Sort::Meek, Want::Mode(1))),
-        NodeKind::Conformity => Some((Sort::Meek, Want::ModeForm(ModeForm::Union))),
-        NodeKind::Assignation => Some((Sort::Soft, Want::ModeForm(ModeForm::Name))),
-        NodeKind::Selection => Some((Sort::Weak, Want::ModeForm(ModeForm::Structure))),
-        NodeKind::Slice => Some((Sort::Weak, Want::ModeForm(ModeForm::Row))),
-        NodeKind::Call => Some((Sort::Meek, Want::ModeForm(ModeForm::Routine))),
+        | NodeKind::At => Some((Sort::Meek, Expectation::Mode(1))),
+        NodeKind::Conformity => Some((Sort::Meek, Expectation::ModeForm(ModeForm::Union))),
+        NodeKind::Assignation => Some((Sort::Soft, Expectation::ModeForm(ModeForm::Name))),
+        NodeKind::Selection => Some((Sort::Weak, Expectation::ModeForm(ModeForm::Structure))),
+        NodeKind::Slice => Some((Sort::Weak, Expectation::ModeForm(ModeForm::Row))),
+        NodeKind::Call => Some((Sort::Meek, Expectation::ModeForm(ModeForm::Routine))),
         _ => None,
     }
 }
@@ -67,7 +67,7 @@ pub fn is_subscript(tree: &Tree, parts: &[NodeId]) -> bool
 }
 
 /// Asks that of the first part, where there is one.
-fn of_first(parts: &[NodeId], asked: Option<(Sort, Want)>) -> Sought
+fn of_first(parts: &[NodeId], asked: Option<(Sort, Expectation)>) -> Sought
     ensures { result ≡ specs.of_first parts.now asked }
 {
     if parts.is_empty() {
@@ -113,7 +113,7 @@ fn of_index(tree: &Tree, parts: &[NodeId]) -> Sought
     ensures { result ≡ specs.of_index tree.now parts.now }
 {
     if is_subscript(tree, parts) {
-        of_first(parts, Some((Sort::Meek, Want::Mode(1))))
+        of_first(parts, Some((Sort::Meek, Expectation::Mode(1))))
     } else {
         Sought::Nothing
     }

@@ -1,9 +1,9 @@
 //! What clauses and units whose mode stands in the text may yield, by hand from the text (Report, 3.2 to 3.5, 5.2.3, 5.4.1 and 5.5).
-use crate::units::{Row, are_told};
+use crate::units::{Expected, are_told};
 use a68_tree::NodeKind;
 
 /// Units whose yield stands in the text: casts, generators, routine texts, those that stand in strong positions only, and those that yield VOID.
-const WRITTEN: &[Row] = &[
+const WRITTEN: &[Expected] = &[
     ("( INT (1) )", NodeKind::Cast, 2, "INT", "nothing"),
     (
         "( INT x; REF INT (x) )",
@@ -82,7 +82,7 @@ const WRITTEN: &[Row] = &[
 ];
 
 /// Choices.
-const CHOSEN: &[Row] = &[
+const CHOSEN: &[Expected] = &[
     (
         "( BOOL b; IF b THEN 1 ELSE 2 FI )",
         NodeKind::Conditional,
@@ -191,7 +191,7 @@ const CHOSEN: &[Row] = &[
 ];
 
 /// Choices where a form is asked for.
-const BALANCED: &[Row] = &[
+const BALANCED: &[Expected] = &[
     (
         "( BOOL b; PROC f = (INT n) BOOL: TRUE; ( b | f | SKIP )(1) )",
         NodeKind::Call,
@@ -230,7 +230,7 @@ const BALANCED: &[Row] = &[
 ];
 
 /// Clauses, which yield what their last unit yields.
-const HANDED: &[Row] = &[
+const HANDED: &[Expected] = &[
     (
         "( INT x; BOOL b; b )",
         NodeKind::Closed,

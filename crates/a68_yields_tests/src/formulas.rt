@@ -1,9 +1,9 @@
 //! What assignations, identity relations and formulas may yield, by hand from the text (Report, 5.2 and 5.4.2).
-use crate::units::{Row, are_told};
+use crate::units::{Expected, are_told};
 use a68_tree::NodeKind;
 
 /// Assignations.
-const ASSIGNED: &[Row] = &[
+const ASSIGNED: &[Expected] = &[
     (
         "( INT x; x := 1 )",
         NodeKind::Assignation,
@@ -63,7 +63,7 @@ const ASSIGNED: &[Row] = &[
 ];
 
 /// Identity relations.
-const COMPARED: &[Row] = &[
+const COMPARED: &[Expected] = &[
     (
         "( INT x, y; x IS y )",
         NodeKind::Identity,
@@ -131,7 +131,7 @@ const COMPARED: &[Row] = &[
 ];
 
 /// Formulas.
-const COMPUTED: &[Row] = &[
+const COMPUTED: &[Expected] = &[
     ("( 1 + 2 )", NodeKind::Dyadic, 2, "INT", "row 15 1 1"),
     ("( 1 < 2 )", NodeKind::Dyadic, 2, "BOOL", "row 11 1 1"),
     (

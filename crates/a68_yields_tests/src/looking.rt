@@ -27,7 +27,7 @@ use std::process::Abort;
 
 /// The modes of a text, and which are those of its declarers.
 #[derive(Drop)]
-pub struct Made {
+pub struct Built {
     pub modes: ModeTable,
     pub of: NodeModes,
 }
@@ -53,7 +53,7 @@ pub fn tree_of(rt: &impl Abort, alloc: Global, text: &str) -> Result<Tree, Stop>
 }
 
 /// The modes of a tree whose ranges declare no word twice.
-pub fn modes_of(rt: &impl Abort, alloc: Global, tree: &Tree, case: &str) -> Made
+pub fn modes_of(rt: &impl Abort, alloc: Global, tree: &Tree, case: &str) -> Built
     ensures there { AreThere tree.now result.modes result.of }
     ensures below { AreBelow (length result.modes) result.of }
 {
@@ -68,7 +68,7 @@ pub fn modes_of(rt: &impl Abort, alloc: Global, tree: &Tree, case: &str) -> Made
         of,
         fixed,
     } = declared;
-    Made {
+    Built {
         modes: ModeTable::new(modes, classes, fixed),
         of,
     }
@@ -99,7 +99,7 @@ fn found(
     tree: &Tree,
     ranges: &Ranges,
     tags: &Tags,
-    made: &mut Made,
+    made: &mut Built,
 ) -> Yields
     requires ranges { AreRanges tree.now ranges.now }
     requires there { AreThere tree.now made.old.modes made.old.of }
@@ -122,7 +122,7 @@ fn found(
 }
 
 /// What the nodes of a tree may yield, and what is found at them.
-pub fn looked(rt: &impl Abort, alloc: Global, tree: &Tree, made: &mut Made, case: &str) -> Yields
+pub fn looked(rt: &impl Abort, alloc: Global, tree: &Tree, made: &mut Built, case: &str) -> Yields
     requires there { AreThere tree.now made.old.modes made.old.of }
     requires below { AreBelow (length made.old.modes) made.old.of }
     ensures { AreTablesBelow (length made.new.modes) (length tree.now.nodes) result.yields.items result.findings.items }

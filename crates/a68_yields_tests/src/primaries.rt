@@ -1,9 +1,9 @@
 //! What primaries and selections may yield, by hand from the text (Report, 5.3, 5.4.3, 4.8 and 8).
-use crate::units::{Row, are_told};
+use crate::units::{Expected, are_told};
 use a68_tree::NodeKind;
 
 /// Denotations.
-const DENOTED: &[Row] = &[
+const DENOTED: &[Expected] = &[
     ("( 1 )", NodeKind::Denotation, 2, "INT", "nothing"),
     ("( TRUE )", NodeKind::Denotation, 2, "BOOL", "nothing"),
     ("( FALSE )", NodeKind::Denotation, 2, "BOOL", "nothing"),
@@ -23,7 +23,7 @@ const DENOTED: &[Row] = &[
 ];
 
 /// Tags, by their definitions.
-const TAGGED: &[Row] = &[
+const TAGGED: &[Expected] = &[
     ("( INT x; x )", NodeKind::Tag, 9, "REF INT", "nothing"),
     ("( INT x = 1; x )", NodeKind::Tag, 13, "INT", "nothing"),
     (
@@ -126,7 +126,7 @@ const TAGGED: &[Row] = &[
 ];
 
 /// Slices, and their indexes: a subscript is asked for INT, a trimmer for nothing.
-const SLICED: &[Row] = &[
+const SLICED: &[Expected] = &[
     (
         "( [1:3] INT a; a[1] )",
         NodeKind::Slice,
@@ -285,7 +285,7 @@ const SLICED: &[Row] = &[
 ];
 
 /// Selections.
-const SELECTED: &[Row] = &[
+const SELECTED: &[Expected] = &[
     (
         "( STRUCT (INT n, BOOL b) s; n OF s )",
         NodeKind::Selection,
@@ -359,7 +359,7 @@ const SELECTED: &[Row] = &[
 ];
 
 /// Calls.
-const CALLED: &[Row] = &[
+const CALLED: &[Expected] = &[
     (
         "( PROC f = (INT n) BOOL: TRUE; f(1) )",
         NodeKind::Call,

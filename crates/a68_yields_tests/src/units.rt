@@ -20,7 +20,7 @@ use std::str::SplitWhitespace;
 /// It may yield units of modes, with commas between; `~` is one that may stand in strong positions only; or what it yields is unknown. A
 /// structure and a union stand for all of their kind. What is found is nothing, where nothing is looked for; a mode; `own` and the byte of an
 /// operator's definition; the row of a standard operator with the numbers of the modes of its operands; or none.
-pub type Row = (&'static str, NodeKind, u32, &'static str, &'static str);
+pub type Expected = (&'static str, NodeKind, u32, &'static str, &'static str);
 
 // The node of that kind that begins at that byte, with the least number.
 fn node_at(rt: &impl Abort, tree: &Tree, kind: NodeKind, place: u32, case: &str) -> NodeId
@@ -211,7 +211,7 @@ fn is_found(
     holds(rt, words.next().is_none(), case);
 }
 
-fn unit_is_told(rt: &impl Abort, alloc: Global, row: &Row) {
+fn unit_is_told(rt: &impl Abort, alloc: Global, row: &Expected) {
     let tree = tree_of(rt, alloc, row.0).expect(rt, row.0);
     let mut made = modes_of(rt, alloc, &tree, row.0);
     let found = looked(rt, alloc, &tree, &mut made, row.0);
@@ -233,7 +233,7 @@ fn unit_is_told(rt: &impl Abort, alloc: Global, row: &Row) {
 }
 
 /// What the rows say holds of each text.
-pub fn are_told(rt: &impl Abort, alloc: Global, rows: &[Row]) {
+pub fn are_told(rt: &impl Abort, alloc: Global, rows: &[Expected]) {
     for row in rows {
         unit_is_told(rt, alloc, row);
     }

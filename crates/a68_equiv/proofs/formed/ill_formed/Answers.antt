@@ -1,7 +1,7 @@
 use Rattle.std.proofs.Common.{◌≡◌, ◌↔◌, ◌∙◌, ℕ, List, Bool, true, false, ◌<◌, length, get_or, sym, subst, arith, below_more}
 use Rattle.std.specs.Prelude.{map, IsTrue}
 use Rattle.a68_modes.specs.declared.shape.Shape.{Shape}
-use Rattle.a68_equiv.specs.declared.steps.Steps.TheVariants.{BesidesNames, BesidesStructures}
+use Rattle.a68_equiv.specs.declared.steps.Inward.TheVariants.{BesidesNames, BesidesStructures}
 use Rattle.a68_equiv.specs.Ways.{steps_of, Way, IsWellFormed}
 use Rattle.std.proofs.lemmas.List.{length-map}
 use Rattle.a68_equiv.proofs.formed.ill_formed.Goals as goal

@@ -1,6 +1,6 @@
 use Rattle.std.proofs.Common.{◌≡◌, ◌<◌, ◌*◌, ◌∙◌, arith, length, ℕ, ap, subst}
 use Rattle.a68_modes.specs.Nodes.{shape_at, IsWithin}
-use Rattle.a68_equiv.specs.declared.steps.Steps.TheVariants.{WithinUnions}
+use Rattle.a68_equiv.specs.declared.steps.Inward.TheVariants.{WithinUnions}
 use Rattle.a68_equiv.specs.Ways.{steps_of}
 use Rattle.a68_equiv.specs.Unfolding.{unfolded}
 use Rattle.a68_equiv.specs.Graph.{AreRows}

@@ -1,6 +1,6 @@
 use Rattle.a68_equiv.proofs.Keeping.{shape_row_below}
 use Rattle.std.proofs.Common.{length}
-use Rattle.a68_equiv.specs.declared.steps.Steps.TheVariants.{WithinUnions}
+use Rattle.a68_equiv.specs.declared.steps.Inward.TheVariants.{WithinUnions}
 use Rattle.a68_equiv.proofs.Stepping.{steps_within}
 use Rattle.a68_equiv.proofs.keys.shape_key.Goals as goal
 

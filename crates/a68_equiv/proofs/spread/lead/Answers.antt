@@ -4,7 +4,7 @@ use Rattle.std.proofs.lemmas.List.{length-map, get_or_default}
 use Rattle.std.proofs.lemmas.List.Elements.{All-from_get_or, Contains-get_or}
 use Rattle.a68_modes.specs.Nodes.{shape_at}
 use Rattle.a68_equiv.specs.Spread.{Notes}
-use Rattle.a68_equiv.specs.declared.steps.Steps.TheVariants.{WithinUnions}
+use Rattle.a68_equiv.specs.declared.steps.Inward.TheVariants.{WithinUnions}
 use Rattle.a68_equiv.specs.Ways.{steps_of, row}
 use Rattle.a68_equiv.proofs.Spreading.{walk_begun, walk_on, walk_whole, few}
 use Rattle.a68_equiv.proofs.Stepping.{closed, row_of_map}

@@ -2,7 +2,7 @@ use Rattle.std.proofs.Common.{◌≡◌, ◌∙◌, ◌+◌, ℕ, sym, ap, subst
 use Rattle.std.specs.declared.option.Option.{Option}
 use Rattle.a68_op_ident.specs.Formulas.{signs}
 use Rattle.a68_op_ident.specs.Inner.{Same}
-use Rattle.a68_op_ident.specs.declared.formula.Token.TheVariants as token
+use Rattle.a68_op_ident.specs.declared.formula.FormulaPart.TheVariants as token
 use Rattle.std.proofs.lemmas.Option.{slice_get-get_or}
 use Rattle.a68_op_ident.proofs.Placing.{one_operand, halves, rest, put_under, put_over, ranked_at, same_under, same_over}
 use Rattle.a68_op_ident.proofs.place.+place.Goals as goal

@@ -7,7 +7,7 @@ use Rattle.a68_workers.proofs.shared.run_shared.Goals as goal
 -- what the closure of a worker takes
 pub map_indices-requires-sync-F : goal.map_indices-requires-sync-F
 map_indices-requires-sync-F g c κs within =
-    let lock = lock_sync (param 0 g.row.J) g.J.Given c.type_bounds.send-J in
+    let lock = lock_sync (param 0 g.row.J) g.J.GivenRun c.type_bounds.send-J in
     let rt = c.type_bounds.sync-R in
     let gate = c.type_bounds.sync-G in
     search (sendable, crossing.sync) depth 20

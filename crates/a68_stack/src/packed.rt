@@ -19,13 +19,13 @@ use std::marker::Model;
 use std::mem;
 
 /// An item in few bytes, so that it is moved at little cost. Contracts see the item.
-pub struct Kept {
+pub struct Packed {
     form: Form,
 }
 
-impl Drop for Kept {
+impl Drop for Packed {
     fn drop(self) {
-        let Kept { form: _ } = self;
+        let Packed { form: _ } = self;
     }
 }
 
@@ -45,7 +45,7 @@ impl Drop for Form {
     }
 }
 
-impl Model for Kept {
+impl Model for Packed {
     ghost use Rattle.std.specs.Prelude.{◌≡◌, None};
     ghost use Rattle.a68_stack.specs.declared.stack.Item.{Item};
     ghost use Rattle.a68_stack.specs.contracts.stack.Item as item;
@@ -100,56 +100,56 @@ impl Form {
     }
 }
 
-impl Kept {
+impl Packed {
     /// Keeps a plain value, which takes no memory.
     #[inline(always)]
-    pub fn of_plain(held: Plain) -> Kept
+    pub fn of_plain(held: Plain) -> Packed
         ensures { result ≡ Item.Value (plain held) }
     {
-        Kept {
+        Packed {
             form: Form::Plain(held),
         }
     }
 
     /// Keeps an item.
-    pub fn of(alloc: Global, item: Item) -> Result<Kept, NoMemory>
+    pub fn of(alloc: Global, item: Item) -> Result<Packed, NoMemory>
         ensures { IfOk result (λ kept. kept ≡ item) }
     {
         match item {
-            Item::Value(value) => Kept::of_value(alloc, value),
-            Item::Counter(counter) => Kept::of_counter(alloc, counter),
-            Item::Caller(caller) => Kept::of_caller(alloc, caller),
+            Item::Value(value) => Packed::of_value(alloc, value),
+            Item::Counter(counter) => Packed::of_counter(alloc, counter),
+            Item::Caller(caller) => Packed::of_caller(alloc, caller),
         }
     }
 
     /// Keeps a value.
-    pub fn of_value(alloc: Global, value: Value) -> Result<Kept, NoMemory>
+    pub fn of_value(alloc: Global, value: Value) -> Result<Packed, NoMemory>
         ensures { IfOk result (λ kept. kept ≡ Item.Value value) }
     {
         if let Some(held) = value.plain() {
             // A plain value holds no memory.
             mem::forget(value);
-            return Ok(Kept::of_plain(held));
+            return Ok(Packed::of_plain(held));
         }
-        Ok(Kept {
+        Ok(Packed {
             form: Form::Value(Box::new(alloc, value)?),
         })
     }
 
     /// Keeps a counter.
-    pub fn of_counter(alloc: Global, counter: Counter) -> Result<Kept, NoMemory>
+    pub fn of_counter(alloc: Global, counter: Counter) -> Result<Packed, NoMemory>
         ensures { IfOk result (λ kept. kept ≡ Item.Counter counter) }
     {
-        Ok(Kept {
+        Ok(Packed {
             form: Form::Counter(Box::new(alloc, counter)?),
         })
     }
 
     /// Keeps a caller.
-    pub fn of_caller(alloc: Global, caller: Caller) -> Result<Kept, NoMemory>
+    pub fn of_caller(alloc: Global, caller: Caller) -> Result<Packed, NoMemory>
         ensures { IfOk result (λ kept. kept ≡ Item.Caller caller) }
     {
-        Ok(Kept {
+        Ok(Packed {
             form: Form::Caller(Box::new(alloc, caller)?),
         })
     }
@@ -159,7 +159,7 @@ impl Kept {
     pub fn into_item(self) -> Item
         ensures { result ≡ self }
     {
-        let Kept { form } = self;
+        let Packed { form } = self;
         form.into_item()
     }
 
@@ -168,7 +168,7 @@ impl Kept {
     pub fn into_caller(self) -> Option<Caller>
         ensures { MatchOption result (is_caller self ≡ false) (λ caller. self ≡ Item.Caller caller) }
     {
-        let Kept { form } = self;
+        let Packed { form } = self;
         form.into_caller()
     }
 
