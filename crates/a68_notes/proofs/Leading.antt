@@ -28,7 +28,7 @@ use Rattle.a68_tree.specs.declared.kind.NodeKind.{NodeKind}
 use Rattle.a68_tree.specs.declared.kind.NodeKind.TheVariants as kind
 use Rattle.a68_yields.proofs.Tabling.{set_entry}
 use Rattle.a68_yields.specs.Leaves.{chosen, yield_at}
-use Rattle.a68_yields.specs.Yields.{any_unknown, choice, handed, is_unknown, none_yet, one_more, told, unknown, AreYieldsFrom, IsYield, PlainRows}
+use Rattle.a68_yields.specs.Yields.{any_unknown, choice, handed, is_unknown, none_yet, one_more, told, unknown, AreYieldsFrom, IsYield, Known}
 use Rattle.a68_yields.specs.declared.told.Told.{Told}
 use Rattle.a68_yields.specs.declared.told.Told.TheVariants as tell
 use Rattle.a68_yields.specs.declared.yielding.Finding.{Finding}
@@ -53,7 +53,7 @@ handed_none ys (p ∷ ps) = either (is_unknown (yield_at ys (part_from_end (p �
 choice_none : (ys : List Yielding) (parts : List ℕ) → IsNoUnit (choice ys parts)
 choice_none ys parts = either (any_unknown ys parts) unknown (tell.Yields yields.Choice) tt tt
 
-told_none : (k : PlainRows) (nodes : List Shape) (ys : List Yielding) (n : ℕ) (found : Finding) (form : NodeKind) → hands_on form ≡ true → IsNoUnit (told k nodes ys n found form)
+told_none : (k : Known) (nodes : List Shape) (ys : List Yielding) (n : ℕ) (found : Finding) (form : NodeKind) → hands_on form ≡ true → IsNoUnit (told k nodes ys n found form)
 told_none k nodes ys n found kind.Closed h = handed_none ys (parts_at k.tree n)
 told_none k nodes ys n found kind.Serial h = handed_none ys (parts_at k.tree n)
 told_none k nodes ys n found kind.Out h = handed_none ys (parts_at k.tree n)
@@ -74,7 +74,7 @@ unknown_all zero n = refl
 unknown_all (suc count) zero = refl
 unknown_all (suc count) (suc n) = unknown_all count n
 
-units_apart : {k : PlainRows} {start : List Shape} {from : ℕ} {nodes : List Shape} {ys : List Yielding} {fs : List Finding} → AreYieldsFrom k start from nodes ys fs → (n : ℕ) (l : Leaf)
+units_apart : {k : Known} {start : List Shape} {from : ℕ} {nodes : List Shape} {ys : List Yielding} {fs : List Finding} → AreYieldsFrom k start from nodes ys fs → (n : ℕ) (l : Leaf)
     → yield_at ys n ≡ yields.Unit l → hands_on (kind_at k.tree n) ≡ true → ⊥
 units_apart {k = k} (none_yet at same ys_are fs_are) n l e h =
     let f : yields.Unknown ≡ yields.Unit l = sym (unknown_all (length k.tree.nodes) n) ∙ ap (λ xs. yield_at xs n) (sym ys_are) ∙ e in absurd (cc)

@@ -37,7 +37,7 @@ use Rattle.a68_tree.specs.declared.node.FrameStep.{FrameStep}
 use Rattle.a68_yields.proofs.Tabling.{leaf_longer}
 use Rattle.a68_yields.specs.Below.{AreTablesBelow, AreUnitsBelow}
 use Rattle.a68_yields.specs.Leaves.{yield_at}
-use Rattle.a68_yields.specs.Yields.{AreYields, PlainRows}
+use Rattle.a68_yields.specs.Yields.{AreYields, Known}
 use Rattle.a68_yields.specs.declared.yielding.Finding.{Finding}
 use Rattle.a68_yields.specs.declared.yielding.Yielding.{Yielding}
 use Rattle.a68_yields.specs.declared.yielding.Yielding.TheVariants as yields
@@ -148,18 +148,18 @@ pub record Laws : Type 0 where
   pub below : (tree : Built) (nodes : List Shape) (of : ByNode) → AreModesOf tree nodes of → AreBelow (length nodes) of
   pub defined_sound : (tree : Built) (of : ByNode) (start nodes : List Shape) (table : List ℕ) → AreSound start → AreBelow (length start) of
       → length nodes ≤ MOST_MODES → AreDefined tree of start nodes table → AreSound nodes
-  pub yields_sound : (k : PlainRows) (start nodes : List Shape) (ys : List Yielding) (fs : List Finding) → AreSound start → length nodes ≤ MOST_MODES
+  pub yields_sound : (k : Known) (start nodes : List Shape) (ys : List Yielding) (fs : List Finding) → AreSound start → length nodes ≤ MOST_MODES
       → AreYields k start nodes ys fs → AreSound nodes
-  pub yields_longer : (k : PlainRows) (start nodes : List Shape) (ys : List Yielding) (fs : List Finding) → AreYields k start nodes ys fs
+  pub yields_longer : (k : Known) (start nodes : List Shape) (ys : List Yielding) (fs : List Finding) → AreYields k start nodes ys fs
       → length start ≤ length nodes
-  pub positions_sound : (k : PlainRows) (ys : List Yielding) (fs : List Finding) (start nodes : List Shape) (ps : List Position) → AreSound start
+  pub positions_sound : (k : Known) (ys : List Yielding) (fs : List Finding) (start nodes : List Shape) (ps : List Position) → AreSound start
       → AreThere k.tree start k.of → AllBelow (length start) k.defined → AreTablesBelow (length start) (length k.tree.nodes) ys fs
       → length nodes ≤ MOST_MODES → ArePositions k ys fs start nodes ps → AreSound nodes
-  pub positions_longer : (k : PlainRows) (ys : List Yielding) (fs : List Finding) (start nodes : List Shape) (ps : List Position)
+  pub positions_longer : (k : Known) (ys : List Yielding) (fs : List Finding) (start nodes : List Shape) (ps : List Position)
       → ArePositions k ys fs start nodes ps → length start ≤ length nodes
 
 module _ (laws : Laws) (of : ByNode) (a : Asked) (once : (id : ℕ) → IsTwice a.tree id → ⊥) (is : IsMeaning of a) where
-  abbrev known : PlainRows
+  abbrev known : Known
   known = record { tree = a.tree; tags = a.tags; of = of; defined = a.defined }
 
   longer : length is.yielded ≤ length a.nodes
