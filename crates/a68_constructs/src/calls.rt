@@ -45,15 +45,8 @@ fn applied(
                     slot: note.step.slot,
                 },
             );
-            operation(
-                alloc,
-                program,
-                id,
-                parts,
-                place,
-                Does::Call { count, gives },
-                out,
-            )
+            let call = Does::Call { count, gives };
+            operation(alloc, program, id, parts, place, call, out)
         }
         Err(_) => out.run_out(),
     }
@@ -131,15 +124,10 @@ fn routine(
 {
     let gives = !program.of.is_void(note.mode);
     match u32::try_from(parts.len() - 1) {
-        Ok(count) => operation(
-            alloc,
-            program,
-            id,
-            parts,
-            place,
-            Does::Call { count, gives },
-            out,
-        ),
+        Ok(count) => {
+            let call = Does::Call { count, gives };
+            operation(alloc, program, id, parts, place, call, out)
+        }
         Err(_) => out.run_out(),
     }
 }
@@ -166,14 +154,8 @@ pub fn call(
     let name = called(program.of.annotated(), parts[0]);
     let rest = &parts[1..];
     if is_one_of(printers(), name) {
-        prints(
-            alloc,
-            program,
-            id,
-            items_at(program.of.annotated(), id, rest),
-            place,
-            out,
-        );
+        let items = items_at(program.of.annotated(), id, rest);
+        prints(alloc, program, id, items, place, out);
     } else if is_one_of(wholes(), name) {
         operation(alloc, program, id, rest, place, Does::Whole, out);
     } else {

@@ -1,5 +1,4 @@
 pub mod Alive
-pub mod PlainReturns
-pub mod PlainSteps
 pub mod Settled
+pub mod Sparing
 pub mod Taking

@@ -4,10 +4,10 @@
 mod control;
 mod exec;
 mod members;
-mod plain;
 mod reply;
 mod routines;
 
+pub use control::place_in;
 pub use exec::{does_at, go_on, most_steps, run, runs, settle};
-pub use plain::step_plain;
 pub use reply::{place_at, resume, resume_plain};
+pub use routines::go_back;

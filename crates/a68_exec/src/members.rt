@@ -37,8 +37,9 @@ fn to_member(
     body: &mut Body,
 ) -> Result<(), NoMemory>
     requires { is_united value ≡ true }
-    ensures { OnOk result (state_of body.new Stance.Idle
-        ≡ machine.to_member (state_of body.old Stance.Idle) places.now whole.now body.old.stack value (Ok number)) }
+    ensures state { OnOk result (state_of body.new Stance.Idle
+        ≡ machine.to_member (state_of body.old Stance.Idle) places.now whole.now body.old.stack.items value (Ok number)) }
+    ensures room { body.new.stack.room ≡ body.old.stack.room }
 {
     let to = place_in(places, number);
     if to == last_place(&places.items) {
@@ -62,8 +63,9 @@ pub fn member(
 ) -> Result<(), NoMemory>
     requires idle { about.old.ask ≡ Ask.Runs }
     ensures state { OnOk result (state_of body.new (stance_of about.new)
-        ≡ machine.members (shape_at modes.now mode) (state_of body.old Stance.Idle) places.now whole.now body.old.stack) }
+        ≡ machine.members (shape_at modes.now mode) (state_of body.old Stance.Idle) places.now whole.now body.old.stack.items) }
     ensures stays { OnOk result (StaysWhereAsking about.new.ask body.old.at body.new.at) }
+    ensures room { body.new.stack.room ≡ body.old.stack.room }
 {
     let Some(value) = body.stack.pop_value() else {
         fail(body, about, FaultKind::Kind);

@@ -8,6 +8,7 @@ pub mod ForksOfSteps
 pub mod Leading
 pub mod Lowering
 pub mod Operating
+pub mod Plainly
 pub mod Popping
 pub mod Rising
 pub mod Rooming

@@ -5,6 +5,7 @@ ghost use Rattle.a68_code.specs.Flow.{entrances};
 ghost use Rattle.a68_code.specs.Valid.{IsValid};
 ghost use Rattle.a68_code.specs.declared.code.Code.{Code};
 ghost use Rattle.a68_code.specs.declared.owner.Owner.{Owner};
+ghost use Rattle.a68_exec.specs.Memory.{SettlesNot, TakesMemory};
 ghost use Rattle.a68_exec.specs.Runs.{Machine, World, acted, opening};
 ghost use Rattle.a68_heights.specs.Heights.{Fits, height};
 ghost use Rattle.a68_heights.specs.Room.{HasRoom, is_entering};
@@ -44,7 +45,8 @@ pub fn activations_fit()
 
 /// States that a stack on which the innermost activation has room for one item for each instruction of valid code holds all
 /// items of a strand that fits it, and that this room is left by each silent step and each reply; only the reply by which a
-/// routine is entered wants new room, which is counted above its caller.
+/// routine is entered wants new room, which is counted above its caller. So where such a strand finds no memory on the way to
+/// its next act, one of its instructions there works on other values than plain ones.
 pub fn stacks_keep_their_room()
     ensures holds { (code : Code) → IsValid code → (room : ℕ) (st : State) → Fits code st → HasRoom code room st → length st.stack.items < room }
     ensures begins { (code : Code) (room at : ℕ) (chain : List Environ) → length code.list ≤ room → HasRoom code room (beginning at chain) }
@@ -54,4 +56,5 @@ pub fn stacks_keep_their_room()
         → HasRoom code room (replied code st reply) }
     ensures entered { (code : Code) (room : ℕ) (st : State) (reply : Reply) → suc (length st.stack.items) + length code.list ≤ room
         → HasRoom code room (replied code st reply) }
+    ensures plainly { (code : Code) → IsValid code → (room : ℕ) (st : State) → Fits code st → HasRoom code room st → SettlesNot code room st → TakesMemory code st }
 {}

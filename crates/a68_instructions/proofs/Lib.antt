@@ -1,3 +1,4 @@
 pub mod Acting
 pub mod Settling
+pub mod Sparing
 pub mod Yielding

@@ -44,6 +44,7 @@ fn slice_values(
     requires idle { about.old.ask ≡ Ask.Runs }
     ensures state { (modes : List Shape) → OnOk result (state_of body.new (stance_of about.new) ≡ operates modes (state_of body.old Stance.Idle) (operations.slice forms.now) count) }
     ensures stays { OnOk result (StaysWhereAsking about.new.ask body.old.at body.new.at) }
+    ensures room { body.new.stack.room ≡ body.old.stack.room }
 {
     let doing = match body.stack.pop_many(alloc, count)? {
         None => Doing::Meets(FaultKind::Kind),
@@ -76,6 +77,7 @@ pub fn slice(
     requires idle { about.old.ask ≡ Ask.Runs }
     ensures state { (modes : List Shape) → OnOk result (state_of body.new (stance_of about.new) ≡ operates modes (state_of body.old Stance.Idle) (operations.slice forms.now) (suc (values_of_trims forms.now))) }
     ensures stays { OnOk result (StaysWhereAsking about.new.ask body.old.at body.new.at) }
+    ensures room { body.new.stack.room ≡ body.old.stack.room }
 {
     let most = body.stack.len();
     match takes_within(forms, most) {
@@ -115,6 +117,7 @@ pub fn display(
     requires idle { about.old.ask ≡ Ask.Runs }
     ensures state { OnOk result (state_of body.new (stance_of about.new) ≡ operates modes.now (state_of body.old Stance.Idle) (operations.display count mode) count) }
     ensures stays { OnOk result (StaysWhereAsking about.new.ask body.old.at body.new.at) }
+    ensures room { body.new.stack.room ≡ body.old.stack.room }
 {
     let doing = match body.stack.pop_many(alloc, count as usize)? {
         None => Doing::Meets(FaultKind::Kind),
@@ -135,6 +138,7 @@ pub fn vacuum(
     requires idle { about.old.ask ≡ Ask.Runs }
     ensures state { OnOk result (state_of body.new (stance_of about.new) ≡ operates modes.now (state_of body.old Stance.Idle) (operations.vacuum mode) 0) }
     ensures stays { OnOk result (StaysWhereAsking about.new.ask body.old.at body.new.at) }
+    ensures room { body.new.stack.room ≡ body.old.stack.room }
 {
     let doing = vacuous(alloc, modes, mode)?;
     follow(body, about, true, doing)
@@ -152,6 +156,7 @@ pub fn row_up(
     requires idle { about.old.ask ≡ Ask.Runs }
     ensures state { OnOk result (state_of body.new (stance_of about.new) ≡ operates modes.now (state_of body.old Stance.Idle) (operations.row_up mode) 1) }
     ensures stays { OnOk result (StaysWhereAsking about.new.ask body.old.at body.new.at) }
+    ensures room { body.new.stack.room ≡ body.old.stack.room }
 {
     let doing = match body.stack.pop_value() {
         None => Doing::Meets(FaultKind::Kind),
@@ -172,6 +177,7 @@ pub fn row_up_name(
     requires idle { about.old.ask ≡ Ask.Runs }
     ensures state { OnOk result (state_of body.new (stance_of about.new) ≡ operates modes.now (state_of body.old Stance.Idle) (operations.row_up_name mode) 1) }
     ensures stays { OnOk result (StaysWhereAsking about.new.ask body.old.at body.new.at) }
+    ensures room { body.new.stack.room ≡ body.old.stack.room }
 {
     let doing = match body.stack.pop_value() {
         None => Doing::Meets(FaultKind::Kind),
@@ -190,6 +196,7 @@ pub fn widen(alloc: Global, body: &mut Body, about: &mut About) -> Result<(), No
     requires idle { about.old.ask ≡ Ask.Runs }
     ensures state { (modes : List Shape) → OnOk result (state_of body.new (stance_of about.new) ≡ operates modes (state_of body.old Stance.Idle) operations.widen 1) }
     ensures stays { OnOk result (StaysWhereAsking about.new.ask body.old.at body.new.at) }
+    ensures room { body.new.stack.room ≡ body.old.stack.room }
 {
     let doing = match body.stack.pop_value() {
         None => Doing::Meets(FaultKind::Kind),

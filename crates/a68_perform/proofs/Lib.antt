@@ -1,3 +1,4 @@
 pub mod Choosing
 pub mod Printing
 pub mod Resuming
+pub mod Wanting

@@ -1,5 +1,5 @@
 -- Operations that go on without steps of their own.
-use Rattle.std.proofs.Common.{◌≡◌, Bool, true, false, List, refl}
+use Rattle.std.proofs.Common.{◌≡◌, false, List, refl}
 use Rattle.a68_acts.specs.Operations.{has_steps, resumed, resumed_by, resumed_with}
 use Rattle.a68_perform.specs.Told.{is_row_reply}
 use Rattle.a68_acts.specs.declared.operation.Next.{Next}

@@ -1,11 +1,12 @@
 //! Operations on the values of their parts.
-ghost use Rattle.std.specs.Prelude.{◌≡◌, ◌<◌, [], ◌∷◌, ℕ, false, length, reverse, List, IfOk, MatchResult, Ok};
+ghost use Rattle.std.specs.Prelude.{◌≡◌, ◌<◌, [], ◌∷◌, ℕ, true, false, length, reverse, List, IfOk, MatchResult, Ok, OnErr};
 ghost use Rattle.a68_acts.specs.Fetching as fetching;
 ghost use Rattle.a68_acts.specs.Operations as operations;
 ghost use Rattle.a68_acts.specs.Rowing.{ints_of};
 ghost use Rattle.a68_values.specs.declared.chain.Environ.{Environ};
 ghost use Rattle.a68_acts.specs.Operations.{yielding};
 ghost use Rattle.a68_acts.specs.Rowing as rowing;
+ghost use Rattle.a68_perform.specs.Plainly.{one_plainly, resumes_plainly, two_plainly, yields_plain};
 ghost use Rattle.a68_perform.specs.Told.{is_row_reply};
 ghost use Rattle.a68_modes.specs.Nodes.{shape_at};
 ghost use Rattle.a68_modes.specs.declared.shape.Shape.{Shape};
@@ -213,7 +214,8 @@ pub fn is_update(row: u32) -> bool
 
 /// An operator that is combined with assignation, on a name and another operand.
 pub fn updating(alloc: Global, row: u32, name: &Value, operand: &Value) -> Result<Doing, NoMemory>
-    ensures { IfOk result (λ doing. doing ≡ operations.updating row name.now operand.now) }
+    ensures ok { IfOk result (λ doing. doing ≡ operations.updating row name.now operand.now) }
+    ensures full { OnErr result (rowing.is_integer operand.now ≡ false) }
 {
     match &operand.node {
         ValueNode::Plain(Plain::Int(operand)) => Ok(updating_by(row, name, *operand)),
@@ -244,7 +246,8 @@ fn updating_by(row: u32, name: &Value, operand: i64) -> Doing
 
 /// LEVEL: from an integer a new semaphore with that count; of a semaphore its count.
 pub fn leveled(alloc: Global, value: &Value) -> Result<Doing, NoMemory>
-    ensures { IfOk result (λ doing. doing ≡ operations.leveled value.now) }
+    ensures ok { IfOk result (λ doing. doing ≡ operations.leveled value.now) }
+    ensures full { OnErr result (rowing.is_integer value.now ≡ true) }
 {
     match &value.node {
         ValueNode::Plain(Plain::Unset) => Ok(Doing::Meets(FaultKind::Unset)),
@@ -295,7 +298,8 @@ fn lowering(value: &Value) -> Doing
 
 /// An operator before one value, by its row in the table of operators.
 pub fn applied_to_one(alloc: Global, row: u32, value: &Value) -> Result<Doing, NoMemory>
-    ensures { IfOk result (λ doing. doing ≡ operations.applied_to_one row value.now) }
+    ensures ok { IfOk result (λ doing. doing ≡ operations.applied_to_one row value.now) }
+    ensures full { OnErr result (one_plainly row value.now ≡ false) }
 {
     match row {
         34 => {
@@ -323,7 +327,8 @@ pub fn applied_to_two(
     left: &Value,
     right: &Value,
 ) -> Result<Doing, NoMemory>
-    ensures { IfOk result (λ doing. doing ≡ operations.applied_to_two row left.now right.now) }
+    ensures ok { IfOk result (λ doing. doing ≡ operations.applied_to_two row left.now right.now) }
+    ensures full { OnErr result (two_plainly row left.now right.now ≡ false) }
 {
     if is_update(row) {
         let doing = updating(alloc, row, left, right)?;
@@ -361,8 +366,10 @@ fn put_value(name: Name, made: &Value) -> Doing
 }
 
 // A name given what an operator makes of the old value and the other operand.
+#[tactic(auto, using(crate::proofs::Wanting::row_yielded))]
 fn put(alloc: Global, row: u32, name: Name, old: Plain, operand: i64) -> Result<Doing, NoMemory>
-    ensures { IfOk result (λ doing. doing ≡ operations.put name (updated row (plain old) (plain (value_of.Int operand)))) }
+    ensures ok { IfOk result (λ doing. doing ≡ operations.put name (updated row (plain old) (plain (value_of.Int operand)))) }
+    ensures full { OnErr result (yields_plain (updated row (plain old) (plain (value_of.Int operand))) ≡ false) }
 {
     match updated(alloc, row, &Value::of(old), &Value::of(Plain::Int(operand))) {
         Ok(made) => Ok(put_value(name, &made)),
@@ -437,7 +444,8 @@ fn resumed_by(alloc: Global, modes: &Modes, next: Next, row: Descriptor) -> Resu
 
 // How an operation goes on that has no more steps and is told no row.
 fn resumed_with(alloc: Global, next: Next, reply: Reply) -> Result<Doing, NoMemory>
-    ensures { IfOk result (λ doing. doing ≡ operations.resumed_with next reply) }
+    ensures ok { IfOk result (λ doing. doing ≡ operations.resumed_with next reply) }
+    ensures full { OnErr result (resumes_plainly next reply ≡ false) }
 {
     match (next, reply) {
         (Next::Value, Reply::Value(value)) => Ok(Doing::Yields(value)),
@@ -481,7 +489,8 @@ fn row_told(reply: Reply) -> Result<Descriptor, Reply>
 // The same where it is told anything.
 fn resumed_told(alloc: Global, modes: &Modes, next: Next, reply: Reply) -> Result<Doing, NoMemory>
     requires { operations.has_steps next ≡ false }
-    ensures { IfOk result (λ doing. doing ≡ operations.resumed modes.now next reply) }
+    ensures ok { IfOk result (λ doing. doing ≡ operations.resumed modes.now next reply) }
+    ensures full { OnErr result (resumes_plainly next reply ≡ false) }
 {
     match row_told(reply) {
         Ok(row) => {
@@ -498,7 +507,8 @@ fn resumed_told(alloc: Global, modes: &Modes, next: Next, reply: Reply) -> Resul
 /// How an operation goes on with the reply to its act.
 #[tactic(auto, unfolding(a68_acts::specs::Operations::resumed))]
 pub fn resumed(alloc: Global, modes: &Modes, next: Next, reply: Reply) -> Result<Doing, NoMemory>
-    ensures { IfOk result (λ doing. doing ≡ operations.resumed modes.now next reply) }
+    ensures ok { IfOk result (λ doing. doing ≡ operations.resumed modes.now next reply) }
+    ensures full { OnErr result (resumes_plainly next reply ≡ false) }
 {
     match next {
         Next::Steps(steps, left) => {
@@ -513,8 +523,10 @@ pub fn resumed(alloc: Global, modes: &Modes, next: Next, reply: Reply) -> Result
 }
 
 /// An operator on two values, by its row in the table of operators; before one value the left one is Void.
+#[tactic(auto, using(crate::proofs::Wanting::row_yielded))]
 pub fn applied(alloc: Global, row: u32, left: &Value, right: &Value) -> Result<Doing, NoMemory>
-    ensures { IfOk result (λ doing. doing ≡ yielding (applied row left.now right.now)) }
+    ensures ok { IfOk result (λ doing. doing ≡ yielding (applied row left.now right.now)) }
+    ensures full { OnErr result (yields_plain (applied row left.now right.now) ≡ false) }
 {
     match apply(alloc, row, left, right) {
         Ok(value) => Ok(Doing::Yields(value)),

@@ -7,6 +7,7 @@ use Rattle.std.specs.Option.{option_map_or}
 use Rattle.std.specs.declared.option.Option.{Option}
 use Rattle.a68_stack.specs.Below.{caller_scope, may_yield}
 use Rattle.a68_stack.specs.Callers.{Caller}
+use Rattle.a68_stack.specs.Stacked.{Stacked}
 use Rattle.a68_stack.specs.Values.{is_caller, plain_in}
 use Rattle.a68_stack.specs.declared.stack.Item.{Item}
 use Rattle.a68_stack.specs.declared.stack.Item.TheVariants as item
@@ -21,7 +22,7 @@ is_plain (structure parts) p e = let bad : ◌≡◌ {A = Option Plain} None (So
 is_plain (row bounds parts) p e = let bad : ◌≡◌ {A = Option Plain} None (Some p) = e in absurd (cc)
 is_plain (united mode inner) p e = let bad : ◌≡◌ {A = Option Plain} None (Some p) = e in absurd (cc)
 
-plain_is : (i : Item) (p : Plain) → plain_in i ≡ Some p → i ≡ item.Value (plain p)
+pub plain_is : (i : Item) (p : Plain) → plain_in i ≡ Some p → i ≡ item.Value (plain p)
 plain_is (item.Value v) p e = ap (λ x. item.Value x) (is_plain v p e)
 plain_is (item.Counter c) p e = let bad : ◌≡◌ {A = Option Plain} None (Some p) = e in absurd (cc)
 plain_is (item.Caller c) p e = let bad : ◌≡◌ {A = Option Plain} None (Some p) = e in absurd (cc)
@@ -60,8 +61,8 @@ below_top items rest n t l d is all =
     ap (λ k. get_or items k d) at ∙ sym (get_or-reverse items 1 d (omega (arith, all))) ∙ ap (λ (xs : List Item). get_or xs 1 d) is
 
 -- the caller taken out, and the stack without it
-pub yielded : (taken : Option Caller) (Same : Type 0) (stood now rest : List Item) (kept : Item) (p : Plain) (c : Caller) → MatchOption taken (is_caller kept ≡ false) (λ x. kept ≡ item.Caller x)
-    → kept ≡ item.Caller c → stood ≡ item.Value (plain p) ∷ item.Caller c ∷ rest → now ≡ item.Value (plain p) ∷ rest
-    → MatchOption taken Same (λ x. (held : Plain) × (below : List Item) × (stood ≡ item.Value (plain held) ∷ item.Caller x ∷ below) × (now ≡ item.Value (plain held) ∷ below))
+pub yielded : (taken : Option Caller) (Same : Type 0) (stood now : Stacked) (rest : List Item) (kept : Item) (p : Plain) (c : Caller) → MatchOption taken (is_caller kept ≡ false) (λ x. kept ≡ item.Caller x)
+    → kept ≡ item.Caller c → stood.items ≡ item.Value (plain p) ∷ item.Caller c ∷ rest → now ≡ record stood { items = item.Value (plain p) ∷ rest }
+    → MatchOption taken Same (λ x. (held : Plain) × (below : List Item) × (stood.items ≡ item.Value (plain held) ∷ item.Caller x ∷ below) × (now ≡ record stood { items = item.Value (plain held) ∷ below }))
 yielded None Same stood now rest kept p c none is was new = absurd (false≢true (sym none ∙ ap is_caller is))
 yielded (Some x) Same stood now rest kept p c same is was new = (p, rest, was ∙ ap (λ i. item.Value (plain p) ∷ i ∷ rest) (sym is ∙ same), new)

@@ -8,11 +8,16 @@ use Rattle.std.proofs.Math.Seq.{set-append_seam, take-append-add, take-length}
 use Rattle.std.proofs.lemmas.List.{length-reverse, length-set, get_or-reverse, reverse-append, reverse-reverse, take_more, take_more_set}
 use Rattle.a68_acts.specs.declared.operation.Counter.{Counter}
 use Rattle.a68_stack.specs.Inside.{counter_in}
+use Rattle.a68_stack.specs.Stacked.{Stacked}
 use Rattle.a68_stack.specs.Values.{callers, plain_in, top_counter, top_plain, top_two}
 use Rattle.a68_stack.specs.declared.stack.Item.{Item}
 use Rattle.a68_stack.specs.declared.stack.Item.TheVariants as item
 use Rattle.a68_values.specs.Content.{plain}
 use Rattle.a68_values.specs.declared.plain.Plain.{Plain}
+
+-- a stack with these items
+abbrev pub stacked : ℕ → List Item → Stacked
+stacked room items = record { items = items; room = room }
 
 -- the topmost item before and after it is replaced
 on_top : (old : List Item) (n : ℕ) (before after : Item) → length old ≡ n + 1 → before ≡ get_or old n before
@@ -27,28 +32,28 @@ on_top old n before after all is =
     )
 
 -- Whether a plain value took the place of the one on top.
-abbrev pub PlainIsSet : Bool → Plain → (old new : List Item) → Type 0
+abbrev pub PlainIsSet : Bool → Plain → (old new : Stacked) → Type 0
 PlainIsSet is_set held old new =
-    MatchBool is_set ((p : Plain) × (rest : List Item) × (old ≡ item.Value (plain p) ∷ rest) × (new ≡ item.Value (plain held) ∷ rest)) ((top_plain old ≡ None) × (new ≡ old))
+    MatchBool is_set ((p : Plain) × (rest : List Item) × (old.items ≡ item.Value (plain p) ∷ rest) × (new ≡ record old { items = item.Value (plain held) ∷ rest })) ((top_plain old.items ≡ None) × (new ≡ old))
 
 pub plain_is_set : (items : List Item) (n : ℕ) (is_set : Bool) (held : Plain) (before after : Item) → length items ≡ n + 1 → before ≡ get_or items n before
     → MatchBool is_set ((p : Plain) × (before ≡ item.Value (plain p)) × (after ≡ item.Value (plain held))) ((plain_in before ≡ None) × (after ≡ before))
-    → PlainIsSet is_set held (reverse items) (reverse (set items n after))
-plain_is_set items n true held before after all is (p, was, now) =
+    → (room : ℕ) → PlainIsSet is_set held (stacked room (reverse items)) (stacked room (reverse (set items n after)))
+plain_is_set items n true held before after all is (p, was, now) room =
     let top = on_top items n before after all is in
-    (p, top.0, top.1 ∙ ap (λ (i : Item). i ∷ top.0) was, top.2 ∙ ap (λ (i : Item). i ∷ top.0) now)
-plain_is_set items n false held before after all is (none, same) =
+    (p, top.0, top.1 ∙ ap (λ (i : Item). i ∷ top.0) was, ap (stacked room) (top.2 ∙ ap (λ (i : Item). i ∷ top.0) now))
+plain_is_set items n false held before after all is (none, same) room =
     let top = on_top items n before after all is in
-    (ap (λ l. top_plain l) top.1 ∙ none, top.2 ∙ ap (λ (i : Item). i ∷ top.0) same ∙ sym top.1)
+    (ap (λ l. top_plain l) top.1 ∙ none, ap (stacked room) (top.2 ∙ ap (λ (i : Item). i ∷ top.0) same ∙ sym top.1))
 
-pub plain_set_callers : (is_set : Bool) (held : Plain) (old new : List Item) → PlainIsSet is_set held old new → callers new ≡ callers old
-plain_set_callers true held old new (p, rest, was, now) = ap (λ l. callers l) now ∙ sym (ap (λ l. callers l) was)
-plain_set_callers false held old new (none, same) = ap (λ l. callers l) same
+pub plain_set_callers : (is_set : Bool) (held : Plain) (old new : Stacked) → PlainIsSet is_set held old new → callers new.items ≡ callers old.items
+plain_set_callers true held old new (p, rest, was, now) = ap (λ (l : Stacked). callers l.items) now ∙ sym (ap (λ l. callers l) was)
+plain_set_callers false held old new (none, same) = ap (λ (l : Stacked). callers l.items) same
 
 -- Whether a counter took the place of the one on top.
-abbrev pub CounterIsSet : Bool → Counter → (old new : List Item) → Type 0
+abbrev pub CounterIsSet : Bool → Counter → (old new : Stacked) → Type 0
 CounterIsSet is_set counter old new =
-    MatchBool is_set ((c : Counter) × (rest : List Item) × (old ≡ item.Counter c ∷ rest) × (new ≡ item.Counter counter ∷ rest)) ((top_counter old ≡ None) × (new ≡ old))
+    MatchBool is_set ((c : Counter) × (rest : List Item) × (old.items ≡ item.Counter c ∷ rest) × (new ≡ record old { items = item.Counter counter ∷ rest })) ((top_counter old.items ≡ None) × (new ≡ old))
 
 no_counter : (i : Item) (rest : List Item) → counter_in i ≡ None → top_counter (i ∷ rest) ≡ None
 no_counter (item.Value v) rest e = refl
@@ -57,17 +62,17 @@ no_counter (item.Caller c) rest e = refl
 
 pub counter_is_set : (items : List Item) (n : ℕ) (is_set : Bool) (counter : Counter) (before after : Item) → length items ≡ n + 1 → before ≡ get_or items n before
     → MatchBool is_set ((c : Counter) × (before ≡ item.Counter c) × (after ≡ item.Counter counter)) ((counter_in before ≡ None) × (after ≡ before))
-    → CounterIsSet is_set counter (reverse items) (reverse (set items n after))
-counter_is_set items n true counter before after all is (c, was, now) =
+    → (room : ℕ) → CounterIsSet is_set counter (stacked room (reverse items)) (stacked room (reverse (set items n after)))
+counter_is_set items n true counter before after all is (c, was, now) room =
     let top = on_top items n before after all is in
-    (c, top.0, top.1 ∙ ap (λ (i : Item). i ∷ top.0) was, top.2 ∙ ap (λ (i : Item). i ∷ top.0) now)
-counter_is_set items n false counter before after all is (none, same) =
+    (c, top.0, top.1 ∙ ap (λ (i : Item). i ∷ top.0) was, ap (stacked room) (top.2 ∙ ap (λ (i : Item). i ∷ top.0) now))
+counter_is_set items n false counter before after all is (none, same) room =
     let top = on_top items n before after all is in
-    (ap (λ l. top_counter l) top.1 ∙ no_counter before top.0 none, top.2 ∙ ap (λ (i : Item). i ∷ top.0) same ∙ sym top.1)
+    (ap (λ l. top_counter l) top.1 ∙ no_counter before top.0 none, ap (stacked room) (top.2 ∙ ap (λ (i : Item). i ∷ top.0) same ∙ sym top.1))
 
-pub counter_set_callers : (is_set : Bool) (counter : Counter) (old new : List Item) → CounterIsSet is_set counter old new → callers new ≡ callers old
-counter_set_callers true counter old new (c, rest, was, now) = ap (λ l. callers l) now ∙ sym (ap (λ l. callers l) was)
-counter_set_callers false counter old new (none, same) = ap (λ l. callers l) same
+pub counter_set_callers : (is_set : Bool) (counter : Counter) (old new : Stacked) → CounterIsSet is_set counter old new → callers new.items ≡ callers old.items
+counter_set_callers true counter old new (c, rest, was, now) = ap (λ (l : Stacked). callers l.items) now ∙ sym (ap (λ l. callers l) was)
+counter_set_callers false counter old new (none, same) = ap (λ (l : Stacked). callers l.items) same
 
 -- the two plain values that were looked for and found
 pub found_two : (found : Option (Plain × Plain)) (items : List Item) → is_some found ≡ true

@@ -1,10 +1,10 @@
 //! Items in the form in which a stack keeps them.
-ghost use Rattle.std.specs.Prelude.{◌≡◌, false, None, IfOk, MatchBool, MatchOption, slice_get};
+ghost use Rattle.std.specs.Prelude.{◌≡◌, false, None, IfOk, IsTrue, MatchBool, MatchOption, OnErr, slice_get, true};
 ghost use Rattle.std.specs.Option.{option_map};
 ghost use Rattle.a68_stack.specs.declared.stack.Item.{Item};
 ghost use Rattle.a68_acts.specs.declared.operation.Counter.{Counter};
 ghost use Rattle.a68_stack.specs.Below.{caller_scope};
-ghost use Rattle.a68_stack.specs.Inside.{counter_in, is_value, item_of, value_in};
+ghost use Rattle.a68_stack.specs.Inside.{boxed_plain, counter_in, is_value, item_of, keeps_room, value_in, wants_memory};
 ghost use Rattle.a68_stack.specs.Values.{is_caller, plain_in};
 ghost use Rattle.a68_values.specs.Content.{plain, scope_of};
 ghost use Rattle.a68_values.specs.declared.chain.Environ.{Environ};
@@ -13,7 +13,7 @@ ghost use Rattle.a68_values.specs.declared.plain.Plain.{Plain};
 use crate::{Caller, Item};
 use a68_acts::Counter;
 use a68_base::NoMemory;
-use a68_values::{Chain, Plain, Value};
+use a68_values::{Chain, Plain, Value, ValueNode};
 use std::alloc::Global;
 use std::marker::Model;
 use std::mem;
@@ -29,24 +29,33 @@ impl Drop for Packed {
     }
 }
 
-/// Where the item stands. A plain value is never in a box.
+/// Where the item stands. A plain value is never in a box, and neither is a value that is none, a counter or a caller. A counter with a last value has
+/// a form of its own, so that it takes as few bytes as the others.
 pub enum Form {
     Plain(Plain),
     Value(Box<Value>),
-    Counter(Box<Counter>),
-    Caller(Box<Caller>),
+    Void,
+    Bounded { at: i64, by: i64, to: i64 },
+    Endless { at: i64, by: i64 },
+    Caller { to: u32, chain: Chain },
 }
 
 impl Drop for Form {
     fn drop(self) {
         match self {
-            Form::Plain(_) | Form::Value(_) | Form::Counter(_) | Form::Caller(_) => {}
+            Form::Plain(_) | Form::Value(_) | Form::Void | Form::Caller { to: _, chain: _ } => {}
+            Form::Bounded {
+                at: _,
+                by: _,
+                to: _,
+            }
+            | Form::Endless { at: _, by: _ } => {}
         }
     }
 }
 
 impl Model for Packed {
-    ghost use Rattle.std.specs.Prelude.{◌≡◌, None};
+    ghost use Rattle.std.specs.Prelude.{◌≡◌, IsTrue, None};
     ghost use Rattle.a68_stack.specs.declared.stack.Item.{Item};
     ghost use Rattle.a68_stack.specs.contracts.stack.Item as item;
 
@@ -54,11 +63,11 @@ impl Model for Packed {
 
     ghost coded = { item.the_row.coded };
 
-    ghost use Rattle.a68_stack.specs.Inside.{boxed_plain, item_of};
+    ghost use Rattle.a68_stack.specs.Inside.{boxed_plain, item_of, keeps_room};
 
     ghost view = { λ kept. item_of kept.form };
 
-    ghost invariant = { λ kept. boxed_plain kept.form ≡ None };
+    ghost invariant = { λ kept. (boxed_plain kept.form ≡ None) × IsTrue (keeps_room kept.form) };
 }
 
 // The scope of the innermost frame.
@@ -73,29 +82,59 @@ fn scope_of_first(chain: &Chain) -> Option<u32>
 }
 
 impl Form {
+    // The form of a counter.
+    #[inline(always)]
+    fn of_counter(counter: Counter) -> Form
+        ensures is { item_of result ≡ Item.Counter counter }
+        ensures unboxed { boxed_plain result ≡ None }
+        ensures room { IsTrue (keeps_room result) }
+    {
+        let Counter { at, by, to } = counter;
+        match to {
+            Some(to) => Form::Bounded { at, by, to },
+            None => Form::Endless { at, by },
+        }
+    }
+
     // The item.
     #[inline(always)]
     fn into_item(self) -> Item
+        requires { IsTrue (keeps_room self) }
         ensures { result ≡ item_of self }
     {
         match self {
             Form::Plain(held) => Item::Value(Value::of(held)),
             Form::Value(value) => Item::Value(Box::into_inner(value)),
-            Form::Counter(counter) => Item::Counter(Box::into_inner(counter)),
-            Form::Caller(caller) => Item::Caller(Box::into_inner(caller)),
+            Form::Void => Item::Value(Value {
+                node: ValueNode::Void,
+            }),
+            Form::Bounded { at, by, to } => Item::Counter(Counter {
+                at,
+                by,
+                to: Some(to),
+            }),
+            Form::Endless { at, by } => Item::Counter(Counter { at, by, to: None }),
+            Form::Caller { to, chain } => Item::Caller(Caller { to, chain }),
         }
     }
 
     // The caller; none where it is another item.
     #[inline(always)]
     fn into_caller(self) -> Option<Caller>
+        requires { IsTrue (keeps_room self) }
         ensures { MatchOption result (is_caller (item_of self) ≡ false) (λ caller. item_of self ≡ Item.Caller caller) }
     {
         match self {
-            Form::Caller(caller) => Some(Box::into_inner(caller)),
+            Form::Caller { to, chain } => Some(Caller { to, chain }),
             Form::Plain(_) => None,
             Form::Value(_) => None,
-            Form::Counter(_) => None,
+            Form::Void => None,
+            Form::Bounded {
+                at: _,
+                by: _,
+                to: _,
+            } => None,
+            Form::Endless { at: _, by: _ } => None,
         }
     }
 }
@@ -117,41 +156,49 @@ impl Packed {
     {
         match item {
             Item::Value(value) => Packed::of_value(alloc, value),
-            Item::Counter(counter) => Packed::of_counter(alloc, counter),
-            Item::Caller(caller) => Packed::of_caller(alloc, caller),
+            Item::Counter(counter) => Ok(Packed::of_counter(counter)),
+            Item::Caller(caller) => Ok(Packed::of_caller(caller)),
         }
     }
 
     /// Keeps a value.
     pub fn of_value(alloc: Global, value: Value) -> Result<Packed, NoMemory>
-        ensures { IfOk result (λ kept. kept ≡ Item.Value value) }
+        ensures ok { IfOk result (λ kept. kept ≡ Item.Value value) }
+        ensures full { OnErr result (wants_memory value ≡ true) }
     {
         if let Some(held) = value.plain() {
             // A plain value holds no memory.
             mem::forget(value);
             return Ok(Packed::of_plain(held));
         }
+        if matches!(&value.node, ValueNode::Void) {
+            mem::forget(value);
+            return Ok(Packed { form: Form::Void });
+        }
         Ok(Packed {
             form: Form::Value(Box::new(alloc, value)?),
         })
     }
 
-    /// Keeps a counter.
-    pub fn of_counter(alloc: Global, counter: Counter) -> Result<Packed, NoMemory>
-        ensures { IfOk result (λ kept. kept ≡ Item.Counter counter) }
+    /// Keeps a counter, which takes no memory.
+    #[inline(always)]
+    pub fn of_counter(counter: Counter) -> Packed
+        ensures { result ≡ Item.Counter counter }
     {
-        Ok(Packed {
-            form: Form::Counter(Box::new(alloc, counter)?),
-        })
+        Packed {
+            form: Form::of_counter(counter),
+        }
     }
 
-    /// Keeps a caller.
-    pub fn of_caller(alloc: Global, caller: Caller) -> Result<Packed, NoMemory>
-        ensures { IfOk result (λ kept. kept ≡ Item.Caller caller) }
+    /// Keeps a caller, which takes no memory.
+    #[inline(always)]
+    pub fn of_caller(caller: Caller) -> Packed
+        ensures { result ≡ Item.Caller caller }
     {
-        Ok(Packed {
-            form: Form::Caller(Box::new(alloc, caller)?),
-        })
+        let Caller { to, chain } = caller;
+        Packed {
+            form: Form::Caller { to, chain },
+        }
     }
 
     /// The item.
@@ -180,8 +227,14 @@ impl Packed {
         match &self.form {
             Form::Plain(held) => Some(*held),
             Form::Value(_) => None,
-            Form::Counter(_) => None,
-            Form::Caller(_) => None,
+            Form::Void => None,
+            Form::Bounded {
+                at: _,
+                by: _,
+                to: _,
+            } => None,
+            Form::Endless { at: _, by: _ } => None,
+            Form::Caller { to: _, chain: _ } => None,
         }
     }
 
@@ -191,10 +244,20 @@ impl Packed {
         ensures { result ≡ counter_in self.now }
     {
         match &self.form {
-            Form::Counter(counter) => Some(**counter),
+            Form::Bounded { at, by, to } => Some(Counter {
+                at: *at,
+                by: *by,
+                to: Some(*to),
+            }),
+            Form::Endless { at, by } => Some(Counter {
+                at: *at,
+                by: *by,
+                to: None,
+            }),
             Form::Plain(_) => None,
             Form::Value(_) => None,
-            Form::Caller(_) => None,
+            Form::Void => None,
+            Form::Caller { to: _, chain: _ } => None,
         }
     }
 
@@ -203,7 +266,7 @@ impl Packed {
     pub fn is_value(&self) -> bool
         ensures { result ≡ is_value self.now }
     {
-        matches!(&self.form, Form::Plain(_) | Form::Value(_))
+        matches!(&self.form, Form::Plain(_) | Form::Value(_) | Form::Void)
     }
 
     /// Is it a caller?
@@ -211,7 +274,7 @@ impl Packed {
     pub fn is_caller(&self) -> bool
         ensures { result ≡ is_caller self.now }
     {
-        matches!(&self.form, Form::Caller(_))
+        matches!(&self.form, Form::Caller { to: _, chain: _ })
     }
 
     /// The scope of the innermost frame of the caller that it is; none where it is another item.
@@ -220,10 +283,16 @@ impl Packed {
         ensures { result ≡ caller_scope self.now }
     {
         match &self.form {
-            Form::Caller(caller) => scope_of_first(&caller.chain),
+            Form::Caller { to: _, chain } => scope_of_first(chain),
             Form::Plain(_) => None,
             Form::Value(_) => None,
-            Form::Counter(_) => None,
+            Form::Void => None,
+            Form::Bounded {
+                at: _,
+                by: _,
+                to: _,
+            } => None,
+            Form::Endless { at: _, by: _ } => None,
         }
     }
 
@@ -234,8 +303,14 @@ impl Packed {
         match &self.form {
             Form::Plain(held) => Some(held.scope()),
             Form::Value(value) => Some(value.scope()),
-            Form::Counter(_) => None,
-            Form::Caller(_) => None,
+            Form::Void => Some(0),
+            Form::Bounded {
+                at: _,
+                by: _,
+                to: _,
+            } => None,
+            Form::Endless { at: _, by: _ } => None,
+            Form::Caller { to: _, chain: _ } => None,
         }
     }
 
@@ -250,8 +325,14 @@ impl Packed {
                 true
             }
             Form::Value(_) => false,
-            Form::Counter(_) => false,
-            Form::Caller(_) => false,
+            Form::Void => false,
+            Form::Bounded {
+                at: _,
+                by: _,
+                to: _,
+            } => false,
+            Form::Endless { at: _, by: _ } => false,
+            Form::Caller { to: _, chain: _ } => false,
         }
     }
 
@@ -260,14 +341,11 @@ impl Packed {
     pub fn set_counter(&mut self, counter: Counter) -> bool
         ensures { MatchBool result ((c : Counter) × (self.old ≡ Item.Counter c) × (self.new ≡ Item.Counter counter)) ((counter_in self.old ≡ None) × (self.new ≡ self.old)) }
     {
-        match &mut self.form {
-            Form::Counter(place) => {
-                **place = counter;
-                true
-            }
-            Form::Plain(_) => false,
-            Form::Value(_) => false,
-            Form::Caller(_) => false,
+        if self.counter().is_none() {
+            return false;
         }
+        // A counter holds no memory.
+        mem::forget(mem::replace(&mut self.form, Form::of_counter(counter)));
+        true
     }
 }

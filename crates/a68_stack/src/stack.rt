@@ -1,11 +1,12 @@
 //! The stack of a strand.
-ghost use Rattle.std.specs.Prelude.{◌≡◌, [], ◌∷◌, ◌++◌, true, None, Some, List, length, reverse, OnOk, OnErr, IfOk, IfSome, MatchOption, MatchBool};
+ghost use Rattle.std.specs.Prelude.{◌≡◌, ◌⊎◌, ◌+◌, ◌≤◌, [], ◌∷◌, true, false, None, Some, List, length, reverse, OnOk, OnErr, IfOk, IfSome, MatchOption, MatchBool};
 ghost use Rattle.std.specs.Option.{option_map};
 ghost use Rattle.a68_acts.specs.declared.operation.Counter.{Counter};
 ghost use Rattle.a68_values.specs.Content.{Content, plain, scope_of};
 ghost use Rattle.a68_values.specs.declared.plain.Plain.{Plain};
 ghost use Rattle.a68_stack.specs.declared.stack.Item.{Item};
-ghost use Rattle.a68_stack.specs.Below.{may_yield, plain_below};
+ghost use Rattle.a68_stack.specs.Below.{may_yield, plain_below, top_caller};
+ghost use Rattle.a68_stack.specs.Inside.{wants_memory};
 ghost use Rattle.a68_stack.specs.Values.{callers, is_caller, pop_values, top_counter, top_plain, top_three, top_two, top_value};
 
 use crate::Caller;
@@ -25,11 +26,13 @@ pub enum Item {
     Caller(Caller),
 }
 
-/// A stack. Contracts see the list of its items, the topmost first.
+/// A stack. Contracts see its items, the topmost first, and for how many of them memory is reserved.
 pub struct Stack {
     items: Vec<Packed>,
     // How many callers stand on it, so that nobody has to count them.
     open_calls: usize,
+    // For so many items memory is reserved.
+    room: usize,
 }
 
 impl Drop for Stack {
@@ -37,24 +40,24 @@ impl Drop for Stack {
         let Stack {
             items: _,
             open_calls: _,
+            room: _,
         } = self;
     }
 }
 
 impl Model for Stack {
-    ghost use Rattle.std.specs.Coded.{coded_list};
-    ghost use Rattle.std.specs.Prelude.{◌≡◌, List, reverse};
+    ghost use Rattle.std.specs.Prelude.{◌≡◌, ◌≤◌, reverse};
+    ghost use Rattle.std.specs.Vec.{vec_capacity};
+    ghost use Rattle.a68_stack.specs.Stacked.{Stacked, stacked_code};
     ghost use Rattle.a68_stack.specs.Values.{callers};
-    ghost use Rattle.a68_stack.specs.declared.stack.Item.{Item};
-    ghost use Rattle.a68_stack.specs.contracts.stack.Item as item;
 
-    ghost Value = { List Item };
+    ghost Value = { Stacked };
 
-    ghost coded = { coded_list item.the_row.coded };
+    ghost coded = { stacked_code };
 
-    ghost view = { λ stack. reverse stack.items.items };
+    ghost view = { λ stack. let x : Stacked = record { items = reverse stack.items.items; room = stack.room } in x };
 
-    ghost invariant = { λ stack. stack.open_calls ≡ callers (reverse stack.items.items) };
+    ghost invariant = { λ stack. (stack.open_calls ≡ callers (reverse stack.items.items)) × (stack.room ≤ vec_capacity stack.items) };
 }
 
 // Is it a caller?
@@ -68,25 +71,38 @@ fn is_caller(item: &Item) -> bool
 impl Stack {
     /// A stack with nothing on it.
     pub fn new(alloc: Global) -> Stack
-        ensures { result ≡ [] }
+        ensures { result ≡ record { items = []; room = 0 } }
     {
         Stack {
             items: Vec::new(alloc),
             open_calls: 0,
+            room: 0,
         }
     }
 
     /// Takes all items off.
     pub fn clear(&mut self)
-        ensures { self.new ≡ [] }
+        ensures { self.new ≡ record self.old { items = [] } }
     {
         self.items.clear();
         self.open_calls = 0;
     }
 
+    /// Reserves memory for so many items above those that stand on it.
+    pub fn reserve(&mut self, more: usize) -> Result<(), NoMemory>
+        ensures items { self.new.items ≡ self.old.items }
+        ensures room { OnOk result (length self.new.items + more ≤ self.new.room) }
+        ensures kept { self.old.room ≤ self.new.room }
+        ensures err { OnErr result (self.new ≡ self.old) }
+    {
+        self.items.reserve(more)?;
+        self.room = self.items.capacity();
+        Ok(())
+    }
+
     /// Puts an item on top.
     pub fn push(&mut self, item: Item) -> Result<(), NoMemory>
-        ensures ok { OnOk result (self.new ≡ item ∷ self.old) }
+        ensures ok { OnOk result (self.new ≡ record self.old { items = item ∷ self.old.items }) }
         ensures err { OnErr result (self.new ≡ self.old) }
     {
         let calls = is_caller(&item);
@@ -100,7 +116,7 @@ impl Stack {
 
     /// How many items stand on it.
     pub fn len(&self) -> usize
-        ensures { result ≡ length self.now }
+        ensures { result ≡ length self.now.items }
     {
         self.items.len()
     }
@@ -108,7 +124,7 @@ impl Stack {
     /// How many callers stand on it.
     #[inline(always)]
     pub fn callers(&self) -> usize
-        ensures { result ≡ callers self.now }
+        ensures { result ≡ callers self.now.items }
     {
         self.open_calls
     }
@@ -116,8 +132,9 @@ impl Stack {
     /// Puts a value on top.
     #[inline(always)]
     pub fn push_value(&mut self, value: Value) -> Result<(), NoMemory>
-        ensures ok { OnOk result (self.new ≡ Item.Value value ∷ self.old) }
+        ensures ok { OnOk result (self.new ≡ record self.old { items = Item.Value value ∷ self.old.items }) }
         ensures err { OnErr result (self.new ≡ self.old) }
+        ensures full { OnErr result ((wants_memory value ≡ true) ⊎ (self.old.room ≤ length self.old.items)) }
     {
         if let Some(held) = value.plain() {
             // A plain value holds no memory.
@@ -130,20 +147,21 @@ impl Stack {
     /// Puts a caller on top.
     #[inline(always)]
     pub fn push_caller(&mut self, caller: Caller) -> Result<(), NoMemory>
-        ensures ok { OnOk result (self.new ≡ Item.Caller caller ∷ self.old) }
+        ensures ok { OnOk result (self.new ≡ record self.old { items = Item.Caller caller ∷ self.old.items }) }
         ensures err { OnErr result (self.new ≡ self.old) }
+        ensures full { OnErr result (self.old.room ≤ length self.old.items) }
     {
-        let kept = Packed::of_caller(*self.items.allocator(), caller)?;
-        self.items.push(kept)?;
+        self.items.push(Packed::of_caller(caller))?;
         self.open_calls += 1;
         Ok(())
     }
 
-    // Puts a value on top that is not plain, in a box.
+    // Puts a value on top that is not plain, in a box where there is one.
     #[inline(never)]
     fn push_boxed(&mut self, value: Value) -> Result<(), NoMemory>
-        ensures ok { OnOk result (self.new ≡ Item.Value value ∷ self.old) }
+        ensures ok { OnOk result (self.new ≡ record self.old { items = Item.Value value ∷ self.old.items }) }
         ensures err { OnErr result (self.new ≡ self.old) }
+        ensures full { OnErr result ((wants_memory value ≡ true) ⊎ (self.old.room ≤ length self.old.items)) }
     {
         let kept = Packed::of_value(*self.items.allocator(), value)?;
         self.items.push(kept)?;
@@ -153,17 +171,49 @@ impl Stack {
     /// Puts a plain value on top.
     #[inline(always)]
     pub fn push_plain(&mut self, held: Plain) -> Result<(), NoMemory>
-        ensures ok { OnOk result (self.new ≡ Item.Value (plain held) ∷ self.old) }
+        ensures ok { OnOk result (self.new ≡ record self.old { items = Item.Value (plain held) ∷ self.old.items }) }
         ensures err { OnErr result (self.new ≡ self.old) }
+        ensures full { OnErr result (self.old.room ≤ length self.old.items) }
     {
-        self.items.push(Packed::of_plain(held))?;
+        if self.items.len() < self.items.capacity() {
+            self.items.push_reserved(Packed::of_plain(held));
+            return Ok(());
+        }
+        self.push_grown(Packed::of_plain(held))
+    }
+
+    /// Puts a counter on top.
+    #[inline(always)]
+    pub fn push_counter(&mut self, counter: Counter) -> Result<(), NoMemory>
+        ensures ok { OnOk result (self.new ≡ record self.old { items = Item.Counter counter ∷ self.old.items }) }
+        ensures err { OnErr result (self.new ≡ self.old) }
+        ensures full { OnErr result (self.old.room ≤ length self.old.items) }
+    {
+        if self.items.len() < self.items.capacity() {
+            self.items.push_reserved(Packed::of_counter(counter));
+            return Ok(());
+        }
+        self.push_grown(Packed::of_counter(counter))
+    }
+
+    // Puts an item on top that is no caller, where there is no place for it. It stands apart, so that what puts an item in its
+    // place stays small.
+    #[cold]
+    #[inline(never)]
+    fn push_grown(&mut self, kept: Packed) -> Result<(), NoMemory>
+        requires { is_caller kept ≡ false }
+        ensures ok { OnOk result (self.new ≡ record self.old { items = kept ∷ self.old.items }) }
+        ensures err { OnErr result (self.new ≡ self.old) }
+        ensures full { OnErr result (self.old.room ≤ length self.old.items) }
+    {
+        self.items.push(kept)?;
         Ok(())
     }
 
     /// Takes the topmost item off.
     #[inline(always)]
     pub fn pop(&mut self) -> Option<Item>
-        ensures { MatchOption result ((self.old ≡ []) × (self.new ≡ [])) (λ item. self.old ≡ item ∷ self.new) }
+        ensures { MatchOption result ((self.old.items ≡ []) × (self.new ≡ self.old)) (λ item. self.old ≡ record self.new { items = item ∷ self.new.items }) }
     {
         let Some(kept) = self.items.pop() else {
             return None;
@@ -177,7 +227,7 @@ impl Stack {
     /// The plain value on top; none where another item is on top, or none is.
     #[inline(always)]
     pub fn plain(&self) -> Option<Plain>
-        ensures { result ≡ top_plain self.now }
+        ensures { result ≡ top_plain self.now.items }
     {
         match self.items.last() {
             Some(kept) => kept.plain(),
@@ -188,7 +238,7 @@ impl Stack {
     /// Takes the topmost item off where it is a plain value; elsewhere the stack stays.
     #[inline(always)]
     pub fn take_plain(&mut self) -> Option<Plain>
-        ensures { MatchOption result ((top_plain self.old ≡ None) × (self.new ≡ self.old)) (λ held. self.old ≡ Item.Value (plain held) ∷ self.new) }
+        ensures { MatchOption result ((top_plain self.old.items ≡ None) × (self.new ≡ self.old)) (λ held. self.old ≡ record self.new { items = Item.Value (plain held) ∷ self.new.items }) }
     {
         let held = self.items.last()?.plain()?;
         // A plain value holds no memory, and to forget it spares the look at what it is.
@@ -199,7 +249,7 @@ impl Stack {
     /// Lets the topmost item go where it is a plain value; elsewhere the stack stays.
     #[inline(always)]
     pub fn drop_plain(&mut self) -> bool
-        ensures { MatchBool result ((p : Plain) × (self.old ≡ Item.Value (plain p) ∷ self.new)) ((top_plain self.old ≡ None) × (self.new ≡ self.old)) }
+        ensures { MatchBool result ((p : Plain) × (self.old ≡ record self.new { items = Item.Value (plain p) ∷ self.new.items })) ((top_plain self.old.items ≡ None) × (self.new ≡ self.old)) }
     {
         self.take_plain().is_some()
     }
@@ -207,7 +257,7 @@ impl Stack {
     /// Puts a plain value in the place of the topmost item where that is a plain value; elsewhere the stack stays.
     #[inline(always)]
     pub fn set_plain(&mut self, held: Plain) -> bool
-        ensures { MatchBool result ((p : Plain) × (rest : List Item) × (self.old ≡ Item.Value (plain p) ∷ rest) × (self.new ≡ Item.Value (plain held) ∷ rest)) ((top_plain self.old ≡ None) × (self.new ≡ self.old)) }
+        ensures { MatchBool result ((p : Plain) × (rest : List Item) × (self.old.items ≡ Item.Value (plain p) ∷ rest) × (self.new ≡ record self.old { items = Item.Value (plain held) ∷ rest })) ((top_plain self.old.items ≡ None) × (self.new ≡ self.old)) }
     {
         let Some(kept) = self.items.last_mut() else {
             return false;
@@ -218,7 +268,7 @@ impl Stack {
     /// The plain value that stands so many items below the topmost one; none where another item stands there, or none does.
     #[inline(always)]
     pub fn plain_below(&self, depth: u32) -> Option<Plain>
-        ensures { result ≡ plain_below depth self.now }
+        ensures { result ≡ plain_below depth self.now.items }
     {
         let above = depth as usize;
         if above >= self.items.len() {
@@ -230,7 +280,7 @@ impl Stack {
     /// The two topmost items, the lower one first; none where they are not both plain values.
     #[inline(always)]
     pub fn two_plain(&self) -> Option<(Plain, Plain)>
-        ensures { MatchOption result (top_two self.now ≡ None) (λ two. (rest : List Item) × (self.now ≡ Item.Value (plain two.1) ∷ Item.Value (plain two.0) ∷ rest)) }
+        ensures { MatchOption result (top_two self.now.items ≡ None) (λ two. (rest : List Item) × (self.now.items ≡ Item.Value (plain two.1) ∷ Item.Value (plain two.0) ∷ rest)) }
     {
         let [.., below, topmost] = self.items.as_slice() else {
             return None;
@@ -243,7 +293,7 @@ impl Stack {
     /// The three topmost items, the lowest one first; none where they are not all plain values.
     #[inline(always)]
     pub fn three_plain(&self) -> Option<(Plain, Plain, Plain)>
-        ensures { MatchOption result (top_three self.now ≡ None) (λ three. (rest : List Item) × (self.now ≡ Item.Value (plain three.2) ∷ Item.Value (plain three.1) ∷ Item.Value (plain three.0) ∷ rest)) }
+        ensures { MatchOption result (top_three self.now.items ≡ None) (λ three. (rest : List Item) × (self.now.items ≡ Item.Value (plain three.2) ∷ Item.Value (plain three.1) ∷ Item.Value (plain three.0) ∷ rest)) }
     {
         let [.., lowest, below, topmost] = self.items.as_slice() else {
             return None;
@@ -257,7 +307,7 @@ impl Stack {
     /// Takes the two topmost items off where they are plain values, the lower one first; elsewhere the stack stays.
     #[inline(always)]
     pub fn take_two(&mut self) -> Option<(Plain, Plain)>
-        ensures { MatchOption result ((top_two self.old ≡ None) × (self.new ≡ self.old)) (λ two. self.old ≡ Item.Value (plain two.1) ∷ Item.Value (plain two.0) ∷ self.new) }
+        ensures { MatchOption result ((top_two self.old.items ≡ None) × (self.new ≡ self.old)) (λ two. self.old ≡ record self.new { items = Item.Value (plain two.1) ∷ Item.Value (plain two.0) ∷ self.new.items }) }
     {
         let two = self.two_plain()?;
         // Neither holds any memory.
@@ -269,7 +319,7 @@ impl Stack {
     /// Lets the two topmost items go where they are plain values; elsewhere the stack stays.
     #[inline(always)]
     pub fn drop_two(&mut self) -> bool
-        ensures { MatchBool result ((l : Plain) × (r : Plain) × (self.old ≡ Item.Value (plain r) ∷ Item.Value (plain l) ∷ self.new)) ((top_two self.old ≡ None) × (self.new ≡ self.old)) }
+        ensures { MatchBool result ((l : Plain) × (r : Plain) × (self.old ≡ record self.new { items = Item.Value (plain r) ∷ Item.Value (plain l) ∷ self.new.items })) ((top_two self.old.items ≡ None) × (self.new ≡ self.old)) }
     {
         self.take_two().is_some()
     }
@@ -277,7 +327,7 @@ impl Stack {
     /// Puts a plain value in the place of the two topmost items where they are plain values; elsewhere the stack stays.
     #[inline(always)]
     pub fn set_two(&mut self, held: Plain) -> bool
-        ensures { MatchBool result ((l : Plain) × (r : Plain) × (rest : List Item) × (self.old ≡ Item.Value (plain r) ∷ Item.Value (plain l) ∷ rest) × (self.new ≡ Item.Value (plain held) ∷ rest)) ((top_two self.old ≡ None) × (self.new ≡ self.old)) }
+        ensures { MatchBool result ((l : Plain) × (r : Plain) × (rest : List Item) × (self.old.items ≡ Item.Value (plain r) ∷ Item.Value (plain l) ∷ rest) × (self.new ≡ record self.old { items = Item.Value (plain held) ∷ rest })) ((top_two self.old.items ≡ None) × (self.new ≡ self.old)) }
     {
         if self.two_plain().is_none() {
             return false;
@@ -292,7 +342,7 @@ impl Stack {
     /// Lets the item below the topmost one go where both are plain values; elsewhere the stack stays.
     #[inline(always)]
     pub fn keep_top(&mut self) -> bool
-        ensures { MatchBool result ((l : Plain) × (r : Plain) × (rest : List Item) × (self.old ≡ Item.Value (plain r) ∷ Item.Value (plain l) ∷ rest) × (self.new ≡ Item.Value (plain r) ∷ rest)) ((top_two self.old ≡ None) × (self.new ≡ self.old)) }
+        ensures { MatchBool result ((l : Plain) × (r : Plain) × (rest : List Item) × (self.old.items ≡ Item.Value (plain r) ∷ Item.Value (plain l) ∷ rest) × (self.new ≡ record self.old { items = Item.Value (plain r) ∷ rest })) ((top_two self.old.items ≡ None) × (self.new ≡ self.old)) }
     {
         if self.two_plain().is_none() {
             return false;
@@ -306,7 +356,7 @@ impl Stack {
     /// Takes the topmost item off where it is a caller; elsewhere the stack stays.
     #[inline(always)]
     pub fn take_caller(&mut self) -> Option<Caller>
-        ensures { MatchOption result (self.new ≡ self.old) (λ caller. self.old ≡ Item.Caller caller ∷ self.new) }
+        ensures { MatchOption result ((top_caller self.old.items ≡ None) × (self.new ≡ self.old)) (λ caller. self.old ≡ record self.new { items = Item.Caller caller ∷ self.new.items }) }
     {
         match self.items.last() {
             Some(kept) if kept.is_caller() => {}
@@ -322,7 +372,7 @@ impl Stack {
     // Does a plain value stand on top of a caller, and is it not newer than the innermost of the caller's frames?
     #[inline(always)]
     fn may_yield(&self) -> bool
-        ensures { result ≡ may_yield self.now }
+        ensures { result ≡ may_yield self.now.items }
     {
         let [.., below, topmost] = self.items.as_slice() else {
             return false;
@@ -340,8 +390,8 @@ impl Stack {
     /// caller's frames; elsewhere the stack stays.
     #[inline(always)]
     pub fn yield_plain(&mut self) -> Option<Caller>
-        ensures taken { MatchOption result (self.new ≡ self.old) (λ caller. (held : Plain) × (rest : List Item) × (self.old ≡ Item.Value (plain held) ∷ Item.Caller caller ∷ rest) × (self.new ≡ Item.Value (plain held) ∷ rest)) }
-        ensures may { IfSome result (λ caller. may_yield self.old ≡ true) }
+        ensures taken { MatchOption result ((may_yield self.old.items ≡ false) × (self.new ≡ self.old)) (λ caller. (held : Plain) × (rest : List Item) × (self.old.items ≡ Item.Value (plain held) ∷ Item.Caller caller ∷ rest) × (self.new ≡ record self.old { items = Item.Value (plain held) ∷ rest })) }
+        ensures may { IfSome result (λ caller. may_yield self.old.items ≡ true) }
     {
         if !self.may_yield() {
             return None;
@@ -355,7 +405,7 @@ impl Stack {
     /// Takes the topmost item off where it is a counter; elsewhere the stack stays.
     #[inline(always)]
     pub fn take_counter(&mut self) -> Option<Counter>
-        ensures { MatchOption result ((top_counter self.old ≡ None) × (self.new ≡ self.old)) (λ counter. self.old ≡ Item.Counter counter ∷ self.new) }
+        ensures { MatchOption result ((top_counter self.old.items ≡ None) × (self.new ≡ self.old)) (λ counter. self.old ≡ record self.new { items = Item.Counter counter ∷ self.new.items }) }
     {
         let counter = self.counter()?;
         drop(self.items.pop());
@@ -365,7 +415,7 @@ impl Stack {
     /// Lets the topmost value go; false where no value is on top.
     #[inline(always)]
     pub fn drop_value(&mut self) -> bool
-        ensures { MatchBool result ((value : Content) × (self.old ≡ Item.Value value ∷ self.new)) (pop_values 1 self.old [] ≡ None) }
+        ensures { MatchBool result ((value : Content) × (self.old ≡ record self.new { items = Item.Value value ∷ self.new.items })) ((pop_values 1 self.old.items [] ≡ None) × (self.new ≡ self.old)) }
     {
         self.drop_plain() || self.drop_boxed()
     }
@@ -373,7 +423,7 @@ impl Stack {
     // Lets the topmost value go, also one in a box; false where no value is on top.
     #[inline(never)]
     fn drop_boxed(&mut self) -> bool
-        ensures { MatchBool result ((value : Content) × (self.old ≡ Item.Value value ∷ self.new)) ((pop_values 1 self.old [] ≡ None) × (self.new ≡ self.old)) }
+        ensures { MatchBool result ((value : Content) × (self.old ≡ record self.new { items = Item.Value value ∷ self.new.items })) ((pop_values 1 self.old.items [] ≡ None) × (self.new ≡ self.old)) }
     {
         match self.items.last() {
             Some(kept) if kept.is_value() => {}
@@ -385,7 +435,8 @@ impl Stack {
 
     /// Takes the topmost value off; none where no value is on top, and then an item may be gone.
     pub fn pop_value(&mut self) -> Option<Value>
-        ensures { MatchOption result (pop_values 1 self.old [] ≡ None) (λ value. pop_values 1 self.old [] ≡ Some (value ∷ [], self.new)) }
+        ensures popped { MatchOption result (pop_values 1 self.old.items [] ≡ None) (λ value. pop_values 1 self.old.items [] ≡ Some (value ∷ [], self.new.items)) }
+        ensures room { self.new.room ≡ self.old.room }
     {
         match self.pop() {
             Some(Item::Value(value)) => Some(value),
@@ -395,7 +446,8 @@ impl Stack {
 
     /// Takes the two topmost values off, the lower one first; none where there are no two, and then items may be gone.
     pub fn pop_two(&mut self) -> Option<(Value, Value)>
-        ensures { MatchOption result (pop_values 2 self.old [] ≡ None) (λ two. pop_values 2 self.old [] ≡ Some (two.0 ∷ two.1 ∷ [], self.new)) }
+        ensures popped { MatchOption result (pop_values 2 self.old.items [] ≡ None) (λ two. pop_values 2 self.old.items [] ≡ Some (two.0 ∷ two.1 ∷ [], self.new.items)) }
+        ensures room { self.new.room ≡ self.old.room }
     {
         let right = self.pop_value()?;
         let left = self.pop_value()?;
@@ -405,7 +457,8 @@ impl Stack {
     /// Takes the topmost values off, so many, the topmost first; none where there are fewer, and then items may be
     /// gone.
     pub fn pop_many(&mut self, alloc: Global, count: usize) -> Result<Option<Values>, NoMemory>
-        ensures { IfOk result (λ popped. MatchOption popped (pop_values count self.old [] ≡ None) (λ values. pop_values count self.old [] ≡ Some (reverse values, self.new))) }
+        ensures popped { IfOk result (λ popped. MatchOption popped (pop_values count self.old.items [] ≡ None) (λ values. pop_values count self.old.items [] ≡ Some (reverse values, self.new.items))) }
+        ensures room { self.new.room ≡ self.old.room }
     {
         let mut items = Vec::new(alloc);
         for _ in 0..count {
@@ -420,7 +473,7 @@ impl Stack {
     /// The counter on top; none where there is none.
     #[inline(always)]
     pub fn counter(&self) -> Option<Counter>
-        ensures { result ≡ top_counter self.now }
+        ensures { result ≡ top_counter self.now.items }
     {
         match self.items.last() {
             Some(kept) => kept.counter(),
@@ -431,7 +484,7 @@ impl Stack {
     /// Puts a counter in the place of the topmost item where that is a counter; elsewhere the stack stays.
     #[inline(always)]
     pub fn set_counter(&mut self, counter: Counter) -> bool
-        ensures { MatchBool result ((c : Counter) × (rest : List Item) × (self.old ≡ Item.Counter c ∷ rest) × (self.new ≡ Item.Counter counter ∷ rest)) ((top_counter self.old ≡ None) × (self.new ≡ self.old)) }
+        ensures { MatchBool result ((c : Counter) × (rest : List Item) × (self.old.items ≡ Item.Counter c ∷ rest) × (self.new ≡ record self.old { items = Item.Counter counter ∷ rest })) ((top_counter self.old.items ≡ None) × (self.new ≡ self.old)) }
     {
         let Some(kept) = self.items.last_mut() else {
             return false;
@@ -441,7 +494,7 @@ impl Stack {
 
     /// The scope of the value on top; none where there is none.
     pub fn top_scope(&self) -> Option<u32>
-        ensures { result ≡ option_map scope_of (top_value self.now) }
+        ensures { result ≡ option_map scope_of (top_value self.now.items) }
     {
         match self.items.last() {
             Some(kept) => kept.scope(),

@@ -1,12 +1,10 @@
 -- What a call knows of the slot at a place, and the store once a slot is bound or a frame is entered.
 use Rattle.std.proofs.Common.{◌≡◌, ℕ, zero, suc, ◌+◌, ◌<◌, ◌≤◌, List, [], ◌∷◌, length, get_or, ap, sym, ◌∙◌, refl, arith, ◌++◌, length-append}
-use Rattle.std.specs.Prelude.{None, Some, Ok, Err, slice_get, slice_set, sum_by, replicate, IfOk, IfSome, ◌*◌}
+use Rattle.std.specs.Prelude.{None, Some, slice_get, slice_set, sum_by, replicate, ◌*◌}
 use Rattle.std.proofs.Math.ListN.{set, length-set}
 use Rattle.std.specs.declared.vec.Vec.{Vec}
 use Rattle.std.specs.declared.alloc.Global.{Global}
-use Rattle.std.specs.declared.result.Result.{Result}
 use Rattle.std.specs.Option.{option_and_then}
-use Rattle.std.specs.Result.{result_ok}
 use Rattle.std.proofs.lemmas.List.Folds.{sum_by-replicate}
 use Rattle.std.proofs.lemmas.List.{length-replicate}
 use Rattle.std.proofs.lemmas.List.Sums.{sum_by_push}
@@ -201,10 +199,6 @@ frame-there (g ∷ fs) (suc f) h = frame-there fs f (omega arith)
 -- the links of frames are linked as they are, and make the same chains
 pub links-linked : (s : Inside) → IsSound s → AreLinked (links_of s.frames.items)
 links-linked s sound = linked-other s.slots.items [] s.frames.items sound.linked
-
-pub ok-some : {T E : Type 0} (r : Result T E) (P Q : T → Type 0) → ((x : T) → P x → Q x) → IfOk r P → IfSome (result_ok r) Q
-ok-some (Ok x) P Q f p = f x p
-ok-some (Err e) P Q f p = tt
 
 pub links-chain : (s : Inside) (self : Store) (f : ℕ) → store_of s ≡ self → chain_of (links_of s.frames.items) f ≡ chain_of self.frames f
 links-chain s self f view = chain-other [] s.slots.items s.frames.items f ∙ ap (λ (x : Store). chain_of x.frames f) view

@@ -62,10 +62,7 @@ pub fn push_frame(frames: &mut Vec<Frame>, frame: Frame)
     requires { vec_len frames.old < vec_capacity frames.old }
     ensures { frames.new.items ≡ frames.old.items ++ frame ∷ [] }
 {
-    match frames.push(frame) {
-        Ok(()) => {}
-        Err(_) => unreachable!(),
-    }
+    frames.push_reserved(frame);
 }
 
 // Adds a slot to a list that has room for it.
@@ -76,13 +73,11 @@ fn push_unbound(bound: &mut Vec<Slot>)
     ensures len { vec_len bound.new ≡ vec_len bound.old + 1 }
     ensures capacity { vec_capacity bound.old ≤ vec_capacity bound.new }
 {
-    match bound.push(Slot::unbound()) {
-        Ok(()) => {}
-        Err(_) => unreachable!(),
-    }
+    bound.push_reserved(Slot::unbound());
 }
 
 /// Adds so many slots that are not bound to a list that has room for them.
+#[inline(always)]
 pub fn add_unbound(bound: &mut Vec<Slot>, slots: u32)
     requires { vec_len bound.old + slots ≤ vec_capacity bound.old }
     ensures { bound.new.items ≡ bound.old.items ++ replicate slots None }
@@ -99,10 +94,7 @@ fn push_value(kept: &mut Vec<Option<Value>>, value: Option<Value>)
     ensures len { vec_len kept.new ≡ vec_len kept.old + 1 }
     ensures capacity { vec_capacity kept.old ≤ vec_capacity kept.new }
 {
-    match kept.push(value) {
-        Ok(()) => {}
-        Err(_) => unreachable!(),
-    }
+    kept.push_reserved(value);
 }
 
 // What a slot is bound to; it is no longer bound.

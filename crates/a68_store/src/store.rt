@@ -1,7 +1,8 @@
 //! The store.
-ghost use Rattle.std.specs.Prelude.{◌≡◌, ◌<◌, ◌≤◌, ◌+◌, ◌-◌, ◌^◌, ◌∷◌, [], true, pos, int_lt, nat_lt, None, Some, length, map, replicate, slice_get, slice_set, vec_len, IfOk, IfSome, MatchBool, OnErr, OnOk};
+ghost use Rattle.std.specs.Prelude.{◌≡◌, ◌≢◌, ◌<◌, ◌≤◌, ◌+◌, ◌-◌, ◌^◌, ◌∷◌, [], true, pos, int_lt, nat_lt, None, Some, Err, length, map, replicate, slice_get, slice_set, vec_len, IfOk, IfSome, MatchBool, MatchOption, OnErr, OnOk};
 ghost use Rattle.std.specs.Option.{option_copied, option_map_or};
 ghost use Rattle.a68_acts.specs.Does.{count_held, count_in, does, did, refused, with_count};
+ghost use Rattle.a68_acts.specs.Operations.{one_cell};
 ghost use Rattle.a68_acts.specs.Store.{chain_of, counted, most_counted, most_strands, opening_store};
 ghost use Rattle.a68_store.specs.Acts.{DoesAct, has_to_wait};
 ghost use Rattle.a68_store.specs.Frames.{HasSlot, frame_of, plain_bound, plain_held, row_held, slot_in};
@@ -167,10 +168,10 @@ impl Store {
         self.frames[frame as usize].count
     }
 
-    /// The number of the next frame; none where a frame could have no number. It takes no memory.
+    /// The number of the next frame; none where a frame could have no number, and there alone. It takes no memory.
     #[inline(always)]
     pub fn next_frame(&self) -> Option<u32>
-        ensures { IfSome result (λ frame. (frame ≡ length self.now.frames) × (frame < 2 ^ 32 - 1)) }
+        ensures { MatchOption result (2 ^ 32 - 1 ≤ length self.now.frames) (λ frame. (frame ≡ length self.now.frames) × (frame < 2 ^ 32 - 1)) }
     {
         let frame = self.frames.len();
         if frame >= u32::MAX as usize {
@@ -213,26 +214,41 @@ impl Store {
         Ok(())
     }
 
-    /// The chain of a frame that would stand within this one; none where that is not there, or there is no memory.
-    pub fn chain_within(&self, alloc: Global, new: Environ, outer: u32) -> Option<Chain>
-        ensures { IfSome result (λ chain. chain ≡ new ∷ chain_of self.now.frames outer) }
+    /// The chain of a frame that would stand within this one; none where that is not there, and there alone.
+    pub fn chain_within(
+        &self,
+        alloc: Global,
+        new: Environ,
+        outer: u32,
+    ) -> Result<Option<Chain>, NoMemory>
+        ensures { IfOk result (λ made. MatchOption made (length self.now.frames ≤ outer) (λ chain. chain ≡ new ∷ chain_of self.now.frames outer)) }
     {
         if outer as usize >= self.frames.len() {
-            return None;
+            return Ok(None);
         }
-        chain_behind(alloc, new, &self.frames, outer).ok()
+        let chain = chain_behind(alloc, new, &self.frames, outer)?;
+        Ok(Some(chain))
     }
 
     /// A new frame of this scope within another one, with so many slots that are not bound. Tells whether it was made: nothing
-    /// is done where the other frame is not there, the act would meet a fault, or there is no memory.
-    pub fn enter_frame(&mut self, alloc: Global, outer: u32, scope: u32, slots: u32) -> bool
-        ensures { MatchBool result (does (Want.Enter outer scope slots) self.old
-            ≡ did (Act.Enter (length self.old.frames)) (Reply.Frame (record { frame = length self.old.frames; scope = scope } ∷ chain_of self.old.frames outer)) self.new) (self.new ≡ self.old) }
+    /// is done where the other frame is not there or the act would meet a fault, and there alone.
+    pub fn enter_frame(
+        &mut self,
+        alloc: Global,
+        outer: u32,
+        scope: u32,
+        slots: u32,
+    ) -> Result<bool, NoMemory>
+        ensures done { IfOk result (λ any. MatchBool any (does (Want.Enter outer scope slots) self.old
+            ≡ did (Act.Enter (length self.old.frames)) (Reply.Frame (record { frame = length self.old.frames; scope = scope } ∷ chain_of self.old.frames outer)) self.new)
+            ((self.new ≡ self.old) × (refused (does (Want.Enter outer scope slots) self.old) ≢ None))) }
+        ensures err { OnErr result (self.new ≡ self.old) }
     {
         if outer as usize >= self.frames.len() || slots > MOST_COUNTED - self.counted {
-            return false;
+            return Ok(false);
         }
-        self.add_frame(alloc, outer, scope, slots).is_ok()
+        self.add_frame(alloc, outer, scope, slots)?;
+        Ok(true)
     }
 
     /// A new frame of this scope within another one, with so many slots that are not bound. Its chain comes back.
@@ -282,6 +298,7 @@ impl Store {
 
     /// Binds a slot to a plain value, and takes no memory. Tells whether it did: it does nothing where the slot is not there,
     /// and there alone.
+    #[inline(always)]
     pub fn bind_plain(&mut self, frame: u32, slot: u32, held: Plain) -> bool
         ensures { MatchBool result (does (Want.Bind frame slot (plain held)) self.old ≡ did (Act.Bind frame slot) Reply.Go self.new) ((self.new ≡ self.old) × (slot_in self.old frame slot ≡ None)) }
     {
@@ -345,6 +362,23 @@ impl Store {
         Ok(base)
     }
 
+    /// One new cell that holds nothing yet. Its number comes back; none where the store would count too much, and there alone.
+    #[inline(always)]
+    pub fn make_one(&mut self) -> Result<Option<u32>, NoMemory>
+        ensures done { IfOk result (λ made. MatchOption made ((self.new ≡ self.old) × (refused (does (Want.Make one_cell) self.old) ≢ None))
+            (λ base. does (Want.Make one_cell) self.old ≡ did (Act.Make (length self.old.cells) 1) (Reply.Base (length self.old.cells)) self.new)) }
+        ensures base { IfOk result (λ made. IfSome made (λ base. base ≡ length self.old.cells)) }
+        ensures err { OnErr result (self.new ≡ self.old) }
+    {
+        if self.counted >= MOST_COUNTED {
+            return Ok(None);
+        }
+        let base = self.cells.len() as u32;
+        self.cells.push(Held::Plain(Plain::Unset))?;
+        self.counted += 1;
+        Ok(Some(base))
+    }
+
     /// What a cell holds. A plain value takes no memory.
     pub fn fetch(&self, alloc: Global, cell: u32) -> Result<Held, NoMemory>
         requires { cell < length self.now.cells }
@@ -370,6 +404,7 @@ impl Store {
     }
 
     /// Gives a cell something to hold, and takes no memory.
+    #[inline(always)]
     pub fn assign(&mut self, cell: u32, held: Held)
         requires { cell < length self.old.cells }
         ensures { does (Want.Assign cell held) self.old ≡ did (Act.Assign cell) Reply.Go self.new }
@@ -378,10 +413,24 @@ impl Store {
         drop(old);
     }
 
+    /// Gives a cell a plain value to hold, and takes no memory. Tells whether it did: it does nothing where the cell is not
+    /// there, and there alone.
+    #[inline(always)]
+    pub fn assign_plain(&mut self, cell: u32, held: Plain) -> bool
+        ensures { MatchBool result (does (Want.Assign cell (Held.Plain held)) self.old ≡ did (Act.Assign cell) Reply.Go self.new) ((self.new ≡ self.old) × (length self.old.cells ≤ cell)) }
+    {
+        if cell as usize >= self.cells.len() {
+            return false;
+        }
+        self.assign(cell, Held::Plain(held));
+        true
+    }
+
     /// Raises a semaphore by 1, and takes no memory. The fault Overflow comes where its count would be no INT, Kind where
     /// the cell is not there or holds no count.
     pub fn up(&mut self, cell: u32) -> Result<(), StoreStop>
-        ensures { DoesAct result (λ u. Act.Up cell) (λ u. Reply.Go) (does (Want.Up cell) self.old) self.old self.new }
+        ensures act { DoesAct result (λ u. Act.Up cell) (λ u. Reply.Go) (does (Want.Up cell) self.old) self.old self.new }
+        ensures short { result ≢ Err StoreStop.NoMemory }
     {
         let Some(count) = self.count(cell) else {
             return Err(StoreStop::Fault(FaultKind::Kind));
@@ -396,7 +445,8 @@ impl Store {
     /// Lowers a semaphore by 1, and takes no memory. The strand has to wait where its count is below 1; the fault Kind
     /// comes where the cell is not there or holds no count.
     pub fn down(&mut self, cell: u32) -> Result<(), StoreStop>
-        ensures { DoesAct result (λ u. Act.Down cell) (λ u. Reply.Go) (does (Want.Down cell) self.old) self.old self.new }
+        ensures act { DoesAct result (λ u. Act.Down cell) (λ u. Reply.Go) (does (Want.Down cell) self.old) self.old self.new }
+        ensures short { result ≢ Err StoreStop.NoMemory }
     {
         let Some(count) = self.count(cell) else {
             return Err(StoreStop::Fault(FaultKind::Kind));

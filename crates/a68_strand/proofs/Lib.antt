@@ -1,6 +1,3 @@
-pub mod CallActs
-pub mod ElementActs
-pub mod GoingAlone
 pub mod Machines
-pub mod QuickActs
+pub mod Rooms
 pub mod Waking

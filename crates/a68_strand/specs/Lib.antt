@@ -1,7 +1,4 @@
-pub mod Alone
-pub mod Calling
 pub mod Cyclic
-pub mod Elements
 pub mod Ends
 pub mod Plain
 pub mod RunOf

@@ -2,15 +2,11 @@
 #![tactic(auto)]
 
 mod acts;
-mod alone;
-mod asked;
-mod calling;
 mod calls;
-mod elements;
 mod plainly;
-mod quick;
 mod strand;
 
 pub use acts::act;
+pub use calls::show_done;
 pub use plainly::act_plain;
 pub use strand::Strand;

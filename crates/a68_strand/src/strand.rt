@@ -6,10 +6,10 @@ use a68_instructions::{About, Body};
 
 /// A strand that has run its silent instructions, and shows what it asks.
 pub struct Strand {
-    pub(crate) number: u32,
-    pub(crate) place: u32,
-    pub(crate) body: Body,
-    pub(crate) about: About,
+    pub number: u32,
+    pub place: u32,
+    pub body: Body,
+    pub about: About,
     ghost may: { IsTrue (may_go_on about.ask body.at) },
 }
 

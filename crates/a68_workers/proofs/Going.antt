@@ -1,16 +1,16 @@
 -- Journals that go on.
-use Rattle.std.proofs.Common.{◌≡◌, ◌≢◌, ◌⊎◌, inl, inr, ℕ, true, List, [], ◌∷◌, length, None, Some, drop, take, get_or, refl, sym, ◌∙◌, ap, subst}
+use Rattle.std.proofs.Common.{◌≡◌, ◌≢◌, ◌⊎◌, inl, inr, ℕ, List, [], ◌∷◌, length, None, Some, drop, take, get_or, refl, sym, ◌∙◌, ap, subst}
 use Rattle.a68_values.specs.declared.act.Entry.{Entry}
 use Rattle.a68_values.specs.declared.kept.End.{End}
 use Rattle.a68_workers.specs.Runs.{GoesFrom}
 use Rattle.a68_workers.proofs.Turning.{goes_none, goes_longer}
 use Rattle.a68_world.specs.Run.{Run}
-use Rattle.a68_world.specs.Turns.{EndsHere, HadEnded, FindsNoMemory, IsSpentBy, TurnOf}
+use Rattle.a68_world.specs.Turns.{EndsHere, HadEnded, FindsNoMemory, IsLeftUndone, IsSpentBy, TurnOf}
 use Rattle.a68_world.specs.declared.turned.Turned.{Turned}
 use Rattle.a68_world.specs.declared.turned.Turned.TheVariants as turned
 
-by_spent : (old new : Run) (n : ℕ) → FindsNoMemory old n new → (new ≡ record old { lost = true }) ⊎ IsSpentBy old n new → GoesFrom old new
-by_spent old new n f (inl same) = subst (λ r. GoesFrom old r) (sym same) (let g = goes_none old in record { code = g.code; fuel = g.fuel; begins = g.begins })
+by_spent : (old new : Run) (n : ℕ) → FindsNoMemory old n new → IsLeftUndone old n new ⊎ IsSpentBy old n new → GoesFrom old new
+by_spent old new n f (inl left) = subst (λ r. GoesFrom old r) (sym left.after) (let g = goes_none old in record { code = g.code; fuel = g.fuel; begins = g.begins })
 by_spent old new n f (inr s) = goes_longer old old new (record { strand = n; act = s.act } ∷ []) (goes_none old) f.same.0 f.same.1 s.entries
 
 -- whatever a turn comes to, the run goes on from what it was

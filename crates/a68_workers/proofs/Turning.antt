@@ -10,7 +10,7 @@ use Rattle.a68_acts.specs.Does.{Outcome, did, refuses, waits, does, refused}
 use Rattle.a68_acts.specs.declared.want.Want.{Want}
 use Rattle.a68_code.specs.declared.code.Code.{Code}
 use Rattle.a68_strand.specs.Cyclic.{HasTurn, Sooner, IsFirstBehind, TakeTurns, IsTurnOf, EndsInTurn, last_of, Cyclic}
-use Rattle.a68_strand.specs.SetsEnd.{fault_of, fault_in, CanAct}
+use Rattle.a68_strand.specs.Ends.{fault_of, fault_in, CanActNow}
 use Rattle.a68_instructions.specs.Machine.{State}
 use Rattle.a68_exec.specs.Runs.{World, Machine, IfNext, opening, acted, acts_in, after}
 use Rattle.a68_instructions.specs.declared.ask.Stance.{Stance}
@@ -252,7 +252,7 @@ fault_free_found : (code : Code) (w : World) (n : ℕ) (o : Option State)
 fault_free_found code w n None can = refl
 fault_free_found code w n (Some st) can = fault_free_in code w n st st.stance can
 
-pub no_fault : (code : Code) (w : World) (n : ℕ) → CanAct code w n → fault_of w n ≡ None
+pub no_fault : (code : Code) (w : World) (n : ℕ) → CanActNow code w n → fault_of w n ≡ None
 no_fault code w n can = fault_free_found code w n (slice_get w.strands n) can
 
 -- ---- the end of a run

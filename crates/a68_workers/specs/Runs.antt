@@ -1,6 +1,6 @@
 -- Inner: the headline does not rest on this file.
 -- Runs that have gone on.
-use Rattle.std.specs.Prelude.{◌≡◌, ◌++◌, ℕ, List, length, take, None, Some}
+use Rattle.std.specs.Prelude.{◌≡◌, ◌++◌, List, length, take, None, Some}
 use Rattle.a68_strand.specs.Cyclic.{TakeTurns, EndsInTurn, last_of}
 use Rattle.a68_exec.specs.Runs.{Machine}
 use Rattle.a68_values.specs.declared.act.Entry.{Entry}

@@ -151,6 +151,7 @@ module _ (s : Inside) (n : ℕ) (act : Act) (store : Store) (units : List Seat) 
     number = p.number;
     there = get_front (slice_set (now s).strands n next) new k (standing strand) (get_other (now s).strands n k next (standing strand) ne p.there);
     shows = p.shows;
+    room = p.room;
   }
 
   old-here : (k : ℕ) (x : Seat) → (k ≡ n → ⊥) → SitsHere s.code (now s).strands k x → SitsHere s.code all k x
@@ -164,6 +165,7 @@ module _ (s : Inside) (n : ℕ) (act : Act) (store : Store) (units : List Seat) 
         let at : k ≡ length (slice_set (now s).strands n next) + i = omega (arith, e, length-set (now s).strands n next, many_seats s m.sound) in
         ap (slice_get all) at ∙ get_behind (slice_set (now s).strands n next) new i ∙ u.1;
     shows = u.2;
+    room = u.3;
   }
   born-here k i seat.Spent e u = u
 

@@ -23,7 +23,7 @@ use Rattle.a68_world.specs.Ending.{EndShown}
 use Rattle.a68_world.specs.Inside.{run_of, IsSound}
 use Rattle.a68_world.specs.Seats.{Sits, place_in}
 use Rattle.a68_world.specs.Stepping.{Does, ComesToAt, Meets, AreUnitsAt}
-use Rattle.a68_world.specs.Turns.{GoesOn, IsDue, Acts, EndsAt, FindsNoMemory}
+use Rattle.a68_world.specs.Turns.{GoesOn, IsDue, IsOtherDue, Acts, EndsAt, FindsNoMemory}
 use Rattle.a68_world.specs.Waking.{StaysBelow, WakesBehind}
 use Rattle.a68_world.specs.declared.deed.Deed.TheVariants as deed
 use Rattle.a68_world.specs.declared.seat.Seat.{Seat}
@@ -34,6 +34,7 @@ use Rattle.a68_world.proofs.Behind.{Moved, Noted, now}
 use Rattle.a68_world.proofs.Outcomes.{told_wakes, told_acts, told_sound, untold_is, untold_sound}
 use Rattle.a68_world.proofs.Places.{set_again, length_map}
 use Rattle.a68_world.proofs.Showing.{asking, next_fault}
+use Rattle.a68_world.proofs.Standing.{due_other}
 use Rattle.a68_world.proofs.Steady.{steady_run, steady_more}
 
 -- the seat that the code borrows
@@ -66,9 +67,9 @@ module _ (s : Inside) (n : ℕ) (sound : IsSound s) (goes : GoesOn (run_of s)) (
       → IsSound (run_told journal store seats below lost end) × Acts (run_of s) n (run_of (run_told journal store seats below lost end))
   told-all (seat.Home strand) (seat.Home t) act store units journal seats below lost end there are comes noted stays w e =
       let m = moved strand act store units there are comes.act_done in
-      let wakes = told_wakes s n act store units m t comes.settled comes.number seats.items below lost stays w in (
-        told_sound s n act store units m t comes.settled comes.number journal seats below lost end noted stays wakes e,
-        told_acts s n act store units m t comes.settled comes.number journal seats below lost end noted stays wakes e,
+      let wakes = told_wakes s n act store units m t comes.settled comes.number comes.room seats.items below lost stays w in (
+        told_sound s n act store units m t comes.settled comes.number comes.room journal seats below lost end noted stays wakes e,
+        told_acts s n act store units m t comes.settled comes.number comes.room journal seats below lost end noted stays wakes e,
       )
   told-all (seat.Home strand) seat.Spent act store units journal seats below lost end there are comes noted stays w e = absurd comes
   told-all seat.Spent y act store units journal seats below lost end there are comes noted stays w e = absurd comes
@@ -87,7 +88,7 @@ module _ (s : Inside) (n : ℕ) (sound : IsSound s) (goes : GoesOn (run_of s)) (
       → StaysBelow s.waits_below (slice_set s.seats.items n y ++ units) n below → WakesBehind s.code n below (slice_set s.seats.items n y ++ units) seats lost → length seats < 2 ^ 32
   few-told (seat.Home strand) (seat.Home t) act store units seats below lost there are comes stays w =
       let m = moved strand act store units there are comes.act_done in
-      let wakes = told_wakes s n act store units m t comes.settled comes.number seats below lost stays w in
+      let wakes = told_wakes s n act store units m t comes.settled comes.number comes.room seats below lost stays w in
       let st = steady_more s.code (length s.journal.items) (now s) n act (b.behind s n act store units m) (steady_run (run_of s) sound.run) (b.next_is s n act store units m) in
       omega (arith, wakes.long, st.many, st.most, length_map (woken s.code (b.all s n act store units m)) (b.all s n act store units m))
   few-told (seat.Home strand) seat.Spent act store units seats below lost there are comes stays w = absurd comes
@@ -111,8 +112,8 @@ module _ (s : Inside) (n : ℕ) (sound : IsSound s) (goes : GoesOn (run_of s)) (
       → IsSound (run_untold journal store seats) × FindsNoMemory (run_of s) n (run_of (run_untold journal store seats))
   untold_all (seat.Home strand) seat.Spent act store units journal seats there are comes noted is =
       let m = moved strand act store units there are comes.act_done in (
-        untold_sound s n act store units m comes.live journal seats noted is,
-        untold_is s n act store units m comes.live journal seats noted is,
+        untold_sound s n act store units m comes.live comes.memory journal seats noted is,
+        untold_is s n act store units m comes.live comes.memory journal seats noted is,
       )
   untold_all (seat.Home strand) (seat.Home t) act store units journal seats there are comes noted is = absurd comes
   untold_all seat.Spent y act store units journal seats there are comes noted is = absurd comes
@@ -144,3 +145,7 @@ module _ (s : Inside) (n : ℕ) (sound : IsSound s) (goes : GoesOn (run_of s)) (
       → (store ≡ s.store) × (slice_set s.seats.items n y ≡ s.seats.items)
   unfound_left (seat.Home strand) y store there comes = (comes.0, ap (slice_set s.seats.items n) comes.1 ∙ set_again s.seats.items n (seat.Home strand) there)
   unfound_left seat.Spent y store there comes = absurd comes
+
+  pub unfound_wants : (x y : Seat) (store : Store) → slice_get s.seats.items n ≡ Some x → ComesToAt s.code s.store x deed.NoMemory store y → IsOtherDue (run_of s) n
+  unfound_wants (seat.Home strand) y store there comes = due_other s sound n strand there due comes.2
+  unfound_wants seat.Spent y store there comes = absurd comes

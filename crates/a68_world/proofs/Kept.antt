@@ -10,7 +10,7 @@ use Rattle.a68_values.specs.declared.act.Act.{Act}
 use Rattle.a68_values.specs.declared.kept.End.{End}
 use Rattle.a68_values.specs.declared.kept.End.TheVariants as ends
 use Rattle.a68_world.specs.Run.{Run, IsRun, AllHome, IsNumber, EndsWithoutTurn, world}
-use Rattle.a68_world.specs.Turns.{GoesOn, Acts, EndsAt, IsSpentBy, IsDue, IsOf, noted}
+use Rattle.a68_world.specs.Turns.{GoesOn, Acts, EndsAt, IsSpentBy, IsOf, noted}
 use Rattle.a68_world.specs.Worlds.{world_of, IsJournal}
 use Rattle.a68_world.specs.declared.status.StrandState.TheVariants.{Spent}
 use Rattle.a68_strand.proofs.Machines.{entry_of}
@@ -79,9 +79,9 @@ acts_keep old new n run a =
     ended None is = rw is tt
     ended (Some e) is = is_end new.code new.fuel new.entries (world new) new.end (a.ends.whole (home e is))
 
-pub spent_keep : (old new : Run) (n : ℕ) → IsRun old → GoesOn old → IsDue old n → IsOf old new → (new.lost ≡ true) × (new.end ≡ None) → IsSpentBy old n new → IsRun new
-spent_keep old new n run goes due same lost s =
-    grown old new n (record { run = run; same = same; fuel = due.fuel; act = s.act; behind = s.behind; next = s.next; entries = s.entries; many = s.many })
+pub spent_keep : (old new : Run) (n : ℕ) → IsRun old → GoesOn old → IsOf old new → (new.lost ≡ true) × (new.end ≡ None) → IsSpentBy old n new → IsRun new
+spent_keep old new n run goes same lost s =
+    grown old new n (record { run = run; same = same; fuel = s.due.fuel; act = s.act; behind = s.behind; next = s.next; entries = s.entries; many = s.many })
     (rw lost.1 tt) (λ none home. absurd (home n s.spent)) (λ e. lost.1) (λ k e. lost.0)
 
 pub lost_keep : (run : Run) → IsRun run → run.end ≡ None → IsRun (record run { lost = true })

@@ -15,3 +15,4 @@ pub mod Sends
 pub mod Showing
 pub mod Standing
 pub mod Steady
+pub mod Wanting

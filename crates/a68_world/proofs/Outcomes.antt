@@ -7,14 +7,18 @@ use Rattle.std.specs.declared.alloc.Global.{Global}
 use Rattle.std.specs.declared.option.Option.{Option}
 use Rattle.std.specs.declared.vec.Vec.{Vec}
 use Rattle.std.proofs.Math.ListN.{length-set}
+use Rattle.a68_acts.specs.Does.{did, does}
 use Rattle.a68_acts.specs.Store.{Store}
 use Rattle.a68_code.specs.declared.code.Code.{Code}
 use Rattle.a68_exec.proofs.Alive.{active}
 use Rattle.a68_exec.proofs.Settled.{settle_rests}
 use Rattle.a68_strand.proofs.Waking.{none_woken, goes_waits, woken_still}
+use Rattle.a68_instructions.specs.Bodies.{stance_in}
 use Rattle.a68_instructions.specs.Machine.{State, settle, replied, next_state}
+use Rattle.a68_instructions.specs.declared.ask.Ask.{Ask}
 use Rattle.a68_exec.specs.Runs.{World, woken, woken_in, has_closed, is_passive, all_closed}
-use Rattle.a68_strand.specs.Strands.{standing, HasSettled}
+use Rattle.a68_heights.specs.Room.{KeepsRoom}
+use Rattle.a68_strand.specs.Strands.{standing, HasSettled, TellsNot}
 use Rattle.a68_instructions.specs.declared.ask.Stance.{Stance}
 use Rattle.a68_instructions.specs.declared.ask.Stance.TheVariants.{Idle, Asking, Failed, Waits, Closed}
 use Rattle.a68_strand.specs.declared.strand.Strand.{Strand}
@@ -26,7 +30,7 @@ use Rattle.a68_world.specs.Inside.{run_of, IsSound}
 use Rattle.a68_world.specs.Run.{AllHome, IsNumber, EndsWithoutTurn, world}
 use Rattle.a68_world.specs.Seats.{Sits, SitsAt, SitsHere, AreSeated, AllSit, status_of, closed_in, closed_at, due_at, may_wake}
 use Rattle.a68_world.specs.Stepping.{IsUnit}
-use Rattle.a68_world.specs.Turns.{IsDue, Acts, GoesOnIn, IsSpentBy, FindsNoMemory}
+use Rattle.a68_world.specs.Turns.{IsDue, Acts, GoesOnIn, IsSpentBy, FindsNoMemory, TakesBehind}
 use Rattle.a68_world.specs.Waking.{IsReleased, StaysBelow, WaitBelow, Wakes, WakesBehind}
 use Rattle.a68_world.specs.declared.seat.Seat.{Seat}
 use Rattle.a68_world.specs.declared.seat.Seat.TheVariants as seat
@@ -38,7 +42,8 @@ use Rattle.a68_world.proofs.Behind.{Moved, Noted, now, many_seats, all_sit}
 use Rattle.a68_world.proofs.Kept.{all_home, world_behind, acts_keep, spent_keep}
 use Rattle.a68_world.proofs.Places.{get_mapped, get_map, get_front, get_other, parted, set_same, is_there, is_within, length_map}
 use Rattle.a68_world.proofs.Rousing.{closed_same, all_closed_same, woke_first, not_due}
-use Rattle.a68_world.proofs.Showing.{asking, end_seen}
+use Rattle.a68_world.proofs.Showing.{end_seen}
+use Rattle.a68_world.proofs.Wanting.{takes_behind}
 
 -- ---- numbers and seats
 
@@ -91,12 +96,25 @@ waits-before code all st f c none w = by st.stance refl
 
 module _ (s : Inside) (n : ℕ) (act : Act) (store : Store) (units : List Seat) (m : Moved s n act store units) where
   -- an act is due
-  pub due_is : IsDue (run_of s) n
-  due_is =
-      let x = asking m.strand m.act_done.want m.act_done.asks in
-      record { ready = m.ready; st = standing m.strand; there = (b.sits s n act store units m).there; want = m.act_done.want; wait = x.0; asks = x.1; fuel = m.fuel }
+  abbrev pub due_is : IsDue (run_of s) n
+  due_is = record {
+    ready = m.ready;
+    st = standing m.strand;
+    there = (b.sits s n act store units m).there;
+    want = m.act_done.want;
+    wait = m.strand.about.waiting;
+    asks = ap (λ (a : Ask). stance_in a m.strand.about.waiting) m.act_done.asks;
+    fuel = m.fuel;
+  }
 
-  module _ (t : Strand) (told : HasSettled s.code (replied s.code (standing m.strand) m.act_done.reply) t) (number : t.number ≡ m.strand.number) where
+  -- the strand takes memory behind it
+  takes_is : TellsNot s.code m.strand.body m.strand.about.waiting m.act_done.reply → TakesBehind s.code (standing m.strand) m.strand.about.waiting (does m.act_done.want (now s).store)
+  takes_is untold =
+      let done : does m.act_done.want (now s).store ≡ did act m.act_done.reply store = ap (does m.act_done.want) (sym m.sound.store) ∙ m.act_done.does_it in
+      subst (TakesBehind s.code (standing m.strand) m.strand.about.waiting) (sym done)
+      (takes_behind (run_of s) m.sound.run n m.strand (b.sits s n act store units m) m.act_done.want m.act_done.asks m.act_done.reply untold)
+
+  module _ (t : Strand) (told : HasSettled s.code (replied s.code (standing m.strand) m.act_done.reply) t) (number : t.number ≡ m.strand.number) (keeps : KeepsRoom s.code m.strand.body t.body) where
     -- the seats before any strand is woken
     abbrev pub told_seats : List Seat
     told_seats = slice_set s.seats.items n (seat.Home t) ++ units
@@ -106,6 +124,7 @@ module _ (s : Inside) (n : ℕ) (act : Act) (store : Store) (units : List Seat) 
       number = number ∙ (b.sits s n act store units m).number;
       there = b.there_next s n act store units m ∙ ap (λ (x : State). Some x) (sym told.state);
       shows = record { ask = told.ask; place = told.place };
+      room = keeps (b.sits s n act store units m).room;
     }
 
     pub told_sit : AllSit s.code (b.all s n act store units m) told_seats
@@ -270,7 +289,8 @@ module _ (s : Inside) (n : ℕ) (act : Act) (store : Store) (units : List Seat) 
 
   -- ---- there was no memory to tell the strand
 
-  module _ (live : is_passive (settle s.code (replied s.code (standing m.strand) m.act_done.reply)).stance ≡ false) (journal : Vec Entry Global) (seats : Vec Seat Global)
+  module _ (live : is_passive (settle s.code (replied s.code (standing m.strand) m.act_done.reply)).stance ≡ false)
+      (untold : TellsNot s.code m.strand.body m.strand.about.waiting m.act_done.reply) (journal : Vec Entry Global) (seats : Vec Seat Global)
       (noted : Noted s n act journal) (are : seats.items ≡ slice_set s.seats.items n seat.Spent ++ units) where
     abbrev pub untold_run : Inside
     untold_run = record s { journal = journal; store = store; seats = seats; lost = true }
@@ -291,6 +311,8 @@ module _ (s : Inside) (n : ℕ) (act : Act) (store : Store) (units : List Seat) 
 
     untold-by : IsSpentBy (run_of s) n (run_of untold_run)
     untold-by = record {
+      due = due_is;
+      takes = takes_is untold;
       act = act;
       behind = b.behind s n act store units m;
       next = b.next_is s n act store units m;
@@ -318,11 +340,11 @@ module _ (s : Inside) (n : ℕ) (act : Act) (store : Store) (units : List Seat) 
         ]
 
     pub untold_is : FindsNoMemory (run_of s) n (run_of untold_run)
-    untold_is = record { unended = m.goes.unended; due = inr due_is; same = (refl, refl); lost = (refl, m.goes.unended); after = inr untold-by }
+    untold_is = record { unended = m.goes.unended; same = (refl, refl); lost = (refl, m.goes.unended); after = inr untold-by }
 
     pub untold_sound : IsSound untold_run
     untold_sound = record {
-      run = spent_keep (run_of s) (run_of untold_run) n m.sound.run m.goes due_is (refl, refl) (refl, m.goes.unended) untold-by;
+      run = spent_keep (run_of s) (run_of untold_run) n m.sound.run m.goes (refl, refl) (refl, m.goes.unended) untold-by;
       room = noted.room;
       store = sym (ap (λ (x : World). x.store) untold-world);
       seats = untold-seated;

@@ -181,7 +181,7 @@ module _ (code : Code) (all : List State) (settled : AllRest code all) where
       let same : woken code all (standing strand) ≡ standing strand =
       woken_still code all (standing strand) (settled i (standing strand) sits.there)
       (λ f c waits. sym (all_closed_same seats (closed_same i seats lost w) f c) ∙ not_due seats i f c strand there t waits) in
-      record { number = sits.number; there = get_map (woken code all) all i (standing strand) sits.there ∙ ap (λ (st : State). Some st) same; shows = sits.shows }
+      record { number = sits.number; there = get_map (woken code all) all i (standing strand) sits.there ∙ ap (λ (st : State). Some st) same; shows = sits.shows; room = sits.room }
 
   woke-still : (i : ℕ) (seats : List Seat) (lost : Bool) → Woke code all i seats lost → due_at seats i ≡ false → Woke code all (suc i) seats lost
   woke-still i seats lost w t = record {
@@ -225,6 +225,7 @@ module _ (code : Code) (all : List State) (settled : AllRest code all) where
         number = g.1 ∙ sits.number;
         there = get_map (woken code all) all i (standing strand) sits.there ∙ ap (λ (st : State). Some st) woke;
         shows = record { ask = g.0.ask; place = g.0.place };
+        room = g.2 sits.room;
       }
   roused seats i strand (seat.Home next) false sits r d same g = absurd g
   roused seats i strand seat.Spent true sits r d same g = absurd g
@@ -309,7 +310,7 @@ module _ (code : Code) (all : List State) (settled : AllRest code all) where
       let same : woken code all (standing strand) ≡ standing strand =
       woken_still code all (standing strand) (settled k (standing strand) sits.there)
       (λ f c w. absurd (omega (arith, high, waits k (standing strand) f c sits.there w))) in
-      record { number = sits.number; there = get_map (woken code all) all k (standing strand) sits.there ∙ ap (λ (st : State). Some st) same; shows = sits.shows }
+      record { number = sits.number; there = get_map (woken code all) all k (standing strand) sits.there ∙ ap (λ (st : State). Some st) same; shows = sits.shows; room = sits.room }
 
   pub woke_all : (seats : List Seat) (i below : ℕ) (lost : Bool) → WaitBelow below all → ((k : ℕ) → k < length seats → i ≤ k → below ≤ k) → Woke code all i seats lost
       → Wakes code all seats lost

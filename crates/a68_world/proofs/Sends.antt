@@ -28,7 +28,6 @@ use Rattle.a68_instructions.specs.contracts.ask.Parameters as parameters
 use Rattle.a68_instructions.specs.contracts.ask.Waiting as waiting
 use Rattle.a68_instructions.specs.contracts.body.About as about
 use Rattle.a68_instructions.specs.contracts.body.Body as body
-use Rattle.a68_stack.specs.contracts.caller.Caller as caller
 use Rattle.a68_stack.specs.contracts.packed.Form as form
 use Rattle.a68_stack.specs.contracts.packed.Packed as kept
 use Rattle.a68_stack.specs.contracts.stack.Stack as stack
@@ -101,11 +100,8 @@ store_send = search (sendable, crosses, frame_send, slot_send, value_send, held.
 
 -- ---- the strand
 
-caller_send : IsSend caller.the_row
-caller_send = search (sendable, crosses, chain.the_send) depth 20
-
 form_send : IsSend (form.the_field).row
-form_send = search (sendable, crosses, plain.the_field_send, value_send, caller_send) depth 40
+form_send = search (sendable, crosses, plain.the_field_send, value_send) depth 40
 
 kept_send : IsSend kept.the_row
 kept_send = search (sendable, crosses, form_send) depth 20

@@ -21,6 +21,7 @@ use Rattle.a68_strand.specs.Ends.{fault_of, fault_in, RunEndsWith}
 use Rattle.a68_instructions.specs.Machine.{State, asked, beginning, settle}
 use Rattle.a68_instructions.specs.Machine as machine
 use Rattle.a68_exec.specs.Runs.{World, opening, after as runs_after}
+use Rattle.a68_strand.specs.Plain.{IsOther}
 use Rattle.a68_strand.specs.Strands.{standing, wants}
 use Rattle.a68_instructions.specs.declared.ask.Ask.{Ask}
 use Rattle.a68_instructions.specs.declared.ask.Ask.TheVariants as ask
@@ -35,12 +36,12 @@ use Rattle.a68_values.specs.declared.act.FaultKind.TheVariants as fault
 use Rattle.a68_values.specs.declared.kept.End.{End}
 use Rattle.a68_values.specs.declared.kept.End.TheVariants as ends
 use Rattle.a68_values.specs.declared.kept.Kept.{Kept}
-use Rattle.a68_world.specs.Ending.{EndShown, HasTurn, end_asked, end_at}
+use Rattle.a68_world.specs.Ending.{EndShown, HasTurnAt, end_asked, end_at}
 use Rattle.a68_world.specs.Inside.{run_of, IsSound}
 use Rattle.a68_world.specs.Run.{Begins, EndsWithoutTurn, most_fuel, world}
 use Rattle.a68_world.specs.Scopes.{WantBelow, StanceBelow}
-use Rattle.a68_world.specs.Stepping.{IsAsking, IsAskingAt, BringsRoom, FewUnitsAt, units_asked}
-use Rattle.a68_world.specs.HasTurn.{GoesOn, IsReady, IsDue, EndsAt, StandsAt, IsAble, Finishes}
+use Rattle.a68_world.specs.Stepping.{AsksOther, IsAsking, IsAskingAt, BringsRoom, FewUnitsAt, units_asked}
+use Rattle.a68_world.specs.Turns.{GoesOn, IsReady, IsDue, IsOtherDue, EndsAt, StandsAt, IsAble, Finishes}
 use Rattle.a68_world.specs.declared.seat.Seat.{Seat}
 use Rattle.a68_world.specs.declared.seat.Seat.TheVariants as seat
 use Rattle.a68_world.specs.declared.status.StrandState.TheVariants as status
@@ -85,6 +86,7 @@ module _ (code : Code) (fuel : ℕ) (journal : Vec Entry Global) (store : Store)
     number = m.first.3;
     there = ap (λ (x : State). Some x) (sym m.first.2.state);
     shows = record { ask = m.first.2.ask; place = m.first.2.place };
+    room = m.first.4;
   }
 
   made-sit : AllSit code (opening code).strands seats.items
@@ -184,7 +186,7 @@ module _ (s : Inside) (sound : IsSound s) where
       by false e = absurd (ready_not n e r)
 
   -- the first that shows a turn is the first that can be turned
-  pub able_first : (after : ℕ) (found : Option ℕ) → s.end ≡ None → IfSome found (IsFirstBehind (HasTurn s.seats.items s.store) after) → IfSome found (IsFirstBehind (IsAble (run_of s)) after)
+  pub able_first : (after : ℕ) (found : Option ℕ) → s.end ≡ None → IfSome found (IsFirstBehind (HasTurnAt s.seats.items s.store) after) → IfSome found (IsFirstBehind (IsAble (run_of s)) after)
   able_first after None none f = tt
   able_first after (Some n) none f = record {
     such = record { unended = none; ready = ready_is n f.such };
@@ -195,7 +197,7 @@ module _ (s : Inside) (sound : IsSound s) where
   able_none n e able = ready_not n e able.ready
 
   -- there is none exactly where no seat shows a turn
-  pub able_exactly : (after : ℕ) (found : Option ℕ) → s.end ≡ None → IfSome found (IsFirstBehind (HasTurn s.seats.items s.store) after)
+  pub able_exactly : (after : ℕ) (found : Option ℕ) → s.end ≡ None → IfSome found (IsFirstBehind (HasTurnAt s.seats.items s.store) after)
       → (IsNone found → (n : ℕ) → turn_at s.seats.items s.store n ≡ false) → IsNone found ↔ ((n : ℕ) → IsAble (run_of s) n → ⊥)
   able_exactly after None none first lacks = (λ e n. able_none n (lacks e n), λ h. refl)
   able_exactly after (Some n) none first lacks = (λ e. absurd (cc), λ h. absurd (h n (record { unended = none; ready = ready_is n first.such })))
@@ -230,6 +232,13 @@ module _ (s : Inside) (sound : IsSound s) where
     due_wants due =
         let same = has-state due.st due.there in
         (due.want, shown s.code strand (Asking due.want due.wait) sits.shows (ap (λ (x : State). x.stance) same ∙ due.asks))
+
+    -- other values than plain ones take part in the act that is due
+    pub due_other : IsDue (run_of s) n → AsksOther s.store strand → IsOtherDue (run_of s) n
+    due_other due other =
+        let same = has-state due.st due.there in
+        let asks : strand.about.ask ≡ ask.Want due.want = shown s.code strand (Asking due.want due.wait) sits.shows (ap (λ (x : State). x.stance) same ∙ due.asks) in
+        record { due = due; other = subst (λ (x : Store). IsOther due.want x) sound.store (other due.want asks) }
 
     not-waiting : IsReady (run_of s) n → (w : Want) → strand.about.ask ≡ ask.Want w → does w s.store ≡ waits → ⊥
     not-waiting ready w asks e =

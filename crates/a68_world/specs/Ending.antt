@@ -28,14 +28,14 @@ end_at seat.Spent store full n = None
 -- ---- the end without a further turn
 
 -- the strand at this seat has something to do at its turn
-abbrev pub HasTurn : List Seat → Store → ℕ → Type 0
-HasTurn seats store n = turn_at seats store n ≡ true
+abbrev pub HasTurnAt : List Seat → Store → ℕ → Type 0
+HasTurnAt seats store n = turn_at seats store n ≡ true
 
 -- Done where the program has ended, AllHalted where it has not and no strand has anything to do, and else none
 abbrev pub EndShown : List Seat → Store → Option End → Type 0
 EndShown seats store (Some ends.Done) = ended_at seats 0 ≡ true
 EndShown seats store (Some ends.AllHalted) = (ended_at seats 0 ≡ false) × ((n : ℕ) → turn_at seats store n ≡ false)
-EndShown seats store None = (ended_at seats 0 ≡ false) × ((n : ℕ) × HasTurn seats store n)
+EndShown seats store None = (ended_at seats 0 ≡ false) × ((n : ℕ) × HasTurnAt seats store n)
 EndShown seats store _ = ⊥
 
 -- the first strand that has something to do, from this number on and below that one

@@ -5,6 +5,7 @@ use Rattle.std.specs.Option.{option_map_or}
 use Rattle.a68_acts.specs.Does.{does}
 use Rattle.a68_acts.specs.Store.{Store}
 use Rattle.a68_code.specs.declared.code.Code.{Code}
+use Rattle.a68_heights.specs.Room.{IsRoomy}
 use Rattle.a68_store.specs.Acts.{has_to_wait}
 use Rattle.a68_instructions.specs.Machine.{State, beginning}
 use Rattle.a68_exec.specs.Runs.{has_closed, awaited_units}
@@ -26,6 +27,8 @@ pub record Sits (code : Code) (strands : List State) (k : ℕ) (strand : Strand)
   pub number : strand.number ≡ k
   pub there : slice_get strands k ≡ Some (standing strand)
   pub shows : Shows code strand
+  -- its stack has room for its innermost activation
+  pub room : IsRoomy code strand.body
 
 -- a seat whose strand stands so, or is spent
 abbrev pub SitsAt : Code → List State → ℕ → Seat → Type 0
@@ -45,7 +48,8 @@ AllSit code strands seats = (k : ℕ) (x : Seat) → slice_get seats k ≡ Some 
 
 -- the seats of a run that is yet to begin
 abbrev pub IsFirst : Code → List Seat → Type 0
-IsFirst code seats = (strand : Strand) × (seats ≡ seat.Home strand ∷ []) × HasSettled code (beginning 0 (record { frame = 0; scope = 0 } ∷ [])) strand × (strand.number ≡ 0)
+IsFirst code seats =
+    (strand : Strand) × (seats ≡ seat.Home strand ∷ []) × HasSettled code (beginning 0 (record { frame = 0; scope = 0 } ∷ [])) strand × (strand.number ≡ 0) × IsRoomy code strand.body
 
 -- the place of the construct at whose instruction the strand stands
 abbrev pub place_in : Seat → ℕ

@@ -2,12 +2,15 @@
 -- What a turn of a strand comes to.
 use Rattle.std.specs.Prelude.{◌≡◌, ◌<◌, ◌-◌, ◌++◌, ◌∷◌, [], ◌⊎◌, ℕ, true, false, List, length, None, Some, slice_get}
 use Rattle.std.specs.Option.{option_map, option_map_or}
+use Rattle.a68_acts.specs.Does.{Outcome, did, does}
 use Rattle.a68_acts.specs.declared.want.Want.{Want}
 use Rattle.a68_code.specs.declared.code.Code.{Code}
 use Rattle.a68_strand.specs.Cyclic.{HasTurn}
-use Rattle.a68_strand.specs.SetsEnd.{fault_of, CanAct}
-use Rattle.a68_instructions.specs.Machine.{State, place_at}
+use Rattle.a68_strand.specs.Ends.{fault_of, CanActNow}
+use Rattle.a68_instructions.specs.Machine.{State, place_at, told_by}
+use Rattle.a68_strand.specs.Plain.{IsOther}
 use Rattle.a68_strand.specs.RunOf.{RunOf}
+use Rattle.a68_exec.specs.Memory.{TakesMemory, told_plainly}
 use Rattle.a68_exec.specs.Runs.{World, acted}
 use Rattle.a68_instructions.specs.declared.ask.Stance.TheVariants.{Asking, Waits}
 use Rattle.a68_instructions.specs.declared.ask.Waiting.{Waiting}
@@ -87,7 +90,7 @@ StandsAt run n place = option_map (λ (st : State). place_at run.code.list st.at
 -- before none.
 abbrev pub EndsAt : Run → ℕ → End → Type 0
 EndsAt run n (ends.Fault why place strand) = (strand ≡ n) × (fault_of (world run) n ≡ Some why) × StandsAt run n place
-EndsAt run n ends.Spent = (length run.entries ≡ run.fuel) × CanAct run.code (world run) n
+EndsAt run n ends.Spent = (length run.entries ≡ run.fuel) × CanActNow run.code (world run) n
 EndsAt run n _ = ⊥
 
 pub record EndsHere (old : Run) (n : ℕ) (e : End) (new : Run) : Type 0 where
@@ -108,17 +111,6 @@ pub record IsNotReady (old : Run) (n : ℕ) (new : Run) : Type 0 where
   pub unready : IsReady old n → ⊥
   pub after : new ≡ old
 
--- the strand has done its next act, and found no memory behind it
-pub record IsSpentBy (old : Run) (n : ℕ) (new : Run) : Type 0 where
-  pub act : Act
-  pub behind : World
-  pub next : acted old.code (world old) n ≡ Some (act, behind)
-  pub entries : new.entries ≡ noted old n act
-  pub spent : IsNumber new n Spent
-  pub stays : (k : ℕ) (s : StrandState) → IsNumber old k s → (k ≡ n → ⊥) → IsNumber new k s
-  pub fresh : (k : ℕ) (s : StrandState) → slice_get old.status k ≡ None → IsNumber new k s → s ≡ Home
-  pub many : length new.status ≡ length (world new).strands
-
 -- the strand asks for an act for which it need not wait, and there is fuel
 pub record IsDue (run : Run) (n : ℕ) : Type 0 where
   pub ready : IsReady run n
@@ -129,14 +121,41 @@ pub record IsDue (run : Run) (n : ℕ) : Type 0 where
   pub asks : st.stance ≡ Asking want wait
   pub fuel : length run.entries < run.fuel
 
--- There was no memory, and there is none from now on: an act was due, or no memory was found before. Nothing is done, or
--- the one act.
+-- an act is due in which other values than plain ones take part, or which meets a fault
+pub record IsOtherDue (run : Run) (n : ℕ) : Type 0 where
+  pub due : IsDue run n
+  pub other : IsOther due.want (world run).store
+
+-- Behind an act the strand takes memory: it does not wait plainly for the reply, or one of its silent instructions up to the next
+-- act works on other values than plain ones.
+abbrev pub TakesBehind : Code → State → Waiting → Outcome → Type 0
+TakesBehind code st wait (did act reply store) = (told_plainly wait reply ≡ false) ⊎ TakesMemory code (told_by code st wait reply)
+TakesBehind code st wait _ = ⊥
+
+-- nothing is done: no memory was found before, or other values than plain ones take part in the act that is due
+pub record IsLeftUndone (old : Run) (n : ℕ) (new : Run) : Type 0 where
+  pub why : (old.lost ≡ true) ⊎ IsOtherDue old n
+  pub after : new ≡ record old { lost = true }
+
+-- the strand has done its next act, behind which it takes memory, and there was none
+pub record IsSpentBy (old : Run) (n : ℕ) (new : Run) : Type 0 where
+  pub due : IsDue old n
+  pub takes : TakesBehind old.code due.st due.wait (does due.want (world old).store)
+  pub act : Act
+  pub behind : World
+  pub next : acted old.code (world old) n ≡ Some (act, behind)
+  pub entries : new.entries ≡ noted old n act
+  pub spent : IsNumber new n Spent
+  pub stays : (k : ℕ) (s : StrandState) → IsNumber old k s → (k ≡ n → ⊥) → IsNumber new k s
+  pub fresh : (k : ℕ) (s : StrandState) → slice_get old.status k ≡ None → IsNumber new k s → s ≡ Home
+  pub many : length new.status ≡ length (world new).strands
+
+-- there was no memory, and there is none from now on
 pub record FindsNoMemory (old : Run) (n : ℕ) (new : Run) : Type 0 where
   pub unended : old.end ≡ None
-  pub due : (old.lost ≡ true) ⊎ IsDue old n
   pub same : IsOf old new
   pub lost : (new.lost ≡ true) × (new.end ≡ None)
-  pub after : (new ≡ record old { lost = true }) ⊎ IsSpentBy old n new
+  pub after : IsLeftUndone old n new ⊎ IsSpentBy old n new
 
 -- what a turn of a strand comes to
 abbrev pub TurnOf : (old : Run) (n : ℕ) → Turned → (new : Run) → Type 0

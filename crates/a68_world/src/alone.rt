@@ -7,6 +7,7 @@ ghost use Rattle.a68_world.specs.AloneAt.{GoesAt, NoneAheadAt, RestsAt, StopsAt}
 use crate::World;
 use crate::seat::{Seat, spend};
 use crate::turning::end_shown;
+use a68_alone::go_alone;
 use a68_base::NoMemory;
 use a68_code::Code;
 use a68_store::Store;
@@ -38,7 +39,7 @@ fn go_at(
     let Seat::Home(strand) = seat else {
         return Ok(false);
     };
-    match strand.go_alone(alloc, code, fuel, store, journal) {
+    match go_alone(strand, alloc, code, fuel, store, journal) {
         Ok(any) => Ok(any),
         Err(error) => {
             spend(seat);

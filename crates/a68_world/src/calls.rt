@@ -3,13 +3,14 @@ ghost use Rattle.std.specs.Prelude.{◌≡◌, [], ◌∷◌, ◌++◌, ◌<◌,
 ghost use Rattle.std.specs.Vec.{vec_len, vec_capacity};
 ghost use Rattle.a68_acts.specs.Store.{opening_store};
 ghost use Rattle.a68_code.specs.Valid.{IsValid};
+ghost use Rattle.a68_heights.specs.Room.{IsRoomy};
 ghost use Rattle.a68_strand.specs.Cyclic.{IsFirstBehind};
 ghost use Rattle.a68_instructions.specs.Machine.{beginning};
 ghost use Rattle.a68_strand.specs.Strands.{HasSettled};
 ghost use Rattle.a68_world.specs.Ending.{EndShown};
 ghost use Rattle.a68_world.specs.Run.{IsRun, Begins, most_fuel};
 ghost use Rattle.a68_world.specs.Seats.{IsFirst, place_at};
-ghost use Rattle.a68_world.specs.Turns.{GoesOn, IsReady, EndsAt, IsDue, TurnOf, IsAble, Finishes, last_strand};
+ghost use Rattle.a68_world.specs.Turns.{GoesOn, IsReady, EndsAt, IsDue, IsOtherDue, TurnOf, IsAble, Finishes, last_strand};
 
 use crate::deed::Deed;
 use crate::seat::Seat;
@@ -33,6 +34,7 @@ fn first_strand(alloc: Global, code: &Code) -> Result<Strand, NoMemory>
     requires short { length code.now.list < 2 ^ 32 }
     ensures settled { IfOk result (HasSettled code.now (beginning 0 (record { frame = 0; scope = 0 } ∷ []))) }
     ensures number { IfOk result (λ strand. strand.number ≡ 0) }
+    ensures room { IfOk result (λ strand. IsRoomy code.now strand.body) }
 {
     let chain = Chain {
         items: vec![in alloc; STANDARD]?,
@@ -135,7 +137,8 @@ impl World {
     }
 
     /// A turn of a strand: its next act, or the end of the run. Where it finds no memory, or none was found before, the
-    /// run does not go on. An end and NotReady take no memory.
+    /// run does not go on. An end and NotReady take no memory, nor does an act in which plain values alone take part, where the
+    /// strand works on plain values alone up to its next act.
     pub fn turn(&mut self, alloc: Global, strand: u32) -> Turned
         ensures { TurnOf self.old strand result self.new }
     {
@@ -185,7 +188,7 @@ impl World {
     // There is no memory for an act that is due.
     fn lose(&mut self, n: u32) -> Turned
         requires goes_on { GoesOn self.old }
-        requires due { IsDue self.old n }
+        requires due { IsOtherDue self.old n }
         ensures { TurnOf self.old n result self.new }
     {
         self.lost = true;

@@ -1,7 +1,7 @@
 //! Which strands have something to do at their turns.
 ghost use Rattle.std.specs.Prelude.{◌≡◌, ◌<◌, ◌≤◌, ◌^◌, ℕ, true, false, length, slice_get, Some, IfSome, IsNone};
 ghost use Rattle.a68_strand.specs.Cyclic.{IsFirstBehind};
-ghost use Rattle.a68_world.specs.Ending.{HasTurn, EndShown, FirstIn, NoneIn, end_at, end_asked};
+ghost use Rattle.a68_world.specs.Ending.{HasTurnAt, EndShown, FirstIn, NoneIn, end_at, end_asked};
 ghost use Rattle.a68_world.specs.Seats.{turn_shown, turn_in, turn_at, ended_shown, ended_in, ended_at};
 
 use crate::seat::Seat;
@@ -61,7 +61,7 @@ fn first_in(seats: &[Seat], store: &Store, from: usize, to: usize) -> Option<u32
 /// from 0.
 pub fn next_turn(seats: &[Seat], store: &Store, after: u32) -> Option<u32>
     requires few { length seats.now < 2 ^ 32 }
-    ensures first { IfSome result (IsFirstBehind (HasTurn seats.now store.now) after) }
+    ensures first { IfSome result (IsFirstBehind (HasTurnAt seats.now store.now) after) }
     ensures none { IsNone result → (n : ℕ) → turn_at seats.now store.now n ≡ false }
 {
     let behind = seats.len().min(after as usize + 1);

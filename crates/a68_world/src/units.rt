@@ -1,9 +1,9 @@
 //! The strands that an act makes.
-ghost use Rattle.std.specs.Prelude.{◌≡◌, ◌<◌, ◌≤◌, ◌+◌, ◌++◌, ◌^◌, [], ◌∷◌, IsTrue, length, IfOk, OnOk};
+ghost use Rattle.std.specs.Prelude.{◌≡◌, ◌<◌, ◌≤◌, ◌+◌, ◌++◌, ◌^◌, [], ◌∷◌, IsTrue, length, IfOk, IfSome, OnOk, OnErr};
 ghost use Rattle.std.specs.Option.{option_map_or};
 ghost use Rattle.std.specs.Vec.{vec_len, vec_capacity};
 ghost use Rattle.a68_stack.specs.Room.{has_room};
-ghost use Rattle.a68_world.specs.Stepping.{IsUnit, AreUnits, AreUnitsAt, FewUnitsAt, units_asked, units_at, units_begun};
+ghost use Rattle.a68_world.specs.Stepping.{IsUnit, AreUnits, AreUnitsAt, AsksOther, AsksOtherAt, FewUnitsAt, units_asked, units_at, units_begun};
 
 use crate::seat::Seat;
 use a68_acts::Want;
@@ -17,7 +17,8 @@ use std::alloc::Global;
 
 // The units for which this asks, where the act meets no fault.
 fn units_asked<'a>(ask: &'a Ask, store: &Store) -> Option<&'a Entrances>
-    ensures { option_map_or (λ entrances. entrances.now) result [] ≡ units_asked ask.now store.now }
+    ensures asked { option_map_or (λ entrances. entrances.now) result [] ≡ units_asked ask.now store.now }
+    ensures fork { IfSome result (λ entrances. ask.now ≡ Ask.Want (Want.Fork entrances.now)) }
 {
     let Ask::Want(want) = ask else {
         return None;
@@ -89,7 +90,8 @@ fn begin_units(
 ) -> Result<Vec<Seat>, NoMemory>
     requires few { length code.now.list < 2 ^ 32 }
     requires numbers { first + length (units_asked strand.now.about.ask store.now) < 2 ^ 32 }
-    ensures { IfOk result (λ units. AreUnits code.now (units_begun code.now strand.now store.now) first units.items) }
+    ensures units { IfOk result (λ units. AreUnits code.now (units_begun code.now strand.now store.now) first units.items) }
+    ensures err { OnErr result (AsksOther store.now strand.now) }
 {
     let mut units = Vec::new(alloc);
     let Some(entrances) = units_asked(strand.ask(), store) else {
@@ -111,7 +113,8 @@ fn begin_units(
     }
 }
 
-/// The seats of the strands that the act of this strand makes, and room for them.
+/// The seats of the strands that the act of this strand makes, and room for them. An act that makes none takes no memory for
+/// that.
 pub fn units_ready(
     alloc: Global,
     code: &Code,
@@ -124,6 +127,7 @@ pub fn units_ready(
     ensures same { seats.new.items ≡ seats.old.items }
     ensures units { IfOk result (λ units. AreUnitsAt code.now store.now seats.old.items n units.items) }
     ensures room { IfOk result (λ units. vec_len seats.new + vec_len units ≤ vec_capacity seats.new) }
+    ensures err { OnErr result (AsksOtherAt store.now seats.old.items n) }
 {
     let Some(Seat::Home(strand)) = seats.get(n) else {
         // The strand asks for an act.

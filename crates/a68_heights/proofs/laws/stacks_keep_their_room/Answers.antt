@@ -1,3 +1,4 @@
+use Rattle.a68_heights.proofs.Plainly.{settles_plainly}
 use Rattle.a68_heights.proofs.Rooming as rooming
 use Rattle.a68_heights.proofs.laws.stacks_keep_their_room.Goals as goal
 
@@ -9,4 +10,5 @@ returns c = record {
   settles = rooming.settles;
   told = rooming.told;
   entered = rooming.entered;
+  plainly = settles_plainly;
 }

@@ -1,6 +1,6 @@
 use Rattle.std.specs.Prelude.{◌-◌, length}
 use Rattle.a68_workers.specs.Runs.{GoesFrom, TookTurns}
-use Rattle.a68_workers.proofs.alone.turn_rest.GivenRun as goal
+use Rattle.a68_workers.proofs.alone.turn_rest.Given as goal
 
 abbrev pub invariant-loop-strand : goal.invariant-loop-strand
 invariant-loop-strand g l = record {

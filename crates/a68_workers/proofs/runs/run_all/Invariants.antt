@@ -1,5 +1,5 @@
 use Rattle.std.specs.Prelude.{[], ◌∷◌}
-use Rattle.a68_workers.proofs.runs.run_all.GivenRun as goal
+use Rattle.a68_workers.proofs.runs.run_all.Given as goal
 
 -- the run that the workers are handed
 abbrev pub ghosts-run_shared : goal.ghosts-run_shared

@@ -6,11 +6,11 @@ use Rattle.a68_stack.proofs.stack.Stack.set_plain.Goals as goal
 pub invariant_of-self-2 : goal.invariant_of-self-2
 invariant_of-self-2 c =
     let all : length c.self.inside.items.items ≡ vec_len c.self.inside.items - 1 + 1 = omega (arith, c.self.inside.items.ok.0, c.in-Some.ensures.variant.0 refl) in
-    let is_set = plain_is_set c.self.inside.items.items (vec_len c.self.inside.items - 1) c.set_plain.result c.args.held c.in-Some.kept.now c.set_plain.new.self all c.in-Some.ensures.value c.set_plain.ensures in
-    c.self.invariant ∙ sym (plain_set_callers c.set_plain.result c.args.held _ _ is_set)
+    let is_set = plain_is_set c.self.inside.items.items (vec_len c.self.inside.items - 1) c.set_plain.result c.args.held c.in-Some.kept.now c.set_plain.new.self all c.in-Some.ensures.value c.set_plain.ensures c.self.inside.room in
+    (c.self.invariant.0 ∙ sym (plain_set_callers c.set_plain.result c.args.held _ _ is_set), c.self.invariant.1)
 
 pub returns : goal.returns
 returns c =
     let all : length c.self.inside.items.items ≡ vec_len c.self.inside.items - 1 + 1 = omega (arith, c.self.inside.items.ok.0, c.in-Some.ensures.variant.0 refl) in
     rw (← c.self.view_is)
-    (plain_is_set c.self.inside.items.items (vec_len c.self.inside.items - 1) c.set_plain.result c.args.held c.in-Some.kept.now c.set_plain.new.self all c.in-Some.ensures.value c.set_plain.ensures)
+    (plain_is_set c.self.inside.items.items (vec_len c.self.inside.items - 1) c.set_plain.result c.args.held c.in-Some.kept.now c.set_plain.new.self all c.in-Some.ensures.value c.set_plain.ensures c.self.inside.room)

@@ -1,7 +1,7 @@
 use Rattle.std.proofs.Common.{◌≡◌, ◌∙◌, ◌∷◌, ap}
 use Rattle.a68_acts.specs.Store.{chain_of}
 use Rattle.a68_store.specs.Frames.{links_of}
-use Rattle.a68_store.proofs.Binding.{links-chain, links-linked, ok-some}
+use Rattle.a68_store.proofs.Binding.{links-chain, links-linked}
 use Rattle.a68_store.proofs.store.Store.chain_within.Goals as goal
 
 pub chain_behind-requires-clause-linked : goal.chain_behind-requires-clause-linked
@@ -11,5 +11,4 @@ pub returns : goal.returns
 returns c =
     let chains : chain_of (links_of c.deref.result.now) c.args.outer ≡ chain_of c.args.self.now.frames c.args.outer =
     ap (λ fs. chain_of (links_of fs) c.args.outer) c.deref.ensures.value ∙ links-chain c.self.inside c.args.self.now c.args.outer c.self.view_is in
-    rw c.ok.ensures.value
-    (ok-some c.chain_behind.result _ _ (λ chain is. is ∙ ap (λ l. c.args.new ∷ l) chains) c.chain_behind.ensures)
+    c.in_ok-chain.ensures ∙ ap (λ l. c.args.new ∷ l) chains

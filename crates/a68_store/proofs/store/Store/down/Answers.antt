@@ -10,8 +10,8 @@ use Rattle.a68_values.specs.declared.act.Act.TheVariants as act
 use Rattle.a68_store.proofs.Rows.{count-there, down-did, down-waits}
 use Rattle.a68_store.proofs.store.Store.down.Goals as goal
 
-pub returns-then-halts : goal.returns-then-halts
-returns-then-halts c =
+pub returns-then-halts-clause-act : goal.returns-then-halts-clause-act
+returns-then-halts-clause-act c =
     let same : to_z w64 (of_z w64 c.in-Some.count) ≡ c.in-Some.count = to_z-of_z w64 c.in-Some.count (search rules) in
     let tested : c.halts.result ≡ int_lt c.in-Some.count (pos 1) = rw same at c.halts.ensures in
     (down-waits c.args.self.now c.args.cell c.in-Some.count c.in-Some.ensures (sym tested ∙ c.if-halts.true), refl)
@@ -19,8 +19,8 @@ returns-then-halts c =
 pub set_count-requires : goal.set_count-requires
 set_count-requires c = count-there c.args.self.now c.args.cell c.in-Some.count c.in-Some.ensures
 
-pub returns : goal.returns
-returns c =
+pub returns-clause-act : goal.returns-clause-act
+returns-clause-act c =
     let same : to_z w64 (of_z w64 c.in-Some.count) ≡ c.in-Some.count = to_z-of_z w64 c.in-Some.count (search rules) in
     let tested : c.halts.result ≡ int_lt c.in-Some.count (pos 1) = rw same at c.halts.ensures in
     let enough : int_lt c.in-Some.count (pos 1) ≡ false = sym tested ∙ c.if-halts.false in

@@ -12,8 +12,8 @@ use Rattle.a68_store.proofs.store.Store.up.Goals as goal
 pub set_count-requires : goal.set_count-requires
 set_count-requires c = count-there c.args.self.now c.args.cell c.in-Some.count c.in-Some.ensures
 
-pub returns : goal.returns
-returns c =
+pub returns-clause-act : goal.returns-clause-act
+returns-clause-act c =
     let z = c.in-Some.count +ℤ pos 1 in
     let counted : c.set_count.new.self ≡ with_count c.args.self.now c.args.cell z = c.set_count.ensures ∙ ap (λ i. with_count c.args.self.now c.args.cell i) (omega (arith, ints)) in
     up-did c.args.self.now c.args.cell c.in-Some.count c.in-Some.ensures (is_int-inside z (omega (arith, ints)) (omega (arith, ints)))

@@ -3,13 +3,14 @@ use Rattle.std.specs.Option.{option_map_or}
 use Rattle.a68_world.specs.Inside.{run_of}
 use Rattle.a68_world.specs.Run.{Run}
 use Rattle.a68_world.specs.Seats.{place_at, place_in, status_of}
-use Rattle.a68_world.specs.Turns.{GoesOn, IsDue, TurnOf}
+use Rattle.a68_world.specs.Turns.{GoesOn, IsDue, TurnOf, IsOtherDue}
 use Rattle.a68_world.specs.declared.seat.Seat.{Seat}
 use Rattle.a68_world.specs.declared.seat.Seat.TheVariants as seat
+use Rattle.a68_world.specs.declared.status.StrandState.{StrandState}
 use Rattle.a68_world.proofs.Behind.{Noted}
-use Rattle.a68_world.proofs.Doing.{Told, seat_there, told_all, few_told, untold_all, refused_left, refused_ends, unfound_left}
+use Rattle.a68_world.proofs.Doing.{Told, seat_there, told_all, few_told, untold_all, refused_left, refused_ends, unfound_left, unfound_wants}
 use Rattle.a68_world.proofs.Places.{is_within}
-use Rattle.a68_world.proofs.Standing.{seat_home, few_units, few_frames, asking_at}
+use Rattle.a68_world.proofs.Standing.{due_other, seat_home, few_units, few_frames, asking_at}
 use Rattle.a68_world.proofs.world.World.do_act.Goals as goal
 
 pub units_ready-requires-clause-numbers : goal.units_ready-requires-clause-numbers
@@ -19,6 +20,15 @@ units_ready-requires-clause-numbers c =
     let due : IsDue (run_of s) n = subst (λ (r : Run). IsDue r n) (sym c.self.view_is) c.requires.due in
     let h = seat_home s.seats.items n due.ready.home in
     few_units s c.self.invariant n h.0 h.1
+
+pub lose-requires-clause-due : goal.lose-requires-clause-due
+lose-requires-clause-due c =
+    let s = c.self.inside in
+    let n = c.args.n in
+    let due : IsDue (run_of s) n = subst (λ (r : Run). IsDue r n) (sym c.self.view_is) c.requires.due in
+    let h = seat_home s.seats.items n due.ready.home in
+    let wanted : IsOtherDue (run_of s) n = due_other s c.self.invariant n h.0 h.1 due (c.in_default.ensures.err h.0 h.1) in
+    subst (λ (l : List Seat). IsOtherDue (record { code = s.code; fuel = s.fuel; entries = s.journal.items; status = map status_of l; lost = s.lost; end = s.end }) n) (sym c.units_ready.ensures.same) wanted
 
 pub index_mut-requires : goal.index_mut-requires
 index_mut-requires c =
@@ -163,6 +173,22 @@ end_with-requires-clause-ends c =
     let left = refused_left s n c.self.invariant goes due x y c.in-Refused.kind c.act_at.new.store there c.in-Refused.ensures in
     refused_ends s n c.self.invariant goes due x y c.in-Refused.kind c.act_at.new.store c.place_at-place.result there c.in-Refused.ensures
     (c.place_at-place.ensures ∙ ap (λ l. place_at l n) (c.deref-in-Refused.ensures.value ∙ ap (λ l. slice_set l n y) same ∙ left.1) ∙ ap (λ o. option_map_or place_in o 0) there)
+
+pub lose-requires-in-NoMemory-clause-due : goal.lose-requires-in-NoMemory-clause-due
+lose-requires-in-NoMemory-clause-due c =
+    let s = c.self.inside in
+    let n = c.args.n in
+    let due : IsDue (run_of s) n = subst (λ (r : Run). IsDue r n) (sym c.self.view_is) c.requires.due in
+    let h = seat_home s.seats.items n due.ready.home in
+    let goes : GoesOn (run_of s) = subst (λ (r : Run). GoesOn r) (sym c.self.view_is) c.requires.goes_on in
+    let same = c.units_ready.ensures.same in
+    let x = c.index_mut.result.now in
+    let there : slice_get s.seats.items n ≡ Some x = seat_there s.seats.items c.units_ready.new.seats.items n x same (is_within s.seats.items n (seat.Home h.0) h.1) c.index_mut.ensures.value in
+    let y = c.act_at.new.seat in
+    let left = unfound_left s n c.self.invariant goes due x y c.act_at.new.store there c.in-NoMemory.ensures in
+    let stays : map status_of (slice_set c.units_ready.new.seats.items n y) ≡ map status_of s.seats.items = ap (λ (l : List Seat). map status_of (slice_set l n y)) same ∙ ap (λ (l : List Seat). map status_of l) left.1 in
+    subst (λ (l : List StrandState). IsOtherDue (record { code = s.code; fuel = s.fuel; entries = s.journal.items; status = l; lost = s.lost; end = s.end }) n) (sym stays)
+    (unfound_wants s n c.self.invariant goes due x y c.act_at.new.store there c.in-NoMemory.ensures)
 
 pub returns-in-NoMemory : goal.returns-in-NoMemory
 returns-in-NoMemory c =

@@ -1,0 +1,3 @@
+mod CallActs
+mod GoingAlone
+mod Roomy
