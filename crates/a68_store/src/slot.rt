@@ -1,9 +1,9 @@
 //! Slots as the store keeps them.
-ghost use Rattle.std.specs.Prelude.{◌≡◌, ◌-◌, ◌^◌, None, Some, min, is_some, IfOk};
+ghost use Rattle.std.specs.Prelude.{◌≡◌, ◌-◌, ◌^◌, None, Some, min, is_some, IfOk, OnErr};
 ghost use Rattle.a68_acts.specs.Store.{slot_weight};
 ghost use Rattle.a68_store.specs.Bound.{bound_of};
 ghost use Rattle.a68_store.specs.Frames.{plain_bound};
-ghost use Rattle.a68_values.specs.Content.{plain};
+ghost use Rattle.a68_values.specs.Content.{as_plain, plain};
 
 use crate::weight::weight;
 use a68_base::NoMemory;
@@ -88,7 +88,8 @@ impl Slot {
 
     /// A slot that is bound to a value. A plain value takes no memory.
     pub fn of(alloc: Global, value: Value) -> Result<Slot, NoMemory>
-        ensures { IfOk result (λ slot. slot ≡ Some value) }
+        ensures slot { IfOk result (λ slot. slot ≡ Some value) }
+        ensures memory { OnErr result (as_plain value ≡ None) }
     {
         if let Some(held) = value.plain() {
             drop(value);

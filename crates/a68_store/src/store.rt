@@ -1,12 +1,12 @@
 //! The store.
-ghost use Rattle.std.specs.Prelude.{◌≡◌, ◌≢◌, ◌<◌, ◌≤◌, ◌+◌, ◌-◌, ◌^◌, ◌∷◌, [], true, pos, int_lt, nat_lt, None, Some, Err, length, map, replicate, slice_get, slice_set, vec_len, IfOk, IfSome, MatchBool, MatchOption, OnErr, OnOk};
+ghost use Rattle.std.specs.Prelude.{◌≡◌, ◌≢◌, ◌<◌, ◌≤◌, ◌+◌, ◌-◌, ◌^◌, ◌∷◌, [], true, pos, int_lt, nat_lt, None, Some, Err, length, map, replicate, slice_get, slice_set, vec_len, IfOk, IfSome, IsErrOf, MatchBool, MatchOption, OnErr, OnOk};
 ghost use Rattle.std.specs.Option.{option_copied, option_map_or};
 ghost use Rattle.a68_acts.specs.Does.{count_held, count_in, does, did, refused, with_count};
 ghost use Rattle.a68_acts.specs.Operations.{one_cell};
 ghost use Rattle.a68_acts.specs.Store.{chain_of, counted, most_counted, most_strands, opening_store};
 ghost use Rattle.a68_store.specs.Acts.{DoesAct, has_to_wait};
 ghost use Rattle.a68_store.specs.Frames.{HasSlot, frame_of, plain_bound, plain_held, row_held, slot_in};
-ghost use Rattle.a68_values.specs.Content.{plain};
+ghost use Rattle.a68_values.specs.Content.{as_plain, plain};
 
 use crate::chains::chain_behind;
 use crate::frame::{Frame, place};
@@ -277,8 +277,9 @@ impl Store {
     pub fn bind(&mut self, frame: u32, slot: u32, value: Value) -> Result<(), StoreStop>
         requires frame { frame < length self.old.frames }
         requires slot { HasSlot self.old frame slot }
-        ensures { DoesAct result (λ u. Act.Bind frame slot) (λ u. Reply.Go)
+        ensures act { DoesAct result (λ u. Act.Bind frame slot) (λ u. Reply.Go)
             (does (Want.Bind frame slot value) self.old) self.old self.new }
+        ensures memory { IsErrOf result StoreStop.NoMemory → as_plain value ≡ None }
     {
         let Some(place) = place(&self.frames, frame, slot) else {
             drop(value);
@@ -315,9 +316,13 @@ impl Store {
     pub fn look(&self, alloc: Global, frame: u32, slot: u32) -> Result<Value, StoreStop>
         requires frame { frame < length self.now.frames }
         requires slot { HasSlot self.now frame slot }
-        ensures { DoesAct result (λ value. Act.Look frame slot) (λ value. Reply.Value value)
+        ensures act { DoesAct result (λ value. Act.Look frame slot) (λ value. Reply.Value value)
             (does (Want.Look frame slot) self.now) self.now self.now }
+        ensures memory { IsErrOf result StoreStop.NoMemory → plain_bound (slot_in self.now frame slot) ≡ None }
     {
+        if let Some(held) = self.plain_at(frame, slot) {
+            return Ok(Value::of(held));
+        }
         let Some(slot) = self.slot(frame, slot) else {
             return Err(StoreStop::Fault(FaultKind::Kind));
         };
@@ -382,8 +387,12 @@ impl Store {
     /// What a cell holds. A plain value takes no memory.
     pub fn fetch(&self, alloc: Global, cell: u32) -> Result<Held, NoMemory>
         requires { cell < length self.now.cells }
-        ensures { IfOk result (λ held. does (Want.Fetch cell) self.now ≡ did (Act.Fetch cell) (Reply.Held held) self.now) }
+        ensures held { IfOk result (λ held. does (Want.Fetch cell) self.now ≡ did (Act.Fetch cell) (Reply.Held held) self.now) }
+        ensures memory { OnErr result (plain_held (slice_get self.now.cells cell) ≡ None) }
     {
+        if let Some(held) = self.plain_in(cell) {
+            return Ok(Held::Plain(held));
+        }
         self.cells[cell as usize].copy(alloc)
     }
 

@@ -21,8 +21,8 @@ overflow_add-from c =
     let small = weight-fits c.self.inside c.args.frame c.args.slot c.in-Some.place at c.index.result.now c.self.invariant c.index.ensures in
     omega (arith, small, c.self.invariant.few, c.weight-replaced.ensures, c.from.ensures)
 
-pub returns-then-added-from : goal.returns-then-added-from
-returns-then-added-from c =
+pub returns-then-added-from-clause-act : goal.returns-then-added-from-clause-act
+returns-then-added-from-clause-act c =
     let at = stands c.self.inside c.args.frame c.args.slot c.in-Some.place _ c.self.invariant c.deref.ensures.value c.in-Some.ensures in
     let small = weight-fits c.self.inside c.args.frame c.args.slot c.in-Some.place at c.index.result.now c.self.invariant c.index.ensures in
     let same : counted c.args.self.now ≡ c.self.inside.counted = ap counted (sym c.self.view_is) ∙ sym c.self.invariant.counted_is in (
@@ -59,7 +59,7 @@ invariant_of-self c =
     (record {
       cells = refl;
       frames = refl;
-      slots = ap (λ x. slice_set inside.slots.items c.in-Some.place x) (c.set_slot.ensures ∙ c.in_ok-bound.ensures);
+      slots = ap (λ x. slice_set inside.slots.items c.in-Some.place x) (c.set_slot.ensures ∙ c.in_ok-bound.ensures.slot);
       kept = refl;
       text = refl;
       strands = refl;
@@ -67,8 +67,8 @@ invariant_of-self c =
     (omega (arith, small, c.self.invariant.few, c.weight-replaced.ensures, c.from.ensures, c.from-2.ensures, c.if-added-from.false, c.weight.ensures, c.saturating_add-added.ensures))
     (omega (arith, small, c.self.invariant.few, c.weight-replaced.ensures, c.from.ensures, c.from-2.ensures, c.if-added-from.false))
 
-pub returns : goal.returns
-returns c =
+pub returns-clause-act : goal.returns-clause-act
+returns-clause-act c =
     let inside = c.self.inside in
     let at = stands inside c.args.frame c.args.slot c.in-Some.place _ c.self.invariant c.deref.ensures.value c.in-Some.ensures in
     let small = weight-fits inside c.args.frame c.args.slot c.in-Some.place at c.index.result.now c.self.invariant c.index.ensures in
@@ -78,7 +78,7 @@ returns c =
     (record {
       cells = refl;
       frames = refl;
-      slots = ap (λ x. slice_set inside.slots.items c.in-Some.place x) (c.set_slot.ensures ∙ c.in_ok-bound.ensures);
+      slots = ap (λ x. slice_set inside.slots.items c.in-Some.place x) (c.set_slot.ensures ∙ c.in_ok-bound.ensures.slot);
       kept = refl;
       text = refl;
       strands = refl;
