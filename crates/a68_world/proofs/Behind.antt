@@ -26,7 +26,7 @@ use Rattle.a68_values.specs.declared.act.Entry.{Entry}
 use Rattle.a68_world.specs.Inside.{run_of, IsSound}
 use Rattle.a68_world.specs.Run.{AllHome, world}
 use Rattle.a68_world.specs.Seats.{Sits, SitsAt, SitsHere, AreSeated, AllSit, status_of}
-use Rattle.a68_world.specs.Stepping.{Does, AreUnits, IsUnit, units_asked, units_at, units_begun}
+use Rattle.a68_world.specs.Stepping.{DoneFor, AreUnits, IsUnit, units_asked, units_at, units_begun}
 use Rattle.a68_world.specs.Turns.{GoesOn, IsReady}
 use Rattle.a68_world.specs.Waking.{AllRest, WaitBelow}
 use Rattle.a68_world.specs.declared.seat.Seat.{Seat}
@@ -73,7 +73,7 @@ pub record Moved (s : Inside) (n : ℕ) (act : Act) (store : Store) (units : Lis
   pub fuel : length s.journal.items < s.fuel
   pub strand : Strand
   pub there : slice_get s.seats.items n ≡ Some (seat.Home strand)
-  pub act_done : Does s.store strand act store
+  pub act_done : DoneFor s.store strand act store
   pub are : AreUnits s.code (units_begun s.code strand s.store) (length s.seats.items) units
 
 -- what an act makes is what was begun

@@ -22,7 +22,7 @@ use Rattle.a68_values.specs.declared.kept.End.TheVariants as ends
 use Rattle.a68_world.specs.Ending.{EndShown}
 use Rattle.a68_world.specs.Inside.{run_of, IsSound}
 use Rattle.a68_world.specs.Seats.{Sits, place_in}
-use Rattle.a68_world.specs.Stepping.{Does, ComesToAt, Meets, AreUnitsAt}
+use Rattle.a68_world.specs.Stepping.{DoneFor, ComesToAt, Meets, AreUnitsAt}
 use Rattle.a68_world.specs.Turns.{GoesOn, IsDue, IsOtherDue, Acts, EndsAt, FindsNoMemory}
 use Rattle.a68_world.specs.Waking.{StaysBelow, WakesBehind}
 use Rattle.a68_world.specs.declared.deed.Deed.TheVariants as deed
@@ -45,7 +45,7 @@ seat_there seats before n x same h e =
 
 module _ (s : Inside) (n : ℕ) (sound : IsSound s) (goes : GoesOn (run_of s)) (due : IsDue (run_of s) n) where
   abbrev moved : (strand : Strand) (act : Act) (store : Store) (units : List Seat) → slice_get s.seats.items n ≡ Some (seat.Home strand) → AreUnitsAt s.code s.store s.seats.items n units
-      → Does s.store strand act store → Moved s n act store units
+      → DoneFor s.store strand act store → Moved s n act store units
   moved strand act store units there are d =
       record { sound = sound; goes = goes; ready = due.ready; fuel = due.fuel; strand = strand; there = there; act_done = d; are = are strand there }
 
