@@ -1,3 +1,5 @@
 mod CallActs
 mod GoingAlone
 mod Roomy
+mod Rounds
+mod Turned

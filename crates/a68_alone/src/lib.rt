@@ -5,7 +5,7 @@
 mod alone;
 mod asked;
 mod calling;
-mod noting;
 mod quickly;
+mod steps;
 
 pub use alone::go_alone;

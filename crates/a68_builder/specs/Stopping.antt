@@ -6,6 +6,6 @@ use Rattle.a68_builder.specs.declared.builder.BuildStop.{BuildStop}
 use Rattle.a68_builder.specs.declared.builder.BuildStop.TheVariants.{Full, NoMemory}
 
 -- there are as many instructions as there may be, or there was no memory for one more
-abbrev pub Stops : BuildStop → (count : ℕ) → Type 0
-Stops Full count = count ≡ MOST_INSTRUCTIONS
-Stops NoMemory count = count < MOST_INSTRUCTIONS
+abbrev pub BuildStops : BuildStop → (count : ℕ) → Type 0
+BuildStops Full count = count ≡ MOST_INSTRUCTIONS
+BuildStops NoMemory count = count < MOST_INSTRUCTIONS

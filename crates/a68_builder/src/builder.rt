@@ -3,7 +3,7 @@ ghost use Rattle.std.specs.Prelude.{◌≡◌, ◌<◌, ◌≤◌, ◌++◌, ◌
 ghost use Rattle.a68_base.specs.declared.limits.TheConstants.{MOST_INSTRUCTIONS};
 ghost use Rattle.a68_builder.specs.Aiming.{aimed, aimed_at, names, names_at};
 ghost use Rattle.a68_builder.specs.Linking.{entrances_numbered, linked, linked_does};
-ghost use Rattle.a68_builder.specs.Stopping.{Stops};
+ghost use Rattle.a68_builder.specs.Stopping.{BuildStops};
 
 use a68_base::{MOST_INSTRUCTIONS, NoMemory};
 use a68_code::{Code, Does, Instr, Instrs, Places, Routines};
@@ -139,7 +139,7 @@ impl Builder {
     pub fn emit(&mut self, instr: Instr) -> Result<u32, BuildStop>
         ensures ok { IfOk result (λ at. (at ≡ length self.old) × (self.new ≡ self.old ++ instr ∷ [])) }
         ensures err { OnErr result (self.new ≡ self.old) }
-        ensures full { MatchResult result (λ _. length self.old < MOST_INSTRUCTIONS) (λ stop. Stops stop (length self.old)) }
+        ensures full { MatchResult result (λ _. length self.old < MOST_INSTRUCTIONS) (λ stop. BuildStops stop (length self.old)) }
     {
         if self.list.len() == MOST_INSTRUCTIONS {
             drop(instr);

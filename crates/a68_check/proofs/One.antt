@@ -14,7 +14,7 @@ use Rattle.a68_notes.specs.Rows.{with_rows}
 use Rattle.a68_op_ident.specs.Lacking.{IsUnshaped, LacksPriority}
 use Rattle.a68_op_ident.specs.Shapes.{Shaped}
 use Rattle.a68_ranges.specs.Nodes.{place_at}
-use Rattle.a68_ranges.specs.Twice.{IsFirstInText, IsRefused, IsTwice}
+use Rattle.a68_ranges.specs.Twice.{IsFirstInText, RefusesTwice, IsTwice}
 use Rattle.a68_refusals.specs.First.{Asked}
 use Rattle.a68_tree.specs.Trees.{Built}
 
@@ -75,7 +75,7 @@ module _ (laws : Laws) where
 
   -- ---- of flat trees
 
-  twice_alone : (flat : Built) (r s : Refusal) → IsRefused flat r → Refuses flat s → AreOne r s
+  twice_alone : (flat : Built) (r s : Refusal) → RefusesTwice flat r → Refuses flat s → AreOne r s
   twice_alone flat r s t (declared_twice u) = (t.rule_is ∙ sym u.rule_is, t.place_is ∙ one_first flat (IsTwice flat) t.id u.id t.first u.first ∙ sym u.place_is)
   twice_alone flat r s t (unshaped once u) = absurd (once t.id t.first.broken)
   twice_alone flat r s t (misused shaped once is b) = absurd (once t.id t.first.broken)

@@ -10,7 +10,7 @@ use Rattle.a68_notes.specs.Notes.{AreNotes}
 use Rattle.a68_notes.specs.Rows.{with_rows}
 use Rattle.a68_op_ident.specs.Lacking.{IsUnshaped}
 use Rattle.a68_op_ident.specs.Shapes.{Shaped}
-use Rattle.a68_ranges.specs.Twice.{IsTwice, IsRefused}
+use Rattle.a68_ranges.specs.Twice.{IsTwice, RefusesTwice}
 use Rattle.a68_refusals.specs.First.{Asked}
 use Rattle.a68_tree.specs.Trees.{Built}
 
@@ -38,6 +38,6 @@ pub record Annotates (flat : Built) (program : Annotated) : Type 0 where
 -- The rule that a flat tree breaks: a word is declared twice; else a sign between two operands has no priority; else, once its
 -- formulas are shaped, a rule of declarers, operators, tags, coercions or counts.
 pub data Refuses (flat : Built) (refusal : Refusal) : Type 0 where
-  declared_twice : IsRefused flat refusal → Refuses flat refusal
+  declared_twice : RefusesTwice flat refusal → Refuses flat refusal
   unshaped : DeclaresOnce flat → IsUnshaped flat refusal → Refuses flat refusal
   misused : (shaped : Built) → DeclaresOnce flat → Shaped flat shaped → IsMisused shaped refusal → Refuses flat refusal

@@ -5,7 +5,7 @@ use Rattle.std.proofs.lemmas.List.Elements.{Contains-push_cases, Contains-push, 
 use Rattle.std.proofs.lemmas.Bool.{cases_eq}
 use Rattle.std.proofs.lemmas.List.{map_more}
 use Rattle.a68_code.proofs.Mapping.{contains_map, from_map}
-use Rattle.a68_code.specs.Walk.{Heights, Places, Knows, unknown, Notes, NotesAll, Clashes, AnyClashes}
+use Rattle.a68_code.specs.Walk.{Heights, Places, Knows, unknown, NotesHeight, NotesAll, Clashes, AnyClashes}
 
 -- one place more, which had the height
 again : (ps : Places) (to h : ℕ) (H : Heights) (T : Places) (H1 : Heights) (T1 : Places) → NotesAll ps H T H1 T1 → Knows H1 to h → NotesAll (ps ++ (to, h) ∷ []) H T H1 T1
@@ -77,7 +77,7 @@ module _ (ps : Places) (to h : ℕ) (H : Heights) (T : Places) (H1 : Heights) (T
     turns = let a = unknown_less H1 to h lt none in let b = v.turns in omega (arith, length-append T1 ((to, h) ∷ []));
   }
 
-pub notes_more : (ps : Places) (to h : ℕ) (H : Heights) (T : Places) (H1 : Heights) (T1 : Places) (H2 : Heights) (T2 : Places) → NotesAll ps H T H1 T1 → Notes to h H1 T1 H2 T2 → NotesAll (ps ++ (to, h) ∷ []) H T H2 T2
+pub notes_more : (ps : Places) (to h : ℕ) (H : Heights) (T : Places) (H1 : Heights) (T1 : Places) (H2 : Heights) (T2 : Places) → NotesAll ps H T H1 T1 → NotesHeight to h H1 T1 H2 T2 → NotesAll (ps ++ (to, h) ∷ []) H T H2 T2
 notes_more ps to h H T H1 T1 H2 T2 v (inl n) = rw (n.1, n.2) (again ps to h H T H1 T1 v n.0)
 notes_more ps to h H T H1 T1 H2 T2 v (inr n) = rw (n.2, n.3) (first ps to h H T H1 T1 v n.0 n.1)
 
@@ -85,7 +85,7 @@ notes_more ps to h H T H1 T1 H2 T2 v (inr n) = rw (n.2, n.3) (first ps to h H T 
 module _ (height_of : ℕ → ℕ) (H : Heights) (T : Places) (H1 : Heights) (T1 : Places) where
   -- one place more
   pub maps_more : (H2 : Heights) (T2 : Places) (places : List ℕ) (k : ℕ) → k < length places → NotesAll (map (λ (to : ℕ). (to, height_of to)) (take k places)) H T H1 T1
-      → Notes (get_or places k 0) (height_of (get_or places k 0)) H1 T1 H2 T2 → NotesAll (map (λ (to : ℕ). (to, height_of to)) (take (k + 1) places)) H T H2 T2
+      → NotesHeight (get_or places k 0) (height_of (get_or places k 0)) H1 T1 H2 T2 → NotesAll (map (λ (to : ℕ). (to, height_of to)) (take (k + 1) places)) H T H2 T2
   maps_more H2 T2 places k lt v n =
       rw (map_more {Y = ℕ × ℕ} (λ (to : ℕ). (to, height_of to)) places k 0 lt) (notes_more _ (get_or places k 0) (height_of (get_or places k 0)) _ _ _ _ _ _ v n)
 

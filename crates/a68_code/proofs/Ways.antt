@@ -13,7 +13,7 @@ use Rattle.a68_code.specs.Operands.{is_well_made}
 use Rattle.a68_modes.specs.Nodes.{shape_at, is_void}
 use Rattle.a68_code.specs.Valid.{IsValid}
 use Rattle.a68_code.proofs.Mapping.{contains_map, from_map}
-use Rattle.a68_code.specs.Walk.{Heights, Places, Knows, ways, at_height, unknown, FitsAt, NotesAll, AnyClashes, NotesWays, Fails, AreHeights, Agree, AllAgree}
+use Rattle.a68_code.specs.Walk.{Heights, Places, Knows, ways, at_height, unknown, FitsAt, NotesAll, AnyClashes, NotesWays, StepFails, AreHeights, Agree, AllAgree}
 use Rattle.a68_code.proofs.Noting.{unknown-replicate}
 use Rattle.a68_code.specs.declared.code.Code.{Code}
 use Rattle.a68_code.specs.declared.does.Does.{Does}
@@ -108,7 +108,7 @@ module _ (code : Code) (whose : Owner) (heights : Heights) (todo rest : Places) 
           just : (x k : ℕ) → ◌≡◌ {A = ℕ × ℕ} (at, height) (x, k) → Passed code whose heights' x k
           just x k same = subst (λ (q : ℕ × ℕ). Passed code whose heights' q.0 q.1) same (record { does = does; is = is; meets = meets; below = below; finds = finds; onward = λ to i. v.all to _ (way_to code.modes at does below to i) })
 
-  pub not_valid : Fails code.modes whose at does height heights → IsValid code → ⊥
+  pub not_valid : StepFails code.modes whose at does height heights → IsValid code → ⊥
   not_valid (inl never) valid = never (valid.ends whose at height does (h.sound at height here) is)
   not_valid (inr (inl few)) valid = let enough = valid.supplied whose at height does (h.sound at height here) is in absurd (omega arith)
   not_valid (inr (inr (below, finds, (to, k, i, inl past)))) valid = let inside = valid.within whose to k (led below finds to k i) in let long = h.long in absurd (omega arith)

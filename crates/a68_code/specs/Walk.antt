@@ -32,8 +32,8 @@ unknown (None ∷ heights) = suc (unknown heights)
 unknown (Some height ∷ heights) = unknown heights
 
 -- a place had this height, or it has it now, and the walk has yet to go on there
-abbrev pub Notes : ℕ → ℕ → Heights → Places → Heights → Places → Type 0
-Notes to height heights todo heights' todo' =
+abbrev pub NotesHeight : ℕ → ℕ → Heights → Places → Heights → Places → Type 0
+NotesHeight to height heights todo heights' todo' =
     (Knows heights to height × (heights' ≡ heights) × (todo' ≡ todo))
     ⊎ ((to < length heights) × (slice_index_or heights to None ≡ None) × (heights' ≡ slice_set heights to (Some height)) × (todo' ≡ todo ++ (to, height) ∷ []))
 
@@ -75,8 +75,8 @@ NotesWays modes whose at does height heights todo heights' todo' =
 
 -- the owner may not meet the instruction, or it finds too few values, or it comes to a place that has another height or is
 -- behind the list
-abbrev pub Fails : List Shape → Owner → ℕ → Does → ℕ → Heights → Type 0
-Fails modes whose at does height heights =
+abbrev pub StepFails : List Shape → Owner → ℕ → Does → ℕ → Heights → Type 0
+StepFails modes whose at does height heights =
     (MayMeet whose does height → ⊥) ⊎ ((height < takes does) ⊎ ((below : ℕ) × (below + takes does ≡ height) × AnyClashes (ways modes at does below) heights))
 
 -- the heights at the places to which the ways of an owner lead, which meet nothing that they may not

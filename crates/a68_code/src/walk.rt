@@ -1,7 +1,7 @@
 //! The walk along all ways, which finds the height of the stack at each place.
 ghost use Rattle.std.specs.Prelude.{◌≡◌, ◌↔◌, ◌+◌, ◌∷◌, ◌<◌, ◌≤◌, ◌^◌, [], IfOk, IsTrue, MatchBool, None, Some, replicate, slice_set, nat_eq, if◌then◌else◌};
 ghost use Rattle.a68_code.specs.Flow.{last_place, leaves, takes, MayMeet};
-ghost use Rattle.a68_code.specs.Walk.{at_height, to_members, ways, AnyClashes, Clashes, Fails, NotesWays, Notes, NotesAll};
+ghost use Rattle.a68_code.specs.Walk.{at_height, to_members, ways, AnyClashes, Clashes, StepFails, NotesWays, NotesHeight, NotesAll};
 
 use crate::owner::Owner;
 use crate::{Does, last_place};
@@ -62,7 +62,7 @@ impl Walk {
     /// A way comes to this place with this height. False where the place is behind the list or has another height.
     fn note(&mut self, to: usize, height: usize) -> Result<bool, NoMemory>
         ensures { IfOk result (λ fits. MatchBool fits
-            (Notes to height self.old.heights.items self.old.todo.items
+            (NotesHeight to height self.old.heights.items self.old.todo.items
             self.new.heights.items self.new.todo.items)
             (Clashes to height self.old.heights.items)) }
     {
@@ -173,7 +173,7 @@ impl Walk {
         ensures { IfOk result (λ fits. MatchBool fits
             (NotesWays modes.now whose at does.now height self.old.heights.items self.old.todo.items
             self.new.heights.items self.new.todo.items)
-            (Fails modes.now whose at does.now height self.old.heights.items)) }
+            (StepFails modes.now whose at does.now height self.old.heights.items)) }
     {
         let Some(takes) = does.takes() else {
             return Ok(false);

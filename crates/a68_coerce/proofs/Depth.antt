@@ -4,7 +4,7 @@ use Rattle.std.specs.Prelude.{map, if◌then◌else◌}
 use Rattle.std.specs.List.{Contains}
 use Rattle.a68_modes.specs.declared.shape.Shape.{Shape}
 use Rattle.a68_modes.specs.declared.shape.Shape.TheVariants.{Rows, Same}
-use Rattle.a68_modes.specs.Nodes.{shape_at, IsWithin, HoldsNodes}
+use Rattle.a68_modes.specs.Nodes.{shape_at, ShapeIsWithin, HoldsNodes}
 use Rattle.a68_equiv.specs.declared.mode.Mode.{Mode}
 use Rattle.a68_equiv.specs.declared.steps.Inward.TheVariants.{BesidesNames}
 use Rattle.a68_equiv.specs.Ways.{steps_of, row, Way, AreWellFormed}
@@ -31,7 +31,7 @@ row_in : (s : Shape) (k : ℕ) → element_of s ≡ Some k → Contains (steps_o
 row_in (Rows dims flex a) k e = let same : a ≡ k = cc in subst (Contains (a ∷ [])) same (first a)
 row_in _ k e = absurd (cc)
 
-row_lower : (n : ℕ) (s : Shape) (k : ℕ) → IsWithin n s → element_of s ≡ Some k → k < n
+row_lower : (n : ℕ) (s : Shape) (k : ℕ) → ShapeIsWithin n s → element_of s ≡ Some k → k < n
 row_lower n (Rows dims flex a) k h e = let same : a ≡ k = cc in let lt = h 0 0 (omega arith) in omega arith
 row_lower n _ k h e = absurd (cc)
 
@@ -49,7 +49,7 @@ module _ (nodes : List Shape) (holds : HoldsNodes nodes) where
   to_head zero m h = inl refl
   to_head (suc k) m h = go (shape_at nodes m) refl (holds.within m h) (to_head k)
     where
-      go : (s : Shape) → shape_at nodes m ≡ s → IsWithin (length nodes) s
+      go : (s : Shape) → shape_at nodes m ≡ s → ShapeIsWithin (length nodes) s
           → ((t : ℕ) → t < length nodes → (t ≡ behind nodes k t) ⊎ Way (map (steps_of BesidesNames) nodes) t (behind nodes k t)) → (m ≡ word_or (behind nodes k) m s) ⊎ Way (map (steps_of BesidesNames) nodes) m (word_or (behind nodes k) m s)
       go (Same t) e w ih =
           let lt : t < length nodes = w 0 0 (omega arith) in

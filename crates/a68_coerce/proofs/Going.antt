@@ -19,7 +19,7 @@ use Rattle.a68_equiv.specs.Related.Meek.{here, deref, deproc}
 use Rattle.a68_equiv.specs.Ways.{AreWellFormed}
 use Rattle.a68_equiv.proofs.Chains.{steps, counted}
 use Rattle.a68_equiv.proofs.Meekly.{meek_next, shorter, id_of}
-use Rattle.a68_coerce.specs.Paths.{Allows, Goes, EndsInDeref, IsFirst}
+use Rattle.a68_coerce.specs.Paths.{Allows, Goes, EndsInDeref, IsFirstOnWay}
 use Rattle.a68_coerce.specs.Routes.{meek_way, then_meekly, coercion_of, MayEnd}
 use Rattle.a68_coerce.proofs.Walking.{Walked, began, further, nowhere, begins, stepped, short}
 
@@ -115,8 +115,8 @@ module _ (nodes : List Shape) (sort : Sort) (Holds : Mode → Type 0) (from : Mo
   sets_out h = record { path = []; counted = started nodes (λ r k. Allows nodes sort r k × Holds k) from h; ends = ends_none; soft = λ e. All-nil (λ c. c ≡ Deproc) }
 
   module _ (count : ℕ) (b : Bool) (at : Mode) (w : Going nodes sort Holds from count b at) where
-    pub arrived : MayEnd sort b (unfolded nodes at.id) → Holds at → IsFirst nodes sort Holds from (meek_way nodes count from) at
-    arrived m h = subst (λ (p : List Coercion). IsFirst nodes sort Holds from p at) (sym (counted_way nodes (λ r k. Allows nodes sort r k × Holds k) from count w.path at w.counted)) record {
+    pub arrived : MayEnd sort b (unfolded nodes at.id) → Holds at → IsFirstOnWay nodes sort Holds from (meek_way nodes count from) at
+    arrived m h = subst (λ (p : List Coercion). IsFirstOnWay nodes sort Holds from p at) (sym (counted_way nodes (λ r k. Allows nodes sort r k × Holds k) from count w.path at w.counted)) record {
       goes = (w.counted.walked.reached, allowed nodes sort w.path at b w.ends w.soft m);
       holds = h;
       first = λ q more j e goes i. let x = w.counted.walked.only q j goes.0 (goes.1, i) in short w.path q more x.0 e x.1;

@@ -20,7 +20,7 @@ use Rattle.a68_coerce.specs.Routes.{LeadsFirst}
 use Rattle.a68_coerce.specs.declared.form.ModeForm.{ModeForm}
 use Rattle.a68_coerce.specs.declared.form.ModeForm.TheVariants as form
 use Rattle.a68_coerce.proofs.Walking.{one_end, comparable}
-use Rattle.a68_coerce.specs.Paths.{CanLead, FirmTo, IsFirst}
+use Rattle.a68_coerce.specs.Paths.{CanLead, FirmTo, IsFirstOnWay}
 use Rattle.a68_coerce.specs.Paths.FirmTo.{meekly}
 use Rattle.a68_coerce.specs.Paths.StrongTo.{nothing, dropping, firmly}
 
@@ -65,7 +65,7 @@ first_balances nodes s to leaves f w suit = (
 )
 
 -- the first mode of a form on a way is one
-pub one_first : (nodes : List Shape) (s : Sort) (Holds : Mode → Type 0) (m k j : Mode) (p q : List Coercion) → IsFirst nodes s Holds m p k → IsFirst nodes s Holds m q j → k ≡ j
+pub one_first : (nodes : List Shape) (s : Sort) (Holds : Mode → Type 0) (m k j : Mode) (p q : List Coercion) → IsFirstOnWay nodes s Holds m p k → IsFirstOnWay nodes s Holds m q j → k ≡ j
 one_first nodes s Holds m k j p q v w = ⊎_elim
     (λ e. let same : p ≡ q = w.first p e.0 k e.1 v.goes v.holds in one_end v.goes.0 (subst (λ (r : List Coercion). Meek nodes m r j) (sym same) w.goes.0))
     (λ e. let same : q ≡ p = v.first q e.0 j e.1 w.goes w.holds in one_end v.goes.0 (subst (λ (r : List Coercion). Meek nodes m r j) same w.goes.0))

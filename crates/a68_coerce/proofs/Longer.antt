@@ -7,13 +7,13 @@ use Rattle.std.specs.List.{All, Contains}
 use Rattle.std.proofs.lemmas.Bool.{cases_lt}
 use Rattle.a68_modes.specs.declared.shape.Shape.{Shape}
 use Rattle.a68_modes.specs.declared.shape.Shape.TheVariants.{Ref, Rows, Union, Proc, Same}
-use Rattle.a68_modes.specs.Nodes.{IsWithin, HoldsNodes}
+use Rattle.a68_modes.specs.Nodes.{ShapeIsWithin, HoldsNodes}
 use Rattle.a68_modes.proofs.Holding.{thirteen}
 use Rattle.a68_modes.specs.declared.coercion.Coercion.{Coercion}
 use Rattle.a68_modes.specs.declared.coercion.Sort.{Sort}
 use Rattle.a68_modes.specs.declared.coercion.Sort.TheVariants as by
 use Rattle.a68_equiv.specs.declared.mode.Mode.{Mode}
-use Rattle.a68_equiv.specs.Unfolding.{unfolded, behind, flex_left, constructor, passes_on, Alike, Equivalent, IsMember, IsAt, leads_within}
+use Rattle.a68_equiv.specs.Unfolding.{unfolded, behind, flex_left, constructor, passes_on, Alike, Equivalent, IsMember, IsInMode, leads_within}
 use Rattle.a68_equiv.specs.Related.{Meek, as_it_stands, without_flex}
 use Rattle.a68_equiv.specs.Related.Meek.{here, deref, deproc}
 use Rattle.a68_equiv.specs.Ways.{AreWellFormed, Way, row, steps_of}
@@ -24,7 +24,7 @@ use Rattle.a68_equiv.proofs.Grasp.{behind_below}
 use Rattle.a68_equiv.proofs.Growing.{old_unfolded, grows, shrinks, member_in, member_out, way_below, longer, new_shape}
 use Rattle.a68_coerce.specs.declared.goal.CoercionGoal.{CoercionGoal}
 use Rattle.a68_coerce.specs.declared.goal.CoercionGoal.TheVariants as goal
-use Rattle.a68_coerce.specs.Goals.{Reaches, IsRow, IsRowOver, IsNameOver, IsVoidGoal, is_multiple, row_of, name_of_row_of, within}
+use Rattle.a68_coerce.specs.Goals.{ReachesGoal, IsRow, IsRowOver, IsNameOver, IsVoidGoal, is_multiple, row_of, name_of_row_of, within}
 use Rattle.a68_coerce.specs.Goals.IsRowOver.{row_mode, row_row}
 use Rattle.a68_coerce.specs.Goals.IsNameOver.{name_mode}
 use Rattle.a68_coerce.specs.declared.form.ModeForm.{ModeForm}
@@ -32,12 +32,12 @@ use Rattle.a68_coerce.specs.declared.form.ModeForm.TheVariants as form
 use Rattle.a68_coerce.specs.declared.leaf.Leaf.{Leaf}
 use Rattle.a68_coerce.specs.declared.leaf.Leaf.TheVariants as leaf
 use Rattle.a68_coerce.specs.declared.leaf.Balanced.{Balanced}
-use Rattle.a68_coerce.specs.Balanced.{LeafLeads, LeafSuits, StandsAt, BalancesAt, IsBalanced, LeafForms, FormsAt, IsFormed, SidesAt, IsSided}
+use Rattle.a68_coerce.specs.Balanced.{LeafLeads, LeafSuits, LeafStandsAt, BalancesAt, IsBalanced, LeafForms, FormsAt, IsFormed, SidesAt, IsSided}
 use Rattle.a68_coerce.specs.Below.{IsLeafBelow}
 use Rattle.a68_coerce.specs.Forms.{is_row, is_structure, named_or, has_fields, is_of_form, IsOfForm}
 use Rattle.a68_coerce.specs.Kept.{MembersHaveNoFlex, KeepPaths, KeepBalances, KeepForms, KeepSides, InterningKeeps, InterningKeepsMembers}
 use Rattle.a68_equiv.specs.Classes.{IsNodeOf}
-use Rattle.a68_coerce.specs.Paths.{MeekTo, Allows, Goes, GoesTo, IsMemberOf, UnitesTo, IsFirstNode, UnitedTo, FirmTo, IsBools, WidenedTo, NamedTo, StrongTo, Leads}
+use Rattle.a68_coerce.specs.Paths.{MeekTo, Allows, Goes, GoesToEquivalent, IsMemberOf, UnitesTo, IsFirstNode, UnitedTo, FirmTo, IsBools, WidenedTo, NamedTo, StrongTo, Leads}
 use Rattle.a68_coerce.specs.Paths.UnitesTo.{a_member, a_union}
 use Rattle.a68_coerce.specs.Paths.FirmTo.{meekly, uniting}
 use Rattle.a68_coerce.specs.Paths.StrongTo.{nothing, dropping, firmly, widening, rowing, naming}
@@ -75,7 +75,7 @@ record Agree (nodes others : List Shape) (n : ℕ) : Type 0 where
   unfolds : (m : ℕ) → m < n → unfolded others m ≡ unfolded nodes m
   equivalent : (a b : Mode) → a.id < n → b.id < n → Equivalent nodes a b → Equivalent others a b
   member : (m x : ℕ) → m < n → IsMember nodes m x → IsMember others m x
-  inside : (m : ℕ) → m < n → IsWithin n (unfolded nodes m)
+  inside : (m : ℕ) → m < n → ShapeIsWithin n (unfolded nodes m)
   member_below : (m x : ℕ) → m < n → IsMember nodes m x → x < n
 
 -- the modes of a goal are among the first n
@@ -128,7 +128,7 @@ module _ (nodes others : List Shape) (n : ℕ) (ag : Agree nodes others n) where
     of_is = ag.equivalent (within k r.element) of (row_element k.id dims r.element r.flex_written h r.shape) g r.of_is;
   }
 
-  reaches_on : (k : Mode) (g : CoercionGoal) → k.id < n → AreThere n g → Reaches nodes k g → Reaches others k g
+  reaches_on : (k : Mode) (g : CoercionGoal) → k.id < n → AreThere n g → ReachesGoal nodes k g → ReachesGoal others k g
   reaches_on k (goal.Mode m) h b r = ag.equivalent k m h b r
   reaches_on k (goal.Row dims flex of) h b r = row_on k of dims flex h b r
   reaches_on k (goal.Name m) h b r = (r.0, ag.unfolds k.id h ∙ r.1, ag.equivalent (as_it_stands r.0) m (ref_there k.id r.0 h r.1) b r.2)
@@ -221,7 +221,7 @@ module _ (nodes others : List Shape) (n : ℕ) (to : Agree nodes others n) (back
       (over_on nodes others n to g i b f) (strong_on m i q h (over_there nodes others n to g i b f) v) e
   strong_on m g path h b (naming x v) = naming (λ p w. x p (firm_on others nodes n back to named_back long_back m g p h b w)) (naming_on nodes others n to back named long m g path h b v)
 
-  goes_on : (s : Sort) (m t : Mode) (path : List Coercion) → m.id < n → t.id < n → ((k : Mode) → k.id < n → Allows nodes s path k → Allows others s path k) → GoesTo nodes s m t path → GoesTo others s m t path
+  goes_on : (s : Sort) (m t : Mode) (path : List Coercion) → m.id < n → t.id < n → ((k : Mode) → k.id < n → Allows nodes s path k → Allows others s path k) → GoesToEquivalent nodes s m t path → GoesToEquivalent others s m t path
   goes_on s m t path h g allows w =
       let k = meek_there nodes others n to h w.1.0 in
       (w.0, (meek_on nodes others n to h w.1.0, allows w.0 k w.1.1), to.equivalent w.0 t k g w.2)
@@ -247,7 +247,7 @@ module _ (nodes others : List Shape) (n : ℕ) (to : Agree nodes others n) (back
   leaf_suits_on t (leaf.Mode m) g b w = leaf_leads_on by.Strong t (leaf.Mode m) g b w
   leaf_suits_on t leaf.StrongOnly g b w = w
 
-  stands_on : (t : Mode) (leaves : List Leaf) (i : ℕ) (Leads Others : Leaf → Type 0) → t.id < n → All (IsLeafBelow n) leaves → ((l : Leaf) → IsLeafBelow n l → Leads l → Others l) → StandsAt nodes Leads t leaves i → StandsAt others Others t leaves i
+  stands_on : (t : Mode) (leaves : List Leaf) (i : ℕ) (Leads Others : Leaf → Type 0) → t.id < n → All (IsLeafBelow n) leaves → ((l : Leaf) → IsLeafBelow n l → Leads l → Others l) → LeafStandsAt nodes Leads t leaves i → LeafStandsAt others Others t leaves i
   stands_on t leaves i Leads Others g all on w = record {
     leaf = w.leaf;
     there = w.there;
@@ -259,19 +259,19 @@ module _ (nodes others : List Shape) (n : ℕ) (to : Agree nodes others n) (back
   balances_on s t leaves i g all w = stands_on t leaves i (LeafLeads nodes s t) (LeafLeads others s t) g all (λ l b v. leaf_leads_on s t l g b v) w
 
   -- forms
-  shape_inside : (a : Shape) → IsWithin n a → IsWithin n (named_or nodes a)
+  shape_inside : (a : Shape) → ShapeIsWithin n a → ShapeIsWithin n (named_or nodes a)
   shape_inside (Ref x) w = to.inside x (w 0 0 (omega arith))
   shape_inside _ w = w
 
-  same_named : (a : Shape) → IsWithin n a → named_or others a ≡ named_or nodes a
+  same_named : (a : Shape) → ShapeIsWithin n a → named_or others a ≡ named_or nodes a
   same_named (Ref x) w = to.unfolds x (w 0 0 (omega arith))
   same_named _ w = refl
 
-  same_fields : (a : Shape) → IsWithin n a → has_fields others a ≡ has_fields nodes a
+  same_fields : (a : Shape) → ShapeIsWithin n a → has_fields others a ≡ has_fields nodes a
   same_fields (Rows dims flex x) w = ap is_structure (to.unfolds x (w 0 0 (omega arith)))
   same_fields _ w = refl
 
-  same_form : (f : ModeForm) (a : Shape) → IsWithin n a → is_of_form others f a ≡ is_of_form nodes f a
+  same_form : (f : ModeForm) (a : Shape) → ShapeIsWithin n a → is_of_form others f a ≡ is_of_form nodes f a
   same_form form.Name a w = refl
   same_form form.Row a w = ap is_row (same_named a w)
   same_form form.Structure a w = ap (has_fields others) (same_named a w) ∙ same_fields (named_or nodes a) (shape_inside a w)
@@ -346,7 +346,7 @@ module _ (nodes others : List Shape) (n : ℕ) (to : Agree nodes others n) (back
 
 -- ---- one node more
 
-module _ (nodes : List Shape) (s : Shape) (holds : HoldsNodes nodes) (formed : AreWellFormed nodes) (within_them : IsWithin (length nodes) s) (free : MembersHaveNoFlex nodes) where
+module _ (nodes : List Shape) (s : Shape) (holds : HoldsNodes nodes) (formed : AreWellFormed nodes) (within_them : ShapeIsWithin (length nodes) s) (free : MembersHaveNoFlex nodes) where
   below : (m x : ℕ) → m < length nodes → IsMember nodes m x → x < length nodes
   below m x h is = way_below nodes holds WithinUnions m x h is.way
 
@@ -364,7 +364,7 @@ module _ (nodes : List Shape) (s : Shape) (holds : HoldsNodes nodes) (formed : A
     unfolds = λ m h. sym (old_unfolded nodes s holds formed within_them m h);
     equivalent = λ a b h g e. λ depth. shrinks nodes s holds formed within_them depth a b h g (e depth);
     member = λ m x h is. member_out nodes s holds formed within_them m x h is;
-    inside = λ m h. subst (IsWithin (length nodes)) (sym (old_unfolded nodes s holds formed within_them m h)) (holds.within (behind nodes (length nodes) m) (behind_below nodes holds (length nodes) m h));
+    inside = λ m h. subst (ShapeIsWithin (length nodes)) (sym (old_unfolded nodes s holds formed within_them m h)) (holds.within (behind nodes (length nodes) m) (behind_below nodes holds (length nodes) m h));
     member_below = λ m x h is. below m x h (member_out nodes s holds formed within_them m x h is);
   }
 
@@ -388,8 +388,8 @@ module _ (nodes : List Shape) (s : Shape) (holds : HoldsNodes nodes) (formed : A
         ),
       )
         where
-          member_of : (place x : ℕ) → IsAt nodes id (unfolded nodes id) place x → IsMember nodes id x
-          member_of place x at = (subst (λ (t : Shape). IsAt nodes id t place x) so at).1
+          member_of : (place x : ℕ) → IsInMode nodes id (unfolded nodes id) place x → IsMember nodes id x
+          member_of place x at = (subst (λ (t : Shape). IsInMode nodes id t place x) so at).1
 
           same : (depth x : ℕ) → IsMember nodes id x → Alike nodes depth (as_it_stands x) (without_flex x)
           same depth x is = alike_sym nodes depth (without_flex x) (as_it_stands x) (free id x h is depth)

@@ -6,14 +6,14 @@ use Rattle.a68_modes.specs.declared.shape.Shape.{Shape}
 use Rattle.a68_modes.specs.declared.shape.Shape.TheVariants.{Union}
 use Rattle.a68_equiv.specs.declared.mode.Mode.{Mode}
 use Rattle.a68_equiv.specs.Unfolding.{unfolded, Equivalent, IsMember}
-use Rattle.a68_equiv.specs.Related.{IsAmong}
+use Rattle.a68_equiv.specs.Related.{IsSelfOrMember}
 use Rattle.a68_coerce.specs.Goals.{within}
 use Rattle.a68_coerce.specs.Paths.{IsMemberOf, UnitesTo}
 use Rattle.a68_coerce.specs.Paths.UnitesTo.{a_member, a_union}
 use Rattle.a68_coerce.specs.Routes.{AreMembers}
 
 -- what stands among the members of a union
-pub listed : (nodes : List Shape) (n : Mode) (ms xs members : List ℕ) → unfolded nodes n.id ≡ Union ms → xs ≡ members → ((x : ℕ) → Contains members x ↔ IsAmong nodes n.id (unfolded nodes n.id) x) → (x : ℕ) → Contains xs x ↔ IsMember nodes n.id x
+pub listed : (nodes : List Shape) (n : Mode) (ms xs members : List ℕ) → unfolded nodes n.id ≡ Union ms → xs ≡ members → ((x : ℕ) → Contains members x ↔ IsSelfOrMember nodes n.id (unfolded nodes n.id) x) → (x : ℕ) → Contains xs x ↔ IsMember nodes n.id x
 listed nodes n ms xs members is e f x = rw (is, sym e) at (f x)
 
 module _ (nodes : List Shape) (n : Mode) (xs : List ℕ) (are : AreMembers nodes n xs) where

@@ -10,7 +10,7 @@ use Rattle.a68_modes.specs.declared.coercion.Coercion.TheVariants.{Unite, Widen,
 use Rattle.a68_modes.specs.declared.coercion.Sort.{Sort}
 use Rattle.a68_modes.specs.declared.coercion.Sort.TheVariants as by
 use Rattle.a68_equiv.specs.declared.mode.Mode.{Mode}
-use Rattle.a68_equiv.specs.Unfolding.{unfolded, constructor, passes_on, Alike, Equivalent, IsAt, IsPart}
+use Rattle.a68_equiv.specs.Unfolding.{unfolded, constructor, passes_on, Alike, Equivalent, IsInMode, IsModePart}
 use Rattle.a68_equiv.specs.Related.{Meek, as_it_stands, without_flex, meek_step}
 use Rattle.a68_equiv.specs.Related.Meek.{here, deref, deproc}
 use Rattle.a68_equiv.specs.Ways.{AreWellFormed}
@@ -19,7 +19,7 @@ use Rattle.a68_equiv.proofs.Grasp.{stays}
 use Rattle.a68_equiv.proofs.Meekly.{meek_next, shorter, id_of, inside}
 use Rattle.a68_coerce.specs.declared.goal.CoercionGoal.{CoercionGoal}
 use Rattle.a68_coerce.specs.declared.goal.CoercionGoal.TheVariants as goal
-use Rattle.a68_coerce.specs.Goals.{Reaches, IsVoidGoal, IsRowOver, IsNameOver}
+use Rattle.a68_coerce.specs.Goals.{ReachesGoal, IsVoidGoal, IsRowOver, IsNameOver}
 use Rattle.a68_coerce.specs.Goals.IsRowOver.{row_mode, row_row}
 use Rattle.a68_coerce.specs.Goals.IsNameOver.{name_mode}
 use Rattle.a68_coerce.specs.Paths.{MeekTo, UnitedTo, IsFirstNode, FirmTo, IsBools, WidenedTo, NamedTo, StrongTo, Leads}
@@ -38,16 +38,16 @@ mode_is m y e f =
 module _ (nodes : List Shape) where
   ref_parts : (a b : Mode) (x y : ℕ) → unfolded nodes a.id ≡ Ref x → unfolded nodes b.id ≡ Ref y → Equivalent nodes a b → Equivalent nodes (as_it_stands x) (as_it_stands y)
   ref_parts a b x y f g e = λ depth.
-      let there : IsPart nodes a 0 (as_it_stands x) = record { at = subst (λ (t : Shape). IsAt nodes a.id t 0 x) (sym f) (omega arith, refl); flex = sym (ap (passes_on a.fixed) f) } in
+      let there : IsModePart nodes a 0 (as_it_stands x) = record { at = subst (λ (t : Shape). IsInMode nodes a.id t 0 x) (sym f) (omega arith, refl); flex = sym (ap (passes_on a.fixed) f) } in
       let q = (e (suc depth)).1.0 0 (as_it_stands x) there in
-      let at = subst (λ (t : Shape). IsAt nodes b.id t 0 q.0.id) g q.1.at in
+      let at = subst (λ (t : Shape). IsInMode nodes b.id t 0 q.0.id) g q.1.at in
       subst (λ (m : Mode). Alike nodes depth (as_it_stands x) m) (mode_is q.0 y at.1 (q.1.flex ∙ ap (passes_on b.fixed) g)) q.2
 
   call_parts : (a b : Mode) (x y : ℕ) → unfolded nodes a.id ≡ Proc [] x → unfolded nodes b.id ≡ Proc [] y → Equivalent nodes a b → Equivalent nodes (as_it_stands x) (as_it_stands y)
   call_parts a b x y f g e = λ depth.
-      let there : IsPart nodes a 0 (as_it_stands x) = record { at = subst (λ (t : Shape). IsAt nodes a.id t 0 x) (sym f) (omega arith, refl); flex = sym (ap (passes_on a.fixed) f) } in
+      let there : IsModePart nodes a 0 (as_it_stands x) = record { at = subst (λ (t : Shape). IsInMode nodes a.id t 0 x) (sym f) (omega arith, refl); flex = sym (ap (passes_on a.fixed) f) } in
       let q = (e (suc depth)).1.0 0 (as_it_stands x) there in
-      let at = subst (λ (t : Shape). IsAt nodes b.id t 0 q.0.id) g q.1.at in
+      let at = subst (λ (t : Shape). IsInMode nodes b.id t 0 q.0.id) g q.1.at in
       subst (λ (m : Mode). Alike nodes depth (as_it_stands x) m) (mode_is q.0 y at.1 (q.1.flex ∙ ap (passes_on b.fixed) g)) q.2
 
   same_steps : (fuel : ℕ) (a b : Mode) → Equivalent nodes a b → steps (meek_next nodes) fuel a.id ≡ steps (meek_next nodes) fuel b.id
@@ -72,7 +72,7 @@ module _ (nodes : List Shape) where
   one_step fuel m a is = ap (λ (s : Shape). counted (steps (meek_next nodes) fuel) (id_of (meek_step s))) is
 
   -- what reaches one goal has as many steps
-  same_count : (fuel : ℕ) (k j : Mode) (g : CoercionGoal) → Reaches nodes k g → Reaches nodes j g → steps (meek_next nodes) fuel k.id ≡ steps (meek_next nodes) fuel j.id
+  same_count : (fuel : ℕ) (k j : Mode) (g : CoercionGoal) → ReachesGoal nodes k g → ReachesGoal nodes j g → steps (meek_next nodes) fuel k.id ≡ steps (meek_next nodes) fuel j.id
   same_count fuel k j (goal.Mode n) v w = same_steps fuel k n v ∙ sym (same_steps fuel j n w)
   same_count fuel k j (goal.Row dims flex of) v w = no_steps fuel k.id dims v.element v.flex_written v.shape ∙ sym (no_steps fuel j.id dims w.element w.flex_written w.shape)
   same_count zero k j (goal.Name n) v w = refl

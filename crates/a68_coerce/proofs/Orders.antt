@@ -14,7 +14,7 @@ use Rattle.a68_coerce.specs.declared.goal.CoercionGoal.TheVariants as goal
 use Rattle.a68_coerce.specs.Goals.{IsRowOver, IsNameOver, IsVoidGoal, within, row_of, name_of_row_of}
 use Rattle.a68_coerce.specs.Goals.IsRowOver.{row_mode, row_row}
 use Rattle.a68_coerce.specs.Goals.IsNameOver.{name_mode}
-use Rattle.a68_coerce.specs.Paths.{No, GoesTo, Leads, MeekTo, UnitedTo, FirmTo, WidenedTo, NamedTo, StrongTo, UnitesTo}
+use Rattle.a68_coerce.specs.Paths.{No, GoesToEquivalent, Leads, MeekTo, UnitedTo, FirmTo, WidenedTo, NamedTo, StrongTo, UnitesTo}
 use Rattle.a68_coerce.specs.Paths.UnitesTo.{a_member, a_union}
 use Rattle.a68_coerce.specs.Routes.{FindsRoute, FindsRowed, FindsUnrowed}
 use Rattle.a68_coerce.specs.declared.route.Route.{Route}
@@ -150,7 +150,7 @@ else_widened nodes m g (Some route) nv a w = widening a w
 else_widened nodes m g None nv a w = (nv, a, w)
 
 -- a soft, weak or meek way is a path
-pub goes_leads : (nodes : List Shape) (sort : Sort) (from to : Mode) (o : Option RowRoute) → (sort ≡ by.Soft) ⊎ ((sort ≡ by.Weak) ⊎ (sort ≡ by.Meek)) → FindsRowed nodes from (GoesTo nodes sort from to) o → FindsRowed nodes from (Leads nodes sort from to) o
+pub goes_leads : (nodes : List Shape) (sort : Sort) (from to : Mode) (o : Option RowRoute) → (sort ≡ by.Soft) ⊎ ((sort ≡ by.Weak) ⊎ (sort ≡ by.Meek)) → FindsRowed nodes from (GoesToEquivalent nodes sort from to) o → FindsRowed nodes from (Leads nodes sort from to) o
 goes_leads nodes by.Soft from to o e w = w
 goes_leads nodes by.Weak from to o e w = w
 goes_leads nodes by.Meek from to o e w = w

@@ -6,7 +6,7 @@ use Rattle.a68_coerce.specs.declared.form.ModeForm.TheVariants as form
 use Rattle.a68_coerce.specs.declared.leaf.Leaf.{Leaf}
 use Rattle.a68_coerce.specs.declared.leaf.Leaf.TheVariants as leaf
 use Rattle.a68_coerce.specs.Forms.{IsOfForm}
-use Rattle.a68_coerce.specs.Paths.{CanLead, IsFirst}
+use Rattle.a68_coerce.specs.Paths.{CanLead, IsFirstOnWay}
 use Rattle.a68_equiv.specs.declared.mode.Mode.{Mode}
 use Rattle.a68_equiv.specs.Related.{as_it_stands}
 use Rattle.a68_modes.specs.declared.coercion.Coercion.{Coercion}
@@ -29,7 +29,7 @@ abbrev pub OthersSuit : List Shape → Mode → List Leaf → ℕ → Type 0
 OthersSuit nodes to leaves i = (k : ℕ) (other : Leaf) → slice_get leaves k ≡ Some other → k ≢ i → LeafSuits nodes to other
 
 -- the leaf at this place leads in that sense, and each other one strongly to the mode
-pub record StandsAt (nodes : List Shape) (Leads : Leaf → Type 0) (to : Mode) (leaves : List Leaf) (i : ℕ) : Type 0 where
+pub record LeafStandsAt (nodes : List Shape) (Leads : Leaf → Type 0) (to : Mode) (leaves : List Leaf) (i : ℕ) : Type 0 where
   pub leaf : Leaf
   pub there : slice_get leaves i ≡ Some leaf
   pub leads : Leads leaf
@@ -38,7 +38,7 @@ pub record StandsAt (nodes : List Shape) (Leads : Leaf → Type 0) (to : Mode) (
 -- ---- where the mode is known
 
 abbrev pub BalancesAt : List Shape → Sort → Mode → List Leaf → ℕ → Type 0
-BalancesAt nodes sort to leaves i = StandsAt nodes (LeafLeads nodes sort to) to leaves i
+BalancesAt nodes sort to leaves i = LeafStandsAt nodes (LeafLeads nodes sort to) to leaves i
 
 -- the first leaf that leads by the sort where each other one leads strongly, or none
 abbrev pub IsBalanced : List Shape → Sort → Mode → List Leaf → Option ℕ → Type 0
@@ -49,11 +49,11 @@ IsBalanced nodes sort to leaves None = (k : ℕ) → BalancesAt nodes sort to le
 
 -- the mode is the first of the form on the way of the leaf by the sort
 abbrev pub LeafForms : List Shape → Sort → ModeForm → Mode → Leaf → Type 0
-LeafForms nodes s form to (leaf.Mode m) = (path : List Coercion) × IsFirst nodes s (IsOfForm nodes form) (as_it_stands m) path to
+LeafForms nodes s form to (leaf.Mode m) = (path : List Coercion) × IsFirstOnWay nodes s (IsOfForm nodes form) (as_it_stands m) path to
 LeafForms nodes s form to leaf.StrongOnly = ⊥
 
 abbrev pub FormsAt : List Shape → Sort → ModeForm → Mode → List Leaf → ℕ → Type 0
-FormsAt nodes sort form to leaves i = StandsAt nodes (LeafForms nodes sort form to) to leaves i
+FormsAt nodes sort form to leaves i = LeafStandsAt nodes (LeafForms nodes sort form to) to leaves i
 
 -- the first leaf with a mode of the form to which each other one leads strongly, and that mode; or none
 abbrev pub IsFormed : List Shape → Sort → ModeForm → List Leaf → Option Balanced → Type 0

@@ -18,9 +18,9 @@ IsGoalBelow n (goal.Name m) = m.id < n
 IsGoalBelow n (goal.NameOfRow dims of) = (of.id < n) × (0 < dims)
 
 -- a form leads to no node
-abbrev pub IsWantBelow : ℕ → Target → Type 0
-IsWantBelow n (want.CoercionGoal g) = IsGoalBelow n g
-IsWantBelow n (want.ModeForm f) = Unit {0}
+abbrev pub IsTargetBelow : ℕ → Target → Type 0
+IsTargetBelow n (want.CoercionGoal g) = IsGoalBelow n g
+IsTargetBelow n (want.ModeForm f) = Unit {0}
 
 -- the mode of the leaf is among the first n nodes
 abbrev pub IsLeafBelow : ℕ → Leaf → Type 0

@@ -13,7 +13,7 @@ use Rattle.a68_coerce.specs.Paths.{Leads}
 use Rattle.a68_equiv.specs.Related.{as_it_stands, without_flex}
 use Rattle.a68_equiv.specs.Unfolding.{Equivalent, IsMember, leads_within}
 use Rattle.a68_equiv.specs.Ways.{AreWellFormed}
-use Rattle.a68_modes.specs.Nodes.{IsWithin, HoldsNodes}
+use Rattle.a68_modes.specs.Nodes.{ShapeIsWithin, HoldsNodes}
 use Rattle.a68_modes.specs.declared.coercion.Coercion.{Coercion}
 use Rattle.a68_modes.specs.declared.coercion.Sort.{Sort}
 use Rattle.a68_modes.specs.declared.shape.Shape.{Shape}
@@ -42,8 +42,8 @@ KeepSides nodes after = (soft strong : List Leaf) (found : Option Balanced) → 
 
 -- interning a mode changes none of these between the modes that were there, where the members of unions have no FLEX
 abbrev pub InterningKeeps : (Kept : (nodes after : List Shape) → Type 0) → Type 0
-InterningKeeps Kept = (nodes after : List Shape) (shape : Shape) (id : ℕ) → HoldsNodes nodes → AreWellFormed nodes → IsWithin (length nodes) shape → MembersHaveNoFlex nodes → IsNodeOf nodes after shape id → Kept nodes after
+InterningKeeps Kept = (nodes after : List Shape) (shape : Shape) (id : ℕ) → HoldsNodes nodes → AreWellFormed nodes → ShapeIsWithin (length nodes) shape → MembersHaveNoFlex nodes → IsNodeOf nodes after shape id → Kept nodes after
 
 -- and where the shape is no union and no mode word, they have none as before
 abbrev pub InterningKeepsMembers : Type 0
-InterningKeepsMembers = (nodes after : List Shape) (shape : Shape) (id : ℕ) → HoldsNodes nodes → AreWellFormed nodes → IsWithin (length nodes) shape → MembersHaveNoFlex nodes → IsNodeOf nodes after shape id → leads_within shape ≡ false → MembersHaveNoFlex after
+InterningKeepsMembers = (nodes after : List Shape) (shape : Shape) (id : ℕ) → HoldsNodes nodes → AreWellFormed nodes → ShapeIsWithin (length nodes) shape → MembersHaveNoFlex nodes → IsNodeOf nodes after shape id → leads_within shape ≡ false → MembersHaveNoFlex after

@@ -3,7 +3,7 @@ use Rattle.std.specs.Prelude.{◌≡◌, ◌<◌, ℕ, List, [], ◌∷◌, ◌+
 use Rattle.std.specs.List.{All}
 use Rattle.a68_coerce.specs.declared.goal.CoercionGoal.{CoercionGoal}
 use Rattle.a68_coerce.specs.declared.goal.CoercionGoal.TheVariants as goal
-use Rattle.a68_coerce.specs.Goals.{Reaches, within, IsRowOver, IsNameOver, IsVoid, IsVoidGoal, is_multiple}
+use Rattle.a68_coerce.specs.Goals.{ReachesGoal, within, IsRowOver, IsNameOver, IsVoid, IsVoidGoal, is_multiple}
 use Rattle.a68_equiv.specs.declared.mode.Mode.{Mode}
 use Rattle.a68_equiv.specs.Related.{Meek, as_it_stands}
 use Rattle.a68_equiv.specs.Unfolding.{unfolded, Equivalent, IsMember}
@@ -19,13 +19,13 @@ abbrev pub No : (List Coercion → Type 0) → Type 0
 No Leading = (path : List Coercion) → Leading path → ⊥
 
 -- a path, and one coercion more
-abbrev pub Then : (List Coercion → Type 0) → Coercion → List Coercion → Type 0
-Then Leading c path = (q : List Coercion) × Leading q × (path ≡ q ++ c ∷ [])
+abbrev pub ThenCoerces : (List Coercion → Type 0) → Coercion → List Coercion → Type 0
+ThenCoerces Leading c path = (q : List Coercion) × Leading q × (path ≡ q ++ c ∷ [])
 
 -- ---- meek (6.1.1 e, 6.2, 6.3): calls of procedures without parameters and dereferencing, any number
 
 abbrev pub MeekTo : List Shape → Mode → CoercionGoal → List Coercion → Type 0
-MeekTo nodes m g path = (k : Mode) × Meek nodes m path k × Reaches nodes k g
+MeekTo nodes m g path = (k : Mode) × Meek nodes m path k × ReachesGoal nodes k g
 
 -- ---- soft, weak: the sort allows some of the meek ways
 
@@ -43,11 +43,11 @@ Allows nodes _ path k = Unit {0}
 abbrev pub Goes : List Shape → Sort → Mode → List Coercion → Mode → Type 0
 Goes nodes sort m path k = Meek nodes m path k × Allows nodes sort path k
 
-abbrev pub GoesTo : List Shape → Sort → (from to : Mode) → List Coercion → Type 0
-GoesTo nodes sort m n path = (k : Mode) × Goes nodes sort m path k × Equivalent nodes k n
+abbrev pub GoesToEquivalent : List Shape → Sort → (from to : Mode) → List Coercion → Type 0
+GoesToEquivalent nodes sort m n path = (k : Mode) × Goes nodes sort m path k × Equivalent nodes k n
 
 -- the first mode on such a way for which that holds
-pub record IsFirst (nodes : List Shape) (sort : Sort) (Holds : Mode → Type 0) (m : Mode) (path : List Coercion) (k : Mode) : Type 0 where
+pub record IsFirstOnWay (nodes : List Shape) (sort : Sort) (Holds : Mode → Type 0) (m : Mode) (path : List Coercion) (k : Mode) : Type 0 where
   pub goes : Goes nodes sort m path k
   pub holds : Holds k
   pub first : (q more : List Coercion) (j : Mode) → path ≡ q ++ more → Goes nodes sort m q j → Holds j → q ≡ path
@@ -94,11 +94,11 @@ IsBools nodes g = ⊥
 
 -- firm to BITS, and widened
 abbrev pub WidenedTo : List Shape → Mode → CoercionGoal → List Coercion → Type 0
-WidenedTo nodes m g path = IsBools nodes g × Then (FirmTo nodes m (goal.Mode (as_it_stands 4))) Widen path
+WidenedTo nodes m g path = IsBools nodes g × ThenCoerces (FirmTo nodes m (goal.Mode (as_it_stands 4))) Widen path
 
 -- meek to the name of an element or of a row with one dimension fewer, and rowed
 abbrev pub NamedTo : List Shape → Mode → CoercionGoal → List Coercion → Type 0
-NamedTo nodes m g path = (h : CoercionGoal) × IsNameOver nodes g h × Then (MeekTo nodes m h) RowUpName path
+NamedTo nodes m g path = (h : CoercionGoal) × IsNameOver nodes g h × ThenCoerces (MeekTo nodes m h) RowUpName path
 
 -- the first rule that leads; a goal that is a row is no name of a row
 pub data StrongTo (nodes : List Shape) (m : Mode) : CoercionGoal → List Coercion → Type 0 where
@@ -113,9 +113,9 @@ pub data StrongTo (nodes : List Shape) (m : Mode) : CoercionGoal → List Coerci
 -- ---- a path from a mode to another by a sort
 
 abbrev pub Leads : List Shape → Sort → (from to : Mode) → List Coercion → Type 0
-Leads nodes by.Soft m n path = GoesTo nodes by.Soft m n path
-Leads nodes by.Weak m n path = GoesTo nodes by.Weak m n path
-Leads nodes by.Meek m n path = GoesTo nodes by.Meek m n path
+Leads nodes by.Soft m n path = GoesToEquivalent nodes by.Soft m n path
+Leads nodes by.Weak m n path = GoesToEquivalent nodes by.Weak m n path
+Leads nodes by.Meek m n path = GoesToEquivalent nodes by.Meek m n path
 Leads nodes by.Firm m n path = FirmTo nodes m (goal.Mode n) path
 Leads nodes by.Strong m n path = StrongTo nodes m (goal.Mode n) path
 

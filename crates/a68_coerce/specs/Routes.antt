@@ -10,7 +10,7 @@ use Rattle.a68_coerce.specs.declared.walk.Target.{Target}
 use Rattle.a68_coerce.specs.declared.walk.Target.TheVariants as want
 use Rattle.a68_coerce.specs.Balanced.{LeafLeads}
 use Rattle.a68_coerce.specs.Forms.{IsOfForm}
-use Rattle.a68_coerce.specs.Goals.{Reaches, IsVoidGoal, is_multiple}
+use Rattle.a68_coerce.specs.Goals.{ReachesGoal, IsVoidGoal, is_multiple}
 use Rattle.a68_coerce.specs.Paths.{No, FirmTo, WidenedTo, StrongTo}
 use Rattle.a68_equiv.specs.declared.mode.Mode.{Mode}
 use Rattle.a68_equiv.specs.Related.{as_it_stands, without_flex}
@@ -84,7 +84,7 @@ MayEnd _ dereferenced shape = Unit {0}
 
 -- the mode of the goal, or one of the form
 abbrev pub IsWanted : List Shape → Target → Mode → Type 0
-IsWanted nodes (want.CoercionGoal g) k = Reaches nodes k g
+IsWanted nodes (want.CoercionGoal g) k = ReachesGoal nodes k g
 IsWanted nodes (want.ModeForm f) k = IsOfForm nodes f k
 
 -- the list of the members of a union

@@ -2,7 +2,7 @@
 ghost use Rattle.std.specs.Prelude.{◌≡◌, ◌<◌, length};
 ghost use Rattle.a68_coerce.specs.Forms.{has_fields, is_name, is_of_form, is_routine, is_row, is_structure, named_or};
 ghost use Rattle.a68_equiv.specs.Unfolding.{is_union, unfolded};
-ghost use Rattle.a68_modes.specs.Nodes.{IsWithin};
+ghost use Rattle.a68_modes.specs.Nodes.{ShapeIsWithin};
 
 use a68_equiv::{Mode, behind};
 use a68_modes::{Modes, Shape};
@@ -39,9 +39,9 @@ pub fn is_of_form(modes: &Modes, form: ModeForm, mode: Mode) -> bool
 
 /// Gives what a name is a name of; the shape itself where it is no name.
 fn behind_name<'a>(modes: &'a Modes, shape: &'a Shape) -> &'a Shape
-    requires { IsWithin (length modes.now) shape.now }
+    requires { ShapeIsWithin (length modes.now) shape.now }
     ensures shape { result.now ≡ named_or modes.now shape.now }
-    ensures within { IsWithin (length modes.now) result.now }
+    ensures within { ShapeIsWithin (length modes.now) result.now }
 {
     match shape {
         Shape::Ref(of) => modes.shape(behind(modes, *of)),
@@ -85,7 +85,7 @@ fn is_routine(shape: &Shape) -> bool
 
 /// Is it a structure, or a row of structures?
 fn has_fields(modes: &Modes, shape: &Shape) -> bool
-    requires { IsWithin (length modes.now) shape.now }
+    requires { ShapeIsWithin (length modes.now) shape.now }
     ensures { result ≡ has_fields modes.now shape.now }
 {
     match shape {

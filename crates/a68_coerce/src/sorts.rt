@@ -1,6 +1,6 @@
 //! Paths by the sort of a position.
 ghost use Rattle.std.specs.Prelude.{◌<◌, IfOk, length};
-ghost use Rattle.a68_coerce.specs.Paths.{Finds, FirmTo, GoesTo, Leads};
+ghost use Rattle.a68_coerce.specs.Paths.{Finds, FirmTo, GoesToEquivalent, Leads};
 ghost use Rattle.a68_coerce.specs.Routes.{FindsRowed};
 ghost use Rattle.a68_equiv.specs.Classes.{AreExact};
 ghost use Rattle.a68_equiv.specs.Dimensions.{HaveDimensions};
@@ -75,7 +75,7 @@ fn onward(modes: &Modes, classes: &Classes, sort: Sort, from: Mode, to: Mode) ->
     requires exact { AreExact modes.now classes.now.of }
     requires from { from.id < length modes.now }
     requires to { to.id < length modes.now }
-    ensures { FindsRowed modes.now from (GoesTo modes.now sort from to) result }
+    ensures { FindsRowed modes.now from (GoesToEquivalent modes.now sort from to) result }
 {
     let reached = reach(
         modes,

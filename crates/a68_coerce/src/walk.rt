@@ -2,9 +2,9 @@
 ghost use Rattle.std.specs.Prelude.{◌≡◌, ◌<◌, ◌↔◌, [], ◌∷◌, ℕ, List, None, true, IfSome, IsTrue, MatchOption, length};
 ghost use Rattle.a68_modes.specs.Nodes.{HoldsNodes};
 ghost use Rattle.a68_modes.specs.declared.coercion.Coercion.{Coercion};
-ghost use Rattle.a68_coerce.specs.Goals.{IsRow, Reaches, is_multiple};
-ghost use Rattle.a68_coerce.specs.Below.{IsGoalBelow, IsWantBelow};
-ghost use Rattle.a68_coerce.specs.Paths.{Goes, IsFirst, MeekTo};
+ghost use Rattle.a68_coerce.specs.Goals.{IsRow, ReachesGoal, is_multiple};
+ghost use Rattle.a68_coerce.specs.Below.{IsGoalBelow, IsTargetBelow};
+ghost use Rattle.a68_coerce.specs.Paths.{Goes, IsFirstOnWay, MeekTo};
 ghost use Rattle.a68_coerce.specs.Routes.{FindsMeekly, IsWanted, MayEnd, coercion_of, meek_way};
 ghost use Rattle.a68_equiv.specs.declared.mode.Mode.{Mode};
 ghost use Rattle.a68_equiv.specs.Classes.{AreExact};
@@ -47,7 +47,7 @@ fn reaches(modes: &Modes, classes: &Classes, mode: Mode, goal: CoercionGoal) -> 
     requires exact { AreExact modes.now classes.now.of }
     requires mode { mode.id < length modes.now }
     requires goal { IsGoalBelow (length modes.now) goal }
-    ensures { IsTrue result ↔ Reaches modes.now mode goal }
+    ensures { IsTrue result ↔ ReachesGoal modes.now mode goal }
 {
     match goal {
         CoercionGoal::Mode(to) => classes.are_same(mode, to),
@@ -74,7 +74,7 @@ pub enum Target {
 fn is_wanted(modes: &Modes, classes: &Classes, mode: Mode, want: Target) -> bool
     requires exact { AreExact modes.now classes.now.of }
     requires mode { mode.id < length modes.now }
-    requires want { IsWantBelow (length modes.now) want }
+    requires want { IsTargetBelow (length modes.now) want }
     ensures { IsTrue result ↔ IsWanted modes.now want mode }
 {
     match want {
@@ -144,7 +144,7 @@ fn ends_well(
 ) -> bool
     requires exact { AreExact modes.now classes.now.of }
     requires at { at.id < length modes.now }
-    requires want { IsWantBelow (length modes.now) want }
+    requires want { IsTargetBelow (length modes.now) want }
     ensures { IsTrue result ↔ (MayEnd sort dereferenced (unfolded modes.now at.id) × IsWanted modes.now want at) }
 {
     if may_end(modes, sort, dereferenced, at) {
@@ -182,8 +182,8 @@ pub fn reach(
     requires formed { AreWellFormed modes.now }
     requires exact { AreExact modes.now classes.now.of }
     requires from { from.id < length modes.now }
-    requires want { IsWantBelow (length modes.now) want }
-    ensures first { MatchOption result ((path : List Coercion) (k : Mode) → Goes modes.now sort from path k → IsWanted modes.now want k → ⊥) (λ r. IsFirst modes.now sort (IsWanted modes.now want) from (meek_way modes.now r.steps from) r.mode) }
+    requires want { IsTargetBelow (length modes.now) want }
+    ensures first { MatchOption result ((path : List Coercion) (k : Mode) → Goes modes.now sort from path k → IsWanted modes.now want k → ⊥) (λ r. IsFirstOnWay modes.now sort (IsWanted modes.now want) from (meek_way modes.now r.steps from) r.mode) }
     ensures there { IfSome result (λ r. r.mode.id < length modes.now) }
 {
     let mut at = from;

@@ -4,7 +4,7 @@ ghost use Rattle.std.specs.Prelude.{◌≡◌, ◌<◌, ◌≤◌, ◌+◌, ◌�
 ghost use Rattle.a68_elab.specs.Made as made;
 ghost use Rattle.a68_elab.specs.Made.{trees_at};
 ghost use Rattle.a68_elab.specs.Programs.{behind};
-ghost use Rattle.a68_emit.specs.Chains.{IsOpen, IsWhole, IsWithin, enquiry_tree, jump_of, link_list, link_tree, other_tree};
+ghost use Rattle.a68_emit.specs.Chains.{IsOpen, TreeIsWritten, LinkIsWithin, enquiry_tree, jump_of, link_list, link_tree, other_tree};
 ghost use Rattle.a68_emit.specs.Listing.{arm_places, arm_stretches, instr, size, stretch};
 ghost use Rattle.a68_emit.specs.Numbers.{arm_jumps, case_list};
 ghost use Rattle.a68_emit.specs.Views.{tree_of};
@@ -47,7 +47,7 @@ pub fn otherwise(
 // [enquiry] Unless x [part] Jump 0 x: and gives the number of the Jump. With slots Enter stands before it.
 #[cycle(units)]
 fn write_link(alloc: Global, program: &View, link: &Link, out: &mut Writer) -> u32
-    requires { IsWithin program.now.of.now link.now }
+    requires { LinkIsWithin program.now.of.now link.now }
     ensures writes { Wrote out.old out.new (link_list link.now.at link.now.slots link.now.place (enquiry_tree program.now.of.now (tree_of program.now) link.now)
         (tree_of program.now link.now.part) (length out.old.list)) }
     ensures jump { out.new.stop ≡ None → result ≡ jump_of link.now.at link.now.slots (enquiry_tree program.now.of.now (tree_of program.now) link.now)
@@ -84,11 +84,11 @@ fn write_links(
     opens: &mut Vec<Opened>,
     out: &mut Writer,
 ) -> Link
-    requires within { IsWithin program.now.of.now first }
+    requires within { LinkIsWithin program.now.of.now first }
     requires empty { opens.old.items ≡ [] }
-    ensures within { IsWithin program.now.of.now result }
+    ensures within { LinkIsWithin program.now.of.now result }
     ensures behind { first.id ≤ result.id }
-    ensures chain { IsOpen (IsWhole (link_tree program.now.of.now (tree_of program.now) first) out.old.stop out.old.list) opens.new.items (other_tree (tree_of program.now) result)
+    ensures chain { IsOpen (TreeIsWritten (link_tree program.now.of.now (tree_of program.now) first) out.old.stop out.old.list) opens.new.items (other_tree (tree_of program.now) result)
         out.new.stop out.new.list }
 {
     let mut link = first;
@@ -105,7 +105,7 @@ fn write_links(
 // A chain of choices: no more of the stack is needed however long it is.
 #[cycle(units)]
 fn chain(alloc: Global, program: &View, first: Link, out: &mut Writer)
-    requires { IsWithin program.now.of.now first }
+    requires { LinkIsWithin program.now.of.now first }
     ensures { Wrote out.old out.new (stretch (link_tree program.now.of.now (tree_of program.now) first) (length out.old.list)) }
 {
     let mut opens = Vec::new(alloc);

@@ -5,7 +5,7 @@ use Rattle.std.proofs.lemmas.Bool.Decides.{eqb_tells}
 use Rattle.std.proofs.Math.ListN.{get_or-append}
 use Rattle.std.proofs.Math.Seq.{get_or-append_seam}
 use Rattle.a68_declare.proofs.Standing.{standard_apart, thirteen}
-use Rattle.a68_declare.specs.Numbering.{class_at, at_class, IsNumberOf, IsNumbering, AreNumbered}
+use Rattle.a68_declare.specs.Numbering.{class_at, at_class, IsNumberOf, IsNumbering, NodesAreNumbered}
 use Rattle.a68_equiv.specs.Classes.{AreExact}
 use Rattle.a68_equiv.specs.Related.{as_it_stands}
 use Rattle.a68_modes.specs.Nodes.{HoldsNodes}
@@ -19,7 +19,7 @@ module _ (nodes : List Shape) (classes : List ℕ) (holds : HoldsNodes nodes) (e
       let t = thirteen nodes holds in
       standard_apart nodes holds a b h g ((exact.exact (as_it_stands a) (as_it_stands b) (omega arith) (omega arith)).0 e)
 
-  module _ (count : ℕ) (table : List (ℕ × ℕ)) (to firsts : List ℕ) (so : AreNumbered nodes classes count table to firsts) where
+  module _ (count : ℕ) (table : List (ℕ × ℕ)) (to firsts : List ℕ) (so : NodesAreNumbered nodes classes count table to firsts) where
     last : (number : ℕ) → get_or (to ++ number ∷ []) count 0 ≡ number
     last number = subst (λ k. get_or (to ++ number ∷ []) k 0 ≡ number) so.long (get_or-append_seam to number [] 0)
 
@@ -46,7 +46,7 @@ module _ (nodes : List Shape) (classes : List ℕ) (holds : HoldsNodes nodes) (e
         (r.0, r.1, before number r.0 (omega arith) ∙ r.2))
         (eqb_tells m count)
 
-    pub again : (j : ℕ) → at_class table (class_at classes count) ≡ Some j → AreNumbered nodes classes (count + 1) table (to ++ j ∷ []) firsts
+    pub again : (j : ℕ) → at_class table (class_at classes count) ≡ Some j → NodesAreNumbered nodes classes (count + 1) table (to ++ j ∷ []) firsts
     again j e = record {
       long = longer j;
       few = let f = so.few in omega arith;
@@ -110,7 +110,7 @@ module _ (nodes : List Shape) (classes : List ℕ) (holds : HoldsNodes nodes) (e
           (omega arith, ap (λ k. get_or (to ++ length firsts ∷ []) k 0) e ∙ before (length firsts) (get_or firsts j 0) l ∙ f.1))
           (eqb_tells j (length firsts))
 
-      pub anew : AreNumbered nodes classes (count + 1) new (to ++ length firsts ∷ []) (firsts ++ count ∷ [])
+      pub anew : NodesAreNumbered nodes classes (count + 1) new (to ++ length firsts ∷ []) (firsts ++ count ∷ [])
       anew = record {
         long = longer (length firsts);
         few = let f = so.few in let m = more in omega arith;
@@ -129,15 +129,15 @@ module _ (nodes : List Shape) (classes : List ℕ) (holds : HoldsNodes nodes) (e
 
     -- one node more
     pub numbered_on : (new : List (ℕ × ℕ)) (grown : List ℕ) (number : ℕ) → IsNumberOf table new firsts grown (class_at classes count) count number (at_class table (class_at classes count))
-        → AreNumbered nodes classes (count + 1) new (to ++ number ∷ []) grown
+        → NodesAreNumbered nodes classes (count + 1) new (to ++ number ∷ []) grown
     numbered_on new grown number is = go (at_class table (class_at classes count)) refl is
       where
-        go : (o : Option ℕ) → at_class table (class_at classes count) ≡ o → IsNumberOf table new firsts grown (class_at classes count) count number o → AreNumbered nodes classes (count + 1) new (to ++ number ∷ []) grown
+        go : (o : Option ℕ) → at_class table (class_at classes count) ≡ o → IsNumberOf table new firsts grown (class_at classes count) count number o → NodesAreNumbered nodes classes (count + 1) new (to ++ number ∷ []) grown
         go (Some j) e is = rw (is.0, is.1, is.2) (again j e)
         go None e is = rw (is.0, is.1) (anew new e is.2 is.3)
 
   -- all nodes
-  pub all_numbered : (table : List (ℕ × ℕ)) (to firsts : List ℕ) → AreNumbered nodes classes (length nodes) table to firsts → IsNumbering nodes to firsts
+  pub all_numbered : (table : List (ℕ × ℕ)) (to firsts : List ℕ) → NodesAreNumbered nodes classes (length nodes) table to firsts → IsNumbering nodes to firsts
   all_numbered table to firsts so = record {
     long = so.long;
     there = λ m h. (so.only (class_at classes m) (get_or to m 0) (so.found m h)).0;

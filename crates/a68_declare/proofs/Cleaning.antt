@@ -9,7 +9,7 @@ use Rattle.a68_declare.proofs.Looping.{no_sequence}
 use Rattle.a68_declare.proofs.Standing.{standard_at, thirteen}
 use Rattle.a68_declare.proofs.Serving.{bare_members, standard_image}
 use Rattle.a68_declare.proofs.Words.{no_loops, way_behind}
-use Rattle.a68_declare.specs.Clean.{AreFixed, CleansTo, IsBare, IsNode, IsRising, IsUnionImage, IsImage, UnionsHaveNoFlex, MembersHaveNoFlex, renumbered}
+use Rattle.a68_declare.specs.Clean.{AreFixed, CleansTo, IsBare, IsNode, IsRising, IsUnionImage, IsImage, UnionsHaveNoFlex, CleanMembersHaveNoFlex, renumbered}
 use Rattle.a68_declare.specs.Numbering.{number_in, AreOnce, IsNumbering, IsShapeFrom, AreFull, AreTwins, HaveTwins}
 use Rattle.a68_declarers.specs.Numbers.{twin_of}
 use Rattle.a68_equiv.proofs.Grasp.{stays, behind_below}
@@ -25,7 +25,7 @@ use Rattle.a68_equiv.specs.declared.steps.Inward.{Inward}
 use Rattle.a68_equiv.specs.declared.steps.Inward.TheVariants.{BesidesNames, BesidesStructures, WithinUnions}
 use Rattle.a68_equiv.specs.Dimensions.{HasDimensions, HaveDimensions}
 use Rattle.a68_equiv.specs.Related.{as_it_stands, without_flex}
-use Rattle.a68_equiv.specs.Unfolding.{behind, unfolded, constructor, leads_within, is_union, passes_on, IsMember, IsAt, IsPart, Alike, Equivalent}
+use Rattle.a68_equiv.specs.Unfolding.{behind, unfolded, constructor, leads_within, is_union, passes_on, IsMember, IsInMode, IsModePart, Alike, Equivalent}
 use Rattle.a68_equiv.specs.Ways.{steps_of, row, Way, AreWellFormed}
 use Rattle.a68_equiv.specs.Ways.Way.{last_step, more_steps}
 use Rattle.a68_modes.specs.declared.shape.Shape.{Shape}
@@ -46,10 +46,10 @@ module _ (old new : List Shape) (classes to firsts : List ℕ) (holds : HoldsNod
     (num : IsNumbering old to firsts) (new_holds : HoldsNodes new) (long : length new ≡ length firsts)
     (shapes : (j : ℕ) → 13 ≤ j → j < length firsts → IsShapeFrom old to (get_or firsts j 0) (shape_at new j)) where
   -- what stands in a mode has an equivalent one in each equivalent mode
-  meets : (a b : ℕ) → a < length old → b < length old → Equivalent old (as_it_stands a) (as_it_stands b) → (place x : ℕ) → IsAt old a (unfolded old a) place x
-      → (y : ℕ) × IsAt old b (unfolded old b) place y × (get_or to x 0 ≡ get_or to y 0)
+  meets : (a b : ℕ) → a < length old → b < length old → Equivalent old (as_it_stands a) (as_it_stands b) → (place x : ℕ) → IsInMode old a (unfolded old a) place x
+      → (y : ℕ) × IsInMode old b (unfolded old b) place y × (get_or to x 0 ≡ get_or to y 0)
   meets a b ha hb eq place x at =
-      let part : IsPart old (as_it_stands a) place (as_it_stands x) = record { at = at; flex = sym (passes_none (unfolded old a)) } in
+      let part : IsModePart old (as_it_stands a) place (as_it_stands x) = record { at = at; flex = sym (passes_none (unfolded old a)) } in
       let q = (eq (suc exact.told_apart.0)).1.0 place (as_it_stands x) part in
       let hx = part_below old holds (as_it_stands a) (as_it_stands x) place ha part in
       let hy = part_below old holds (as_it_stands b) q.0 place hb q.1 in
@@ -190,10 +190,10 @@ module _ (old new : List Shape) (classes to firsts : List ℕ) (holds : HoldsNod
       (λ b. (set y).0 (bare.1 b), λ x. bare.0 ((set y).1 x))
 
   -- what stands at a place of a node, and of a mode that it is for
-  at_down : (m : ℕ) → m < length old → (place y : ℕ) → IsAt new (get_or to m 0) (unfolded new (get_or to m 0)) place y → (x : ℕ) × IsAt old m (unfolded old m) place x × (get_or to x 0 ≡ y)
+  at_down : (m : ℕ) → m < length old → (place y : ℕ) → IsInMode new (get_or to m 0) (unfolded new (get_or to m 0)) place y → (x : ℕ) × IsInMode old m (unfolded old m) place x × (get_or to x 0 ≡ y)
   at_down m h place y at = go (is_union (unfolded old m)) refl
     where
-      go : (t : Truth) → is_union (unfolded old m) ≡ t → (x : ℕ) × IsAt old m (unfolded old m) place x × (get_or to x 0 ≡ y)
+      go : (t : Truth) → is_union (unfolded old m) ≡ t → (x : ℕ) × IsInMode old m (unfolded old m) place x × (get_or to x 0 ≡ y)
       go true u =
           let a = at_union new (get_or to m 0) (unfolded new (get_or to m 0)) place y (union_same m h ∙ u) at in
           let x = (members_are m h u y).0 a.1 in
@@ -206,10 +206,10 @@ module _ (old new : List Shape) (classes to firsts : List ℕ) (holds : HoldsNod
           let lt : place < length (parts_of (unfolded old m)) = omega arith in
           (get_or (parts_of (unfolded old m)) place 0, other_at old m (unfolded old m) place _ u (lt, refl), sym (get_map (number_in to) (parts_of (unfolded old m)) place lt) ∙ ap (λ (xs : List ℕ). get_or xs place 0) (sym e) ∙ a.1)
 
-  at_up : (m : ℕ) → m < length old → (place x : ℕ) → IsAt old m (unfolded old m) place x → IsAt new (get_or to m 0) (unfolded new (get_or to m 0)) place (get_or to x 0)
+  at_up : (m : ℕ) → m < length old → (place x : ℕ) → IsInMode old m (unfolded old m) place x → IsInMode new (get_or to m 0) (unfolded new (get_or to m 0)) place (get_or to x 0)
   at_up m h place x at = go (is_union (unfolded old m)) refl
     where
-      go : (t : Truth) → is_union (unfolded old m) ≡ t → IsAt new (get_or to m 0) (unfolded new (get_or to m 0)) place (get_or to x 0)
+      go : (t : Truth) → is_union (unfolded old m) ≡ t → IsInMode new (get_or to m 0) (unfolded new (get_or to m 0)) place (get_or to x 0)
       go true u =
           let a = at_union old m (unfolded old m) place x u at in
           union_at new (get_or to m 0) (unfolded new (get_or to m 0)) place (get_or to x 0) (union_same m h ∙ u) (a.0, (members_are m h u (get_or to x 0)).1 (x, a.1, refl))
@@ -238,7 +238,7 @@ module _ (old new : List Shape) (classes to firsts : List ℕ) (holds : HoldsNod
   passes_on_kept : (fixed : Truth) (m : ℕ) → m < length old → passes_on fixed (unfolded new (get_or to m 0)) ≡ passes_on fixed (unfolded old m)
   passes_on_kept fixed m h = image_same m h (passes_on fixed) (passes_union fixed) (passes_renumbered fixed (number_in to))
 
-  at_below : (m : ℕ) → m < length old → (place x : ℕ) → IsAt old m (unfolded old m) place x → x < length old
+  at_below : (m : ℕ) → m < length old → (place x : ℕ) → IsInMode old m (unfolded old m) place x → x < length old
   at_below m h place x at = part_below old holds (as_it_stands m) (as_it_stands x) place h (record { at = at; flex = sym (passes_none (unfolded old m)) })
 
   -- modes whose nodes are alike are alike
@@ -300,14 +300,14 @@ module _ (old new : List Shape) (classes to firsts : List ℕ) (holds : HoldsNod
   image_of m = record { id = get_or to m.id 0; fixed = m.fixed }
 
   -- what stands in a node, and in a mode that it is for
-  part_down : (a p : Mode) (place : ℕ) → a.id < length old → IsPart new (image_of a) place p → (m : Mode) × IsPart old a place m × (m.id < length old) × (image_of m ≡ p)
+  part_down : (a p : Mode) (place : ℕ) → a.id < length old → IsModePart new (image_of a) place p → (m : Mode) × IsModePart old a place m × (m.id < length old) × (image_of m ≡ p)
   part_down a p place h part =
       let d = at_down a.id h place p.id part.at in
       let m : Mode = record { id = d.0; fixed = passes_on a.fixed (unfolded old a.id) } in
-      let here : IsPart old a place m = record { at = d.1; flex = refl } in
+      let here : IsModePart old a place m = record { at = d.1; flex = refl } in
       (m, here, part_below old holds a m place h here, same_mode (image_of m) p d.2 (sym (passes_on_kept a.fixed a.id h) ∙ sym part.flex))
 
-  part_up : (a m : Mode) (place : ℕ) → a.id < length old → IsPart old a place m → IsPart new (image_of a) place (image_of m)
+  part_up : (a m : Mode) (place : ℕ) → a.id < length old → IsModePart old a place m → IsModePart new (image_of a) place (image_of m)
   part_up a m place h part = record { at = at_up a.id h place m.id part.at; flex = part.flex ∙ sym (passes_on_kept a.fixed a.id h) }
 
   alike_on : (depth : ℕ) (a b : Mode) → a.id < length old → b.id < length old → Alike old depth a b → Alike new depth (image_of a) (image_of b)
@@ -424,7 +424,7 @@ module _ (old new : List Shape) (classes to firsts : List ℕ) (holds : HoldsNod
 
   -- a mode has no FLEX of its own, and what stands in it has none, unless it is a name or a procedure
   module _ (Free : ℕ → Type 0) (still : (x : ℕ) → x < length old → Free x → constructor true (unfolded old x) ≡ constructor false (unfolded old x))
-      (parts : (x : ℕ) → x < length old → Free x → (place y : ℕ) → IsAt old x (unfolded old x) place y → (passes_on true (unfolded old x) ≡ false) ⊎ Free y)
+      (parts : (x : ℕ) → x < length old → Free x → (place y : ℕ) → IsInMode old x (unfolded old x) place y → (passes_on true (unfolded old x) ≡ false) ⊎ Free y)
       (members : (m x : ℕ) → m < length old → is_union (unfolded old m) ≡ true → IsMember old m x → Free x) where
     passes_same : (x : ℕ) → x < length old → passes_on true (unfolded new (get_or to x 0)) ≡ passes_on true (unfolded old x)
     passes_same = passes_on_kept true
@@ -433,10 +433,10 @@ module _ (old new : List Shape) (classes to firsts : List ℕ) (holds : HoldsNod
     still_new x h free = one_constructor true x h ∙ still x h free ∙ sym (one_constructor false x h)
 
     like : (depth x : ℕ) → x < length old → Free x → ((y : ℕ) → y < length old → Free y → Alike new depth (without_flex (get_or to y 0)) (as_it_stands (get_or to y 0)))
-        → (place : ℕ) (p : Mode) → IsPart new (without_flex (get_or to x 0)) place p → Alike new depth p (as_it_stands p.id)
+        → (place : ℕ) (p : Mode) → IsModePart new (without_flex (get_or to x 0)) place p → Alike new depth p (as_it_stands p.id)
     like depth x h free ih place p part = go p.fixed refl
       where
-        d : (y : ℕ) × IsAt old x (unfolded old x) place y × (get_or to y 0 ≡ p.id)
+        d : (y : ℕ) × IsInMode old x (unfolded old x) place y × (get_or to y 0 ≡ p.id)
         d = at_down x h place p.id part.at
 
         go : (b : Truth) → p.fixed ≡ b → Alike new depth p (as_it_stands p.id)
@@ -460,7 +460,7 @@ module _ (old new : List Shape) (classes to firsts : List ℕ) (holds : HoldsNod
         λ place q part.
             let qq : q ≡ as_it_stands q.id = same_mode q (as_it_stands q.id) refl (part.flex ∙ passes_none (unfolded new (get_or to x 0))) in
             let p : Mode = record { id = q.id; fixed = passes_on true (unfolded new (get_or to x 0)) } in
-            let here : IsPart new (without_flex (get_or to x 0)) place p = record { at = part.at; flex = refl } in
+            let here : IsModePart new (without_flex (get_or to x 0)) place p = record { at = part.at; flex = refl } in
             (p, here, subst (λ m. Alike new depth p m) (sym qq) (like depth x h free (still_alike depth) place p here)),
       ),
     )
@@ -484,10 +484,10 @@ module _ (old new : List Shape) (classes to firsts : List ℕ) (holds : HoldsNod
             absurd (none_from (map (steps_of WithinUnions) new) (get_or to m 0) y (row_of_map (steps_of WithinUnions) new (get_or to m 0) (there_new m hm) ∙ no_steps (shape_at new (get_or to m 0)) leads) im.way)
 
   -- where the members of unions have no FLEX, those of the nodes have none
-  pub new_fixed : UnionsHaveNoFlex old → MembersHaveNoFlex new
+  pub new_fixed : UnionsHaveNoFlex old → CleanMembersHaveNoFlex new
   new_fixed unions j y h i = members_fixed (λ x. Equivalent old (without_flex x) (as_it_stands x)) (λ x hx free. (free 1).0) inner unions j y h i
     where
-      inner : (x : ℕ) → x < length old → Equivalent old (without_flex x) (as_it_stands x) → (place z : ℕ) → IsAt old x (unfolded old x) place z
+      inner : (x : ℕ) → x < length old → Equivalent old (without_flex x) (as_it_stands x) → (place z : ℕ) → IsInMode old x (unfolded old x) place z
           → (passes_on true (unfolded old x) ≡ false) ⊎ Equivalent old (without_flex z) (as_it_stands z)
       inner x hx free place z at = go (is_union (unfolded old x)) refl
         where

@@ -15,12 +15,12 @@ use Rattle.a68_declare.specs.Numbering.{number_in, AreImagesOf, IsNumbering, IsS
 use Rattle.a68_equiv.proofs.Grasp.{behind_below}
 use Rattle.a68_equiv.proofs.Growing.{way_below}
 use Rattle.a68_equiv.specs.declared.steps.Inward.TheVariants.{WithinUnions}
-use Rattle.a68_equiv.specs.Related.{IsAmong}
-use Rattle.a68_equiv.specs.Spread.{Notes}
+use Rattle.a68_equiv.specs.Related.{IsSelfOrMember}
+use Rattle.a68_equiv.specs.Spread.{NotesModes}
 use Rattle.a68_equiv.specs.Unfolding.{behind, unfolded, is_union, IsMember}
 use Rattle.a68_modes.specs.declared.shape.Shape.{Shape}
 use Rattle.a68_modes.specs.declared.shape.Shape.TheVariants.{Struct, Union, Blank}
-use Rattle.a68_modes.specs.Nodes.{shape_at, parts_of, IsWithin, HoldsNodes}
+use Rattle.a68_modes.specs.Nodes.{shape_at, parts_of, ShapeIsWithin, HoldsNodes}
 
 pub other_key : (class c : ℕ) → (c ≡ class → ⊥) → nat_eq class c ≡ false
 other_key class c h = ⊎_elim (λ s. absurd (h (sym s.1))) (λ s. s.0) (eqb_tells class c)
@@ -29,7 +29,7 @@ none_in : (x : ℕ) → Contains [] x → ⊥
 none_in x i = let h = i.1 in omega arith
 
 -- what is noted of the numbers of modes are their numbers
-pub noted_images : (to modes found : List ℕ) → Notes (map (number_in to) modes) [] found → AreImagesOf to modes found
+pub noted_images : (to modes found : List ℕ) → NotesModes (map (number_in to) modes) [] found → AreImagesOf to modes found
 noted_images to modes found notes y = (
   λ c. ⊎_elim (λ n. absurd (none_in y n)) (λ m. map_has (number_in to) modes y m) (notes.only y c),
   λ x. notes.all y (subst (Contains (map (number_in to) modes)) x.2 (has_map (number_in to) modes x.0 x.1)),
@@ -49,15 +49,15 @@ pub sorted_rise : (found sorted : List ℕ) → IsDistinct nat_eq found → IsPe
 sorted_rise found sorted once moved up = IsStrictlyIncreasing-from_distinct sorted (IsNonDecreasingBy-from_sort (λ x. x) sorted up) (sorted_once found sorted once moved)
 
 -- each mode within such a shape is there
-pub shape_there : (nodes : List Shape) (to firsts : List ℕ) (m : ℕ) (shape : Shape) → HoldsNodes nodes → IsNumbering nodes to firsts → m < length nodes → IsShapeFrom nodes to m shape → IsWithin (length firsts) shape
+pub shape_there : (nodes : List Shape) (to firsts : List ℕ) (m : ℕ) (shape : Shape) → HoldsNodes nodes → IsNumbering nodes to firsts → m < length nodes → IsShapeFrom nodes to m shape → ShapeIsWithin (length firsts) shape
 shape_there nodes to firsts m shape holds num h from = go (is_union (unfolded nodes m)) refl
   where
-    go : (t : Truth) → is_union (unfolded nodes m) ≡ t → IsWithin (length firsts) shape
+    go : (t : Truth) → is_union (unfolded nodes m) ≡ t → ShapeIsWithin (length firsts) shape
     go true u =
         let i = union_image nodes (number_in to) m (unfolded nodes m) shape u from.image in
         let is = images_of nodes (number_in to) m shape i in
         let set : IsUnionImage nodes (number_in to) m (Union is.0) = subst (IsUnionImage nodes (number_in to) m) is.1 i in
-        subst (IsWithin (length firsts)) (sym is.1) (All-from_get_or (λ k. k < length firsts) is.0 0 (λ k l.
+        subst (ShapeIsWithin (length firsts)) (sym is.1) (All-from_get_or (λ k. k < length firsts) is.0 0 (λ k l.
         let x = (set (get_or is.0 k 0)).0 (Contains-get_or is.0 k 0 l) in
         subst (λ y. y < length firsts) x.2 (num.there x.0 (way_below nodes holds WithinUnions m x.0 h x.1.way))))
     go false u =
@@ -98,7 +98,7 @@ pub struct_from : (nodes : List Shape) (to : List ℕ) (m : ℕ) (fields made no
     → IsShapeFrom nodes to m (Struct made)
 struct_from nodes to m fields made now is same e = record { image = subst (λ s. IsImage nodes (number_in to) m s (Struct made)) (sym is) (ap Struct (e ∙ ap (map (λ (field : ℕ × ℕ). (field.0, number_in to field.1))) same)); once = tt }
 
-pub union_from : (nodes : List Shape) (to : List ℕ) (m : ℕ) (written members now images : List ℕ) → unfolded nodes m ≡ Union written → now ≡ members → ((x : ℕ) → Contains members x ↔ IsAmong nodes m (unfolded nodes m) x)
+pub union_from : (nodes : List Shape) (to : List ℕ) (m : ℕ) (written members now images : List ℕ) → unfolded nodes m ≡ Union written → now ≡ members → ((x : ℕ) → Contains members x ↔ IsSelfOrMember nodes m (unfolded nodes m) x)
     → AreImagesOf to now images → IsDistinct nat_eq images → IsShapeFrom nodes to m (Union images)
 union_from nodes to m written members now images is same among set once = record {
   image = subst (λ s. IsImage nodes (number_in to) m s (Union images)) (sym is) (λ y. (
@@ -109,4 +109,4 @@ union_from nodes to m written members now images is same among set once = record
 }
   where
     are : (x : ℕ) → Contains members x ↔ IsMember nodes m x
-    are x = subst (λ s. Contains members x ↔ IsAmong nodes m s x) is (among x)
+    are x = subst (λ s. Contains members x ↔ IsSelfOrMember nodes m s x) is (among x)

@@ -18,8 +18,8 @@ use Rattle.a68_declarers.specs.declared.form.DeclarerForm.{DeclarerForm}
 use Rattle.a68_declarers.specs.declared.form.DeclarerForm.TheVariants as forms
 use Rattle.a68_declarers.proofs.Counting.{first_is, two}
 use Rattle.a68_declarers.proofs.Shaping.{AllForms, IsLow, form_low, found_form, one_holds, last_holds, map_holds, fields_hold}
-use Rattle.a68_declarers.specs.Declarers.{form_at, is_declarer, is_field, known_forms, IsDeclarer}
-use Rattle.a68_declarers.specs.Modes.{AreDeclared, AreOrdered}
+use Rattle.a68_declarers.specs.Declarers.{form_at, is_declarer, is_field, known_forms, IsDeclarerAt}
+use Rattle.a68_declarers.specs.Modes.{ModesAreDeclared, AreOrdered}
 use Rattle.a68_declarers.specs.Numbers.{declarers, mode_number, of_two, one_if, twin_of}
 use Rattle.a68_declarers.specs.Shapes.{last_mode, defined_mode, fields, IsShapeOf}
 use Rattle.a68_equiv.proofs.Grasp.{behind_below}
@@ -30,12 +30,12 @@ use Rattle.a68_equiv.proofs.Stepping.{row_of_map}
 use Rattle.a68_equiv.specs.declared.mode.Mode.{Mode}
 use Rattle.a68_equiv.specs.Related.{as_it_stands, without_flex}
 use Rattle.a68_equiv.specs.declared.steps.Inward.TheVariants.{WithinUnions}
-use Rattle.a68_equiv.specs.Unfolding.{behind, word_or, unfolded, constructor, passes_on, is_union, IsMember, IsAt, IsPart, Alike}
+use Rattle.a68_equiv.specs.Unfolding.{behind, word_or, unfolded, constructor, passes_on, is_union, IsMember, IsInMode, IsModePart, Alike}
 use Rattle.a68_equiv.specs.Ways.{steps_of, row, Way}
 use Rattle.a68_equiv.specs.Ways.Way.{last_step, more_steps}
 use Rattle.a68_modes.specs.declared.shape.Shape.{Shape}
 use Rattle.a68_modes.specs.declared.shape.Shape.TheVariants.{Struct, Union, Same}
-use Rattle.a68_modes.specs.Nodes.{shape_at, standard_shapes, parts_of, IsWithin, HoldsNodes}
+use Rattle.a68_modes.specs.Nodes.{shape_at, standard_shapes, parts_of, ShapeIsWithin, HoldsNodes}
 use Rattle.a68_ranges.proofs.Taking.{below_or}
 use Rattle.a68_ranges.specs.Nodes.{kind_at, name_at, parts_at, spelling_at}
 use Rattle.a68_ranges.specs.Twice.{IsTwice}
@@ -47,10 +47,10 @@ hands_on (Same m) b c = refl
 hands_on (Union ms) b c = refl
 hands_on _ b c = absurd (let l = c.1 in omega arith)
 
-module _ (tree : Built) (nodes : List Shape) (number : ℕ → Truth → ℕ) (holds : HoldsNodes nodes) (declared : AreDeclared tree nodes number) (ordered : AreOrdered tree nodes number) where
+module _ (tree : Built) (nodes : List Shape) (number : ℕ → Truth → ℕ) (holds : HoldsNodes nodes) (declared : ModesAreDeclared tree nodes number) (ordered : AreOrdered tree nodes number) where
   -- a standard mode but STRING, or the mode of a declarer without its FLEX
   abbrev pub IsFree : ℕ → Type 0
-  IsFree m = (m < 12) ⊎ ((d : ℕ) × IsDeclarer tree d × (m ≡ number d true))
+  IsFree m = (m < 12) ⊎ ((d : ℕ) × IsDeclarerAt tree d × (m ≡ number d true))
 
   record IsStill (s : Shape) : Type 0 where
     same : constructor true s ≡ constructor false s
@@ -120,7 +120,7 @@ module _ (tree : Built) (nodes : List Shape) (number : ℕ → Truth → ℕ) (h
   behind_free zero m h free = free
   behind_free (suc k) m h free = go (shape_at nodes m) (node_still m free) (holds.within m h) (behind_free k)
     where
-      go : (s : Shape) → IsStill s → IsWithin (length nodes) s → ((t : ℕ) → t < length nodes → IsFree t → IsFree (behind nodes k t)) → IsFree (word_or (behind nodes k) m s)
+      go : (s : Shape) → IsStill s → ShapeIsWithin (length nodes) s → ((t : ℕ) → t < length nodes → IsFree t → IsFree (behind nodes k t)) → IsFree (word_or (behind nodes k) m s)
       go (Same t) still within ih = ⊎_elim (λ none. absurd (false≢true (sym none))) (λ all. ih t (within 0 0 (omega arith)) (all 0 0 (omega arith))) still.parts
       go _ still within ih = free
 
@@ -180,7 +180,7 @@ module _ (tree : Built) (nodes : List Shape) (number : ℕ → Truth → ℕ) (h
       go (last_step c) = first x c
       go (more_steps {b = b} c w) = way_free b x (way_below nodes holds WithinUnions (behind nodes (length nodes) m) b lt (last_step c)) (first b c) w
 
-  pub parts_free : (m : ℕ) → m < length nodes → IsFree m → (place y : ℕ) → IsAt nodes m (unfolded nodes m) place y → (passes_on true (unfolded nodes m) ≡ false) ⊎ IsFree y
+  pub parts_free : (m : ℕ) → m < length nodes → IsFree m → (place y : ℕ) → IsInMode nodes m (unfolded nodes m) place y → (passes_on true (unfolded nodes m) ≡ false) ⊎ IsFree y
   parts_free m h free place y at = go (is_union (unfolded nodes m)) refl
     where
       go : (t : Truth) → is_union (unfolded nodes m) ≡ t → (passes_on true (unfolded nodes m) ≡ false) ⊎ IsFree y
@@ -190,7 +190,7 @@ module _ (tree : Built) (nodes : List Shape) (number : ℕ → Truth → ℕ) (h
           ⊎_elim inl (λ all. inr (subst IsFree a.1 (all place 0 a.0))) (unfolded_still m h free).parts
 
   like : (depth x : ℕ) → x < length nodes → IsFree x → ((y : ℕ) → y < length nodes → IsFree y → Alike nodes depth (without_flex y) (as_it_stands y))
-      → (place : ℕ) (p : Mode) → IsPart nodes (without_flex x) place p → Alike nodes depth p (as_it_stands p.id)
+      → (place : ℕ) (p : Mode) → IsModePart nodes (without_flex x) place p → Alike nodes depth p (as_it_stands p.id)
   like depth x h free ih place p part = go p.fixed refl
     where
       go : (b : Truth) → p.fixed ≡ b → Alike nodes depth p (as_it_stands p.id)
@@ -209,7 +209,7 @@ module _ (tree : Built) (nodes : List Shape) (number : ℕ → Truth → ℕ) (h
       λ place q part.
           let qq : q ≡ as_it_stands q.id = same_mode q (as_it_stands q.id) refl (part.flex ∙ passes_none (unfolded nodes x)) in
           let p : Mode = record { id = q.id; fixed = passes_on true (unfolded nodes x) } in
-          let here : IsPart nodes (without_flex x) place p = record { at = part.at; flex = refl } in
+          let here : IsModePart nodes (without_flex x) place p = record { at = part.at; flex = refl } in
           (p, here, subst (λ m. Alike nodes depth p m) (sym qq) (like depth x h free (free_alike depth) place p here)),
     ),
   )
@@ -223,7 +223,7 @@ module _ (tree : Built) (nodes : List Shape) (number : ℕ → Truth → ℕ) (h
   -- x is the node of the mode of y without its FLEX: the same one where it has none, [] CHAR for STRING, and the second for the first
   -- of the two nodes of a declarer
   abbrev IsTwin : ℕ → ℕ → Type 0
-  IsTwin x y = ((x ≡ y) × IsFree y) ⊎ (((x ≡ 7) × (y ≡ 12)) ⊎ ((d : ℕ) × IsDeclarer tree d × (x ≡ number d true) × (y ≡ number d false)))
+  IsTwin x y = ((x ≡ y) × IsFree y) ⊎ (((x ≡ 7) × (y ≡ 12)) ⊎ ((d : ℕ) × IsDeclarerAt tree d × (x ≡ number d true) × (y ≡ number d false)))
 
   abbrev AreTwinned : List ℕ → List ℕ → Type 0
   AreTwinned [] [] = Unit {0}
@@ -412,11 +412,11 @@ module _ (tree : Built) (nodes : List Shape) (number : ℕ → Truth → ℕ) (h
     not_union _ e = refl
 
     module _ (x y : ℕ) (hx : x < length nodes) (hy : y < length nodes) (t : IsTwin x y) where
-      kin_down : (place z : ℕ) → IsAt nodes x (unfolded nodes x) place z → (q : Mode) × IsPart nodes (without_flex y) place q × IsKin z q
+      kin_down : (place z : ℕ) → IsInMode nodes x (unfolded nodes x) place z → (q : Mode) × IsModePart nodes (without_flex y) place q × IsKin z q
       kin_down place z at = go (unfolded_akin x y t).parts
         where
           go : ((unfolded nodes x ≡ unfolded nodes y) × (passes_on true (unfolded nodes y) ≡ false)) ⊎ (((unfolded nodes x ≡ unfolded nodes y) × (is_union (unfolded nodes y) ≡ true)) ⊎ ArePaired (unfolded nodes x) (unfolded nodes y))
-              → (q : Mode) × IsPart nodes (without_flex y) place q × IsKin z q
+              → (q : Mode) × IsModePart nodes (without_flex y) place q × IsKin z q
           go (inl (e, none)) =
               let u = not_union (unfolded nodes y) none in
               let a = at_other nodes x (unfolded nodes x) place z (ap is_union e ∙ u) at in
@@ -437,11 +437,11 @@ module _ (tree : Built) (nodes : List Shape) (number : ℕ → Truth → ℕ) (h
                 inr (w, refl, subst (λ k. IsTwin k w) a.1 r.1),
               )
 
-      kin_up : (place : ℕ) (q : Mode) → IsPart nodes (without_flex y) place q → (z : ℕ) × IsAt nodes x (unfolded nodes x) place z × IsKin z q
+      kin_up : (place : ℕ) (q : Mode) → IsModePart nodes (without_flex y) place q → (z : ℕ) × IsInMode nodes x (unfolded nodes x) place z × IsKin z q
       kin_up place q part = go (unfolded_akin x y t).parts
         where
           go : ((unfolded nodes x ≡ unfolded nodes y) × (passes_on true (unfolded nodes y) ≡ false)) ⊎ (((unfolded nodes x ≡ unfolded nodes y) × (is_union (unfolded nodes y) ≡ true)) ⊎ ArePaired (unfolded nodes x) (unfolded nodes y))
-              → (z : ℕ) × IsAt nodes x (unfolded nodes x) place z × IsKin z q
+              → (z : ℕ) × IsInMode nodes x (unfolded nodes x) place z × IsKin z q
           go (inl (e, none)) =
               let u = not_union (unfolded nodes y) none in
               let a = at_other nodes y (unfolded nodes y) place q.id u part.at in
@@ -484,7 +484,7 @@ module _ (tree : Built) (nodes : List Shape) (number : ℕ → Truth → ℕ) (h
             (q.0, q.1, subst (λ m. Alike nodes depth m q.0) (sym plain) (kin_alike depth p.id q.0 hp hq (twin_alike depth) q.2)),
         λ place q part.
             let z = kin_up x y hx hy t place q part in
-            let here : IsPart nodes (as_it_stands x) place (as_it_stands z.0) = record { at = z.1; flex = sym (passes_none (unfolded nodes x)) } in
+            let here : IsModePart nodes (as_it_stands x) place (as_it_stands z.0) = record { at = z.1; flex = sym (passes_none (unfolded nodes x)) } in
             let hz = part_below nodes holds (as_it_stands x) (as_it_stands z.0) place hx here in
             let hq = part_below nodes holds (without_flex y) q place hy part in
             (as_it_stands z.0, here, kin_alike depth z.0 q hz hq (twin_alike depth) z.2),
@@ -502,10 +502,10 @@ module _ (tree : Built) (nodes : List Shape) (number : ℕ → Truth → ℕ) (h
         ap (λ b. if b then m else (if nat_eq m 12 then 7 else m + m % 2)) e ∙ ap (λ b. if b then 7 else m + m % 2) f
 
     module _ (numbered : (d : ℕ) (fixed : Truth) → number d fixed ≡ mode_number tree d fixed) where
-      place_of : (d : ℕ) (fixed : Truth) → IsDeclarer tree d → number d fixed ≡ 13 + 2 * declarers tree d + one_if fixed
+      place_of : (d : ℕ) (fixed : Truth) → IsDeclarerAt tree d → number d fixed ≡ 13 + 2 * declarers tree d + one_if fixed
       place_of d fixed is = numbered d fixed ∙ ap (of_two fixed) (first_is tree d is) ∙ two tree fixed (2 * declarers tree d)
 
-      second_of : (d : ℕ) (fixed : Truth) → IsDeclarer tree d → twin_of (number d fixed) ≡ number d true
+      second_of : (d : ℕ) (fixed : Truth) → IsDeclarerAt tree d → twin_of (number d fixed) ≡ number d true
       second_of d false is =
           let one = place_of d false is in
           let other = place_of d true is in
@@ -514,7 +514,7 @@ module _ (tree : Built) (nodes : List Shape) (number : ℕ → Truth → ℕ) (h
           let other = place_of d true is in
           high_twin (number d true) (omega arith) ∙ omega arith
 
-      twins : (d : ℕ) (fixed : Truth) → IsDeclarer tree d → IsTwin (number d true) (number d fixed)
+      twins : (d : ℕ) (fixed : Truth) → IsDeclarerAt tree d → IsTwin (number d true) (number d fixed)
       twins d false is = inr (inr (d, is, refl, refl))
       twins d true is = inl (refl, inr (d, is, refl))
 

@@ -8,7 +8,7 @@ use Rattle.a68_declare.specs.Clean.{IsBare, renumbered, IsUnionImage, IsImage}
 use Rattle.a68_equiv.specs.declared.steps.Inward.{Inward}
 use Rattle.a68_equiv.specs.declared.steps.Inward.TheVariants.{BesidesNames, BesidesStructures, WithinUnions}
 use Rattle.a68_equiv.specs.Dimensions.{HasDimensions}
-use Rattle.a68_equiv.specs.Unfolding.{constructor, leads_within, is_union, passes_on, IsMember, IsAt}
+use Rattle.a68_equiv.specs.Unfolding.{constructor, leads_within, is_union, passes_on, IsMember, IsInMode}
 use Rattle.a68_equiv.specs.Ways.{steps_of}
 use Rattle.a68_modes.specs.declared.shape.Shape.{Shape}
 use Rattle.a68_modes.specs.declared.shape.Shape.TheVariants.{Ref, Rows, Struct, Union, Proc, Same, Blank}
@@ -178,19 +178,19 @@ images_of nodes f m (Union images) i = (images, refl)
 images_of nodes f m _ i = absurd i
 
 -- what stands at a place of a shape that is no union
-pub at_other : (nodes : List Shape) (m : ℕ) (s : Shape) (place x : ℕ) → is_union s ≡ false → IsAt nodes m s place x → (place < length (parts_of s)) × (slice_index_or (parts_of s) place 0 ≡ x)
+pub at_other : (nodes : List Shape) (m : ℕ) (s : Shape) (place x : ℕ) → is_union s ≡ false → IsInMode nodes m s place x → (place < length (parts_of s)) × (slice_index_or (parts_of s) place 0 ≡ x)
 at_other nodes m (Union ms) place x u a = absurd (cc)
 at_other nodes m _ place x u a = a
 
-pub other_at : (nodes : List Shape) (m : ℕ) (s : Shape) (place x : ℕ) → is_union s ≡ false → (place < length (parts_of s)) × (slice_index_or (parts_of s) place 0 ≡ x) → IsAt nodes m s place x
+pub other_at : (nodes : List Shape) (m : ℕ) (s : Shape) (place x : ℕ) → is_union s ≡ false → (place < length (parts_of s)) × (slice_index_or (parts_of s) place 0 ≡ x) → IsInMode nodes m s place x
 other_at nodes m (Union ms) place x u a = absurd (cc)
 other_at nodes m _ place x u a = a
 
-pub at_union : (nodes : List Shape) (m : ℕ) (s : Shape) (place x : ℕ) → is_union s ≡ true → IsAt nodes m s place x → (place ≡ 0) × IsMember nodes m x
+pub at_union : (nodes : List Shape) (m : ℕ) (s : Shape) (place x : ℕ) → is_union s ≡ true → IsInMode nodes m s place x → (place ≡ 0) × IsMember nodes m x
 at_union nodes m (Union ms) place x u a = a
 at_union nodes m _ place x u a = absurd (false≢true u)
 
-pub union_at : (nodes : List Shape) (m : ℕ) (s : Shape) (place x : ℕ) → is_union s ≡ true → (place ≡ 0) × IsMember nodes m x → IsAt nodes m s place x
+pub union_at : (nodes : List Shape) (m : ℕ) (s : Shape) (place x : ℕ) → is_union s ≡ true → (place ≡ 0) × IsMember nodes m x → IsInMode nodes m s place x
 union_at nodes m (Union ms) place x u a = a
 union_at nodes m _ place x u a = absurd (false≢true u)
 

@@ -10,7 +10,7 @@ use Rattle.a68_declare.specs.Broken.{IsClash, AreClashing, AreDifferent, HasRela
 use Rattle.a68_declarers.proofs.There.{kind_past}
 use Rattle.a68_declarers.specs.Declarers.{is_mode_definition}
 use Rattle.a68_equiv.specs.Classes.{class_of, AreExact}
-use Rattle.a68_equiv.specs.Related.{as_it_stands, IsAmong}
+use Rattle.a68_equiv.specs.Related.{as_it_stands, IsSelfOrMember}
 use Rattle.a68_equiv.specs.Unfolding.{unfolded, is_union, Equivalent, IsMember}
 use Rattle.a68_modes.specs.declared.shape.Shape.{Shape}
 use Rattle.a68_modes.specs.declared.shape.Shape.TheVariants.{Union}
@@ -68,10 +68,10 @@ module _ (nodes : List Shape) (classes : List ℕ) (exact : AreExact nodes class
 abbrev pub AreMembers : List Shape → ℕ → List ℕ → Type 0
 AreMembers nodes m members = (x : ℕ) → Contains members x ↔ IsMember nodes m x
 
-pub among_are : (nodes : List Shape) (m : ℕ) (members : List ℕ) → is_union (unfolded nodes m) ≡ true → ((x : ℕ) → Contains members x ↔ IsAmong nodes m (unfolded nodes m) x) → AreMembers nodes m members
+pub among_are : (nodes : List Shape) (m : ℕ) (members : List ℕ) → is_union (unfolded nodes m) ≡ true → ((x : ℕ) → Contains members x ↔ IsSelfOrMember nodes m (unfolded nodes m) x) → AreMembers nodes m members
 among_are nodes m members u among x = go (unfolded nodes m) u (among x)
   where
-    go : (s : Shape) → is_union s ≡ true → Contains members x ↔ IsAmong nodes m s x → Contains members x ↔ IsMember nodes m x
+    go : (s : Shape) → is_union s ≡ true → Contains members x ↔ IsSelfOrMember nodes m s x → Contains members x ↔ IsMember nodes m x
     go (Union ms) u a = a
     go _ u a = absurd (false≢true u)
 

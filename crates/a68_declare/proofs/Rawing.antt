@@ -7,8 +7,8 @@ use Rattle.a68_declare.proofs.Standing.{standard_at}
 use Rattle.a68_declare.specs.Numbering.{AreFull}
 use Rattle.a68_declarers.specs.declared.form.DeclarerForm.{DeclarerForm}
 use Rattle.a68_declarers.specs.declared.form.DeclarerForm.TheVariants as forms
-use Rattle.a68_declarers.specs.Declarers.{form_at, IsDeclarer}
-use Rattle.a68_declarers.specs.Modes.{AreDeclared, AreOrdered}
+use Rattle.a68_declarers.specs.Declarers.{form_at, IsDeclarerAt}
+use Rattle.a68_declarers.specs.Modes.{ModesAreDeclared, AreOrdered}
 use Rattle.a68_declarers.specs.Shapes.{dims_of, IsShapeOf}
 use Rattle.a68_equiv.proofs.Grasp.{stays}
 use Rattle.a68_equiv.specs.Dimensions.{HasDimensions, HaveDimensions}
@@ -84,7 +84,7 @@ standard_full (suc (suc (suc (suc (suc (suc (suc (suc (suc (suc (suc zero)))))))
 standard_full (suc (suc (suc (suc (suc (suc (suc (suc (suc (suc (suc (suc zero)))))))))))) h e = cc
 standard_full (suc (suc (suc (suc (suc (suc (suc (suc (suc (suc (suc (suc (suc m))))))))))))) h e = omega arith
 
-module _ (tree : Built) (nodes : List Shape) (number : ℕ → Bool → ℕ) (holds : HoldsNodes nodes) (declared : AreDeclared tree nodes number) where
+module _ (tree : Built) (nodes : List Shape) (number : ℕ → Bool → ℕ) (holds : HoldsNodes nodes) (declared : ModesAreDeclared tree nodes number) where
   pub raw_dims : AreOrdered tree nodes number → HaveDimensions nodes
   raw_dims ordered m = ⊎_elim
       (λ low. subst HasDimensions (sym (standard_at nodes holds m low)) (standard_dims m low))
@@ -104,7 +104,7 @@ module _ (tree : Built) (nodes : List Shape) (number : ℕ → Bool → ℕ) (ho
       shape_full tree number o.0 o.1 (form_at tree o.0) (shape_at nodes (number o.0 o.1)) (declared.shapes o.0 o.1 o.2) (ap (shape_at nodes) o.3 ∙ e))
       (below_or m 13)
 
-pub united_is : (tree : Built) (nodes : List Shape) (number : ℕ → Bool → ℕ) (d : ℕ) → AreDeclared tree nodes number → IsDeclarer tree d → form_at tree d ≡ forms.Union → is_union (unfolded nodes (number d false)) ≡ true
+pub united_is : (tree : Built) (nodes : List Shape) (number : ℕ → Bool → ℕ) (d : ℕ) → ModesAreDeclared tree nodes number → IsDeclarerAt tree d → form_at tree d ≡ forms.Union → is_union (unfolded nodes (number d false)) ≡ true
 united_is tree nodes number d declared is form =
     let shape : IsShapeOf tree number d false forms.Union (shape_at nodes (number d false)) = subst (λ f. IsShapeOf tree number d false f (shape_at nodes (number d false))) form (declared.shapes d false is) in
     ap is_union (ap (shape_at nodes) (stays nodes (length nodes) (number d false) (λ t e. let f = sym shape ∙ e in cc)) ∙ shape)

@@ -8,8 +8,8 @@ use Rattle.a68_declare.proofs.Standing.{standard_at}
 use Rattle.a68_declare.specs.Broken.{root_of, IsIllFormed}
 use Rattle.a68_declarers.proofs.Shaping.{form_low, shape_holds}
 use Rattle.a68_declarers.proofs.There.{placed, declarer_there}
-use Rattle.a68_declarers.specs.Declarers.{form_at, is_declarer, is_mode_definition, IsDeclarer, PartsFollow}
-use Rattle.a68_declarers.specs.Modes.{AreDeclared, AreOrdered}
+use Rattle.a68_declarers.specs.Declarers.{form_at, is_declarer, is_mode_definition, IsDeclarerAt, PartsFollow}
+use Rattle.a68_declarers.specs.Modes.{ModesAreDeclared, AreOrdered}
 use Rattle.a68_equiv.proofs.Growing.{way_below}
 use Rattle.a68_equiv.proofs.Meekly.{way_join}
 use Rattle.a68_equiv.proofs.Stepping.{row_of_map}
@@ -129,7 +129,7 @@ defines_mode kind.ModeDefinition e = refl
 defines_mode _ e = absurd (cc)
 
 module _ (tree : Built) (nodes : List Shape) (number : ℕ → Bool → ℕ) (holds : HoldsNodes nodes) (follow : PartsFollow tree)
-    (declared : AreDeclared tree nodes number) (ordered : AreOrdered tree nodes number) where
+    (declared : ModesAreDeclared tree nodes number) (ordered : AreOrdered tree nodes number) where
   -- the mode of a definition
   record IsRoot (b : ℕ) : Type 0 where
     definition : ℕ
@@ -148,7 +148,7 @@ module _ (tree : Built) (nodes : List Shape) (number : ℕ → Bool → ℕ) (ho
       inl (omega arith)
 
   -- from the node of a declarer
-  from_declarer : (d : ℕ) (fixed : Bool) → IsDeclarer tree d → All (Falls (number d fixed)) (parts_of (shape_at nodes (number d fixed)))
+  from_declarer : (d : ℕ) (fixed : Bool) → IsDeclarerAt tree d → All (Falls (number d fixed)) (parts_of (shape_at nodes (number d fixed)))
   from_declarer d fixed is =
       let low = ordered.low d fixed is in
       shape_holds (Falls (number d fixed)) tree number d fixed (form_at tree d) (shape_at nodes (number d fixed)) (form_low tree d)

@@ -3,7 +3,7 @@ use Rattle.std.proofs.Common.{◌≡◌, ◌<◌, ◌≤◌, ◌⊎◌, ℕ, zer
 use Rattle.std.proofs.lemmas.List.{get_or-take, length-take}
 use Rattle.a68_equiv.proofs.Grasp.{stays}
 use Rattle.a68_equiv.specs.Related.{as_it_stands}
-use Rattle.a68_equiv.specs.Unfolding.{behind, unfolded, constructor, passes_on, IsAt, Equivalent}
+use Rattle.a68_equiv.specs.Unfolding.{behind, unfolded, constructor, passes_on, IsInMode, Equivalent}
 use Rattle.a68_modes.specs.declared.shape.Shape.{Shape}
 use Rattle.a68_modes.specs.declared.shape.Shape.TheVariants.{Void, Int, Bool, Char, Bits, Sema, Layout, Ref, Rows, Union, Proc, Same, Blank}
 use Rattle.a68_modes.specs.Nodes.{shape_at, standard_shapes, HoldsNodes}
@@ -77,7 +77,7 @@ module _ (nodes : List Shape) (holds : HoldsNodes nodes) where
   tells (suc (suc (suc (suc (suc (suc (suc (suc (suc (suc (suc (suc (suc m))))))))))))) h = absurd (omega arith)
 
   -- two modes of one part each, whose parts have different codes
-  by_part : (a b p q : ℕ) → a < 13 → b < 13 → p < 13 → q < 13 → IsAt nodes a (unfolded nodes a) 0 p → ((x : ℕ) → IsAt nodes b (unfolded nodes b) 0 x → x ≡ q)
+  by_part : (a b p q : ℕ) → a < 13 → b < 13 → p < 13 → q < 13 → IsInMode nodes a (unfolded nodes a) 0 p → ((x : ℕ) → IsInMode nodes b (unfolded nodes b) 0 x → x ≡ q)
       → Equivalent nodes (as_it_stands a) (as_it_stands b) → code_at p ≡ code_at q
   by_part a b p q ha hb hp hq at only eq =
       let found = (eq 2).1.0 0 (as_it_stands p) (record { at = at; flex = sym (passes false (unfolded nodes a)) }) in
@@ -89,12 +89,12 @@ module _ (nodes : List Shape) (holds : HoldsNodes nodes) where
       passes f (Proc ps m) = refl
       passes f _ = refl
 
-  ref_at : (m p : ℕ) → m < 13 → shape_at standard_shapes m ≡ Ref p → IsAt nodes m (unfolded nodes m) 0 p × ((x : ℕ) → IsAt nodes m (unfolded nodes m) 0 x → x ≡ p)
+  ref_at : (m p : ℕ) → m < 13 → shape_at standard_shapes m ≡ Ref p → IsInMode nodes m (unfolded nodes m) 0 p × ((x : ℕ) → IsInMode nodes m (unfolded nodes m) 0 x → x ≡ p)
   ref_at m p h e =
       let f : unfolded nodes m ≡ Ref p = standard_unfolded m h ∙ e in
       (rw f (omega arith, refl), λ x at. sym ((rw f at at).1))
 
-  row_at : (m p : ℕ) (flex : Truth) → m < 13 → shape_at standard_shapes m ≡ Rows 1 flex p → IsAt nodes m (unfolded nodes m) 0 p × ((x : ℕ) → IsAt nodes m (unfolded nodes m) 0 x → x ≡ p)
+  row_at : (m p : ℕ) (flex : Truth) → m < 13 → shape_at standard_shapes m ≡ Rows 1 flex p → IsInMode nodes m (unfolded nodes m) 0 p × ((x : ℕ) → IsInMode nodes m (unfolded nodes m) 0 x → x ≡ p)
   row_at m p flex h e =
       let f : unfolded nodes m ≡ Rows 1 flex p = standard_unfolded m h ∙ e in
       (rw f (omega arith, refl), λ x at. sym ((rw f at at).1))

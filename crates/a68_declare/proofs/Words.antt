@@ -14,7 +14,7 @@ use Rattle.a68_equiv.specs.Ways.{steps_of, row, Way, AreWellFormed}
 use Rattle.a68_equiv.specs.Ways.Way.{last_step, more_steps}
 use Rattle.a68_modes.specs.declared.shape.Shape.{Shape}
 use Rattle.a68_modes.specs.declared.shape.Shape.TheVariants.{Same}
-use Rattle.a68_modes.specs.Nodes.{shape_at, IsWithin, HoldsNodes}
+use Rattle.a68_modes.specs.Nodes.{shape_at, ShapeIsWithin, HoldsNodes}
 
 abbrev word_of : Shape → Option ℕ
 word_of (Same t) = Some t
@@ -65,7 +65,7 @@ module _ (nodes : List Shape) (holds : HoldsNodes nodes) where
   to_head which zero m h = inl refl
   to_head which (suc k) m h = go (shape_at nodes m) refl (holds.within m h) (to_head which k)
     where
-      go : (s : Shape) → shape_at nodes m ≡ s → IsWithin (length nodes) s
+      go : (s : Shape) → shape_at nodes m ≡ s → ShapeIsWithin (length nodes) s
           → ((t : ℕ) → t < length nodes → (t ≡ behind nodes k t) ⊎ Way (map (steps_of which) nodes) t (behind nodes k t)) → (m ≡ word_or (behind nodes k) m s) ⊎ Way (map (steps_of which) nodes) m (word_or (behind nodes k) m s)
       go (Same t) e w ih =
           let lt : t < length nodes = w 0 0 (omega arith) in

@@ -1,9 +1,9 @@
 -- Modes that are not well formed, and unions with related members (Report, 4.7 and 7.4).
 use Rattle.std.specs.Prelude.{◌≡◌, ◌⊎◌, ℕ, List, Bool, true, false}
 use Rattle.std.specs.List.{Contains}
-use Rattle.a68_declarers.specs.Declarers.{form_at, is_mode_definition, is_united, IsDeclarer}
+use Rattle.a68_declarers.specs.Declarers.{form_at, is_mode_definition, is_united, IsDeclarerAt}
 use Rattle.a68_declarers.specs.Shapes.{last_mode}
-use Rattle.a68_equiv.specs.Related.{as_it_stands, AreLinked}
+use Rattle.a68_equiv.specs.Related.{as_it_stands, AreMeeklyRelated}
 use Rattle.a68_equiv.specs.Unfolding.{Equivalent, IsMember}
 use Rattle.a68_equiv.specs.Ways.{IsWellFormed}
 use Rattle.a68_modes.specs.declared.shape.Shape.{Shape}
@@ -21,7 +21,7 @@ pub record IsIllFormed (tree : Built) (nodes : List Shape) (number : ℕ → Boo
 
 -- two modes are different and firmly related
 abbrev pub IsClash : List Shape → (x y : ℕ) → Type 0
-IsClash nodes x y = (Equivalent nodes (as_it_stands x) (as_it_stands y) → ⊥) × AreLinked nodes x y
+IsClash nodes x y = (Equivalent nodes (as_it_stands x) (as_it_stands y) → ⊥) × AreMeeklyRelated nodes x y
 
 -- two of these modes are different and firmly related
 abbrev pub AreClashing : List Shape → List ℕ → Type 0
@@ -45,6 +45,6 @@ HasNoTwo nodes m = (x y : ℕ) → IsMember nodes m x → IsMember nodes m y →
 
 -- a union with two different members that are firmly related, or with no two different members
 pub record IsWrongUnion (tree : Built) (nodes : List Shape) (number : ℕ → Bool → ℕ) (d : ℕ) : Type 0 where
-  pub declarer : IsDeclarer tree d
+  pub declarer : IsDeclarerAt tree d
   pub union : is_united (form_at tree d) ≡ true
   pub wrong : HasRelated nodes (number d false) ⊎ HasNoTwo nodes (number d false)

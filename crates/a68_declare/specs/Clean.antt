@@ -46,8 +46,8 @@ abbrev pub UnionsHaveNoFlex : List Shape → Type 0
 UnionsHaveNoFlex nodes = (m x : ℕ) → m < length nodes → is_union (unfolded nodes m) ≡ true → IsMember nodes m x → Equivalent nodes (without_flex x) (as_it_stands x)
 
 -- the same of modes none of which is a mode word, so that only unions have members
-abbrev pub MembersHaveNoFlex : List Shape → Type 0
-MembersHaveNoFlex nodes = (m x : ℕ) → m < length nodes → IsMember nodes m x → Equivalent nodes (without_flex x) (as_it_stands x)
+abbrev pub CleanMembersHaveNoFlex : List Shape → Type 0
+CleanMembersHaveNoFlex nodes = (m x : ℕ) → m < length nodes → IsMember nodes m x → Equivalent nodes (without_flex x) (as_it_stands x)
 
 -- the members of a union stand in the order of their numbers
 abbrev pub IsRising : Shape → Type 0

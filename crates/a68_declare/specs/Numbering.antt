@@ -58,7 +58,7 @@ pub record IsShapeFrom (nodes : List Shape) (to : List ℕ) (m : ℕ) (shape : S
   pub once : AreOnce shape
 
 -- the nodes before one are numbered
-pub record AreNumbered (nodes : List Shape) (classes : List ℕ) (count : ℕ) (table : List (ℕ × ℕ)) (to firsts : List ℕ) : Type 0 where
+pub record NodesAreNumbered (nodes : List Shape) (classes : List ℕ) (count : ℕ) (table : List (ℕ × ℕ)) (to firsts : List ℕ) : Type 0 where
   pub long : length to ≡ count
   pub few : length firsts ≤ count
   -- each class that is met is in the table

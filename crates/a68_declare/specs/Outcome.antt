@@ -6,8 +6,8 @@ use Rattle.a68_base.specs.declared.refusal.Rule.TheVariants as rules
 use Rattle.a68_declare.specs.Broken.{IsIllFormed, IsWrongUnion}
 use Rattle.a68_declare.specs.Clean.{CleansTo}
 use Rattle.a68_declarers.specs.Bounds.{bracket_at, HasWrongBounds, IsFirstOfPlace}
-use Rattle.a68_declarers.specs.Declarers.{IsDeclarer}
-use Rattle.a68_declarers.specs.Modes.{AreDeclared}
+use Rattle.a68_declarers.specs.Declarers.{IsDeclarerAt}
+use Rattle.a68_declarers.specs.Modes.{ModesAreDeclared}
 use Rattle.a68_declarers.specs.Numbers.{declarers, mode_number}
 use Rattle.a68_declarers.specs.Words.{IsUndefinedWord, IsTooMany}
 use Rattle.a68_modes.specs.Nodes.{HoldsNodes}
@@ -21,10 +21,10 @@ use Rattle.a68_tree.specs.Trees.{Built}
 pub record AreRaw (tree : Built) (raw : List Shape) (number : ℕ → Bool → ℕ) : Type 0 where
   pub defined : (d : ℕ) → IsUndefinedWord tree d → ⊥
   pub few : declarers tree (length tree.nodes) ≤ 4096
-  pub declared : AreDeclared tree raw number
+  pub declared : ModesAreDeclared tree raw number
   pub numbered : (d : ℕ) (fixed : Bool) → number d fixed ≡ mode_number tree d fixed
   pub holds : HoldsNodes raw
-  pub onto : (m : ℕ) → 13 ≤ m → m < length raw → (d : ℕ) × (fixed : Bool) × IsDeclarer tree d × (number d fixed ≡ m)
+  pub onto : (m : ℕ) → 13 ≤ m → m < length raw → (d : ℕ) × (fixed : Bool) × IsDeclarerAt tree d × (number d fixed ≡ m)
 
 -- the rule that is broken first, in the order N2, L4, M1, M2, C4, at the first such place in the text
 pub data IsFirstBroken (tree : Built) : Refusal → Type 0 where

@@ -2,7 +2,7 @@
 ghost use Rattle.std.specs.Prelude.{◌≡◌, ◌<◌, ◌≤◌, ◌^◌, ℕ, IfOk, IfErr, OnOk, length};
 ghost use Rattle.a68_base.specs.declared.refusal.Stop.TheVariants as stops;
 ghost use Rattle.a68_declare.specs.Broken.{IsIllFormed, IsWrongUnion};
-ghost use Rattle.a68_declare.specs.Clean.{AreFixed, CleansTo, MembersHaveNoFlex};
+ghost use Rattle.a68_declare.specs.Clean.{AreFixed, CleansTo, CleanMembersHaveNoFlex};
 ghost use Rattle.a68_declare.specs.Numbering.{number_in};
 ghost use Rattle.a68_declare.specs.Outcome.{AreModesOf, AreRaw, IsFirstBroken, IsNotBroken};
 ghost use Rattle.a68_declarers.specs.Bounds.{HasWrongBounds};
@@ -118,7 +118,7 @@ fn judged(alloc: Global, tree: &Tree, numbers: &Numbers, raw: &Modes) -> Result<
     ensures cleans { IfOk result (λ cleaned. CleansTo raw.now (number_in cleaned.to.items) cleaned.modes) }
     ensures formed { IfOk result (λ cleaned. AreWellFormed cleaned.modes) }
     ensures rows { IfOk result (λ cleaned. HaveDimensions cleaned.modes) }
-    ensures members { IfOk result (λ cleaned. MembersHaveNoFlex cleaned.modes) }
+    ensures members { IfOk result (λ cleaned. CleanMembersHaveNoFlex cleaned.modes) }
     ensures fixed { ((id : ℕ) → IsTwice tree.now id → ⊥) → IfOk result (λ cleaned. AreFixed cleaned.modes cleaned.fixed.items) }
     ensures broken { IfErr result (StopsBy (IsFirstBroken tree.now)) }
 {
@@ -142,7 +142,7 @@ pub fn declare(alloc: Global, tree: &Tree, ranges: &Ranges) -> Result<Declared, 
     ensures modes { IfOk result (λ declared. AreModesOf tree.now declared.modes declared.of) }
     ensures formed { IfOk result (λ declared. AreWellFormed declared.modes) }
     ensures rows { IfOk result (λ declared. HaveDimensions declared.modes) }
-    ensures members { IfOk result (λ declared. MembersHaveNoFlex declared.modes) }
+    ensures members { IfOk result (λ declared. CleanMembersHaveNoFlex declared.modes) }
     ensures fixed { ((id : ℕ) → IsTwice tree.now id → ⊥) → IfOk result (λ declared. AreFixed declared.modes declared.fixed.items) }
     ensures classes { IfOk result (λ declared. AreKept declared.modes declared.classes) }
     ensures refused { IfErr result (StopsBy (IsFirstBroken tree.now)) }

@@ -1,7 +1,7 @@
 //! Clean modes.
 ghost use Rattle.std.specs.Prelude.{◌≡◌, ◌<◌, ◌≤◌, ◌+◌, ◌^◌, ℕ, IfOk, OnOk, length};
 ghost use Rattle.std.specs.List.{All};
-ghost use Rattle.a68_declare.specs.Clean.{AreFixed, CleansTo, UnionsHaveNoFlex, MembersHaveNoFlex};
+ghost use Rattle.a68_declare.specs.Clean.{AreFixed, CleansTo, UnionsHaveNoFlex, CleanMembersHaveNoFlex};
 ghost use Rattle.a68_declare.specs.Numbering.{number_in, AreShapesFrom, IsNumbering, AreFull, AreTwins, HaveTwins};
 ghost use Rattle.a68_equiv.specs.Classes.{AreExact};
 ghost use Rattle.a68_equiv.specs.Dimensions.{HaveDimensions};
@@ -79,7 +79,7 @@ pub fn clean_modes(alloc: Global, modes: &Modes, classes: &Classes) -> Result<Cl
     ensures cleans { IfOk result (λ cleaned. CleansTo modes.now (number_in cleaned.to.items) cleaned.modes) }
     ensures formed { IfOk result (λ cleaned. AreWellFormed cleaned.modes) }
     ensures rows { IfOk result (λ cleaned. HaveDimensions modes.now → HaveDimensions cleaned.modes) }
-    ensures members { IfOk result (λ cleaned. UnionsHaveNoFlex modes.now → MembersHaveNoFlex cleaned.modes) }
+    ensures members { IfOk result (λ cleaned. UnionsHaveNoFlex modes.now → CleanMembersHaveNoFlex cleaned.modes) }
     ensures fixed { IfOk result (λ cleaned. HaveTwins modes.now → AreFixed cleaned.modes cleaned.fixed.items) }
 {
     let count = modes.len();

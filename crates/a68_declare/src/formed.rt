@@ -3,7 +3,7 @@ ghost use Rattle.std.specs.Prelude.{◌≡◌, ◌<◌, ◌↔◌, ◌⊎◌, �
 ghost use Rattle.a68_declare.specs.Broken.{IsIllFormed};
 ghost use Rattle.a68_declarers.specs.Declarers.{is_mode_definition};
 ghost use Rattle.a68_declarers.specs.Numbers.{number_at};
-ghost use Rattle.a68_equiv.specs.Ways.{steps_of, IsClosed, IsWellFormed};
+ghost use Rattle.a68_equiv.specs.Ways.{steps_of, StepsStayInside, IsWellFormed};
 ghost use Rattle.a68_equiv.specs.declared.steps.Inward.TheVariants as steps;
 ghost use Rattle.a68_ranges.specs.Indexed.{IsLeast};
 ghost use Rattle.a68_ranges.specs.Nodes.{kind_at};
@@ -26,8 +26,8 @@ pub struct Steppings {
 fn steps_between(alloc: Global, modes: &Modes) -> Result<Steppings, NoMemory>
     ensures names { IfOk result (λ found. found.names.items ≡ map (steps_of steps.BesidesNames) modes.now) }
     ensures structures { IfOk result (λ found. found.structures.items ≡ map (steps_of steps.BesidesStructures) modes.now) }
-    ensures names_closed { IfOk result (λ found. IsClosed found.names.items) }
-    ensures structures_closed { IfOk result (λ found. IsClosed found.structures.items) }
+    ensures names_closed { IfOk result (λ found. StepsStayInside found.names.items) }
+    ensures structures_closed { IfOk result (λ found. StepsStayInside found.structures.items) }
 {
     let names = graph_of(alloc, modes, Inward::BesidesNames)?;
     let structures = graph_of(alloc, modes, Inward::BesidesStructures)?;
@@ -45,8 +45,8 @@ fn is_ill_mode(
     requires there { mode < length modes.now }
     requires names { names.now ≡ map (steps_of steps.BesidesNames) modes.now }
     requires structures { structures.now ≡ map (steps_of steps.BesidesStructures) modes.now }
-    requires names_closed { IsClosed names.now }
-    requires structures_closed { IsClosed structures.now }
+    requires names_closed { StepsStayInside names.now }
+    requires structures_closed { StepsStayInside structures.now }
     ensures { IfOk result (λ ill. IsTrue ill ↔ (IsWellFormed modes.now mode → ⊥)) }
 {
     let _there = modes.len();
@@ -68,8 +68,8 @@ fn is_ill_formed(
     requires within { (d : ℕ) (fixed : Bool) → number_at numbers.now d fixed < length modes.now }
     requires names { steppings.now.names.items ≡ map (steps_of steps.BesidesNames) modes.now }
     requires structures { steppings.now.structures.items ≡ map (steps_of steps.BesidesStructures) modes.now }
-    requires names_closed { IsClosed steppings.now.names.items }
-    requires structures_closed { IsClosed steppings.now.structures.items }
+    requires names_closed { StepsStayInside steppings.now.names.items }
+    requires structures_closed { StepsStayInside steppings.now.structures.items }
     ensures { IfOk result (λ ill. IsTrue ill ↔ IsIllFormed tree.now modes.now (number_at numbers.now) id) }
 {
     if !is_definition(tree, id) {

@@ -5,7 +5,7 @@ ghost use Rattle.std.specs.List.Sorted.{IsPermutation, IsSorted, IsStrictlyIncre
 ghost use Rattle.std.specs.Ordering.{nat_cmp};
 ghost use Rattle.a68_declare.specs.Clean.{IsRising};
 ghost use Rattle.a68_declare.specs.Numbering.{number_in, AreImagesOf, IsShapeFrom};
-ghost use Rattle.a68_equiv.specs.Spread.{AreKnown, Notes};
+ghost use Rattle.a68_equiv.specs.Spread.{AreSameModes, NotesModes};
 ghost use Rattle.a68_equiv.specs.Unfolding.{unfolded};
 
 use a68_base::NoMemory;
@@ -53,9 +53,9 @@ fn note(
     found: &mut Vec<ModeId>,
     known: &mut HashSet<ModeId>,
 ) -> Result<(), NoMemory>
-    requires { AreKnown found.old.items known.old.keys }
-    ensures notes { OnOk result (Notes (map (number_in to.now) modes.now) found.old.items found.new.items) }
-    ensures known { OnOk result (AreKnown found.new.items known.new.keys) }
+    requires { AreSameModes found.old.items known.old.keys }
+    ensures notes { OnOk result (NotesModes (map (number_in to.now) modes.now) found.old.items found.new.items) }
+    ensures known { OnOk result (AreSameModes found.new.items known.new.keys) }
 {
     for mode in modes {
         let number = number(to, *mode);

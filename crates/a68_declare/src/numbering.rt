@@ -1,6 +1,6 @@
 //! The classes of modes, numbered in the order of their first modes.
 ghost use Rattle.std.specs.Prelude.{◌≡◌, ◌<◌, ◌≤◌, ◌^◌, IfOk, OnOk, length};
-ghost use Rattle.a68_declare.specs.Numbering.{at_class, class_at, IsNumberOf, IsNumbering, AreNumbered};
+ghost use Rattle.a68_declare.specs.Numbering.{at_class, class_at, IsNumberOf, IsNumbering, NodesAreNumbered};
 ghost use Rattle.a68_equiv.specs.Classes.{AreExact};
 
 use a68_base::NoMemory;
@@ -44,7 +44,7 @@ fn number_all(
     firsts: &mut Vec<ModeId>,
 ) -> Result<(), NoMemory>
     requires exact { AreExact modes.now classes.now.of }
-    requires begun { AreNumbered modes.now classes.now.of 0 table.old.entries to.old.items firsts.old.items }
+    requires begun { NodesAreNumbered modes.now classes.now.of 0 table.old.entries to.old.items firsts.old.items }
     ensures { OnOk result (IsNumbering modes.now to.new.items firsts.new.items) }
 {
     for id in 0..modes.len() {

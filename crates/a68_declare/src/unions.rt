@@ -2,8 +2,8 @@
 ghost use Rattle.std.specs.Prelude.{◌≡◌, ◌<◌, ◌↔◌, ◌⊎◌, ℕ, IfOk, IsTrue, true, length, slice_index};
 ghost use Rattle.std.specs.List.{All};
 ghost use Rattle.a68_declare.specs.Broken.{AreClashing, AreDifferent, HasRelated, HasNoTwo, IsClash, IsWrongUnion};
-ghost use Rattle.a68_declarers.specs.Declarers.{form_at, is_united, IsDeclarer};
-ghost use Rattle.a68_declarers.specs.Modes.{AreDeclared};
+ghost use Rattle.a68_declarers.specs.Declarers.{form_at, is_united, IsDeclarerAt};
+ghost use Rattle.a68_declarers.specs.Modes.{ModesAreDeclared};
 ghost use Rattle.a68_declarers.specs.Numbers.{number_at};
 ghost use Rattle.a68_equiv.specs.Classes.{AreExact};
 ghost use Rattle.a68_equiv.specs.Unfolding.{unfolded, is_union};
@@ -118,7 +118,7 @@ fn is_wrong_union(
     id: NodeId,
 ) -> Result<bool, NoMemory>
     requires there { id < length tree.now.nodes }
-    requires declared { AreDeclared tree.now modes.now (number_at numbers.now) }
+    requires declared { ModesAreDeclared tree.now modes.now (number_at numbers.now) }
     requires formed { AreWellFormed modes.now }
     requires exact { AreExact modes.now classes.now.of }
     ensures { IfOk result (λ wrong. IsTrue wrong ↔ IsWrongUnion tree.now modes.now (number_at numbers.now) id) }
@@ -143,7 +143,7 @@ pub fn wrong_union(
     classes: &Classes,
     numbers: &Numbers,
 ) -> Result<Option<NodeId>, NoMemory>
-    requires declared { AreDeclared tree.now modes.now (number_at numbers.now) }
+    requires declared { ModesAreDeclared tree.now modes.now (number_at numbers.now) }
     requires formed { AreWellFormed modes.now }
     requires exact { AreExact modes.now classes.now.of }
     ensures { IfOk result (λ found. IsLeast tree.now (IsWrongUnion tree.now modes.now (number_at numbers.now)) found) }

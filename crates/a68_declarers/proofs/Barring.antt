@@ -6,20 +6,20 @@ use Rattle.std.proofs.lemmas.Bool.{cases_eq, false≢true}
 use Rattle.a68_declarers.specs.declared.actual.Holders.TheVariants as holders
 use Rattle.a68_declarers.specs.Actual.{IsActual}
 use Rattle.a68_declarers.specs.Bounds.{IsBarred, HoldsBarred, HasWrongBound, HasWrongBounds, lacks, has, barred, AreBarred, is_bound, is_wrong, barred_by, a_routine, a_parallel, an_actual_word}
-use Rattle.a68_declarers.specs.Declarers.{form_at, is_declarer, is_word, IsDeclarer, PartsFollow}
+use Rattle.a68_declarers.specs.Declarers.{form_at, is_declarer, is_word, IsDeclarerAt, PartsFollow}
 use Rattle.a68_declarers.proofs.There.{at_place, placed, kind_past}
 use Rattle.a68_ranges.proofs.Taking.{below_or}
-use Rattle.a68_ranges.specs.Nodes.{kind_at, parts_at, IsPart, IsWithin, itself, part}
+use Rattle.a68_ranges.specs.Nodes.{kind_at, parts_at, IsPart, StandsWithin, itself, part}
 use Rattle.a68_tree.specs.Trees.{Built}
 use Rattle.a68_tree.specs.declared.kind.NodeKind.{NodeKind}
 use Rattle.a68_tree.specs.declared.kind.NodeKind.TheVariants as kind
 
 module _ (tree : Built) where
-  below : (a n d : ℕ) → IsPart tree a n → IsWithin tree n d → IsWithin tree a d
+  below : (a n d : ℕ) → IsPart tree a n → StandsWithin tree n d → StandsWithin tree a d
   below a n d p itself = part itself p
   below a n d p (part w q) = part (below a n _ p w) q
 
-  down : (a d : ℕ) → IsWithin tree a d → (a ≡ d) ⊎ ((n : ℕ) × IsPart tree a n × IsWithin tree n d)
+  down : (a d : ℕ) → StandsWithin tree a d → (a ≡ d) ⊎ ((n : ℕ) × IsPart tree a n × StandsWithin tree n d)
   down a d itself = inl refl
   down a d (part {n = m} w q) = ⊎_elim
       (λ e. inr (d, subst (λ x. IsPart tree x d) (sym e) q, itself))
@@ -153,7 +153,7 @@ module _ (tree : Built) where
   pub part_is : (d : ℕ) (parts : List ℕ) (k p : ℕ) → d < length tree.nodes → parts_at tree d ≡ parts → slice_get parts k ≡ Some p → IsPart tree d p
   part_is d parts k p lt is at = (k, (lt, ap (λ (xs : List ℕ). slice_get xs k) is ∙ at))
 
-  pub wrong_part : (d b k : ℕ) (parts : List ℕ) (a m h bound : Bool) → d < length tree.nodes → IsDeclarer tree d → parts_at tree d ≡ parts → slice_get parts k ≡ Some b
+  pub wrong_part : (d b k : ℕ) (parts : List ℕ) (a m h bound : Bool) → d < length tree.nodes → IsDeclarerAt tree d → parts_at tree d ≡ parts → slice_get parts k ≡ Some b
       → (a ≡ true) ↔ IsActual tree holders.All d → (m ≡ true) ↔ IsActual tree holders.ModeDefinitions d → (h ≡ true) ↔ HoldsBarred tree b → (is_bound (kind_at tree b) && is_wrong a m h (parts_at tree b)) ≡ true
       → HasWrongBounds tree d
   wrong_part d b k parts a m h bound lt dec is at ia im ih w = go (is_bound (kind_at tree b)) refl w

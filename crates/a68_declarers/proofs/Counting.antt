@@ -7,7 +7,7 @@ use Rattle.std.proofs.lemmas.List.{length-append}
 use Rattle.std.proofs.lemmas.List.Elements.{All-push}
 use Rattle.std.proofs.Math.ListN.{get_or-append}
 use Rattle.std.proofs.Math.Seq.{get_or-append_seam}
-use Rattle.a68_declarers.specs.Declarers.{is_declarer, IsDeclarer, IsVoidWord}
+use Rattle.a68_declarers.specs.Declarers.{is_declarer, IsDeclarerAt, IsVoidWord}
 use Rattle.a68_declarers.specs.Modes.{AreOrdered}
 use Rattle.a68_declarers.specs.Numbers.{one_if, declarers, first_number, of_two, number_at, AreNumbers}
 use Rattle.a68_declarers.proofs.There.{declarer_there, kind_past}
@@ -24,24 +24,24 @@ module _ (tree : Built) where
       (λ g. let e : i ≡ suc j = omega arith in subst (λ k. declarers tree k ≤ declarers tree (suc j)) (sym e) (omega arith))
       (below_or i (suc j))
 
-  next_is : (d : ℕ) → IsDeclarer tree d → declarers tree (suc d) ≡ declarers tree d + 1
+  next_is : (d : ℕ) → IsDeclarerAt tree d → declarers tree (suc d) ≡ declarers tree d + 1
   next_is d is = ap (λ b. declarers tree d + one_if b) is
 
-  pub declarers_pass : (d j : ℕ) → IsDeclarer tree d → d < j → declarers tree d + 1 ≤ declarers tree j
+  pub declarers_pass : (d j : ℕ) → IsDeclarerAt tree d → d < j → declarers tree d + 1 ≤ declarers tree j
   declarers_pass d j is h = let r = declarers_grow (suc d) j (omega arith) in let e = next_is d is in omega arith
 
-  pub each_counted : (n k : ℕ) → k < declarers tree n → (d : ℕ) × (d < n) × IsDeclarer tree d × (declarers tree d ≡ k)
+  pub each_counted : (n k : ℕ) → k < declarers tree n → (d : ℕ) × (d < n) × IsDeclarerAt tree d × (declarers tree d ≡ k)
   each_counted zero k h = absurd (omega arith)
   each_counted (suc n) k h = ⊎_elim
       (λ l. let r = each_counted n k l in let s = r.1 in (r.0, omega arith, r.2, r.3))
       (λ g. go (is_declarer (kind_at tree n)) refl h g)
       (below_or k (declarers tree n))
     where
-      go : (b : Bool) → is_declarer (kind_at tree n) ≡ b → k < declarers tree n + one_if b → declarers tree n ≤ k → (d : ℕ) × (d < suc n) × IsDeclarer tree d × (declarers tree d ≡ k)
+      go : (b : Bool) → is_declarer (kind_at tree n) ≡ b → k < declarers tree n + one_if b → declarers tree n ≤ k → (d : ℕ) × (d < suc n) × IsDeclarerAt tree d × (declarers tree d ≡ k)
       go true e h g = (n, omega arith, e, omega arith)
       go false e h g = absurd (omega arith)
 
-  pub first_is : (d : ℕ) → IsDeclarer tree d → first_number tree d ≡ 13 + 2 * declarers tree d
+  pub first_is : (d : ℕ) → IsDeclarerAt tree d → first_number tree d ≡ 13 + 2 * declarers tree d
   first_is d is = ap (λ b. if b then 13 + 2 * declarers tree d else 0) is
 
   pub first_none : (d : ℕ) → is_declarer (kind_at tree d) ≡ false → first_number tree d ≡ 0
@@ -56,7 +56,7 @@ module _ (tree : Built) where
       go true e = absurd (let h : 13 + n ≡ 0 = eqb-true (13 + n) 0 e in omega arith)
 
   module _ (numbers : List ℕ) (are : AreNumbers tree numbers) where
-    pub number_is : (d : ℕ) (fixed : Bool) → IsDeclarer tree d → number_at numbers d fixed ≡ 13 + 2 * declarers tree d + one_if fixed
+    pub number_is : (d : ℕ) (fixed : Bool) → IsDeclarerAt tree d → number_at numbers d fixed ≡ 13 + 2 * declarers tree d + one_if fixed
     number_is d fixed is = ap (of_two fixed) (are.each d ∙ first_is d is) ∙ two fixed (2 * declarers tree d)
 
     pub number_none : (d : ℕ) (fixed : Bool) → is_declarer (kind_at tree d) ≡ false → number_at numbers d fixed ≡ 0
@@ -70,7 +70,7 @@ module _ (tree : Built) where
     low_one true = omega arith
     low_one false = omega arith
 
-    not_declarer : (d : ℕ) → (IsDeclarer tree d → ⊥) → is_declarer (kind_at tree d) ≡ false
+    not_declarer : (d : ℕ) → (IsDeclarerAt tree d → ⊥) → is_declarer (kind_at tree d) ≡ false
     not_declarer d never = go (is_declarer (kind_at tree d)) refl
       where
         go : (b : Bool) → is_declarer (kind_at tree d) ≡ b → is_declarer (kind_at tree d) ≡ false
@@ -109,7 +109,7 @@ module _ (tree : Built) where
       none = λ d fixed never. number_none d fixed (not_declarer d never);
     }
       where
-        go : (m : ℕ) → 13 ≤ m → m < length nodes → ((k : ℕ) × (b : Bool) × (m - 13 ≡ 2 * k + one_if b)) → (d : ℕ) × (fixed : Bool) × IsDeclarer tree d × (number_at numbers d fixed ≡ m)
+        go : (m : ℕ) → 13 ≤ m → m < length nodes → ((k : ℕ) × (b : Bool) × (m - 13 ≡ 2 * k + one_if b)) → (d : ℕ) × (fixed : Bool) × IsDeclarerAt tree d × (number_at numbers d fixed ≡ m)
         go m low less (k, b, e) =
             let r = each_counted (length tree.nodes) k (omega arith) in
             let n = number_is r.0 b r.2 in

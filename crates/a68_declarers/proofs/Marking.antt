@@ -7,7 +7,7 @@ use Rattle.std.proofs.lemmas.Bool.Decides.{eqb_tells}
 use Rattle.std.proofs.lemmas.List.Elements.{Contains-push_cases, Contains-push, Contains-append_left}
 use Rattle.a68_declarers.specs.declared.actual.Holders.{Holders}
 use Rattle.a68_declarers.specs.Actual.{IsActual, whole, inner, AreActual, IsSource, IsMarkedBefore, AreMarked}
-use Rattle.a68_declarers.specs.Declarers.{IsDeclarer, PartsFollow}
+use Rattle.a68_declarers.specs.Declarers.{IsDeclarerAt, PartsFollow}
 use Rattle.a68_declarers.proofs.There.{at_place, placed}
 use Rattle.a68_ranges.specs.Nodes.{parts_at, IsPart}
 use Rattle.a68_tree.specs.Trees.{Built}
@@ -19,30 +19,30 @@ pub marked_none : (tree : Built) (marks : List Bool) → AreMarked tree [] marks
 marked_none tree marks = record { long = refl; exact = λ d. (inl, λ h. ⊎_elim (λ m. m) (λ c. absurd (none_in d c.0)) h) }
 
 -- one node more, which is no declarer
-pub marked_other : (tree : Built) (nodes : List ℕ) (p : ℕ) (old new : List Bool) → (IsDeclarer tree p → ⊥) → AreMarked tree nodes old new → AreMarked tree (nodes ++ p ∷ []) old new
+pub marked_other : (tree : Built) (nodes : List ℕ) (p : ℕ) (old new : List Bool) → (IsDeclarerAt tree p → ⊥) → AreMarked tree nodes old new → AreMarked tree (nodes ++ p ∷ []) old new
 marked_other tree nodes p old new never so = record {
   long = so.long;
   exact = λ d. (
     λ h. ⊎_elim inl (λ c. inr (Contains-append_left nodes (p ∷ []) d c.0, c.1)) ((so.exact d).0 h),
-    λ h. (so.exact d).1 (⊎_elim inl (λ c. ⊎_elim (λ i. inr (i, c.1)) (λ e. absurd (never (subst (IsDeclarer tree) (sym e) c.1))) (Contains-push_cases nodes p d c.0)) h),
+    λ h. (so.exact d).1 (⊎_elim inl (λ c. ⊎_elim (λ i. inr (i, c.1)) (λ e. absurd (never (subst (IsDeclarerAt tree) (sym e) c.1))) (Contains-push_cases nodes p d c.0)) h),
   );
 }
 
 -- one declarer more
-pub marked_more : (tree : Built) (nodes : List ℕ) (p : ℕ) (old new : List Bool) → IsDeclarer tree p → p < length new → AreMarked tree nodes old new → AreMarked tree (nodes ++ p ∷ []) old (set new p true)
+pub marked_more : (tree : Built) (nodes : List ℕ) (p : ℕ) (old new : List Bool) → IsDeclarerAt tree p → p < length new → AreMarked tree nodes old new → AreMarked tree (nodes ++ p ∷ []) old (set new p true)
 marked_more tree nodes p old new is lt so = record {
   long = length-set new p true ∙ so.long;
   exact = λ d. (to d, from d);
 }
   where
-    to : (d : ℕ) → get_or (set new p true) d false ≡ true → (get_or old d false ≡ true) ⊎ (Contains (nodes ++ p ∷ []) d × IsDeclarer tree d)
+    to : (d : ℕ) → get_or (set new p true) d false ≡ true → (get_or old d false ≡ true) ⊎ (Contains (nodes ++ p ∷ []) d × IsDeclarerAt tree d)
     to d h = go (cases_eq d p)
       where
-        go : (d ≡ p) ⊎ (d ≡ p → ⊥) → (get_or old d false ≡ true) ⊎ (Contains (nodes ++ p ∷ []) d × IsDeclarer tree d)
-        go (inl e) = inr (subst (Contains (nodes ++ p ∷ [])) (sym e) (Contains-push nodes p), subst (IsDeclarer tree) (sym e) is)
+        go : (d ≡ p) ⊎ (d ≡ p → ⊥) → (get_or old d false ≡ true) ⊎ (Contains (nodes ++ p ∷ []) d × IsDeclarerAt tree d)
+        go (inl e) = inr (subst (Contains (nodes ++ p ∷ [])) (sym e) (Contains-push nodes p), subst (IsDeclarerAt tree) (sym e) is)
         go (inr ne) = ⊎_elim inl (λ c. inr (Contains-append_left nodes (p ∷ []) d c.0, c.1)) ((so.exact d).0 (rw get_or-set_other at h))
 
-    from : (d : ℕ) → (get_or old d false ≡ true) ⊎ (Contains (nodes ++ p ∷ []) d × IsDeclarer tree d) → get_or (set new p true) d false ≡ true
+    from : (d : ℕ) → (get_or old d false ≡ true) ⊎ (Contains (nodes ++ p ∷ []) d × IsDeclarerAt tree d) → get_or (set new p true) d false ≡ true
     from d h = go (cases_eq d p)
       where
         go : (d ≡ p) ⊎ (d ≡ p → ⊥) → get_or (set new p true) d false ≡ true
@@ -66,11 +66,11 @@ module _ (tree : Built) (which : Holders) where
   }
 
   -- an actual declarer has a source
-  pub source_of : (d : ℕ) → IsActual tree which d → (n : ℕ) × IsSource tree which n × IsPart tree n d × IsDeclarer tree d
+  pub source_of : (d : ℕ) → IsActual tree which d → (n : ℕ) × IsSource tree which n × IsPart tree n d × IsDeclarerAt tree d
   source_of d (whole {top = n} is part dec) = (n, inl is, part, dec)
   source_of d (inner {d = n} is on part dec) = (n, inr (is, on), part, dec)
 
-  pub actual_by : (n d : ℕ) → IsSource tree which n → IsPart tree n d → IsDeclarer tree d → IsActual tree which d
+  pub actual_by : (n d : ℕ) → IsSource tree which n → IsPart tree n d → IsDeclarerAt tree d → IsActual tree which d
   actual_by n d source part dec = ⊎_elim (λ h. whole h part dec) (λ s. inner s.0 s.1 part dec) source
 
   pub here_exact : (follow : PartsFollow tree) (i : ℕ) (marks : List Bool) → MarkedBefore tree which i marks → (get_or marks i false ≡ true) ↔ IsActual tree which i

@@ -1,8 +1,8 @@
 -- The nodes of declarers, as they get their shapes.
 use Rattle.std.proofs.Common.{◌≡◌, ◌<◌, ◌≤◌, ◌+◌, ◌*◌, ℕ, List, Bool, true, false, length, sym, ◌∙◌, arith, subst, ⊎_elim}
 use Rattle.std.proofs.lemmas.Bool.Decides.{eqb_tells}
-use Rattle.a68_declarers.specs.Modes.{AreDeclared}
-use Rattle.a68_declarers.specs.Declarers.{form_at, IsDeclarer}
+use Rattle.a68_declarers.specs.Modes.{ModesAreDeclared}
+use Rattle.a68_declarers.specs.Declarers.{form_at, IsDeclarerAt}
 use Rattle.a68_declarers.specs.Numbers.{one_if, declarers, number_at, AreNumbers}
 use Rattle.a68_declarers.specs.Shapes.{IsShapeOf}
 use Rattle.a68_declarers.proofs.Counting.{number_is, number_below, number_void, declarers_pass}
@@ -14,8 +14,8 @@ use Rattle.a68_tree.specs.Trees.{Built}
 
 -- the declarers before a node have their shapes, and those from there on none yet
 pub record AreSet (tree : Built) (numbers : List ℕ) (count : ℕ) (nodes : List Shape) : Type 0 where
-  pub done : (d : ℕ) (fixed : Bool) → d < count → IsDeclarer tree d → IsShapeOf tree (number_at numbers) d fixed (form_at tree d) (shape_at nodes (number_at numbers d fixed))
-  pub blank : (d : ℕ) (fixed : Bool) → count ≤ d → IsDeclarer tree d → shape_at nodes (number_at numbers d fixed) ≡ Blank
+  pub done : (d : ℕ) (fixed : Bool) → d < count → IsDeclarerAt tree d → IsShapeOf tree (number_at numbers) d fixed (form_at tree d) (shape_at nodes (number_at numbers d fixed))
+  pub blank : (d : ℕ) (fixed : Bool) → count ≤ d → IsDeclarerAt tree d → shape_at nodes (number_at numbers d fixed) ≡ Blank
 
 -- one node has its shape, and the others are as they were
 pub record IsSet (tree : Built) (numbers : List ℕ) (d : ℕ) (fixed : Bool) (old new : List Shape) : Type 0 where
@@ -29,9 +29,9 @@ module _ (tree : Built) (numbers : List ℕ) (are : AreNumbers tree numbers) whe
     blank = λ d fixed h is. none (number_at numbers d fixed) (let n = number_is tree numbers are d fixed is in omega arith);
   }
 
-  pub passed : (i : ℕ) (nodes : List Shape) → (IsDeclarer tree i → ⊥) → AreSet tree numbers i nodes → AreSet tree numbers (i + 1) nodes
+  pub passed : (i : ℕ) (nodes : List Shape) → (IsDeclarerAt tree i → ⊥) → AreSet tree numbers i nodes → AreSet tree numbers (i + 1) nodes
   passed i nodes never so = record {
-    done = λ d fixed h is. ⊎_elim (λ s. absurd (never (subst (IsDeclarer tree) s.1 is))) (λ s. let n = s.1 in so.done d fixed (omega arith) is) (eqb_tells d i);
+    done = λ d fixed h is. ⊎_elim (λ s. absurd (never (subst (IsDeclarerAt tree) s.1 is))) (λ s. let n = s.1 in so.done d fixed (omega arith) is) (eqb_tells d i);
     blank = λ d fixed h is. so.blank d fixed (omega arith) is;
   }
 
@@ -39,7 +39,7 @@ module _ (tree : Built) (numbers : List ℕ) (are : AreNumbers tree numbers) whe
   low_one true = omega arith
   low_one false = omega arith
 
-  apart : (d e : ℕ) (fixed other : Bool) → IsDeclarer tree d → IsDeclarer tree e → d < e → number_at numbers d fixed < number_at numbers e other
+  apart : (d e : ℕ) (fixed other : Bool) → IsDeclarerAt tree d → IsDeclarerAt tree e → d < e → number_at numbers d fixed < number_at numbers e other
   apart d e fixed other is also h =
       let n = number_is tree numbers are d fixed is in
       let m = number_is tree numbers are e other also in
@@ -47,13 +47,13 @@ module _ (tree : Built) (numbers : List ℕ) (are : AreNumbers tree numbers) whe
       let l = low_one fixed in
       omega arith
 
-  two_of : (d : ℕ) → IsDeclarer tree d → number_at numbers d false < number_at numbers d true
+  two_of : (d : ℕ) → IsDeclarerAt tree d → number_at numbers d false < number_at numbers d true
   two_of d is = let n = number_is tree numbers are d false is in let m = number_is tree numbers are d true is in omega arith
 
-  pub two_apart : (d : ℕ) → IsDeclarer tree d → number_at numbers d true ≡ number_at numbers d false → ⊥
+  pub two_apart : (d : ℕ) → IsDeclarerAt tree d → number_at numbers d true ≡ number_at numbers d false → ⊥
   two_apart d is e = let l = two_of d is in omega arith
 
-  pub set_both : (i : ℕ) (one two three : List Shape) → IsDeclarer tree i → IsSet tree numbers i false one two → IsSet tree numbers i true two three
+  pub set_both : (i : ℕ) (one two three : List Shape) → IsDeclarerAt tree i → IsSet tree numbers i false one two → IsSet tree numbers i true two three
       → AreSet tree numbers i one → AreSet tree numbers (i + 1) three
   set_both i one two three is a b so = record {
     done = λ d fixed h dec. ⊎_elim
@@ -76,7 +76,7 @@ module _ (tree : Built) (numbers : List ℕ) (are : AreNumbers tree numbers) whe
       here true = b.shape
       here false = subst (IsShapeOf tree (number_at numbers) i false (form_at tree i)) (sym (b.others (number_at numbers i false) (λ e. let l = two_of i is in omega arith))) a.shape
 
-  pub all_set : (i : ℕ) (nodes : List Shape) → length tree.nodes ≤ i → length nodes ≡ 13 + 2 * declarers tree (length tree.nodes) → AreSet tree numbers i nodes → AreDeclared tree nodes (number_at numbers)
+  pub all_set : (i : ℕ) (nodes : List Shape) → length tree.nodes ≤ i → length nodes ≡ 13 + 2 * declarers tree (length tree.nodes) → AreSet tree numbers i nodes → ModesAreDeclared tree nodes (number_at numbers)
   all_set i nodes h long so = record {
     there = λ d fixed. let b = number_below tree numbers are d fixed in omega arith;
     void = number_void tree numbers are;

@@ -12,7 +12,7 @@ use Rattle.a68_declarers.specs.declared.form.DeclarerForm.TheVariants as forms
 use Rattle.a68_declarers.specs.Declarers.{known_forms, or_word, form_at, is_field}
 use Rattle.a68_declarers.specs.Shapes.{last_mode, front, fields, defined_mode, IsShapeOf}
 use Rattle.a68_modes.specs.declared.shape.Shape.{Shape}
-use Rattle.a68_modes.specs.Nodes.{parts_of, IsWithin}
+use Rattle.a68_modes.specs.Nodes.{parts_of, ShapeIsWithin}
 use Rattle.a68_ranges.specs.Nodes.{kind_at, name_at, parts_at, spelling_at}
 use Rattle.a68_ranges.specs.Standard.{IsModeWordOf}
 use Rattle.a68_declarers.proofs.There.{at_place}
@@ -145,7 +145,7 @@ shape_holds P tree number d fixed forms.Word shape low std each word (definition
 
 -- each mode within the shape of a declarer is there
 pub shape_within : (tree : Built) (number : ℕ → Bool → ℕ) (count d : ℕ) (fixed : Bool) (form : DeclarerForm) (shape : Shape) → IsLow form → 13 ≤ count
-    → ((e : ℕ) (fixed : Bool) → number e fixed < count) → IsShapeOf tree number d fixed form shape → IsWithin count shape
+    → ((e : ℕ) (fixed : Bool) → number e fixed < count) → IsShapeOf tree number d fixed form shape → ShapeIsWithin count shape
 shape_within tree number count d fixed form shape low few each is =
     shape_holds (λ k. k < count) tree number d fixed form shape low (λ m h. omega arith) (λ e f c. each e f)
     (λ definition of. last_holds (λ k. k < count) (omega arith) (λ e. number e fixed) (parts_at tree definition) (λ e c. each e fixed)) is

@@ -4,13 +4,13 @@ use Rattle.std.specs.Prelude.{slice_index_or, replicate}
 use Rattle.std.specs.List.{Contains}
 use Rattle.std.specs.Option.{option_map_or, option_map}
 use Rattle.std.proofs.lemmas.Bool.{false≢true}
-use Rattle.a68_declarers.specs.Declarers.{is_declarer, IsDeclarer}
+use Rattle.a68_declarers.specs.Declarers.{is_declarer, IsDeclarerAt}
 use Rattle.std.proofs.lemmas.Bool.Decides.{eqb_tells}
 use Rattle.std.proofs.lemmas.List.{length-replicate}
 use Rattle.std.proofs.lemmas.List.Elements.{All-contains}
 use Rattle.a68_ranges.proofs.Parenting.{all_below, all_behind}
 use Rattle.a68_ranges.proofs.Taking.{past, below_or, read}
-use Rattle.a68_ranges.specs.Definitions.{defines, FirstDefinition, here, further, IsDefinition}
+use Rattle.a68_ranges.specs.Definitions.{defines, FirstDefinition, here, further, IsWordDefinition}
 use Rattle.a68_ranges.specs.Nodes.{kind_at, parts_at, IsPart}
 use Rattle.a68_ranges.specs.declared.sort.IndicatorKind.{IndicatorKind}
 use Rattle.a68_tree.specs.Trees.{Built, AllBetween}
@@ -20,7 +20,7 @@ use Rattle.a68_tree.specs.declared.node.Node.{Node}
 pub kind_past : (tree : Built) (d : ℕ) → length tree.nodes ≤ d → kind_at tree d ≡ kind.Skip
 kind_past tree d h = ap (λ (o : Option Node). option_map_or (λ (n : Node). n.kind) o kind.Skip) (past tree.nodes d h)
 
-pub declarer_there : (tree : Built) (d : ℕ) → IsDeclarer tree d → d < length tree.nodes
+pub declarer_there : (tree : Built) (d : ℕ) → IsDeclarerAt tree d → d < length tree.nodes
 declarer_there tree d is = ⊎_elim (λ h. h) (λ h. absurd (false≢true (sym (ap is_declarer (kind_past tree d h)) ∙ is))) (below_or d (length tree.nodes))
 
 nothing : (sort : IndicatorKind) → defines kind.Skip ≡ Some sort → ⊥
@@ -32,7 +32,7 @@ first_there {tree = tree} {sort = sort} {d = d} (here is) =
     ⊎_elim (λ h. h) (λ h. absurd (nothing sort (ap defines (sym (kind_past tree d h)) ∙ is.sort_is))) (below_or d (length tree.nodes))
 first_there (further none more) = first_there more
 
-pub definition_there : (tree : Built) (at : ℕ) (sort : IndicatorKind) (name d : ℕ) → IsDefinition tree at sort name d → d < length tree.nodes
+pub definition_there : (tree : Built) (at : ℕ) (sort : IndicatorKind) (name d : ℕ) → IsWordDefinition tree at sort name d → d < length tree.nodes
 definition_there tree at sort name d is = first_there is.first
 
 -- the parts of a node, as they are read

@@ -6,7 +6,7 @@ use Rattle.a68_declarers.specs.declared.actual.Holders.{Holders}
 use Rattle.a68_declarers.specs.declared.actual.Holders.TheVariants as holders
 use Rattle.a68_declarers.specs.declared.form.DeclarerForm.{DeclarerForm}
 use Rattle.a68_declarers.specs.declared.form.DeclarerForm.TheVariants as forms
-use Rattle.a68_declarers.specs.Declarers.{form_at, is_mode_definition, IsDeclarer}
+use Rattle.a68_declarers.specs.Declarers.{form_at, is_mode_definition, IsDeclarerAt}
 use Rattle.a68_ranges.specs.Nodes.{kind_at, IsPart}
 use Rattle.a68_tree.specs.Trees.{Built}
 use Rattle.a68_tree.specs.declared.kind.NodeKind.{NodeKind}
@@ -32,8 +32,8 @@ hands_on _ = false
 
 -- an actual declarer of one of these, or one within it
 pub data IsActual (tree : Built) (which : Holders) : ℕ → Type 0 where
-  whole : {top d : ℕ} → is_holder which (kind_at tree top) ≡ true → IsPart tree top d → IsDeclarer tree d → IsActual tree which d
-  inner : {d e : ℕ} → IsActual tree which d → hands_on (form_at tree d) ≡ true → IsPart tree d e → IsDeclarer tree e → IsActual tree which e
+  whole : {top d : ℕ} → is_holder which (kind_at tree top) ≡ true → IsPart tree top d → IsDeclarerAt tree d → IsActual tree which d
+  inner : {d e : ℕ} → IsActual tree which d → hands_on (form_at tree d) ≡ true → IsPart tree d e → IsDeclarerAt tree e → IsActual tree which e
 
 -- the actual declarers are marked, and no others
 pub record AreActual (tree : Built) (which : Holders) (marks : List Bool) : Type 0 where
@@ -46,9 +46,9 @@ IsSource tree which n = (is_holder which (kind_at tree n) ≡ true) ⊎ (IsActua
 
 -- a declarer is marked by one of the nodes before a number
 abbrev pub IsMarkedBefore : Built → Holders → (count : ℕ) → ℕ → Type 0
-IsMarkedBefore tree which count d = (n : ℕ) × (n < count) × IsSource tree which n × IsPart tree n d × IsDeclarer tree d
+IsMarkedBefore tree which count d = (n : ℕ) × (n < count) × IsSource tree which n × IsPart tree n d × IsDeclarerAt tree d
 
 -- the declarers among these nodes are marked, and no others are new
 pub record AreMarked (tree : Built) (nodes : List ℕ) (old new : List Bool) : Type 0 where
   pub long : length new ≡ length old
-  pub exact : (d : ℕ) → (slice_index_or new d false ≡ true) ↔ ((slice_index_or old d false ≡ true) ⊎ (Contains nodes d × IsDeclarer tree d))
+  pub exact : (d : ℕ) → (slice_index_or new d false ≡ true) ↔ ((slice_index_or old d false ≡ true) ⊎ (Contains nodes d × IsDeclarerAt tree d))

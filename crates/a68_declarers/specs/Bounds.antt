@@ -4,8 +4,8 @@ use Rattle.a68_declarers.specs.declared.actual.Holders.TheVariants as holders
 use Rattle.a68_declarers.specs.declared.form.DeclarerForm.{DeclarerForm}
 use Rattle.a68_declarers.specs.declared.form.DeclarerForm.TheVariants as forms
 use Rattle.a68_declarers.specs.Actual.{IsActual, AreActual}
-use Rattle.a68_declarers.specs.Declarers.{form_at, is_word, IsDeclarer}
-use Rattle.a68_ranges.specs.Nodes.{kind_at, parts_at, place_at, IsPart, IsWithin}
+use Rattle.a68_declarers.specs.Declarers.{form_at, is_word, IsDeclarerAt}
+use Rattle.a68_ranges.specs.Nodes.{kind_at, parts_at, place_at, IsPart, StandsWithin}
 use Rattle.a68_tree.specs.Trees.{Built}
 use Rattle.a68_tree.specs.declared.kind.NodeKind.{NodeKind}
 use Rattle.a68_tree.specs.declared.kind.NodeKind.TheVariants as kind
@@ -14,12 +14,12 @@ use Rattle.a68_tree.specs.declared.kind.NodeKind.TheVariants as kind
 pub data IsBarred (tree : Built) (x : ℕ) : Type 0 where
   a_routine : kind_at tree x ≡ kind.RoutineText → IsBarred tree x
   a_parallel : kind_at tree x ≡ kind.Parallel → IsBarred tree x
-  an_actual_word : IsDeclarer tree x → is_word (form_at tree x) ≡ true → IsActual tree holders.All x → IsBarred tree x
+  an_actual_word : IsDeclarerAt tree x → is_word (form_at tree x) ≡ true → IsActual tree holders.All x → IsBarred tree x
 
 -- the node is barred, or has a barred one within it
 pub record HoldsBarred (tree : Built) (a : ℕ) : Type 0 where
   pub barred : ℕ
-  pub within : IsWithin tree a barred
+  pub within : StandsWithin tree a barred
   pub is : IsBarred tree barred
 
 abbrev pub is_bound : NodeKind → Bool
@@ -37,7 +37,7 @@ pub data HasWrongBound (tree : Built) (d b : ℕ) : Type 0 where
   barred : IsActual tree holders.ModeDefinitions d → HoldsBarred tree b → HasWrongBound tree d b
 
 pub record HasWrongBounds (tree : Built) (d : ℕ) : Type 0 where
-  pub declarer : IsDeclarer tree d
+  pub declarer : IsDeclarerAt tree d
   pub bound : ℕ
   pub of : IsBoundOf tree d bound
   pub wrong : HasWrongBound tree d bound

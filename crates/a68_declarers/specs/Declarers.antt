@@ -46,8 +46,8 @@ is_united forms.Union = true
 is_united _ = false
 
 -- a declarer
-abbrev pub IsDeclarer : Built → ℕ → Type 0
-IsDeclarer tree d = is_declarer (kind_at tree d) ≡ true
+abbrev pub IsDeclarerAt : Built → ℕ → Type 0
+IsDeclarerAt tree d = is_declarer (kind_at tree d) ≡ true
 
 -- VOID in the place of a declarer
 abbrev pub IsVoidWord : Built → ℕ → Type 0

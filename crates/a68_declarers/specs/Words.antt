@@ -1,6 +1,6 @@
 -- Mode words without a definition, and too many declarers (Report, 4.8; the limit is own).
 use Rattle.std.specs.Prelude.{◌≡◌, ◌≤◌, ◌<◌, ◌+◌, ◌&&◌, true, ℕ, zero, suc, length, nat_lt}
-use Rattle.a68_declarers.specs.Declarers.{form_at, is_declarer, is_word, IsDeclarer}
+use Rattle.a68_declarers.specs.Declarers.{form_at, is_declarer, is_word, IsDeclarerAt}
 use Rattle.a68_declarers.specs.Numbers.{one_if}
 use Rattle.a68_ranges.specs.Definitions.{Undefined}
 use Rattle.a68_ranges.specs.Nodes.{kind_at, name_at, place_at}
@@ -9,7 +9,7 @@ use Rattle.a68_tree.specs.Trees.{Built}
 
 -- a mode word that no surrounding range defines
 pub record IsUndefinedWord (tree : Built) (d : ℕ) : Type 0 where
-  pub declarer : IsDeclarer tree d
+  pub declarer : IsDeclarerAt tree d
   pub word : is_word (form_at tree d) ≡ true
   pub undefined : Undefined tree d sorts.ModeWord (name_at tree d)
 

@@ -1,7 +1,7 @@
 //! The modes of all declarers of a tree.
 ghost use Rattle.std.specs.Prelude.{◌≡◌, ◌<◌, ◌≤◌, ◌+◌, ◌*◌, ◌^◌, ℕ, Bool, IfOk, OnOk, length, take};
-ghost use Rattle.a68_declarers.specs.Modes.{AreDeclared, AreOrdered};
-ghost use Rattle.a68_declarers.specs.Declarers.{form_at, IsDeclarer};
+ghost use Rattle.a68_declarers.specs.Modes.{ModesAreDeclared, AreOrdered};
+ghost use Rattle.a68_declarers.specs.Declarers.{form_at, IsDeclarerAt};
 ghost use Rattle.a68_declarers.specs.Numbers.{declarers, number_at, AreNumbers};
 ghost use Rattle.a68_declarers.specs.Shapes.{IsShapeOf};
 ghost use Rattle.a68_modes.specs.Nodes.{shape_at, standard_shapes};
@@ -69,7 +69,7 @@ fn set_all(
     requires numbers { AreNumbers tree.now numbers.now }
     requires long { length modes.old ≡ 13 + 2 * declarers tree.now (length tree.now.nodes) }
     requires blank { (m : ℕ) → 13 ≤ m → shape_at modes.old m ≡ Blank }
-    ensures declared { OnOk result (AreDeclared tree.now modes.new (number_at numbers.now)) }
+    ensures declared { OnOk result (ModesAreDeclared tree.now modes.new (number_at numbers.now)) }
     ensures long { OnOk result (length modes.new ≡ length modes.old) }
 {
     for id in 0..tree.len() {
@@ -91,7 +91,7 @@ pub fn raw_modes(
     requires ranges { AreRanges tree.now ranges.now }
     requires numbers { AreNumbers tree.now numbers.now }
     requires few { declarers tree.now (length tree.now.nodes) ≤ 4096 }
-    ensures declared { IfOk result (λ modes. AreDeclared tree.now modes (number_at numbers.now)) }
+    ensures declared { IfOk result (λ modes. ModesAreDeclared tree.now modes (number_at numbers.now)) }
     ensures ordered { IfOk result (λ modes. AreOrdered tree.now modes (number_at numbers.now)) }
     ensures standard { IfOk result (λ modes. take 13 modes ≡ standard_shapes) }
     ensures few { IfOk result (λ modes. length modes ≤ 2 ^ 20) }

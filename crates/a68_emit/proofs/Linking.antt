@@ -12,7 +12,7 @@ use Rattle.a68_elab.specs.Runs.{agrees, agrees_at, is_outcome, left_by, outcome,
 use Rattle.a68_elab.specs.Programs.{fitting, misfit, unit, behind, defined_bound, tree_in}
 use Rattle.a68_elab.specs.declared.sight.Sight.{Sight}
 use Rattle.a68_elab.specs.Trees.{Tree, Trees, cases, choice, meaningless}
-use Rattle.a68_emit.specs.Chains.{enquiry_tree, IsWithin, link_tree, other_tree}
+use Rattle.a68_emit.specs.Chains.{enquiry_tree, LinkIsWithin, link_tree, other_tree}
 use Rattle.a68_emit.specs.declared.chains.Link.{Link}
 use Rattle.a68_modes.specs.Nodes.{shape_at, is_void}
 use Rattle.a68_modes.specs.declared.coercion.Coercion.{Coercion}
@@ -56,7 +56,7 @@ pub other_behind : (id count place goal : ℕ) (f : ℕ → Tree) (o : Option �
 other_behind id count place goal f None h = refl
 other_behind id count place goal f (Some p) h = behind_is id p f h.0
 
-pub link_behind : (a : Annotated) (id : ℕ) (f : ℕ → Tree) (l : Link) → IsWithin a l → l.id ≡ id → link_tree a (behind id f) l ≡ link_tree a f l
+pub link_behind : (a : Annotated) (id : ℕ) (f : ℕ → Tree) (l : Link) → LinkIsWithin a l → l.id ≡ id → link_tree a (behind id f) l ≡ link_tree a f l
 link_behind a id f l within same =
     let n = length a.tree.nodes in
     let e : id < l.enquiry = subst (λ (k : ℕ). k < l.enquiry) same within.enquiry.0 in
@@ -104,7 +104,7 @@ pub next_tree : (program : Annotated) (s : Sight) (id : ℕ) (node : Node) (note
     → slice_get program.notes id ≡ Some note → runs program id ≡ true → node.kind ≡ kind.Conditional → note.path ≡ [] → place ≡ node.span.from → goal ≡ note.goal → ids ≡ node.parts
     → ((f : ℕ → Tree) → MatchOption o (choice_of program f place goal (not (is_void (shape_at program.modes goal))) ids ≡ meaningless)
     (λ l. choice_of program f place goal (not (is_void (shape_at program.modes goal))) ids ≡ link_tree program f l))
-    → IfSome o (IsWithin program) → IfSome o (λ l. l.id ≡ id) → IfSome o (λ l. tree_in program s l.id ≡ link_tree program (tree_in program s) l)
+    → IfSome o (LinkIsWithin program) → IfSome o (λ l. l.id ≡ id) → IfSome o (λ l. tree_in program s l.id ≡ link_tree program (tree_in program s) l)
 next_tree program s id node note None place goal ids e f run is_choice bare at asked these m within same = tt
 next_tree program s id node note (Some l) place goal ids e f run is_choice bare at asked these m within same =
     let g = behind id (tree_in program s) in

@@ -31,7 +31,7 @@ abbrev pub link_tree : Annotated → (ℕ → Tree) → Link → Tree
 link_tree a f l = framed l.at l.place l.slots l.yields (choice l.place (enquiry_tree a f l) (f l.part) (other_tree f l))
 
 -- the parts of a link stand behind it, and those of its enquiry behind that
-pub record IsWithin (a : Annotated) (l : Link) : Type 0 where
+pub record LinkIsWithin (a : Annotated) (l : Link) : Type 0 where
   pub enquiry : (l.id < l.enquiry) × (l.enquiry < length a.tree.nodes)
   pub part : (l.id < l.part) × (l.part < length a.tree.nodes)
   pub other : IfSome l.other (λ p. (l.id < p) × (p < length a.tree.nodes))
@@ -70,8 +70,8 @@ Finishes (o ∷ opens) Wanted stop list =
     Finishes opens (λ s l. (s' : Option Stop) (l' : List Instr) → Closes o s l s' l' → Wanted s' l') stop list
 
 -- a tree is written behind this list
-abbrev pub IsWhole : Tree → Option Stop → List Instr → Option Stop → List Instr → Type 0
-IsWhole tree stop list stop' list' = Writes stop stop' list list' (stretch tree (length list))
+abbrev pub TreeIsWritten : Tree → Option Stop → List Instr → Option Stop → List Instr → Type 0
+TreeIsWritten tree stop list stop' list' = Writes stop stop' list list' (stretch tree (length list))
 
 -- once the tree is written here, and these choices are ended behind it, what is wanted is so
 abbrev pub IsOpen : (Option Stop → List Instr → Type 0) → List Opened → Tree → Option Stop → List Instr → Type 0

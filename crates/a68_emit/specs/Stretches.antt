@@ -57,9 +57,9 @@ Indexes code false place a b = a ≡ b
 Indexes code true place a b = (m n : ℕ) × Has code place (does.Enter 1) a m × Has code place does.Index m n × Has code place (does.Bind 0) n b
 
 -- with slots: Enter
-abbrev pub Opens : Code → (slots place a b : ℕ) → Type 0
-Opens code zero place a b = a ≡ b
-Opens code (suc n) place a b = Has code place (does.Enter (suc n)) a b
+abbrev pub EntersSlots : Code → (slots place a b : ℕ) → Type 0
+EntersSlots code zero place a b = a ≡ b
+EntersSlots code (suc n) place a b = Has code place (does.Enter (suc n)) a b
 
 -- so many Leave 0
 abbrev pub Leaves : Code → (place count a b : ℕ) → Type 0
@@ -165,7 +165,7 @@ abbrev mutual
   -- the frame of WHILE, the enquiry, and Unless f
   pub Tests : Code → Test → (place f a b : ℕ) → Type 0
   Tests code no_test place f a b = a ≡ b
-  Tests code (while_in at slots test) place f a b = (m n : ℕ) × Opens code slots at a m × Stands code true test m n × Has code place (does.Unless f) n b
+  Tests code (while_in at slots test) place f a b = (m n : ℕ) × EntersSlots code slots at a m × Stands code true test m n × Has code place (does.Unless f) n b
 
 -- What stands apart, one stretch behind the other: a routine text at its entrance, with Return behind its body, and a unit
 -- of a parallel clause, which yields nothing, at its entrance, with Close behind it.

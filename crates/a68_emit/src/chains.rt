@@ -4,7 +4,7 @@ ghost use Rattle.std.specs.Prelude.{◌≡◌, ◌<◌, ℕ, [], length, not, If
 ghost use Rattle.a68_elab.specs.Made.{choice_of, left_out, with_enquiry};
 ghost use Rattle.a68_elab.specs.Trees as trees;
 ghost use Rattle.a68_elab.specs.Trees.{Tree};
-ghost use Rattle.a68_emit.specs.Chains.{IsWithin, link_tree};
+ghost use Rattle.a68_emit.specs.Chains.{LinkIsWithin, link_tree};
 ghost use Rattle.a68_emit.specs.Views.{tree_of};
 ghost use Rattle.a68_modes.specs.Nodes.{shape_at, is_void};
 ghost use Rattle.a68_tree.specs.Trees.{AllBetween};
@@ -44,7 +44,7 @@ fn link_with(
     requires other { IfSome other (λ p. (id < p) × (p < length program.now.of.now.tree.nodes)) }
     ensures tree { (f : ℕ → Tree) → with_enquiry program.now.of.now f place (not (is_void (shape_at program.now.of.now.modes goal))) enquiry
         (λ e. trees.choice place e (f part) (option_map_or f other (left_out place goal))) ≡ link_tree program.now.of.now f result }
-    ensures within { IsWithin program.now.of.now result }
+    ensures within { LinkIsWithin program.now.of.now result }
     ensures node { result.id ≡ id }
 {
     let node = program.of.node(enquiry);
@@ -74,7 +74,7 @@ pub fn link_of(
     requires { AllBetween id (length program.now.of.now.tree.nodes) parts.now }
     ensures tree { (f : ℕ → Tree) → MatchOption result (choice_of program.now.of.now f place goal (not (is_void (shape_at program.now.of.now.modes goal))) parts.now ≡ trees.meaningless)
         (λ link. choice_of program.now.of.now f place goal (not (is_void (shape_at program.now.of.now.modes goal))) parts.now ≡ link_tree program.now.of.now f link) }
-    ensures within { IfSome result (IsWithin program.now.of.now) }
+    ensures within { IfSome result (LinkIsWithin program.now.of.now) }
     ensures node { IfSome result (λ link. link.id ≡ id) }
 {
     if parts.len() == 2 {
@@ -96,9 +96,9 @@ fn is_link(node: &Node, note: &Note) -> bool
 
 /// The next choice of a chain, where there is one.
 pub fn next_link(program: &View, link: &Link) -> Option<Link>
-    requires { IsWithin program.now.of.now link.now }
+    requires { LinkIsWithin program.now.of.now link.now }
     ensures tree { IfSome result (λ next. tree_of program.now next.id ≡ link_tree program.now.of.now (tree_of program.now) next) }
-    ensures within { IfSome result (IsWithin program.now.of.now) }
+    ensures within { IfSome result (LinkIsWithin program.now.of.now) }
     ensures there { IfSome result (λ next. (link.now.other ≡ Some next.id) × (link.now.id < next.id)) }
 {
     let Some(id) = link.other else {

@@ -4,7 +4,7 @@ ghost use Rattle.std.specs.declared.option.Option.{Option};
 ghost use Rattle.a68_base.specs.declared.refusal.Stop.{Stop};
 ghost use Rattle.a68_code.specs.declared.code.Instr.{Instr};
 ghost use Rattle.a68_elab.specs.Trees.{Tree};
-ghost use Rattle.a68_emit.specs.Chains.{Closes, Finishes, IsWhole, shuts};
+ghost use Rattle.a68_emit.specs.Chains.{Closes, Finishes, TreeIsWritten, shuts};
 ghost use Rattle.a68_emit.specs.Writers.{Wrote};
 ghost use Rattle.a68_emit.specs.Writing.{ran_out};
 
@@ -70,8 +70,8 @@ fn close(opened: &Opened, out: &mut Writer)
 
 /// Ends all these choices here, from the last to the first.
 pub fn close_all(opens: &[Opened], out: &mut Writer)
-    ensures { (t : Tree) (stop : Option Stop) (list : List Instr) → Finishes opens.now (IsWhole t stop list) out.old.stop out.old.list
-        → IsWhole t stop list out.new.stop out.new.list }
+    ensures { (t : Tree) (stop : Option Stop) (list : List Instr) → Finishes opens.now (TreeIsWritten t stop list) out.old.stop out.old.list
+        → TreeIsWritten t stop list out.new.stop out.new.list }
 {
     let mut left = opens.len();
     while left > 0 {

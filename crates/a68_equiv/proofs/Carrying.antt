@@ -2,7 +2,7 @@
 use Rattle.std.proofs.Common.{◌≡◌, ◌<◌, ℕ, zero, suc, List, Bool, length, sym, ◌∙◌, arith, subst}
 use Rattle.a68_modes.specs.declared.shape.Shape.{Shape}
 use Rattle.a68_equiv.specs.declared.mode.Mode.{Mode}
-use Rattle.a68_equiv.specs.Unfolding.{IsPart, Alike}
+use Rattle.a68_equiv.specs.Unfolding.{IsModePart, Alike}
 use Rattle.a68_equiv.specs.Graph.{number_of, IsGraphOf}
 use Rattle.a68_partition.specs.Rounds.{AlikeIn, IsRefined}
 use Rattle.a68_equiv.specs.Classes.{AreExact}
@@ -12,7 +12,7 @@ same_id : (a b : Mode) → number_of a ≡ number_of b → a.id ≡ b.id
 same_id a b e = let l = bit_low a.fixed in let m = bit_low b.fixed in omega arith
 
 module _ (nodes : List Shape) (heads : List ℕ) (rows : List (Bool × List ℕ)) (graph : IsGraphOf nodes heads rows) where
-  part_below : (a : Mode) (place : ℕ) (p : Mode) → a.id < length nodes → IsPart nodes a place p → p.id < length nodes
+  part_below : (a : Mode) (place : ℕ) (p : Mode) → a.id < length nodes → IsModePart nodes a place p → p.id < length nodes
   part_below a place p h is =
       let r = graph.rows_are a h in
       let k = r.only place (number_of p) (r.all place p is) in

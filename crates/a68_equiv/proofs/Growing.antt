@@ -9,14 +9,14 @@ use Rattle.std.proofs.lemmas.List.{length-map}
 use Rattle.std.proofs.lemmas.List.Elements.{All-contains, All-weaker}
 use Rattle.a68_modes.specs.declared.shape.Shape.{Shape}
 use Rattle.a68_modes.specs.declared.shape.Shape.TheVariants.{Union, Same, Blank}
-use Rattle.a68_modes.specs.Nodes.{shape_at, IsWithin, HoldsNodes}
+use Rattle.a68_modes.specs.Nodes.{shape_at, ShapeIsWithin, HoldsNodes}
 use Rattle.a68_equiv.specs.declared.mode.Mode.{Mode}
 use Rattle.a68_equiv.specs.declared.steps.Inward.{Inward}
 use Rattle.a68_equiv.specs.declared.steps.Inward.TheVariants.{BesidesNames, BesidesStructures, WithinUnions}
 use Rattle.a68_equiv.specs.Ways.{steps_of, row, Way, IsWellFormed, AreWellFormed}
 use Rattle.a68_equiv.specs.Ways.Way.{last_step, more_steps}
 use Rattle.a68_equiv.specs.Spread.{IsLed, IsSpread}
-use Rattle.a68_equiv.specs.Unfolding.{behind, word_or, unfolded, leads_within, passes_on, is_union, IsMember, IsAt, IsPart, Alike}
+use Rattle.a68_equiv.specs.Unfolding.{behind, word_or, unfolded, leads_within, passes_on, is_union, IsMember, IsInMode, IsModePart, Alike}
 use Rattle.a68_equiv.specs.Graph.{IsShapeRow, IsRowOf}
 use Rattle.a68_equiv.specs.ModeKeys.{bare}
 use Rattle.a68_equiv.proofs.Chains.{steps, counted, ends}
@@ -57,11 +57,11 @@ one_more nodes (suc k) m h = go (shape_at nodes m) (one_more nodes k) h
     go _ ih h = refl
 
 -- where one list has the members of another, it has what stands in a node of a shape
-at_other : (nodes others : List Shape) (m n : ℕ) (s : Shape) (place x : ℕ) → (IsMember nodes m x → IsMember others n x) → IsAt nodes m s place x → IsAt others n s place x
+at_other : (nodes others : List Shape) (m n : ℕ) (s : Shape) (place x : ℕ) → (IsMember nodes m x → IsMember others n x) → IsInMode nodes m s place x → IsInMode others n s place x
 at_other nodes others m n (Union ms) place x f h = (h.0, f h.1)
 at_other nodes others m n _ place x f h = h
 
-at_below : (nodes : List Shape) (n m : ℕ) (s : Shape) (place x : ℕ) → IsWithin n s → (IsMember nodes m x → x < n) → IsAt nodes m s place x → x < n
+at_below : (nodes : List Shape) (n m : ℕ) (s : Shape) (place x : ℕ) → ShapeIsWithin n s → (IsMember nodes m x → x < n) → IsInMode nodes m s place x → x < n
 at_below nodes n m (Union ms) place x within f h = f h.1
 at_below nodes n m _ place x within f h = rw (← h.1) (within place 0 h.0)
 
@@ -76,12 +76,12 @@ pub way_below : (nodes : List Shape) → HoldsNodes nodes → (which : Inward) (
 way_below nodes holds which a b h (last_step i) = step_below nodes holds which a b h i
 way_below nodes holds which a b h (more_steps {b = c} i w) = way_below nodes holds which c b (step_below nodes holds which a c h i) w
 
-pub part_below : (nodes : List Shape) → HoldsNodes nodes → (a p : Mode) (place : ℕ) → a.id < length nodes → IsPart nodes a place p → p.id < length nodes
+pub part_below : (nodes : List Shape) → HoldsNodes nodes → (a p : Mode) (place : ℕ) → a.id < length nodes → IsModePart nodes a place p → p.id < length nodes
 part_below nodes holds a p place h part =
     at_below nodes (length nodes) a.id (unfolded nodes a.id) place p.id (holds.within (behind nodes (length nodes) a.id) (behind_below nodes holds (length nodes) a.id h))
     (λ is. way_below nodes holds WithinUnions a.id p.id h is.way) part.at
 
-module _ (nodes : List Shape) (s : Shape) (holds : HoldsNodes nodes) (formed : AreWellFormed nodes) (within : IsWithin (length nodes) s) where
+module _ (nodes : List Shape) (s : Shape) (holds : HoldsNodes nodes) (formed : AreWellFormed nodes) (within : ShapeIsWithin (length nodes) s) where
   no_loops : (m : ℕ) → m < length nodes → (t : ℕ) → unfolded nodes m ≡ Same t → ⊥
   no_loops m h = at_end nodes (length nodes) m (ends (word_next nodes) (length nodes) (Way (map (steps_of BesidesNames) nodes)) inside step (way_join (map (steps_of BesidesNames) nodes)) (λ x g w. (formed x g).names w) m h)
     where
@@ -108,7 +108,7 @@ module _ (nodes : List Shape) (s : Shape) (holds : HoldsNodes nodes) (formed : A
   same_behind zero m h = refl
   same_behind (suc k) m h = rw (old_shape m h) (go (shape_at nodes m) (holds.within m h) (same_behind k))
     where
-      go : (t : Shape) → IsWithin (length nodes) t → ((j : ℕ) → j < length nodes → behind (nodes ++ s ∷ []) k j ≡ behind nodes k j)
+      go : (t : Shape) → ShapeIsWithin (length nodes) t → ((j : ℕ) → j < length nodes → behind (nodes ++ s ∷ []) k j ≡ behind nodes k j)
           → word_or (behind (nodes ++ s ∷ []) k) m t ≡ word_or (behind nodes k) m t
       go (Same t) w ih = ih t (w 0 0 (omega arith))
       go _ w ih = refl
@@ -122,7 +122,7 @@ module _ (nodes : List Shape) (s : Shape) (holds : HoldsNodes nodes) (formed : A
   pub new_unfolded : unfolded (nodes ++ s ∷ []) (length nodes) ≡ bare nodes s
   new_unfolded = ap (λ (k : ℕ). shape_at (nodes ++ s ∷ []) (behind (nodes ++ s ∷ []) k (length nodes))) longer ∙ ap (λ (t : Shape). shape_at (nodes ++ s ∷ []) (word_or (behind (nodes ++ s ∷ []) (length nodes)) (length nodes) t)) new_shape ∙ go s within new_shape
     where
-      go : (t : Shape) → IsWithin (length nodes) t → shape_at (nodes ++ s ∷ []) (length nodes) ≡ t → shape_at (nodes ++ s ∷ []) (word_or (behind (nodes ++ s ∷ []) (length nodes)) (length nodes) t) ≡ bare nodes t
+      go : (t : Shape) → ShapeIsWithin (length nodes) t → shape_at (nodes ++ s ∷ []) (length nodes) ≡ t → shape_at (nodes ++ s ∷ []) (word_or (behind (nodes ++ s ∷ []) (length nodes)) (length nodes) t) ≡ bare nodes t
       go (Same t) w e =
           let h : t < length nodes = w 0 0 (omega arith) in
           ap (shape_at (nodes ++ s ∷ [])) (same_behind (length nodes) t h) ∙ old_shape (behind nodes (length nodes) t) (behind_below nodes holds (length nodes) t h)
@@ -198,32 +198,32 @@ module _ (nodes : List Shape) (s : Shape) (holds : HoldsNodes nodes) (formed : A
           ⊎_elim (λ e. last_step (subst (Contains (row (map (steps_of WithinUnions) (nodes ++ s ∷ [])) (length nodes))) e i)) (λ w. more_steps i (way_in WithinUnions led.from x (first_below WithinUnions led.from led.begun) w)) led.way
 
   -- parts
-  pub part_out : (a p : Mode) (place : ℕ) → a.id < length nodes → IsPart (nodes ++ s ∷ []) a place p → IsPart nodes a place p
+  pub part_out : (a p : Mode) (place : ℕ) → a.id < length nodes → IsModePart (nodes ++ s ∷ []) a place p → IsModePart nodes a place p
   part_out a p place h part = record {
-    at = at_other (nodes ++ s ∷ []) nodes a.id a.id (unfolded nodes a.id) place p.id (member_out a.id p.id h) (subst (λ (t : Shape). IsAt (nodes ++ s ∷ []) a.id t place p.id) (old_unfolded a.id h) part.at);
+    at = at_other (nodes ++ s ∷ []) nodes a.id a.id (unfolded nodes a.id) place p.id (member_out a.id p.id h) (subst (λ (t : Shape). IsInMode (nodes ++ s ∷ []) a.id t place p.id) (old_unfolded a.id h) part.at);
     flex = part.flex ∙ ap (passes_on a.fixed) (old_unfolded a.id h);
   }
 
-  pub part_in : (a p : Mode) (place : ℕ) → a.id < length nodes → IsPart nodes a place p → IsPart (nodes ++ s ∷ []) a place p
+  pub part_in : (a p : Mode) (place : ℕ) → a.id < length nodes → IsModePart nodes a place p → IsModePart (nodes ++ s ∷ []) a place p
   part_in a p place h part = record {
-    at = subst (λ (t : Shape). IsAt (nodes ++ s ∷ []) a.id t place p.id) (sym (old_unfolded a.id h)) (at_other nodes (nodes ++ s ∷ []) a.id a.id (unfolded nodes a.id) place p.id (member_in a.id p.id h) part.at);
+    at = subst (λ (t : Shape). IsInMode (nodes ++ s ∷ []) a.id t place p.id) (sym (old_unfolded a.id h)) (at_other nodes (nodes ++ s ∷ []) a.id a.id (unfolded nodes a.id) place p.id (member_in a.id p.id h) part.at);
     flex = part.flex ∙ ap (passes_on a.fixed) (sym (old_unfolded a.id h));
   }
 
-  bare_within : IsWithin (length nodes) (bare nodes s)
+  bare_within : ShapeIsWithin (length nodes) (bare nodes s)
   bare_within = go s within
     where
-      go : (t : Shape) → IsWithin (length nodes) t → IsWithin (length nodes) (bare nodes t)
+      go : (t : Shape) → ShapeIsWithin (length nodes) t → ShapeIsWithin (length nodes) (bare nodes t)
       go (Same t) w = let h : t < length nodes = w 0 0 (omega arith) in holds.within (behind nodes (length nodes) t) (behind_below nodes holds (length nodes) t h)
       go _ w = w
 
-  pub inside : (a p : Mode) (at : ℕ) → a.id < suc (length nodes) → IsPart (nodes ++ s ∷ []) a at p → p.id < length nodes
+  pub inside : (a p : Mode) (at : ℕ) → a.id < suc (length nodes) → IsModePart (nodes ++ s ∷ []) a at p → p.id < length nodes
   inside a p at h part = go (place a.id h)
     where
       go : (a.id < length nodes) ⊎ (a.id ≡ length nodes) → p.id < length nodes
       go (inl lt) = part_below nodes holds a p at lt (part_out a p at lt part)
       go (inr e) = at_below (nodes ++ s ∷ []) (length nodes) (length nodes) (bare nodes s) at p.id bare_within (λ is. new_below WithinUnions p.id is.way)
-          (subst (λ (t : Shape). IsAt (nodes ++ s ∷ []) (length nodes) t at p.id) new_unfolded (subst (λ (m : ℕ). IsAt (nodes ++ s ∷ []) m (unfolded (nodes ++ s ∷ []) m) at p.id) e part.at))
+          (subst (λ (t : Shape). IsInMode (nodes ++ s ∷ []) (length nodes) t at p.id) new_unfolded (subst (λ (m : ℕ). IsInMode (nodes ++ s ∷ []) m (unfolded (nodes ++ s ∷ []) m) at p.id) e part.at))
 
   -- unfoldings of nodes that were there
   pub grows : (depth : ℕ) (a b : Mode) → a.id < length nodes → b.id < length nodes → Alike nodes depth a b → Alike (nodes ++ s ∷ []) depth a b

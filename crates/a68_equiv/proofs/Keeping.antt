@@ -8,11 +8,11 @@ use Rattle.std.proofs.Math.ListN.{get_or-append}
 use Rattle.std.proofs.lemmas.Bool.{cases_eq}
 use Rattle.std.proofs.lemmas.List.{get_or_default, take_more, get_or-take}
 use Rattle.a68_modes.specs.declared.shape.Shape.{Shape}
-use Rattle.a68_modes.specs.Nodes.{shape_at, IsWithin, HoldsNodes}
+use Rattle.a68_modes.specs.Nodes.{shape_at, ShapeIsWithin, HoldsNodes}
 use Rattle.a68_equiv.specs.declared.mode.Mode.{Mode}
 use Rattle.a68_equiv.specs.Ways.{AreWellFormed}
 use Rattle.a68_equiv.specs.Related.{as_it_stands, without_flex}
-use Rattle.a68_equiv.specs.Unfolding.{unfolded, passes_on, is_union, IsPart, Alike, Equivalent}
+use Rattle.a68_equiv.specs.Unfolding.{unfolded, passes_on, is_union, IsModePart, Alike, Equivalent}
 use Rattle.a68_partition.specs.Rows.{row_at}
 use Rattle.a68_equiv.specs.Graph.{number_of, mode_of, AreBehind, IsShapeRow, IsRowOf, IsGraphOf}
 use Rattle.a68_partition.specs.Rounds.{at_key, Shares, ByFirst, SoFar, IsNumbered}
@@ -61,13 +61,13 @@ so_far_on H K table next i f so = record {
 }
 
 -- what stands in a row is a number of a mode that stands in the mode
-row_part : (nodes : List Shape) (a : Mode) (row : Bool × List ℕ) (w : ℕ) → IsRowOf nodes a row → Contains row.1 w → (place : ℕ) × (p : Mode) × IsPart nodes a place p × (w ≡ number_of p)
+row_part : (nodes : List Shape) (a : Mode) (row : Bool × List ℕ) (w : ℕ) → IsRowOf nodes a row → Contains row.1 w → (place : ℕ) × (p : Mode) × IsModePart nodes a place p × (w ≡ number_of p)
 row_part nodes a row w is i =
     let st = stands_at row.0 row.1 i.0 i.1 in
     let k = is.only st.0 (get_or row.1 i.0 0) st.1 in
     (st.0, k.0, k.2, sym (get_or_default row.1 i.0 0 w i.1 ∙ i.2) ∙ k.3)
 
-module _ (nodes : List Shape) (s : Shape) (holds : HoldsNodes nodes) (formed : AreWellFormed nodes) (within : IsWithin (length nodes) s) (classes : List ℕ) (is : AreExact nodes classes) where
+module _ (nodes : List Shape) (s : Shape) (holds : HoldsNodes nodes) (formed : AreWellFormed nodes) (within : ShapeIsWithin (length nodes) s) (classes : List ℕ) (is : AreExact nodes classes) where
   like_so : (a b : Mode) → a.id < suc (length nodes) → b.id < suc (length nodes) → LikeBy (nodes ++ s ∷ []) classes a b → Equivalent (nodes ++ s ∷ []) a b
   like_so = like_equivalent nodes (nodes ++ s ∷ []) (suc (length nodes)) classes is (inside nodes s holds formed within) (grows nodes s holds formed within) (shrinks nodes s holds formed within)
 
@@ -254,7 +254,7 @@ room_same old items was_items keys was_keys nodes was_nodes e f g is =
     subst (λ (t : Classified). AreSame (record { of = items; by_key = keys; nodes_by_key = nodes }) t) is (record { of = e; by_key = f; nodes_by_key = g })
 
 -- a node that joins keeps the tables
-pub joined_kept : (nodes : List Shape) (s : Shape) (holds : HoldsNodes nodes) (formed : AreWellFormed nodes) (within : IsWithin (length nodes) s)
+pub joined_kept : (nodes : List Shape) (s : Shape) (holds : HoldsNodes nodes) (formed : AreWellFormed nodes) (within : ShapeIsWithin (length nodes) s)
     (t : Classified) → AreKept nodes t → (keys : NewKeys) → AreNewKeys nodes t.of s keys
     → (id : ℕ) (after : List ℕ) (keys1 nodes1 : List (Vec ℕ Global × ℕ)) → id ≡ length nodes → IsJoined keys id t.of after t.by_key keys1 t.nodes_by_key nodes1
     → AreKept (nodes ++ s ∷ []) (record { of = after; by_key = keys1; nodes_by_key = nodes1 })

@@ -6,13 +6,13 @@ use Rattle.std.proofs.lemmas.List.{get_or_default}
 use Rattle.a68_modes.specs.declared.shape.Shape.{Shape}
 use Rattle.a68_modes.specs.declared.shape.Shape.TheVariants.{Void, Int, Bool as bool_shape, Char, Bits, Sema, Layout, Ref, Rows, Struct, Union, Proc, Same, Blank}
 use Rattle.a68_modes.specs.declared.coercion.Coercion.{Coercion}
-use Rattle.a68_modes.specs.Nodes.{shape_at, IsWithin, HoldsNodes}
+use Rattle.a68_modes.specs.Nodes.{shape_at, ShapeIsWithin, HoldsNodes}
 use Rattle.a68_equiv.specs.declared.mode.Mode.{Mode}
 use Rattle.a68_equiv.specs.declared.steps.Inward.TheVariants.{BesidesStructures}
 use Rattle.a68_equiv.specs.Ways.{steps_of, row, Way, AreWellFormed}
 use Rattle.a68_equiv.specs.Ways.Way.{last_step, more_steps}
 use Rattle.a68_equiv.specs.Unfolding.{behind, word_or, unfolded, is_union, Equivalent}
-use Rattle.a68_equiv.specs.Related.{as_it_stands, without_flex, Meek, LeadsMeekly, meek_step, IsAmong}
+use Rattle.a68_equiv.specs.Related.{as_it_stands, without_flex, Meek, LeadsMeekly, meek_step, IsSelfOrMember}
 use Rattle.a68_equiv.specs.Related.Meek.{here, deref, deproc}
 use Rattle.a68_equiv.proofs.Stepping.{row_of_map}
 use Rattle.a68_equiv.proofs.Grasp.{behind_below}
@@ -47,7 +47,7 @@ step_in (Union ms) k e = absurd (cc)
 step_in (Same m) k e = absurd (cc)
 step_in Blank k e = absurd (cc)
 
-pub step_below : (n : ℕ) (s : Shape) (k : ℕ) → IsWithin n s → id_of (meek_step s) ≡ Some k → k < n
+pub step_below : (n : ℕ) (s : Shape) (k : ℕ) → ShapeIsWithin n s → id_of (meek_step s) ≡ Some k → k < n
 step_below n (Ref a) k h e = let same : a ≡ k = cc in let lt = h 0 0 (omega arith) in omega arith
 step_below n (Proc [] a) k h e = let same : a ≡ k = cc in let lt = h 0 0 (omega arith) in omega arith
 step_below n (Proc (p ∷ ps) a) k h e = absurd (cc)
@@ -73,7 +73,7 @@ module _ (nodes : List Shape) (holds : HoldsNodes nodes) where
   to_head zero m h = inl refl
   to_head (suc k) m h = go (shape_at nodes m) refl (holds.within m h) (to_head k)
     where
-      go : (s : Shape) → shape_at nodes m ≡ s → IsWithin (length nodes) s
+      go : (s : Shape) → shape_at nodes m ≡ s → ShapeIsWithin (length nodes) s
           → ((t : ℕ) → t < length nodes → (t ≡ behind nodes k t) ⊎ Way (map (steps_of BesidesStructures) nodes) t (behind nodes k t)) → (m ≡ word_or (behind nodes k) m s) ⊎ Way (map (steps_of BesidesStructures) nodes) m (word_or (behind nodes k) m s)
       go (Same t) e w ih =
           let lt : t < length nodes = w 0 0 (omega arith) in
@@ -159,7 +159,7 @@ pub none_in : (P : ℕ → Type 0) (xs : List ℕ) → ((k : ℕ) → k < length
 none_in P xs no' y i p = no' i.0 i.1 (subst P (sym (get_or_default xs i.0 0 y i.1 ∙ i.2)) p)
 
 -- a mode that is no union is all that is among it
-pub among_itself : (nodes : List Shape) (m : ℕ) (s : Shape) → is_union s ≡ false → (x : ℕ) → Contains (m ∷ []) x ↔ IsAmong nodes m s x
+pub among_itself : (nodes : List Shape) (m : ℕ) (s : Shape) → is_union s ≡ false → (x : ℕ) → Contains (m ∷ []) x ↔ IsSelfOrMember nodes m s x
 among_itself nodes m (Union ms) e x = absurd (cc)
 among_itself nodes m _ e x = (λ i. sym (only x i), λ f. subst (Contains (m ∷ [])) (sym f) (first m))
   where

@@ -11,7 +11,7 @@ use Rattle.a68_equiv.specs.Ways.{steps_of}
 use Rattle.a68_equiv.specs.Spread.{IsSpread}
 use Rattle.a68_equiv.specs.Unfolding.{unfolded, behind, passes_on, is_union, IsMember}
 use Rattle.a68_equiv.specs.Graph.{AreAt, ArePartsOf, IsShapeRow, IsRowOf}
-use Rattle.a68_equiv.specs.Related.{IsAmong}
+use Rattle.a68_equiv.specs.Related.{IsSelfOrMember}
 use Rattle.a68_equiv.proofs.Rowing.{at_parts, at_members, row_is}
 use Rattle.a68_equiv.proofs.Spreading.{members_spread, members_behind}
 use Rattle.a68_equiv.proofs.Grasp.{behind_below}
@@ -46,6 +46,6 @@ row_here nodes holds a row h is =
     subst (λ (xs : List ℕ). IsRowOf nodes a (row.0, xs)) (sym is.numbers) (row_is nodes a is.items row.0 (passes_on a.fixed (unfolded nodes a.id)) is.kind refl at is.below)
 
 -- what a union spreads to is among it
-pub among_members : (nodes : List Shape) (m : ℕ) (s : Shape) → m < length nodes → is_union s ≡ true → (x : ℕ) → IsAmong nodes m s x ↔ IsSpread nodes (steps_of WithinUnions (shape_at nodes m)) x
+pub among_members : (nodes : List Shape) (m : ℕ) (s : Shape) → m < length nodes → is_union s ≡ true → (x : ℕ) → IsSelfOrMember nodes m s x ↔ IsSpread nodes (steps_of WithinUnions (shape_at nodes m)) x
 among_members nodes m (Union ms) h e x = members_spread nodes m x h
 among_members nodes m _ h e x = absurd (cc)

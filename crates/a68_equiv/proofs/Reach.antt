@@ -4,7 +4,7 @@ use Rattle.std.specs.List.{Contains}
 use Rattle.std.proofs.lemmas.List.{get_or_default}
 use Rattle.std.proofs.lemmas.List.Elements.{Contains-push_cases, Contains-push, Contains-append_left, All-contains}
 use Rattle.std.proofs.lemmas.Bool.{cases_eq}
-use Rattle.a68_equiv.specs.Ways.{row, Way, IsClosed}
+use Rattle.a68_equiv.specs.Ways.{row, Way, StepsStayInside}
 use Rattle.a68_equiv.specs.Reached.{AreReached, unmarked, Visited}
 use Rattle.a68_equiv.specs.Ways.Way.{last_step, more_steps}
 
@@ -81,7 +81,7 @@ from_root graph root a c (inr w) j = step_on graph root a c w j
 
 -- a node is taken off, and its parts are visited
 pub goes_on : (graph : List (List ℕ)) (root : ℕ) (seen : List Bool) (todo rest : List ℕ) (at : ℕ) (marked : List Bool) (next : List ℕ)
-    → IsClosed graph → todo ≡ rest ++ at ∷ [] → Halfway graph root seen todo → Visited (row graph at) seen rest marked next → Halfway graph root marked next
+    → StepsStayInside graph → todo ≡ rest ++ at ∷ [] → Halfway graph root seen todo → Visited (row graph at) seen rest marked next → Halfway graph root marked next
 goes_on graph root seen todo rest at marked next parts e h v = record {
   long = v.long ∙ h.long;
   sound = λ x m. ⊎_elim (λ g. h.sound x g) (λ j. from_root graph root at x here.1 j) (v.only x m);

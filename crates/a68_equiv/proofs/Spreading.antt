@@ -13,22 +13,22 @@ use Rattle.std.proofs.lemmas.Map.Keys.{IsDistinct-push}
 use Rattle.std.proofs.lemmas.Map.Views.{Contains-from_any, exact_unsigned_eq}
 use Rattle.a68_modes.specs.declared.shape.Shape.{Shape}
 use Rattle.a68_modes.specs.declared.shape.Shape.TheVariants.{Same, Union}
-use Rattle.a68_modes.specs.Nodes.{shape_at, IsWithin, HoldsNodes}
+use Rattle.a68_modes.specs.Nodes.{shape_at, ShapeIsWithin, HoldsNodes}
 use Rattle.a68_equiv.specs.declared.steps.Inward.TheVariants.{WithinUnions}
 use Rattle.a68_equiv.specs.Graph.{ArePlain}
-use Rattle.a68_equiv.specs.Spread.{AreLast, IsLed, IsSpread, AreKnown, Notes}
+use Rattle.a68_equiv.specs.Spread.{AreLast, IsLed, IsSpread, AreSameModes, NotesModes}
 use Rattle.a68_equiv.specs.Unfolding.{leads_within, is_union, IsMember, behind, word_or}
-use Rattle.a68_equiv.specs.Ways.{steps_of, row, Way, IsClosed}
+use Rattle.a68_equiv.specs.Ways.{steps_of, row, Way, StepsStayInside}
 use Rattle.a68_equiv.specs.Ways.Way.{last_step, more_steps}
 use Rattle.a68_equiv.proofs.Reach.{step_on}
 use Rattle.a68_equiv.proofs.Rowing.{no_steps, none_from}
 use Rattle.a68_equiv.proofs.Stepping.{row_of_map}
 
-pub none_known : AreKnown [] []
+pub none_known : AreSameModes [] []
 unfolding IsDistinct
 none_known = record { distinct = tt; same = λ x. refl }
 
-pub none_noted : (old : List ℕ) → Notes [] old old
+pub none_noted : (old : List ℕ) → NotesModes [] old old
 none_noted old = record {
   longer = omega arith;
   kept = λ k h. refl;
@@ -37,7 +37,7 @@ none_noted old = record {
 }
 
 -- one that is there is noted again
-pub noted_again : (modes old new : List ℕ) (m : ℕ) → Notes modes old new → list_any (nat_eq m) new ≡ true → Notes (modes ++ m ∷ []) old new
+pub noted_again : (modes old new : List ℕ) (m : ℕ) → NotesModes modes old new → list_any (nat_eq m) new ≡ true → NotesModes (modes ++ m ∷ []) old new
 noted_again modes old new m so e = record {
   longer = so.longer;
   kept = so.kept;
@@ -46,7 +46,7 @@ noted_again modes old new m so e = record {
 }
 
 -- one more is noted
-pub noted_new : (modes old new : List ℕ) (m : ℕ) → Notes modes old new → Notes (modes ++ m ∷ []) old (new ++ m ∷ [])
+pub noted_new : (modes old new : List ℕ) (m : ℕ) → NotesModes modes old new → NotesModes (modes ++ m ∷ []) old (new ++ m ∷ [])
 noted_new modes old new m so = record {
   longer = let l = so.longer in omega (arith, length-append new (m ∷ []));
   kept = λ k h. let l = so.longer in get_or-append new (m ∷ []) 0 k (omega arith) ∙ so.kept k h;
@@ -55,7 +55,7 @@ noted_new modes old new m so = record {
 }
 
 -- and known
-pub known_new : (list set now : List ℕ) (m : ℕ) → AreKnown list set → list_any (nat_eq m) set ≡ false → ((x : ℕ) → list_any (nat_eq x) now ≡ cond (nat_eq m x) true (list_any (nat_eq x) set)) → AreKnown (list ++ m ∷ []) now
+pub known_new : (list set now : List ℕ) (m : ℕ) → AreSameModes list set → list_any (nat_eq m) set ≡ false → ((x : ℕ) → list_any (nat_eq x) now ≡ cond (nat_eq m x) true (list_any (nat_eq x) set)) → AreSameModes (list ++ m ∷ []) now
 known_new list set now m known none updates = record {
   distinct = IsDistinct-push nat_eq_equiv list m known.distinct (sym (known.same m) ∙ none);
   same = λ x. updates x ∙ go x (nat_eq m x) (nat_eq_equiv.symm x m) ∙ sym (list_any-append (nat_eq x) list (m ∷ []));
@@ -84,7 +84,7 @@ pub record Walked (nodes : List Shape) (start found : List ℕ) (i : ℕ) : Type
 none_in : (x : ℕ) → Contains [] x → ⊥
 none_in x i = let h = i.1 in omega arith
 
-pub walk_begun : (nodes : List Shape) (start found : List ℕ) → All (λ m. m < length nodes) start → IsDistinct nat_eq found → Notes start [] found → Walked nodes start found 0
+pub walk_begun : (nodes : List Shape) (start found : List ℕ) → All (λ m. m < length nodes) start → IsDistinct nat_eq found → NotesModes start [] found → Walked nodes start found 0
 walk_begun nodes start found below distinct so = record {
   distinct = distinct;
   below = λ x i. ⊎_elim (λ j. absurd (none_in x j)) (λ j. All-contains (λ m. m < length nodes) start x below j) (so.only x i);
@@ -99,8 +99,8 @@ led_on nodes start a p led i = ⊎_elim
     (λ w. record { from = led.from; begun = led.begun; way = inr (step_on (map (steps_of WithinUnions) nodes) led.from a p w i) })
     led.way
 
-pub walk_on : (nodes : List Shape) (start found new steps : List ℕ) (i : ℕ) → IsClosed (map (steps_of WithinUnions) nodes) → length (map (steps_of WithinUnions) nodes) ≡ length nodes → i < length found
-    → steps ≡ row (map (steps_of WithinUnions) nodes) (get_or found i 0) → Walked nodes start found i → IsDistinct nat_eq new → Notes steps found new → Walked nodes start new (i + 1)
+pub walk_on : (nodes : List Shape) (start found new steps : List ℕ) (i : ℕ) → StepsStayInside (map (steps_of WithinUnions) nodes) → length (map (steps_of WithinUnions) nodes) ≡ length nodes → i < length found
+    → steps ≡ row (map (steps_of WithinUnions) nodes) (get_or found i 0) → Walked nodes start found i → IsDistinct nat_eq new → NotesModes steps found new → Walked nodes start new (i + 1)
 walk_on nodes start found new steps i parts long lt e w distinct so = record {
   distinct = distinct;
   below = λ x j. ⊎_elim (λ k. w.below x k) (λ k. rw long at (All-contains (λ m. m < length (map (steps_of WithinUnions) nodes)) (row (map (steps_of WithinUnions) nodes) at) x (parts at (rw long (w.below at here))) (subst (λ (s : List ℕ). Contains s x) e k))) (so.only x j);
@@ -231,7 +231,7 @@ pub members_behind : (nodes : List Shape) → HoldsNodes nodes → (k m x : ℕ)
 members_behind nodes holds zero m x h u = (λ i. i, λ i. i)
 members_behind nodes holds (suc k) m x h u = go (shape_at nodes m) refl (holds.within m h) u (λ t less v. members_behind nodes holds k t x less v)
   where
-    go : (s : Shape) → shape_at nodes m ≡ s → IsWithin (length nodes) s → is_union (shape_at nodes (word_or (behind nodes k) m s)) ≡ true
+    go : (s : Shape) → shape_at nodes m ≡ s → ShapeIsWithin (length nodes) s → is_union (shape_at nodes (word_or (behind nodes k) m s)) ≡ true
         → ((t : ℕ) → t < length nodes → is_union (shape_at nodes (behind nodes k t)) ≡ true → IsMember nodes t x ↔ IsMember nodes (behind nodes k t) x)
         → IsMember nodes m x ↔ IsMember nodes (word_or (behind nodes k) m s) x
     go (Same t) e p v more =

@@ -2,7 +2,7 @@
 use Rattle.std.proofs.Common.{◌≡◌, ◌<◌, ◌++◌, ℕ, zero, suc, List, [], ◌∷◌, Bool, length, refl, sym, ap, ◌∙◌, subst}
 use Rattle.a68_modes.specs.declared.shape.Shape.{Shape}
 use Rattle.a68_equiv.specs.declared.mode.Mode.{Mode}
-use Rattle.a68_equiv.specs.Unfolding.{unfolded, is_union, IsPart, SameParts, SameConstructor, Alike, Equivalent}
+use Rattle.a68_equiv.specs.Unfolding.{unfolded, is_union, IsModePart, SameParts, SameConstructor, Alike, Equivalent}
 use Rattle.a68_equiv.specs.Graph.{number_of, code_of, IsRowOf}
 use Rattle.a68_partition.specs.Rounds.{IsRowKey}
 use Rattle.a68_equiv.specs.Classes.{class_of, AreExact}
@@ -35,13 +35,13 @@ module _ (nodes : List Shape) (classes : List ℕ) where
   same_kind a b x y p q e = p.kind ∙ sym (union_made a.fixed (unfolded nodes a.id)) ∙ ap is_union e ∙ union_made b.fixed (unfolded nodes b.id) ∙ sym q.kind
 
   covers : (R : Mode → Mode → Type 0) (a b : Mode) (r s : Bool × List ℕ) → IsRowOf nodes a r → IsRowOf nodes b s → ((p q : Mode) → R p q → SameIn classes (number_of p) (number_of q))
-      → ((place : ℕ) (p : Mode) → IsPart nodes a place p → (q : Mode) × IsPart nodes b place q × R p q) → Covers (SameIn classes) r.0 r.1 s.0 s.1
+      → ((place : ℕ) (p : Mode) → IsModePart nodes a place p → (q : Mode) × IsModePart nodes b place q × R p q) → Covers (SameIn classes) r.0 r.1 s.0 s.1
   covers R a b r s is os f h = λ place x st.
       let p = is.only place x st in
       let q = h place p.0 p.2 in
       (number_of q.0, os.all place q.0 q.1, subst (λ (w : ℕ). SameIn classes w (number_of q.0)) (sym p.3) (f p.0 q.0 q.2))
 
-  half : (a b : Mode) (r s : Bool × List ℕ) → IsRowOf nodes a r → IsRowOf nodes b s → Covers (SameIn classes) r.0 r.1 s.0 s.1 → (place : ℕ) (p : Mode) → IsPart nodes a place p → (q : Mode) × IsPart nodes b place q × (class_of classes p ≡ class_of classes q)
+  half : (a b : Mode) (r s : Bool × List ℕ) → IsRowOf nodes a r → IsRowOf nodes b s → Covers (SameIn classes) r.0 r.1 s.0 s.1 → (place : ℕ) (p : Mode) → IsModePart nodes a place p → (q : Mode) × IsModePart nodes b place q × (class_of classes p ≡ class_of classes q)
   half a b r s is os h place p part =
       let y = h place (number_of p) (is.all place p part) in
       let q = os.only place y.0 y.1 in
@@ -80,7 +80,7 @@ module _ (nodes : List Shape) (classes : List ℕ) where
 
 -- where the parts of n nodes are among those of an exact list, they are alike exactly where they are equivalent
 module _ (nodes others : List Shape) (n : ℕ) (classes : List ℕ) (is : AreExact nodes classes)
-    (inside : (a p : Mode) (place : ℕ) → a.id < n → IsPart others a place p → p.id < length nodes)
+    (inside : (a p : Mode) (place : ℕ) → a.id < n → IsModePart others a place p → p.id < length nodes)
     (into : (depth : ℕ) (a b : Mode) → a.id < length nodes → b.id < length nodes → Alike nodes depth a b → Alike others depth a b)
     (out_of : (depth : ℕ) (a b : Mode) → a.id < length nodes → b.id < length nodes → Alike others depth a b → Alike nodes depth a b) where
   pub like_equivalent : (a b : Mode) → a.id < n → b.id < n → LikeBy others classes a b → Equivalent others a b

@@ -8,7 +8,7 @@ use Rattle.a68_modes.specs.Nodes.{shape_at, parts_of}
 use Rattle.a68_equiv.specs.declared.mode.Mode.{Mode}
 use Rattle.a68_partition.specs.Rows.{row_at, Stands}
 use Rattle.a68_equiv.specs.Spread.{IsSpread}
-use Rattle.a68_equiv.specs.Unfolding.{behind, unfolded, leads_within, flex_left, passes_on, SameConstructor, is_union, IsAt, IsPart}
+use Rattle.a68_equiv.specs.Unfolding.{behind, unfolded, leads_within, flex_left, passes_on, SameConstructor, is_union, IsInMode, IsModePart}
 
 abbrev pub bit : Bool → ℕ
 bit true = 1
@@ -54,12 +54,12 @@ ArePlain nodes members = (k : ℕ) → k < length members → leads_within (shap
 
 -- these nodes stand in a node of this shape
 abbrev pub AreAt : List Shape → ℕ → Shape → List ℕ → Type 0
-AreAt nodes m shape items = (place x : ℕ) → Stands (is_union shape) items place x ↔ IsAt nodes m shape place x
+AreAt nodes m shape items = (place x : ℕ) → Stands (is_union shape) items place x ↔ IsInMode nodes m shape place x
 
 -- the row of a mode has the numbers of the modes that stand in it
 pub record IsRowOf (nodes : List Shape) (a : Mode) (row : Bool × List ℕ) : Type 0 where
-  pub all : (place : ℕ) (p : Mode) → IsPart nodes a place p → Stands row.0 row.1 place (number_of p)
-  pub only : (place w : ℕ) → Stands row.0 row.1 place w → (p : Mode) × (p.id < length nodes) × IsPart nodes a place p × (w ≡ number_of p)
+  pub all : (place : ℕ) (p : Mode) → IsModePart nodes a place p → Stands row.0 row.1 place (number_of p)
+  pub only : (place w : ℕ) → Stands row.0 row.1 place w → (p : Mode) × (p.id < length nodes) × IsModePart nodes a place p × (w ≡ number_of p)
 
 -- the rows of the first so many modes
 pub record AreRows (nodes : List Shape) (n : ℕ) (rows : List (Bool × List ℕ)) : Type 0 where

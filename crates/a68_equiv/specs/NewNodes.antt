@@ -20,9 +20,9 @@ pub record AreNewKeys (nodes : List Shape) (classes : List ℕ) (shape : Shape) 
   pub none : (a : ℕ) → a < length nodes → IsAlready nodes shape a → ⊥
 
 -- the first old node that is equivalent, or the keys of a new one where none is
-abbrev pub IsFound : List Shape → List ℕ → Shape → Found → Type 0
-IsFound nodes classes shape (Old id) = IsOldNode nodes nodes shape id
-IsFound nodes classes shape (New keys) = AreNewKeys nodes classes shape keys
+abbrev pub IsNodeFound : List Shape → List ℕ → Shape → Found → Type 0
+IsNodeFound nodes classes shape (Old id) = IsOldNode nodes nodes shape id
+IsNodeFound nodes classes shape (New keys) = AreNewKeys nodes classes shape keys
 
 -- a node of these keys joins the classes, by two numbers, the table of classes, by two keys, and the table of nodes
 pub record IsJoined (keys : NewKeys) (id : ℕ) (classes after : List ℕ) (by_key now_by_key nodes now_nodes : List (Vec ℕ Global × ℕ)) : Type 0 where

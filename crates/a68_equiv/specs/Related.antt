@@ -26,18 +26,18 @@ abbrev pub LeadsMeekly : List Shape → Mode → Mode → Type 0
 LeadsMeekly nodes m n = (k : Mode) × (path : List Coercion) × Meek nodes m path k × Equivalent nodes k n
 
 -- the one leads meekly to the other, or the other way round
-abbrev pub AreLinked : List Shape → ℕ → ℕ → Type 0
-AreLinked nodes x y = LeadsMeekly nodes (as_it_stands x) (as_it_stands y) ⊎ LeadsMeekly nodes (as_it_stands y) (as_it_stands x)
+abbrev pub AreMeeklyRelated : List Shape → ℕ → ℕ → Type 0
+AreMeeklyRelated nodes x y = LeadsMeekly nodes (as_it_stands x) (as_it_stands y) ⊎ LeadsMeekly nodes (as_it_stands y) (as_it_stands x)
 
 -- x is a member of a union, or the mode itself where that is none
-abbrev pub IsAmong : List Shape → ℕ → Shape → ℕ → Type 0
-IsAmong nodes m (Union members) x = IsMember nodes m x
-IsAmong nodes m shape x = x ≡ m
+abbrev pub IsSelfOrMember : List Shape → ℕ → Shape → ℕ → Type 0
+IsSelfOrMember nodes m (Union members) x = IsMember nodes m x
+IsSelfOrMember nodes m shape x = x ≡ m
 
 -- a member of the one is equivalent to a member of the other or leads meekly to it, or the other way round
 abbrev pub AreRelated : List Shape → ℕ → ℕ → Type 0
 AreRelated nodes a b =
-    (x : ℕ) × (y : ℕ) × IsAmong nodes a (unfolded nodes a) x × IsAmong nodes b (unfolded nodes b) y × AreLinked nodes x y
+    (x : ℕ) × (y : ℕ) × IsSelfOrMember nodes a (unfolded nodes a) x × IsSelfOrMember nodes b (unfolded nodes b) y × AreMeeklyRelated nodes x y
 
 -- the meek coercion of a mode of this shape leads here
 abbrev pub meek_step : Shape → Option Mode

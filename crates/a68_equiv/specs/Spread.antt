@@ -24,12 +24,12 @@ abbrev pub AreLast : List Shape → List ℕ → List ℕ → Type 0
 AreLast nodes found items = (x : ℕ) → Contains items x ↔ (Contains found x × (leads_within (shape_at nodes x) ≡ false))
 
 -- a list that names each mode once, and a set of the same modes
-pub record AreKnown (list set : List ℕ) : Type 0 where
+pub record AreSameModes (list set : List ℕ) : Type 0 where
   pub distinct : IsDistinct nat_eq list
   pub same : (x : ℕ) → list_any (nat_eq x) set ≡ list_any (nat_eq x) list
 
 -- behind the old modes stand those of these that were not among them
-pub record Notes (modes old new : List ℕ) : Type 0 where
+pub record NotesModes (modes old new : List ℕ) : Type 0 where
   pub longer : length old ≤ length new
   pub kept : (k : ℕ) → k < length old → slice_index new k ≡ slice_index old k
   pub all : (x : ℕ) → Contains modes x → Contains new x

@@ -57,20 +57,20 @@ pub record IsMember (nodes : List Shape) (m x : ℕ) : Type 0 where
   pub last : leads_within (shape_at nodes x) ≡ false
 
 -- x stands at a place in m, of that shape: all members of a union at one place, else each mode at its own
-abbrev pub IsAt : List Shape → ℕ → Shape → ℕ → ℕ → Type 0
-IsAt nodes m (Union members) place x = (place ≡ 0) × IsMember nodes m x
-IsAt nodes m shape place x = (place < length (parts_of shape)) × (slice_index_or (parts_of shape) place 0 ≡ x)
+abbrev pub IsInMode : List Shape → ℕ → Shape → ℕ → ℕ → Type 0
+IsInMode nodes m (Union members) place x = (place ≡ 0) × IsMember nodes m x
+IsInMode nodes m shape place x = (place < length (parts_of shape)) × (slice_index_or (parts_of shape) place 0 ≡ x)
 
 -- the mode p stands at a place in the mode a
-pub record IsPart (nodes : List Shape) (a : Mode) (place : ℕ) (p : Mode) : Type 0 where
-  pub at : IsAt nodes a.id (unfolded nodes a.id) place p.id
+pub record IsModePart (nodes : List Shape) (a : Mode) (place : ℕ) (p : Mode) : Type 0 where
+  pub at : IsInMode nodes a.id (unfolded nodes a.id) place p.id
   pub flex : p.fixed ≡ passes_on a.fixed (unfolded nodes a.id)
 
 -- at each place of the one stands nothing but what is R-related to something there in the other, and the other way round
 abbrev pub SameParts : List Shape → (Mode → Mode → Type 0) → Mode → Mode → Type 0
 SameParts nodes R a b =
-    ((place : ℕ) (p : Mode) → IsPart nodes a place p → (q : Mode) × IsPart nodes b place q × R p q)
-    × ((place : ℕ) (q : Mode) → IsPart nodes b place q → (p : Mode) × IsPart nodes a place p × R p q)
+    ((place : ℕ) (p : Mode) → IsModePart nodes a place p → (q : Mode) × IsModePart nodes b place q × R p q)
+    × ((place : ℕ) (q : Mode) → IsModePart nodes b place q → (p : Mode) × IsModePart nodes a place p × R p q)
 
 -- two modes have one constructor
 abbrev pub SameConstructor : List Shape → Mode → Mode → Type 0

@@ -27,8 +27,8 @@ abbrev pub row : List (List ℕ) → ℕ → List ℕ
 row graph a = slice_index_or graph a []
 
 -- each step leads to a node of the graph
-abbrev pub IsClosed : List (List ℕ) → Type 0
-IsClosed graph = (a : ℕ) → a < length graph → All (λ b. b < length graph) (row graph a)
+abbrev pub StepsStayInside : List (List ℕ) → Type 0
+StepsStayInside graph = (a : ℕ) → a < length graph → All (λ b. b < length graph) (row graph a)
 
 -- a way of one or more steps
 pub data Way (graph : List (List ℕ)) : ℕ → ℕ → Type 0 where

@@ -3,7 +3,7 @@ ghost use Rattle.std.specs.Prelude.{◌≡◌, ◌<◌, ◌↔◌, ℕ, IfOk, If
 ghost use Rattle.std.specs.List.{All, Contains};
 ghost use Rattle.a68_modes.specs.Nodes.{HoldsNodes};
 ghost use Rattle.a68_equiv.specs.Classes.{AreExact};
-ghost use Rattle.a68_equiv.specs.Related.{as_it_stands, meek_step, LeadsMeekly, AreLinked, IsAmong, AreRelated};
+ghost use Rattle.a68_equiv.specs.Related.{as_it_stands, meek_step, LeadsMeekly, AreMeeklyRelated, IsSelfOrMember, AreRelated};
 ghost use Rattle.a68_equiv.specs.Unfolding.{unfolded};
 ghost use Rattle.a68_equiv.specs.Ways.{AreWellFormed};
 
@@ -40,7 +40,7 @@ pub fn related(
 /// The members of a union, or the mode itself.
 pub fn among(alloc: Global, modes: &Modes, mode: ModeId) -> Result<Members, NoMemory>
     requires { mode < length modes.now }
-    ensures among { IfOk result (λ among. (x : ℕ) → Contains among x ↔ IsAmong modes.now mode (unfolded modes.now mode) x) }
+    ensures among { IfOk result (λ among. (x : ℕ) → Contains among x ↔ IsSelfOrMember modes.now mode (unfolded modes.now mode) x) }
     ensures below { IfOk result (λ among. All (λ m. m < length modes.now) among) }
 {
     if is_union(modes.shape(behind(modes, mode))) {
@@ -58,7 +58,7 @@ fn any_linked(modes: &Modes, classes: &Classes, ones: &[ModeId], others: &[ModeI
     requires exact { AreExact modes.now classes.now.of }
     requires ones { All (λ m. m < length modes.now) ones.now }
     requires others { All (λ m. m < length modes.now) others.now }
-    ensures { IsTrue result ↔ ((x : ℕ) × (y : ℕ) × Contains ones.now x × Contains others.now y × AreLinked modes.now x y) }
+    ensures { IsTrue result ↔ ((x : ℕ) × (y : ℕ) × Contains ones.now x × Contains others.now y × AreMeeklyRelated modes.now x y) }
 {
     for one in ones {
         if one_linked(modes, classes, *one, others) {
@@ -74,7 +74,7 @@ fn one_linked(modes: &Modes, classes: &Classes, one: ModeId, others: &[ModeId]) 
     requires exact { AreExact modes.now classes.now.of }
     requires one { one < length modes.now }
     requires others { All (λ m. m < length modes.now) others.now }
-    ensures { IsTrue result ↔ ((y : ℕ) × Contains others.now y × AreLinked modes.now one y) }
+    ensures { IsTrue result ↔ ((y : ℕ) × Contains others.now y × AreMeeklyRelated modes.now one y) }
 {
     for other in others {
         if leads(modes, classes, one, *other) {

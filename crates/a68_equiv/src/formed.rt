@@ -2,7 +2,7 @@
 ghost use Rattle.std.specs.Prelude.{◌≡◌, ◌<◌, ◌^◌, ◌↔◌, ℕ, length, slice_index, IfOk, IsTrue};
 ghost use Rattle.std.specs.List.{All};
 ghost use Rattle.a68_equiv.specs.Dimensions.{HasDimensions, HaveDimensions};
-ghost use Rattle.a68_equiv.specs.Ways.{AreWellFormed, IsClosed, IsFirstIllFormed, Way};
+ghost use Rattle.a68_equiv.specs.Ways.{AreWellFormed, StepsStayInside, IsFirstIllFormed, Way};
 
 use crate::steps::{Inward, graph};
 use crate::walk::reached;
@@ -31,7 +31,7 @@ pub fn ill_formed(alloc: Global, modes: &Modes, roots: &[ModeId]) -> Result<Opti
 /// Does a way of one or more steps lead from the node back to itself?
 pub fn comes_back(alloc: Global, graph: &[Members], node: u32) -> Result<bool, NoMemory>
     requires there { node < length graph.now }
-    requires closed { IsClosed graph.now }
+    requires closed { StepsStayInside graph.now }
     ensures { IfOk result (λ back. IsTrue back ↔ Way graph.now node node) }
 {
     let seen = reached(alloc, graph, node)?;

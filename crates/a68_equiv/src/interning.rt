@@ -2,11 +2,11 @@
 ghost use Rattle.std.specs.Prelude.{◌≡◌, ◌≢◌, ◌<◌, ◌≤◌, ◌+◌, ◌*◌, ◌↔◌, ◌++◌, ◌∷◌, [], ℕ, List, Vec, true, IfOk, OnOk, OnErr, Err, length, vec_len, vec_capacity};
 ghost use Rattle.std.specs.Global.{Global};
 ghost use Rattle.std.specs.HashMap.{spare};
-ghost use Rattle.a68_modes.specs.Nodes.{IsWithin, HoldsNodes};
+ghost use Rattle.a68_modes.specs.Nodes.{ShapeIsWithin, HoldsNodes};
 ghost use Rattle.a68_modes.specs.declared.modes.ModeStop.TheVariants.{Full, NoMemory as no_memory};
 ghost use Rattle.a68_equiv.specs.Classes.{AreKept, AreSame, FindsSame, IsAlready, IsNodeOf, IsNewNode};
 ghost use Rattle.a68_equiv.specs.Dimensions.{HasDimensions, HaveDimensions};
-ghost use Rattle.a68_equiv.specs.NewNodes.{AreNewKeys, IsFound, IsJoined};
+ghost use Rattle.a68_equiv.specs.NewNodes.{AreNewKeys, IsNodeFound, IsJoined};
 ghost use Rattle.a68_partition.specs.Rounds.{IsNumbered};
 ghost use Rattle.a68_equiv.specs.Ways.{AreWellFormed};
 
@@ -26,7 +26,7 @@ pub fn intern(
     classes: &mut Classes,
     shape: Shape,
 ) -> Result<ModeId, ModeStop>
-    requires within { IsWithin (length modes.old) shape }
+    requires within { ShapeIsWithin (length modes.old) shape }
     requires formed { AreWellFormed modes.old }
     requires kept { AreKept modes.old classes.old }
     ensures node { IfOk result (λ id. IsNodeOf modes.old modes.new shape id) }
@@ -72,11 +72,11 @@ fn looked_up(
     classes: &Classes,
     shape: &Shape,
 ) -> Result<Found, NoMemory>
-    requires within { IsWithin (length modes.now) shape.now }
+    requires within { ShapeIsWithin (length modes.now) shape.now }
     requires formed { AreWellFormed modes.now }
     requires kept { AreKept modes.now classes.now }
     ensures nodes { OnOk result (HoldsNodes modes.now) }
-    ensures found { IfOk result (λ found. IsFound modes.now classes.now.of shape.now found) }
+    ensures found { IfOk result (λ found. IsNodeFound modes.now classes.now.of shape.now found) }
 {
     let key = shape_key(alloc, modes, &classes.items, shape, false)?;
     if let Some(old) = classes.nodes.get(&key) {
@@ -94,7 +94,7 @@ fn add(
     shape: Shape,
     keys: NewKeys,
 ) -> Result<ModeId, ModeStop>
-    requires within { IsWithin (length modes.old) shape }
+    requires within { ShapeIsWithin (length modes.old) shape }
     requires formed { AreWellFormed modes.old }
     requires kept { AreKept modes.old classes.old }
     requires nodes { HoldsNodes modes.old }

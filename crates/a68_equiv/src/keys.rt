@@ -1,7 +1,7 @@
 //! The keys of modes.
 ghost use Rattle.std.specs.Prelude.{◌≡◌, ◌<◌, ◌≤◌, ◌*◌, ℕ, List, IfOk, OnOk, length, slice_index};
 ghost use Rattle.std.specs.List.{All};
-ghost use Rattle.a68_modes.specs.Nodes.{IsWithin, HoldsNodes};
+ghost use Rattle.a68_modes.specs.Nodes.{ShapeIsWithin, HoldsNodes};
 ghost use Rattle.a68_equiv.specs.Classes.{AreExact};
 ghost use Rattle.a68_equiv.specs.Graph.{AreBehind, IsGraphOf};
 ghost use Rattle.a68_equiv.specs.ModeKeys.{bare, marked, IsKeyOf, IsModeKey, HasModeKey, IsNewKey};
@@ -120,7 +120,7 @@ pub fn shape_key(
     shape: &Shape,
     fixed: bool,
 ) -> Result<Vec<u32>, NoMemory>
-    requires within { IsWithin (length modes.now) shape.now }
+    requires within { ShapeIsWithin (length modes.now) shape.now }
     requires long { length classes.now ≡ 2 * length modes.now }
     ensures key { IfOk result (λ key. IsNewKey modes.now classes.now shape.now fixed key.items) }
     ensures nodes { OnOk result (HoldsNodes modes.now) }
@@ -134,9 +134,9 @@ pub fn shape_key(
 
 /// What a shape is behind its mode words.
 fn behind_shape<'a>(modes: &'a Modes, shape: &'a Shape) -> &'a Shape
-    requires { IsWithin (length modes.now) shape.now }
+    requires { ShapeIsWithin (length modes.now) shape.now }
     ensures bare { result.now ≡ bare modes.now shape.now }
-    ensures within { IsWithin (length modes.now) result.now }
+    ensures within { ShapeIsWithin (length modes.now) result.now }
     ensures nodes { HoldsNodes modes.now }
 {
     let _there = modes.len();

@@ -1,7 +1,7 @@
 //! What stands within a mode.
 ghost use Rattle.std.specs.Prelude.{◌≡◌, ◌<◌, ◌≤◌, ◌^◌, IfOk, length, map, true, false};
 ghost use Rattle.std.specs.List.{All};
-ghost use Rattle.a68_modes.specs.Nodes.{IsWithin};
+ghost use Rattle.a68_modes.specs.Nodes.{ShapeIsWithin};
 ghost use Rattle.a68_equiv.specs.Unfolding.{passes_on};
 ghost use Rattle.a68_equiv.specs.Graph.{number_of, ArePartsOf, IsShapeRow};
 
@@ -29,7 +29,7 @@ pub fn row_of(
 ) -> Result<Row, NoMemory>
     requires few { length modes.now ≤ 2 ^ 24 }
     requires start { All (λ m. m < length modes.now) start.now }
-    requires within { IsWithin (length modes.now) shape.now }
+    requires within { ShapeIsWithin (length modes.now) shape.now }
     ensures { IfOk result (λ row. IsShapeRow modes.now start.now shape.now fixed row) }
 {
     let among = is_union(shape);
@@ -47,7 +47,7 @@ pub fn both_rows(
 ) -> Result<(Row, Row), NoMemory>
     requires few { length modes.now ≤ 2 ^ 24 }
     requires start { All (λ m. m < length modes.now) start.now }
-    requires within { IsWithin (length modes.now) shape.now }
+    requires within { ShapeIsWithin (length modes.now) shape.now }
     ensures kept { IfOk result (λ two. IsShapeRow modes.now start.now shape.now false two.0) }
     ensures taken { IfOk result (λ two. IsShapeRow modes.now start.now shape.now true two.1) }
 {
@@ -66,7 +66,7 @@ pub fn both_rows(
 /// What stands within such a node: the members of a union, or else the parts.
 fn parts(alloc: Global, modes: &Modes, start: &[ModeId], shape: &Shape) -> Result<Members, NoMemory>
     requires start { All (λ m. m < length modes.now) start.now }
-    requires within { IsWithin (length modes.now) shape.now }
+    requires within { ShapeIsWithin (length modes.now) shape.now }
     ensures parts { IfOk result (λ parts. ArePartsOf modes.now start.now shape.now parts) }
     ensures below { IfOk result (λ parts. All (λ m. m < length modes.now) parts) }
 {

@@ -2,7 +2,7 @@
 ghost use Rattle.std.specs.Prelude.{◌≡◌, ◌<◌, ◌↔◌, ℕ, [], IfOk, OnOk, IsTrue, length};
 ghost use Rattle.std.specs.List.{All, Contains};
 ghost use Rattle.a68_equiv.specs.Graph.{ArePlain};
-ghost use Rattle.a68_equiv.specs.Spread.{AreLast, IsLed, IsSpread, AreKnown, Notes};
+ghost use Rattle.a68_equiv.specs.Spread.{AreLast, IsLed, IsSpread, AreSameModes, NotesModes};
 ghost use Rattle.a68_equiv.specs.Unfolding.{leads_within, is_union as is_union_lem};
 
 use crate::steps::{Inward, row};
@@ -64,7 +64,7 @@ fn lead(
 ) -> Result<(), NoMemory>
     requires start { All (λ m. m < length modes.now) start.now }
     requires empty { found.old.items ≡ [] }
-    requires known { AreKnown found.old.items known.old.keys }
+    requires known { AreSameModes found.old.items known.old.keys }
     ensures led { OnOk result ((x : ℕ) → Contains found.new.items x ↔ IsLed modes.now start.now x) }
     ensures below { OnOk result (All (λ m. m < length modes.now) found.new.items) }
 {
@@ -85,9 +85,9 @@ fn note(
     known: &mut HashSet<ModeId>,
     modes: &[ModeId],
 ) -> Result<(), NoMemory>
-    requires { AreKnown found.old.items known.old.keys }
-    ensures notes { OnOk result (Notes modes.now found.old.items found.new.items) }
-    ensures known { OnOk result (AreKnown found.new.items known.new.keys) }
+    requires { AreSameModes found.old.items known.old.keys }
+    ensures notes { OnOk result (NotesModes modes.now found.old.items found.new.items) }
+    ensures known { OnOk result (AreSameModes found.new.items known.new.keys) }
 {
     for mode in modes {
         if known.insert(*mode)? {

@@ -1,7 +1,7 @@
 //! The steps from a mode to the modes within it.
 ghost use Rattle.std.specs.Prelude.{◌≡◌, [], IfOk, MatchBool, map};
 ghost use Rattle.a68_modes.specs.Nodes.{parts_of};
-ghost use Rattle.a68_equiv.specs.Ways.{steps_of, IsClosed};
+ghost use Rattle.a68_equiv.specs.Ways.{steps_of, StepsStayInside};
 
 use a68_base::NoMemory;
 use a68_modes::{Members, Modes, Shape};
@@ -48,7 +48,7 @@ pub fn row(alloc: Global, steps: Inward, shape: &Shape) -> Result<Members, NoMem
 /// The graph of such steps: for each node those to which a step leads.
 pub fn graph(alloc: Global, modes: &Modes, which: Inward) -> Result<Vec<Members>, NoMemory>
     ensures rows { IfOk result (λ graph. graph.items ≡ map (steps_of which) modes.now) }
-    ensures closed { IfOk result (λ graph. IsClosed graph.items) }
+    ensures closed { IfOk result (λ graph. StepsStayInside graph.items) }
 {
     let mut graph = Vec::new(alloc);
     for id in 0..modes.len() {

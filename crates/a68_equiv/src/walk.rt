@@ -1,7 +1,7 @@
 //! What is reached in a graph.
 ghost use Rattle.std.specs.Prelude.{◌≡◌, ◌<◌, IfOk, OnOk, length};
 ghost use Rattle.std.specs.List.{All};
-ghost use Rattle.a68_equiv.specs.Ways.{IsClosed};
+ghost use Rattle.a68_equiv.specs.Ways.{StepsStayInside};
 ghost use Rattle.a68_equiv.specs.Reached.{AreReached, Visited};
 
 use a68_base::NoMemory;
@@ -11,7 +11,7 @@ use std::alloc::Global;
 /// The nodes to which a way of one or more steps leads from the root.
 pub fn reached(alloc: Global, graph: &[Members], root: u32) -> Result<Vec<bool>, NoMemory>
     requires root { root < length graph.now }
-    requires closed { IsClosed graph.now }
+    requires closed { StepsStayInside graph.now }
     ensures { IfOk result (λ seen. AreReached graph.now root seen.items) }
 {
     let mut seen = vec![in alloc; false; graph.len()]?;

@@ -1,6 +1,6 @@
 //! Modes from lines of text.
 ghost use Rattle.std.specs.Prelude.{◌≡◌, ◌<◌, IsTrue, length};
-ghost use Rattle.a68_modes.specs.Nodes.{IsWithin, shape_at};
+ghost use Rattle.a68_modes.specs.Nodes.{ShapeIsWithin, shape_at};
 ghost use Rattle.a68_modes.specs.declared.shape.Shape.TheVariants.{Blank};
 
 use crate::table::{holds, number, numbers};
@@ -20,7 +20,7 @@ pub fn mode_there(rt: &impl Abort, modes: &Modes, word: &str) -> ModeId
 
 /// Each mode within the shape is there.
 pub fn parts_are_there(rt: &impl Abort, alloc: Global, modes: &Modes, shape: &Shape)
-    ensures { IsWithin (length modes.now) shape.now }
+    ensures { ShapeIsWithin (length modes.now) shape.now }
 {
     let parts = shape.parts(alloc).expect(rt, "memory");
     for part in &parts.items {

@@ -4,10 +4,10 @@ use Rattle.std.specs.Prelude.{if◌then◌else◌, slice_index_or}
 use Rattle.std.proofs.lemmas.Bool.{false≢true}
 use Rattle.a68_ranges.proofs.Taking.{some_one, read}
 use Rattle.a68_ranges.proofs.Layering.{get_front, get_last, get_pushed, below_more, layerless}
-use Rattle.a68_ranges.specs.Links.{IsBelow, AreLinked, has_layer, is_routine_text, layered}
+use Rattle.a68_ranges.specs.Links.{IsBelow, LayersAreLinked, has_layer, is_routine_text, layered}
 use Rattle.a68_ranges.specs.Nodes.{kind_at}
 use Rattle.a68_ranges.specs.Surroundings.{Lies}
-use Rattle.a68_ranges.specs.Tables.{Nested, outermost, within, AreRanges, Tables}
+use Rattle.a68_ranges.specs.Tables.{Nested, outermost, within, AreRanges, RangeTables}
 use Rattle.a68_ranges.specs.declared.nests.Layer.{Layer}
 use Rattle.a68_frames.specs.Frames.{makes, makes_frame, slots_in, with_slots}
 use Rattle.a68_frames.specs.Tables.{Framed, passed, entered, AreChained, AreAboutBefore, TellsFrames, IsLayerAdded, Extends, frame_at}
@@ -62,7 +62,7 @@ pub framed_at : (tree : Built) (layers : List Layer) (by_layer : List (Option �
 framed_at tree layers by_layer frames None ranges are there n = rw (nested_none n refl) none_about
 framed_at tree layers by_layer frames (Some number) ranges are there n = are.tells number (slice_index_or by_layer number None) (read by_layer number None there) ranges n
 
-pub is_below : (by_layer : List (Option ℕ)) (frames : List Layer) (layer : Option ℕ) → AreLinked by_layer frames → IsBelow (length by_layer) layer → IsBelow (length frames) (frame_at by_layer layer)
+pub is_below : (by_layer : List (Option ℕ)) (frames : List Layer) (layer : Option ℕ) → LayersAreLinked by_layer frames → IsBelow (length by_layer) layer → IsBelow (length frames) (frame_at by_layer layer)
 is_below by_layer frames None linked out = tt
 is_below by_layer frames (Some n) linked out = linked.there n (slice_index_or by_layer n None) (read by_layer n None out)
 
@@ -115,11 +115,11 @@ module _ (by_layer by_new : List (Option ℕ)) (frames new : List Layer) (layer 
   added_last false a = a.1
   added_last true a = a.1
 
-  last_below : (b : Bool) → IsLayerAdded by_layer frames by_new new layer b → AreLinked by_layer frames → IsBelow (length by_layer) layer.outer → IsBelow (length new) (last_of b)
+  last_below : (b : Bool) → IsLayerAdded by_layer frames by_new new layer b → LayersAreLinked by_layer frames → IsBelow (length by_layer) layer.outer → IsBelow (length new) (last_of b)
   last_below false a linked out = rw a.0 (is_below by_layer frames layer.outer linked out)
   last_below true a linked out = rw a.0 (omega (arith, length-append frames (record { range = layer.range; outer = frame_at by_layer layer.outer } ∷ [])))
 
-  out_more : (b : Bool) → IsLayerAdded by_layer frames by_new new layer b → AreLinked by_layer frames → IsBelow (length by_layer) layer.outer
+  out_more : (b : Bool) → IsLayerAdded by_layer frames by_new new layer b → LayersAreLinked by_layer frames → IsBelow (length by_layer) layer.outer
       → (i : ℕ) (frame : Layer) → slice_get new i ≡ Some frame → IsBelow i frame.outer
   out_more false a linked out i frame e = linked.out i frame (subst (λ (xs : List Layer). slice_get xs i ≡ Some frame) a.0 e)
   out_more true a linked out i frame e =
@@ -128,7 +128,7 @@ module _ (by_layer by_new : List (Option ℕ)) (frames new : List Layer) (layer 
       (λ h. subst (λ (l : Layer). IsBelow i l.outer) h.1 (subst (λ k. IsBelow k (frame_at by_layer layer.outer)) (sym h.0) (is_below by_layer frames layer.outer linked out)))
       (get_pushed frames last frame i (subst (λ (xs : List Layer). slice_get xs i ≡ Some frame) a.0 e))
 
-  pub linked_more : (b : Bool) → IsLayerAdded by_layer frames by_new new layer b → AreLinked by_layer frames → IsBelow (length by_layer) layer.outer → AreLinked by_new new
+  pub linked_more : (b : Bool) → IsLayerAdded by_layer frames by_new new layer b → LayersAreLinked by_layer frames → IsBelow (length by_layer) layer.outer → LayersAreLinked by_new new
   linked_more b a linked out = record {
     out = out_more b a linked out;
     there = λ at nest e. ⊎_elim
@@ -178,7 +178,7 @@ about_more tree count about frames new nest before extends out there tells =
     }
 
 -- what a layer about a node tells
-pub tells_by : (tree : Built) (tables : Tables) (at : ℕ) (layer : Option ℕ) (by_layer : List (Option ℕ)) (frames : List Layer) → AreRanges tree tables → at < length tables.nests.about
+pub tells_by : (tree : Built) (tables : RangeTables) (at : ℕ) (layer : Option ℕ) (by_layer : List (Option ℕ)) (frames : List Layer) → AreRanges tree tables → at < length tables.nests.about
     → ((ranges : List ℕ) → Lies tree at ranges → Nested tables.nests.layers layer (layered tree ranges)) → AreChained tree tables.nests.layers by_layer frames → IsBelow (length by_layer) layer
     → TellsFrames tree frames at (frame_at by_layer layer)
 tells_by tree tables at layer by_layer frames are low nested chained there =

@@ -6,7 +6,7 @@ use Rattle.a68_ranges.proofs.Looking.{lies_one}
 use Rattle.a68_ranges.specs.Surroundings.{Lies}
 use Rattle.a68_ranges.specs.declared.nests.Layer.{Layer}
 use Rattle.a68_frames.specs.Frames.{makes_frame, frames_of}
-use Rattle.a68_frames.specs.Tables.{Framed, outermost, passed, entered, AreFrames, Tables}
+use Rattle.a68_frames.specs.Tables.{Framed, outermost, passed, entered, AreFrames, FrameTables}
 use Rattle.a68_tree.specs.Trees.{Built}
 
 frames_by : (tree : Built) (first : ℕ) (more : List ℕ) (b : Bool) → makes_frame tree first ≡ b → frames_of tree (first ∷ more) ≡ (if b then frames_of tree more + 1 else frames_of tree more)
@@ -52,7 +52,7 @@ counted_more tree frames next ranges count i frame e is c =
 pub counted_all : (tree : Built) (frames : List Layer) (next : Option ℕ) (ranges : List ℕ) (count : ℕ) → next ≡ None → Counted tree frames next ranges count → count ≡ frames_of tree ranges
 counted_all tree frames next ranges count e c = let sum = c.sum in let none = frames_none c.rest e in omega arith
 
-pub frames_are : (tree : Built) (t : Tables) (at result : ℕ) (ranges : List ℕ) → AreFrames tree t → at < length t.chain.about → Lies tree at ranges
+pub frames_are : (tree : Built) (t : FrameTables) (at result : ℕ) (ranges : List ℕ) → AreFrames tree t → at < length t.chain.about → Lies tree at ranges
     → ((rs : List ℕ) → Framed tree t.chain.frames (slice_index_or t.chain.about at None) rs → result ≡ frames_of tree rs) → result ≡ frames_of tree ranges
 frames_are tree t at result ranges are low lies all =
     let tells = are.chain.tells at (slice_index_or t.chain.about at None) (read t.chain.about at None low) in

@@ -13,8 +13,8 @@ use Rattle.a68_ranges.specs.Links.{IsBelow}
 use Rattle.a68_ranges.specs.Tables.{at_key}
 use Rattle.a68_ranges.specs.declared.nests.Layer.{Layer}
 use Rattle.a68_frames.proofs.Slotting.{place_is}
-use Rattle.a68_frames.specs.Frames.{makes, makes_frame, slots_in, frames_of, moved, place_of, way_by, way_from, IsFirstWay, StandsAt, WaysAreOne}
-use Rattle.a68_frames.specs.Tables.{Framed, outermost, passed, entered, Reaches, nowhere, here, further, IsPlaceIn, AreSlotsBefore, AreFrames, IsWay, Tables}
+use Rattle.a68_frames.specs.Frames.{makes, makes_frame, slots_in, frames_of, moved, place_of, way_by, way_from, IsFirstWay, SlotStandsAt, WaysAreOne}
+use Rattle.a68_frames.specs.Tables.{Framed, outermost, passed, entered, FindsSlot, nowhere, here, further, IsPlaceIn, AreSlotsBefore, AreFrames, IsWay, FrameTables}
 use Rattle.a68_tree.specs.Trees.{Built}
 use Rattle.a68_tree.specs.declared.kind.NodeKind.{NodeKind}
 use Rattle.a68_tree.specs.declared.kind.NodeKind.TheVariants as kind
@@ -31,19 +31,19 @@ moved_none None = refl
 moved_none (Some step) = let e : step.hops + 0 ≡ step.hops = omega arith in ap (λ n. Some (record { hops = n; slot = step.slot })) e
 
 pub found_here : (frames : List Layer) (entries : List ((ℕ × ℕ) × ℕ)) (d i hops : ℕ) (start nest : Option ℕ) (frame : Layer) (slot : Option ℕ) → nest ≡ Some i → slice_get frames i ≡ Some frame
-    → slot ≡ at_key entries frame.range d → true ≡ is_some slot → ((found : Option FrameStep) → Reaches frames entries d nest found → Reaches frames entries d start (moved hops found))
-    → Reaches frames entries d start (option_map (λ s. record { hops = hops; slot = s }) slot)
+    → slot ≡ at_key entries frame.range d → true ≡ is_some slot → ((found : Option FrameStep) → FindsSlot frames entries d nest found → FindsSlot frames entries d start (moved hops found))
+    → FindsSlot frames entries d start (option_map (λ s. record { hops = hops; slot = s }) slot)
 found_here frames entries d i hops start nest frame None e is at t rest = absurd (false≢true (sym t))
 found_here frames entries d i hops start nest frame (Some slot) e is at t rest =
     let zero_hops : 0 + hops ≡ hops = omega arith in
-    subst (λ n. Reaches frames entries d start (Some (record { hops = n; slot = slot }))) zero_hops (rest (Some (record { hops = 0; slot = slot })) (rw e (here i frame is (sym at))))
+    subst (λ n. FindsSlot frames entries d start (Some (record { hops = n; slot = slot }))) zero_hops (rest (Some (record { hops = 0; slot = slot })) (rw e (here i frame is (sym at))))
 
 pub found_further : (frames : List Layer) (entries : List ((ℕ × ℕ) × ℕ)) (d i hops : ℕ) (start nest : Option ℕ) (frame : Layer) (slot : Option ℕ) → nest ≡ Some i → slice_get frames i ≡ Some frame
-    → slot ≡ at_key entries frame.range d → false ≡ is_some slot → ((found : Option FrameStep) → Reaches frames entries d nest found → Reaches frames entries d start (moved hops found))
-    → (found : Option FrameStep) → Reaches frames entries d frame.outer found → Reaches frames entries d start (moved (hops + 1) found)
+    → slot ≡ at_key entries frame.range d → false ≡ is_some slot → ((found : Option FrameStep) → FindsSlot frames entries d nest found → FindsSlot frames entries d start (moved hops found))
+    → (found : Option FrameStep) → FindsSlot frames entries d frame.outer found → FindsSlot frames entries d start (moved (hops + 1) found)
 found_further frames entries d i hops start nest frame (Some slot) e is at t rest found r = absurd (false≢true t)
 found_further frames entries d i hops start nest frame None e is at t rest found r =
-    subst (Reaches frames entries d start) (moved_on hops found) (rest (moved 1 found) (rw e (further i frame is (sym at) r)))
+    subst (FindsSlot frames entries d start) (moved_on hops found) (rest (moved 1 found) (rw e (further i frame is (sym at) r)))
 
 -- ---- slots at any number
 
@@ -135,13 +135,13 @@ found_first : (tree : Built) (d first slot : ℕ) (more : List ℕ) → slice_ge
 found_first tree d first slot more is = record { inner = []; range = first; outer = more; whole = refl; slot_is = is; hops_are = refl }
 
 module _ (tree : Built) (frames : List Layer) (entries : List ((ℕ × ℕ) × ℕ)) (d : ℕ) (place : (range : ℕ) → IsPlaceIn (slots_in tree range) d (at_key entries range d)) where
-  pub none_at : {nest : Option ℕ} {found : Option FrameStep} → Reaches frames entries d nest found → nest ≡ None → found ≡ None
+  pub none_at : {nest : Option ℕ} {found : Option FrameStep} → FindsSlot frames entries d nest found → nest ≡ None → found ≡ None
   none_at nowhere e = refl
   none_at (here i frame is at) e = absurd (cc)
   none_at (further i frame is at rest) e = absurd (cc)
 
-  found_at : {nest : Option ℕ} {found : Option FrameStep} (more : List ℕ) → Reaches frames entries d nest found → (i : ℕ) (frame : Layer) → nest ≡ Some i → slice_get frames i ≡ Some frame → makes_frame tree frame.range ≡ true
-      → ((rest : Option FrameStep) → Reaches frames entries d frame.outer rest → Found tree d more rest) → Found tree d (frame.range ∷ more) found
+  found_at : {nest : Option ℕ} {found : Option FrameStep} (more : List ℕ) → FindsSlot frames entries d nest found → (i : ℕ) (frame : Layer) → nest ≡ Some i → slice_get frames i ≡ Some frame → makes_frame tree frame.range ≡ true
+      → ((rest : Option FrameStep) → FindsSlot frames entries d frame.outer rest → Found tree d more rest) → Found tree d (frame.range ∷ more) found
   found_at more nowhere i frame e is made go = absurd (cc)
   found_at more (here {slot = slot} j other it at) i frame e is made go =
       let same : other ≡ frame = some_one (sym it ∙ ap (slice_get frames) (some_one e) ∙ is) in
@@ -150,9 +150,9 @@ module _ (tree : Built) (frames : List Layer) (entries : List ((ℕ × ℕ) × �
       let same : other ≡ frame = some_one (sym it ∙ ap (slice_get frames) (some_one e) ∙ is) in
       found_moved tree d frame.range more rest made
       (subst (IsPlaceIn (slots_in tree frame.range) d) (subst (λ (l : Layer). at_key entries l.range d ≡ None) same at) (place frame.range))
-      (go rest (subst (λ (l : Layer). Reaches frames entries d l.outer rest) same out))
+      (go rest (subst (λ (l : Layer). FindsSlot frames entries d l.outer rest) same out))
 
-  pub found_in : {to : Option ℕ} {ranges : List ℕ} → Framed tree frames to ranges → (nest : Option ℕ) (found : Option FrameStep) → nest ≡ to → Reaches frames entries d nest found → Found tree d ranges found
+  pub found_in : {to : Option ℕ} {ranges : List ℕ} → Framed tree frames to ranges → (nest : Option ℕ) (found : Option FrameStep) → nest ≡ to → FindsSlot frames entries d nest found → Found tree d ranges found
   found_in outermost nest found e r = subst (Found tree d []) (sym (none_at r e)) (found_none tree d)
   found_in (passed {range = range} {more = more} frameless rest) nest found e r = found_passed tree d range more found frameless (found_in rest nest found e r)
   found_in (entered {more = more} i frame is made rest) nest found e r = found_at more r i frame e is made (λ f q. found_in rest frame.outer f refl q)
@@ -174,18 +174,18 @@ module _ (tree : Built) (frames : List Layer) (entries : List ((ℕ × ℕ) × �
   way_further : (range : ℕ) (rest : Option FrameStep) → makes_frame tree range ≡ true → at_key entries range d ≡ None → moved 1 rest ≡ way_from (place_of (slots_in tree range) d) (frames_of tree (range ∷ [])) rest
   way_further range rest made at = rw (sym (there range) ∙ at, made) refl
 
-  way_at : {nest : Option ℕ} {found : Option FrameStep} (more : List ℕ) → Reaches frames entries d nest found → (i : ℕ) (frame : Layer) → nest ≡ Some i → slice_get frames i ≡ Some frame → makes_frame tree frame.range ≡ true
-      → ((rest : Option FrameStep) → Reaches frames entries d frame.outer rest → rest ≡ way_by tree d more) → found ≡ way_by tree d (frame.range ∷ more)
+  way_at : {nest : Option ℕ} {found : Option FrameStep} (more : List ℕ) → FindsSlot frames entries d nest found → (i : ℕ) (frame : Layer) → nest ≡ Some i → slice_get frames i ≡ Some frame → makes_frame tree frame.range ≡ true
+      → ((rest : Option FrameStep) → FindsSlot frames entries d frame.outer rest → rest ≡ way_by tree d more) → found ≡ way_by tree d (frame.range ∷ more)
   way_at more nowhere i frame e is made go = absurd (cc)
   way_at more (here {slot = slot} j other it at) i frame e is made go =
       let same : other ≡ frame = some_one (sym it ∙ ap (slice_get frames) (some_one e) ∙ is) in
       way_here frame.range slot (way_by tree d more) (subst (λ (l : Layer). at_key entries l.range d ≡ Some slot) same at)
   way_at more (further {found = rest} j other it at out) i frame e is made go =
       let same : other ≡ frame = some_one (sym it ∙ ap (slice_get frames) (some_one e) ∙ is) in
-      ap (moved 1) (go rest (subst (λ (l : Layer). Reaches frames entries d l.outer rest) same out))
+      ap (moved 1) (go rest (subst (λ (l : Layer). FindsSlot frames entries d l.outer rest) same out))
       ∙ way_further frame.range (way_by tree d more) made (subst (λ (l : Layer). at_key entries l.range d ≡ None) same at)
 
-  way_in : {to : Option ℕ} {ranges : List ℕ} → Framed tree frames to ranges → (nest : Option ℕ) (found : Option FrameStep) → nest ≡ to → Reaches frames entries d nest found → found ≡ way_by tree d ranges
+  way_in : {to : Option ℕ} {ranges : List ℕ} → Framed tree frames to ranges → (nest : Option ℕ) (found : Option FrameStep) → nest ≡ to → FindsSlot frames entries d nest found → found ≡ way_by tree d ranges
   way_in outermost nest found e r = none_at tree frames entries d (λ range. subst (IsPlaceIn (slots_in tree range) d) (sym (there range)) (place_is (slots_in tree range) d)) r e
   way_in (passed {range = range} {more = more} frameless rest) nest found e r = way_in rest nest found e r ∙ way_past range (way_by tree d more) frameless
   way_in (entered {more = more} i frame is made rest) nest found e r = way_at more r i frame e is made (λ f q. way_in rest frame.outer f refl q)
@@ -197,16 +197,16 @@ stands_way tree at d ranges None lies none = λ hops slot s. none s.inner s.oute
 stands_way tree at d ranges (Some step) lies s =
     record { inner = s.inner; range = s.range; outer = s.outer; ranges = ranges; lies = lies; whole = s.whole; slot_is = s.slot_is; hops_are = s.hops_are }
 
-pub way_is : (tree : Built) (t : Tables) (at d : ℕ) (found : Option FrameStep) → AreFrames tree t → at < length t.chain.about
-    → Reaches t.chain.frames t.places d (slice_index_or t.chain.about at None) found → IsWay tree at d found
+pub way_is : (tree : Built) (t : FrameTables) (at d : ℕ) (found : Option FrameStep) → AreFrames tree t → at < length t.chain.about
+    → FindsSlot t.chain.frames t.places d (slice_index_or t.chain.about at None) found → IsWay tree at d found
 way_is tree t at d found are low r =
     let nest : Option ℕ = slice_index_or t.chain.about at None in
     let tells = are.chain.tells at nest (read t.chain.about at None low) in
     stands_way tree at d tells.ranges found tells.lies
     (found_in tree t.chain.frames t.places d (λ range. placed tree t.places t.slots t.makes are.slots range d) tells.framed nest found refl r)
 
-pub first_way_is : (tree : Built) (t : Tables) (at d : ℕ) (found : Option FrameStep) → AreFrames tree t → at < length t.chain.about
-    → Reaches t.chain.frames t.places d (slice_index_or t.chain.about at None) found → IsFirstWay tree at d found
+pub first_way_is : (tree : Built) (t : FrameTables) (at d : ℕ) (found : Option FrameStep) → AreFrames tree t → at < length t.chain.about
+    → FindsSlot t.chain.frames t.places d (slice_index_or t.chain.about at None) found → IsFirstWay tree at d found
 first_way_is tree t at d found are low r =
     let nest : Option ℕ = slice_index_or t.chain.about at None in
     let tells = are.chain.tells at nest (read t.chain.about at None low) in
@@ -215,8 +215,8 @@ first_way_is tree t at d found are low r =
 pub one_way : WaysAreOne
 one_way tree at d one other a b = a.2 ∙ ap (way_by tree d) (lies_one a.1 b.1 refl) ∙ sym b.2
 
-pub stands_by : (tree : Built) (at d hops slot : ℕ) (found : Option FrameStep) (step : FrameStep) → IsWay tree at d found → StandsAt tree at d hops slot → ((s : FrameStep) → found ≡ Some s → step ≡ s)
-    → StandsAt tree at d step.hops step.slot
+pub stands_by : (tree : Built) (at d hops slot : ℕ) (found : Option FrameStep) (step : FrameStep) → IsWay tree at d found → SlotStandsAt tree at d hops slot → ((s : FrameStep) → found ≡ Some s → step ≡ s)
+    → SlotStandsAt tree at d step.hops step.slot
 stands_by tree at d hops slot None step way stands is = absurd (way hops slot stands)
 stands_by tree at d hops slot (Some s) step way stands is = rw (is s refl) way
 

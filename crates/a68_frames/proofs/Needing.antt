@@ -6,7 +6,7 @@ use Rattle.std.proofs.lemmas.Bool.Decides.{eqb_tells, nat_tests}
 use Rattle.a68_ranges.proofs.Taking.{some_one, read, is_there, past, below_or}
 use Rattle.a68_ranges.proofs.Looking.{lies_one, defines_there}
 use Rattle.a68_ranges.specs.Nodes.{kind_at, name_at}
-use Rattle.a68_ranges.specs.Definitions.{defines, declared_in, Declares, FirstDefinition, here, further, IsDefinition, Undefined}
+use Rattle.a68_ranges.specs.Definitions.{defines, declared_in, Declares, FirstDefinition, here, further, IsWordDefinition, Undefined}
 use Rattle.a68_ranges.specs.Surroundings.{Lies}
 use Rattle.a68_ranges.specs.Standard.{IsTagOf}
 use Rattle.a68_ranges.specs.Tables.{at_key}
@@ -16,7 +16,7 @@ use Rattle.a68_frames.proofs.Finding.{no_slot, none_at, found_in, placed, Found}
 use Rattle.a68_frames.specs.Frames.{has_slot, with_slots, makes_frame, slots_in, frames_of, moved}
 use Rattle.a68_frames.specs.Needs.{Innermost, Uses, outside, within, DeclaresTag, HasSlotFor, UsesTag, IsNeed}
 use Rattle.a68_frames.specs.Needs.{here as innermost_here, further as innermost_further}
-use Rattle.a68_frames.specs.Tables.{Framed, outermost, passed, entered, TellsFrames, Reaches, nowhere, Crosses, crossed, onwards, IsPlaceIn, IsAtMost, Lowers, AreLowered, IsOneLowered, least_of, lowered, UsesAtFrame, UsesSlotAtFrame, UsesBefore, AreFrames, Tables, AreNeedsBefore, IsApplied, is_tag, below}
+use Rattle.a68_frames.specs.Tables.{Framed, outermost, passed, entered, TellsFrames, FindsSlot, nowhere, Crosses, crossed, onwards, IsPlaceIn, IsAtMost, Lowers, AreLowered, IsOneLowered, least_of, lowered, UsesAtFrame, UsesSlotAtFrame, UsesBefore, AreFrames, FrameTables, AreNeedsBefore, IsApplied, is_tag, below}
 use Rattle.a68_frames.specs.Tables.{here as reaches_here, further as reaches_further}
 use Rattle.a68_tree.specs.Trees.{Built}
 use Rattle.a68_tree.specs.declared.node.FrameStep.{FrameStep}
@@ -131,16 +131,16 @@ no_nest : {frames : List Layer} {nest : Option ℕ} {steps range left : ℕ} →
 no_nest (crossed i frame is) e = absurd (cc)
 no_nest (onwards i frame is rest) e = absurd (cc)
 
-reaches_on : {frames : List Layer} {entries : List ((ℕ × ℕ) × ℕ)} {d : ℕ} {nest : Option ℕ} {found : Option FrameStep} → Reaches frames entries d nest found → (i : ℕ) (frame : Layer) → nest ≡ Some i → slice_get frames i ≡ Some frame
+reaches_on : {frames : List Layer} {entries : List ((ℕ × ℕ) × ℕ)} {d : ℕ} {nest : Option ℕ} {found : Option FrameStep} → FindsSlot frames entries d nest found → (i : ℕ) (frame : Layer) → nest ≡ Some i → slice_get frames i ≡ Some frame
     → ((slot : ℕ) × (at_key entries frame.range d ≡ Some slot) × (found ≡ Some (record { hops = 0; slot = slot })))
-    ⊎ ((at_key entries frame.range d ≡ None) × ((rest : Option FrameStep) × Reaches frames entries d frame.outer rest × (found ≡ moved 1 rest)))
+    ⊎ ((at_key entries frame.range d ≡ None) × ((rest : Option FrameStep) × FindsSlot frames entries d frame.outer rest × (found ≡ moved 1 rest)))
 reaches_on nowhere i frame e is = absurd (cc)
 reaches_on {frames = frames} {entries = entries} {d = d} (reaches_here {slot = slot} j other it at) i frame e is =
     let same : other ≡ frame = some_one (sym it ∙ ap (slice_get frames) (some_one e) ∙ is) in
     inl (slot, subst (λ (l : Layer). at_key entries l.range d ≡ Some slot) same at, refl)
 reaches_on {frames = frames} {entries = entries} {d = d} (reaches_further {found = rest} j other it at out) i frame e is =
     let same : other ≡ frame = some_one (sym it ∙ ap (slice_get frames) (some_one e) ∙ is) in
-    inr (subst (λ (l : Layer). at_key entries l.range d ≡ None) same at, (rest, subst (λ (l : Layer). Reaches frames entries d l.outer rest) same out, refl))
+    inr (subst (λ (l : Layer). at_key entries l.range d ≡ None) same at, (rest, subst (λ (l : Layer). FindsSlot frames entries d l.outer rest) same out, refl))
 
 -- ---- the walk to a definition passes what uses it
 
@@ -235,8 +235,8 @@ module _ (tree : Built) (name d : ℕ) (frames : List Layer) (entries : List ((�
   placed_some range slot e = subst (IsPlaceIn (slots_in tree range) d) e (place range)
 
   agree_entered : (i : ℕ) (frame : Layer) (more : List ℕ) (nest : Option ℕ) (found : Option FrameStep) → nest ≡ Some i → slice_get frames i ≡ Some frame → makes_frame tree frame.range ≡ true
-      → FirstDefinition tree sorts.Tag name (frame.range ∷ more) d → Reaches frames entries d nest found
-      → ((rest : Option FrameStep) → FirstDefinition tree sorts.Tag name more d → Reaches frames entries d frame.outer rest → Agrees tree (DeclaresTag tree name) frames frame.outer rest more) → Agrees tree (DeclaresTag tree name) frames nest found (frame.range ∷ more)
+      → FirstDefinition tree sorts.Tag name (frame.range ∷ more) d → FindsSlot frames entries d nest found
+      → ((rest : Option FrameStep) → FirstDefinition tree sorts.Tag name more d → FindsSlot frames entries d frame.outer rest → Agrees tree (DeclaresTag tree name) frames frame.outer rest more) → Agrees tree (DeclaresTag tree name) frames nest found (frame.range ∷ more)
   agree_entered i frame more nest found e is makes first r go =
       let named = first_named tree name first in
       ⊎_elim
@@ -248,7 +248,7 @@ module _ (tree : Built) (name d : ℕ) (frames : List Layer) (entries : List ((�
       (reaches_on r i frame e is))
       (first_in tree name first frame.range more refl)
 
-  pub agree : {to : Option ℕ} {ranges : List ℕ} → Framed tree frames to ranges → (nest : Option ℕ) (found : Option FrameStep) → nest ≡ to → FirstDefinition tree sorts.Tag name ranges d → Reaches frames entries d nest found → Agrees tree (DeclaresTag tree name) frames nest found ranges
+  pub agree : {to : Option ℕ} {ranges : List ℕ} → Framed tree frames to ranges → (nest : Option ℕ) (found : Option FrameStep) → nest ≡ to → FirstDefinition tree sorts.Tag name ranges d → FindsSlot frames entries d nest found → Agrees tree (DeclaresTag tree name) frames nest found ranges
   agree outermost nest found e first r = absurd (first_none tree name first refl)
   agree (passed {range = range} {more = more} frameless rest) nest found e first r =
       ⊎_elim (λ s. let q = declared_slot tree range name d s in absurd (no_slot tree range frameless q.0 d q.1))
@@ -258,7 +258,7 @@ module _ (tree : Built) (name d : ℕ) (frames : List Layer) (entries : List ((�
       agree_entered i frame more nest found e is makes first r (λ f s q. agree rest frame.outer f refl s q)
 
   -- the same for the slots of a definition, wherever it is found
-  agree_slots : {to : Option ℕ} {ranges : List ℕ} → Framed tree frames to ranges → (nest : Option ℕ) (found : Option FrameStep) (step : FrameStep) → nest ≡ to → found ≡ Some step → Reaches frames entries d nest found
+  agree_slots : {to : Option ℕ} {ranges : List ℕ} → Framed tree frames to ranges → (nest : Option ℕ) (found : Option FrameStep) (step : FrameStep) → nest ≡ to → found ≡ Some step → FindsSlot frames entries d nest found
       → Agrees tree (HasSlotFor tree d) frames nest found ranges
   agree_slots outermost nest found step e is r = let f : None ≡ Some step = sym (none_at tree frames entries d place r e) ∙ is in absurd (cc)
   agree_slots (passed {range = range} {more = more} frameless rest) nest found step e is r =
@@ -271,7 +271,7 @@ module _ (tree : Built) (name d : ℕ) (frames : List Layer) (entries : List ((�
       (reaches_on r i frame e at)
 
   -- where none is found, nothing uses it
-  unused_slots : {to : Option ℕ} {ranges : List ℕ} → Framed tree frames to ranges → (nest : Option ℕ) (found : Option FrameStep) → nest ≡ to → found ≡ None → Reaches frames entries d nest found
+  unused_slots : {to : Option ℕ} {ranges : List ℕ} → Framed tree frames to ranges → (nest : Option ℕ) (found : Option FrameStep) → nest ≡ to → found ≡ None → FindsSlot frames entries d nest found
       → (user hops : ℕ) → Uses tree (HasSlotFor tree d) ranges user hops → ⊥
   unused_slots {ranges = ranges} framed nest found e is r user hops u =
       let none = subst (Found tree d ranges) is (found_in tree frames entries d place framed nest found e r) in
@@ -379,15 +379,15 @@ unused tree at range hops none u =
     none u.1.tag r.0 (record { ranges = u.1.ranges; lies = u.1.lies; first = r.1 })
 
 module _ (tree : Built) (at d : ℕ) (frames : List Layer) (entries : List ((ℕ × ℕ) × ℕ)) (place : (range : ℕ) → IsPlaceIn (slots_in tree range) d (at_key entries range d)) where
-  agree_at : (nest : Option ℕ) (found : Option FrameStep) → TellsFrames tree frames at nest → IsDefinition tree at sorts.Tag (name_at tree at) d → Reaches frames entries d nest found
+  agree_at : (nest : Option ℕ) (found : Option FrameStep) → TellsFrames tree frames at nest → IsWordDefinition tree at sorts.Tag (name_at tree at) d → FindsSlot frames entries d nest found
       → (ranges : List ℕ) × Lies tree at ranges × Agrees tree (DeclaresTag tree (name_at tree at)) frames nest found ranges
   agree_at nest found t def r =
       let same = lies_one def.lies t.lies refl in
       (t.ranges, t.lies, agree tree (name_at tree at) d frames entries place t.framed nest found refl (subst (λ rs. FirstDefinition tree sorts.Tag (name_at tree at) rs d) same def.first) r)
 
   -- what is found is what uses the tag
-  pub lowered_at : (nest : Option ℕ) (step : FrameStep) (old new : List (Option ℕ)) → TellsFrames tree frames at nest → kind_at tree at ≡ kind.Tag → IsDefinition tree at sorts.Tag (name_at tree at) d
-      → Reaches frames entries d nest (Some step) → AreLowered (Crosses frames nest step.hops) old new → AreLowered (UsesAtFrame tree at) old new
+  pub lowered_at : (nest : Option ℕ) (step : FrameStep) (old new : List (Option ℕ)) → TellsFrames tree frames at nest → kind_at tree at ≡ kind.Tag → IsWordDefinition tree at sorts.Tag (name_at tree at) d
+      → FindsSlot frames entries d nest (Some step) → AreLowered (Crosses frames nest step.hops) old new → AreLowered (UsesAtFrame tree at) old new
   lowered_at nest step old new t tag def r are =
       let a = agree_at nest (Some step) t def r in
       let same : step ≡ a.2.step = some_one a.2.is in
@@ -398,7 +398,7 @@ module _ (tree : Built) (at d : ℕ) (frames : List Layer) (entries : List ((ℕ
       are
 
   -- a tag that is defined is found
-  pub is_found : (nest : Option ℕ) (found : Option FrameStep) → TellsFrames tree frames at nest → IsDefinition tree at sorts.Tag (name_at tree at) d → Reaches frames entries d nest found → found ≡ None → ⊥
+  pub is_found : (nest : Option ℕ) (found : Option FrameStep) → TellsFrames tree frames at nest → IsWordDefinition tree at sorts.Tag (name_at tree at) d → FindsSlot frames entries d nest found → found ≡ None → ⊥
   is_found nest found t def r e = let a = agree_at nest found t def r in let f : None ≡ Some a.2.step = sym e ∙ a.2.is in absurd (cc)
 
 lowers_both : (P Q R : ℕ → Type 0) (mid new : Option ℕ) → ((n : ℕ) → P n → R n) → ((n : ℕ) → Q n → R n) → ((n : ℕ) → R n → P n ⊎ Q n) → Lowers P None mid → Lowers Q mid new → Lowers R None new
@@ -474,7 +474,7 @@ applied_none tree at node is tag = λ e.
 
 -- ---- the needs by a use of a definition
 
-module _ (tree : Built) (t : Tables) (at d : ℕ) (are : AreFrames tree t) (low : at < length t.chain.about) where
+module _ (tree : Built) (t : FrameTables) (at d : ℕ) (are : AreFrames tree t) (low : at < length t.chain.about) where
   abbrev nest_at : Option ℕ
   nest_at = slice_index_or t.chain.about at None
 
@@ -484,7 +484,7 @@ module _ (tree : Built) (t : Tables) (at d : ℕ) (are : AreFrames tree t) (low 
   abbrev tells_of : TellsFrames tree t.chain.frames at nest_at
   tells_of = are.chain.tells at nest_at (read t.chain.about at None low)
 
-  pub lowered_use : (step : FrameStep) (old new : List (Option ℕ)) → Reaches t.chain.frames t.places d nest_at (Some step) → AreLowered (Crosses t.chain.frames nest_at step.hops) old new
+  pub lowered_use : (step : FrameStep) (old new : List (Option ℕ)) → FindsSlot t.chain.frames t.places d nest_at (Some step) → AreLowered (Crosses t.chain.frames nest_at step.hops) old new
       → AreLowered (UsesSlotAtFrame tree at d) old new
   lowered_use step old new r lowers =
       let a = agree_slots tree 0 d t.chain.frames t.places place_of tells_of.framed nest_at (Some step) step refl refl r in
@@ -495,7 +495,7 @@ module _ (tree : Built) (t : Tables) (at d : ℕ) (are : AreFrames tree t) (low 
       (a.from range hops u.0 (subst (λ rs. Uses tree (HasSlotFor tree d) rs range hops) (lies_one u.1.lies tells_of.lies refl) u.1.uses)))
       lowers
 
-  pub lowered_unused : (found : Option FrameStep) (needs : List (Option ℕ)) → found ≡ None → Reaches t.chain.frames t.places d nest_at found → AreLowered (UsesSlotAtFrame tree at d) needs needs
+  pub lowered_unused : (found : Option FrameStep) (needs : List (Option ℕ)) → found ≡ None → FindsSlot t.chain.frames t.places d nest_at found → AreLowered (UsesSlotAtFrame tree at d) needs needs
   lowered_unused found needs is r =
       lowered_none (UsesSlotAtFrame tree at d) needs
       (λ range hops u. unused_slots tree 0 d t.chain.frames t.places place_of tells_of.framed nest_at found refl is r range hops

@@ -39,7 +39,7 @@ frames_of tree [] = 0
 frames_of tree (r ∷ rs) = if makes_frame tree r then frames_of tree rs + 1 else frames_of tree rs
 
 -- a definition stands at a slot of a range, which lies so many frames outwards from a node
-pub record StandsAt (tree : Built) (at definition : ℕ) (hops slot : ℕ) : Type 0 where
+pub record SlotStandsAt (tree : Built) (at definition : ℕ) (hops slot : ℕ) : Type 0 where
   pub inner : List ℕ
   pub range : ℕ
   pub outer : List ℕ

@@ -1,13 +1,13 @@
 -- Inner: the headline does not rest on this file.
 -- The tables of the frames of a tree (own).
 use Rattle.std.specs.Prelude.{◌≡◌, ◌<◌, ◌≤◌, ◌+◌, ◌⊎◌, ℕ, Bool, true, false, nat_eq, nat_lt, min, List, [], ◌∷◌, ◌++◌, length, slice_get, slice_index_or, Option, Some, None, if◌then◌else◌}
-use Rattle.a68_frames.specs.Frames.{slots_in, makes_frame, moved, place_of, StandsAt}
+use Rattle.a68_frames.specs.Frames.{slots_in, makes_frame, moved, place_of, SlotStandsAt}
 use Rattle.a68_frames.specs.Needs.{UsesTag, UsesTagAt, UsesSlotAt, IsNeed}
 use Rattle.a68_ranges.specs.Nodes.{kind_at, name_at}
-use Rattle.a68_ranges.specs.Definitions.{IsDefinition, Undefined}
+use Rattle.a68_ranges.specs.Definitions.{IsWordDefinition, Undefined}
 use Rattle.a68_ranges.specs.declared.sort.IndicatorKind.TheVariants as sorts
 use Rattle.a68_ranges.specs.Surroundings.{Lies}
-use Rattle.a68_ranges.specs.Links.{AreLinked}
+use Rattle.a68_ranges.specs.Links.{LayersAreLinked}
 use Rattle.a68_ranges.specs.Tables.{at_key, Nested}
 use Rattle.a68_ranges.specs.declared.nests.Layer.{Layer}
 use Rattle.a68_tree.specs.Trees.{Built}
@@ -87,16 +87,16 @@ pub record TellsFrames (tree : Built) (frames : List Layer) (at : ℕ) (nest : O
 -- the chains tell of the frames about the nodes before one
 pub record AreAboutBefore (tree : Built) (count : ℕ) (about : List (Option ℕ)) (frames : List Layer) : Type 0 where
   pub long : length about ≡ count
-  pub linked : AreLinked about frames
+  pub linked : LayersAreLinked about frames
   pub tells : (at : ℕ) (nest : Option ℕ) → slice_get about at ≡ Some nest → TellsFrames tree frames at nest
 
 -- where a definition has a slot, by the chain of the frames: in the innermost one that has a slot for it
-pub data Reaches (frames : List Layer) (entries : List ((ℕ × ℕ) × ℕ)) (definition : ℕ) : Option ℕ → Option FrameStep → Type 0 where
-  nowhere : Reaches frames entries definition None None
+pub data FindsSlot (frames : List Layer) (entries : List ((ℕ × ℕ) × ℕ)) (definition : ℕ) : Option ℕ → Option FrameStep → Type 0 where
+  nowhere : FindsSlot frames entries definition None None
   here : {slot : ℕ} (i : ℕ) (frame : Layer) → slice_get frames i ≡ Some frame → at_key entries frame.range definition ≡ Some slot
-      → Reaches frames entries definition (Some i) (Some (record { hops = 0; slot = slot }))
+      → FindsSlot frames entries definition (Some i) (Some (record { hops = 0; slot = slot }))
   further : {found : Option FrameStep} (i : ℕ) (frame : Layer) → slice_get frames i ≡ Some frame → at_key entries frame.range definition ≡ None
-      → Reaches frames entries definition frame.outer found → Reaches frames entries definition (Some i) (moved 1 found)
+      → FindsSlot frames entries definition frame.outer found → FindsSlot frames entries definition (Some i) (moved 1 found)
 
 -- so many steps outwards pass the frame of a range, with some of them left
 pub data Crosses (frames : List Layer) : Option ℕ → (steps range left : ℕ) → Type 0 where
@@ -147,7 +147,7 @@ below bound (Some id) = if nat_lt id bound then Some id else None
 -- the definition of the tag that a node applies, as far as it is one and its definition stands in the tree
 abbrev pub IsApplied : Built → (at : ℕ) → Option ℕ → Type 0
 IsApplied tree at None = kind_at tree at ≡ kind.Tag → Undefined tree at sorts.Tag (name_at tree at)
-IsApplied tree at (Some d) = (kind_at tree at ≡ kind.Tag) × IsDefinition tree at sorts.Tag (name_at tree at) d
+IsApplied tree at (Some d) = (kind_at tree at ≡ kind.Tag) × IsWordDefinition tree at sorts.Tag (name_at tree at) d
 
 -- a range that makes a frame uses from outside the tag which a node applies
 abbrev pub UsesAtFrame : Built → (at range hops : ℕ) → Type 0
@@ -167,7 +167,7 @@ pub record AreNeedsBefore (tree : Built) (count : ℕ) (needs : List (Option ℕ
   pub each : (range : ℕ) (need : Option ℕ) → slice_get needs range ≡ Some need → Lowers (UsesBefore tree count range) None need
 
 -- all tables of the frames of a tree
-pub record Tables : Type 0 where
+pub record FrameTables : Type 0 where
   pub slots : List ℕ
   pub makes : List Bool
   pub places : List ((ℕ × ℕ) × ℕ)
@@ -175,7 +175,7 @@ pub record Tables : Type 0 where
   pub needs : List (Option ℕ)
 
 -- the tables are those of the tree
-pub record AreFrames (tree : Built) (tables : Tables) : Type 0 where
+pub record AreFrames (tree : Built) (tables : FrameTables) : Type 0 where
   pub slots : AreSlotsBefore tree (length tree.nodes) tables.places tables.slots tables.makes
   pub chain : AreAboutBefore tree (length tree.nodes) tables.chain.about tables.chain.frames
   pub counted : length tables.needs ≡ length tree.nodes
@@ -183,5 +183,5 @@ pub record AreFrames (tree : Built) (tables : Tables) : Type 0 where
 
 -- where a definition stands, as seen from a node
 abbrev pub IsWay : Built → (at definition : ℕ) → Option FrameStep → Type 0
-IsWay tree at definition None = (hops slot : ℕ) → StandsAt tree at definition hops slot → ⊥
-IsWay tree at definition (Some step) = StandsAt tree at definition step.hops step.slot
+IsWay tree at definition None = (hops slot : ℕ) → SlotStandsAt tree at definition hops slot → ⊥
+IsWay tree at definition (Some step) = SlotStandsAt tree at definition step.hops step.slot

@@ -2,8 +2,8 @@
 ghost use Rattle.std.specs.Prelude.{◌≡◌, ◌<◌, ◌^◌, ℕ, List, IfOk, OnOk, None, Some, false, length, slice_get, slice_index_or};
 ghost use Rattle.std.specs.Option.{option_map};
 ghost use Rattle.a68_frames.specs.Frames.{frames_of};
-ghost use Rattle.a68_frames.specs.Tables.{AreMade, AreChained, StayChained, AreAboutBefore, Extends, Framed, Reaches, IsLayerAdded, frame_at};
-ghost use Rattle.a68_ranges.specs.Links.{IsBelow, AreLinked};
+ghost use Rattle.a68_frames.specs.Tables.{AreMade, AreChained, StayChained, AreAboutBefore, Extends, Framed, FindsSlot, IsLayerAdded, frame_at};
+ghost use Rattle.a68_ranges.specs.Links.{IsBelow, LayersAreLinked};
 ghost use Rattle.a68_ranges.specs.Tables.{AreRanges};
 ghost use Rattle.a68_tree.specs.Trees.{Built};
 
@@ -25,13 +25,13 @@ pub struct Chains {
 impl Model for Chains {
     ghost use Rattle.std.specs.Prelude.{◌<◌, ◌^◌, length};
     ghost use Rattle.a68_frames.specs.Tables.{Chain};
-    ghost use Rattle.a68_ranges.specs.Links.{AreLinked};
+    ghost use Rattle.a68_ranges.specs.Links.{LayersAreLinked};
 
     ghost Value = { Chain };
 
     ghost view = { λ chains. record { about = chains.about.items; frames = chains.frames.items } };
 
-    ghost invariant = { λ chains. AreLinked chains.about.items chains.frames.items × (length chains.frames.items < 2 ^ 32) };
+    ghost invariant = { λ chains. LayersAreLinked chains.about.items chains.frames.items × (length chains.frames.items < 2 ^ 32) };
 }
 
 /// The frames of the layers so far: the innermost frame of each layer, and the frames.
@@ -79,8 +79,8 @@ fn grow(
     number: usize,
 ) -> Result<(), NoMemory>
     requires there { number < length ranges.now.nests.layers }
-    requires linked { AreLinked growing.old.by_layer.items growing.old.frames.items }
-    ensures linked { OnOk result (AreLinked growing.new.by_layer.items growing.new.frames.items) }
+    requires linked { LayersAreLinked growing.old.by_layer.items growing.old.frames.items }
+    ensures linked { OnOk result (LayersAreLinked growing.new.by_layer.items growing.new.frames.items) }
     ensures extends { OnOk result (Extends growing.old.frames.items growing.new.frames.items) }
     ensures reached { OnOk result (number < length growing.new.by_layer.items) }
     ensures chained { OnOk result (StayChained ranges.now.nests.layers makes.now growing.old.by_layer.items growing.old.frames.items growing.new.by_layer.items growing.new.frames.items) }
@@ -100,8 +100,8 @@ fn reach(
     layer: Option<usize>,
 ) -> Result<Option<usize>, NoMemory>
     requires there { IsBelow (length ranges.now.nests.layers) layer }
-    requires linked { AreLinked growing.old.by_layer.items growing.old.frames.items }
-    ensures linked { OnOk result (AreLinked growing.new.by_layer.items growing.new.frames.items) }
+    requires linked { LayersAreLinked growing.old.by_layer.items growing.old.frames.items }
+    ensures linked { OnOk result (LayersAreLinked growing.new.by_layer.items growing.new.frames.items) }
     ensures extends { OnOk result (Extends growing.old.frames.items growing.new.frames.items) }
     ensures chained { OnOk result (StayChained ranges.now.nests.layers makes.now growing.old.by_layer.items growing.old.frames.items growing.new.by_layer.items growing.new.frames.items) }
     ensures below { IfOk result (λ nest. IsBelow (length growing.new.frames.items) nest) }
@@ -123,7 +123,7 @@ fn add_abouts(
 ) -> Result<(), NoMemory>
     requires ranges { AreRanges tree.now ranges.now }
     requires makes { AreMade tree.now makes.now }
-    requires linked { AreLinked growing.old.by_layer.items growing.old.frames.items }
+    requires linked { LayersAreLinked growing.old.by_layer.items growing.old.frames.items }
     requires chained { AreChained tree.now ranges.now.nests.layers growing.old.by_layer.items growing.old.frames.items }
     requires before { AreAboutBefore tree.now 0 about.old.items growing.old.frames.items }
     ensures { OnOk result (AreAboutBefore tree.now (length tree.now.nodes) about.new.items growing.new.frames.items) }
@@ -191,7 +191,7 @@ pub fn find(
     definition: NodeId,
 ) -> Option<FrameStep>
     requires { IsBelow (length chains.now.frames) start }
-    ensures { Reaches chains.now.frames places.now.entries definition start result }
+    ensures { FindsSlot chains.now.frames places.now.entries definition start result }
 {
     let mut hops = 0;
     let mut next = start;

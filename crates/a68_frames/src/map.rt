@@ -1,6 +1,6 @@
 //! The frames of a tree.
 ghost use Rattle.std.specs.Prelude.{◌≡◌, ◌<◌, ◌++◌, ℕ, List, length};
-ghost use Rattle.a68_frames.specs.Frames.{slots_in, IsFirstWay, StandsAt};
+ghost use Rattle.a68_frames.specs.Frames.{slots_in, IsFirstWay, SlotStandsAt};
 ghost use Rattle.a68_frames.specs.Frames as frames;
 ghost use Rattle.a68_frames.specs.Needs.{IsNeed, UsesTag};
 ghost use Rattle.a68_frames.specs.Tables.{AreFrames, AreLowered, IsPlaceIn, IsWay, UsesSlotAtFrame};
@@ -26,9 +26,9 @@ pub struct FrameMap {
 }
 
 impl Model for FrameMap {
-    ghost use Rattle.a68_frames.specs.Tables.{Tables};
+    ghost use Rattle.a68_frames.specs.Tables.{FrameTables};
 
-    ghost Value = { Tables };
+    ghost Value = { FrameTables };
 
     ghost view = { λ map. record { slots = map.slots.counts.items; makes = map.slots.makes.items; places = map.slots.places.entries; chain = map.chains; needs = map.needs.items } };
 }
@@ -72,7 +72,7 @@ impl FrameMap {
     /// Where a definition stands that has a slot in a range about a node, as seen from the node.
     pub fn where_is(&self, at: NodeId, definition: NodeId) -> FrameStep
         requires { at < length self.now.chain.about }
-        ensures { (tree : Built) → AreFrames tree self.now → (hops slot : ℕ) → StandsAt tree at definition hops slot → StandsAt tree at definition result.hops result.slot }
+        ensures { (tree : Built) → AreFrames tree self.now → (hops slot : ℕ) → SlotStandsAt tree at definition hops slot → SlotStandsAt tree at definition result.hops result.slot }
     {
         match self.way(at, definition) {
             Some(step) => step,

@@ -28,7 +28,7 @@ use Rattle.a68_emit.proofs.Entering.{IsUnit, each_is_unit, entrances_many}
 use Rattle.a68_gen.proofs.Members.{both_true, each_served, last_is, taken_or, members_all}
 use Rattle.a68_gen.proofs.Heights.{bit, after, after_true, after_false, At, LimitHeights, IndexHeights, OpenHeights, LeaveHeights, HeightsOf, AllHeights, ArmHeights, SpecHeights, TestHeights, nothing_more, starts, starts_all, starts_limit, starts_index, starts_leave, starts_test}
 use Rattle.a68_gen.specs.Operands.{FitsModes, FitAll, SpecsFitModes, TestFitsModes}
-use Rattle.a68_emit.specs.Stretches.{Has, Limits, Indexes, Opens, Leaves, Stands, StandAll, StandArms, StandSpecs, Tests, place_for, member_places, wholes_of, with_last, does_of, leave}
+use Rattle.a68_emit.specs.Stretches.{Has, Limits, Indexes, EntersSlots, Leaves, Stands, StandAll, StandArms, StandSpecs, Tests, place_for, member_places, wholes_of, with_last, does_of, leave}
 use Rattle.a68_modes.specs.Nodes.{shape_at, is_void}
 use Rattle.a68_modes.specs.declared.shape.Shape.{Shape}
 
@@ -240,7 +240,7 @@ module _ (code : Code) (whose : Owner) (W : ℕ → ℕ → Type 0) (is_inside :
       (next s.1 b p (does.Bind 0) (base + 1) (base + 2) s.4 refl (omega arith) (at_place b b (base + 1) (base + 1 + 0) refl (omega arith) out) refl tt refl) k h x
 
   -- a frame that is made
-  open_flows : (n p a b : ℕ) (s : Opens code n p a b) (base : ℕ) → W b base → (k h : ℕ) → OpenHeights code n p a b s base k h → Flows code whose W k h
+  open_flows : (n p a b : ℕ) (s : EntersSlots code n p a b) (base : ℕ) → W b base → (k h : ℕ) → OpenHeights code n p a b s base k h → Flows code whose W k h
   open_flows zero p a b s base out k h x = absurd x
   open_flows (suc n) p a b s base out k h x =
       at_flows a base (next a b p (does.Enter (suc n)) base base s refl (omega arith) (at_place b b base (base + 0) refl (omega arith) out) refl tt refl) k h x

@@ -2,7 +2,7 @@
 use Rattle.std.proofs.Common.{◌≡◌, ◌≤◌, ◌+◌, ℕ, zero, suc, arith, Bool, true, false, List, [], ◌∷◌}
 use Rattle.a68_code.specs.declared.code.Code.{Code}
 use Rattle.a68_elab.specs.Trees.{Tree, Trees, operation, together, phrases, range, choice, cases, conformity, loop, call, parallel, meaningless, no_trees, ◌and_tree◌, Specs, no_specs, spec, Test, no_test, while_in, depth_of}
-use Rattle.a68_emit.specs.Stretches.{Limits, Indexes, Opens, Leaves, Stands, StandAll, StandArms, StandSpecs, Tests}
+use Rattle.a68_emit.specs.Stretches.{Limits, Indexes, EntersSlots, Leaves, Stands, StandAll, StandArms, StandSpecs, Tests}
 
 pub next_is : (k m : ℕ) → k + 1 ≡ m → suc k ≡ m
 next_is k m e = omega arith
@@ -15,7 +15,7 @@ pub forward_index : (code : Code) (c : Bool) (p a b : ℕ) → Indexes code c p 
 forward_index code false p a b s = omega arith
 forward_index code true p a b s = let x = s.2.1 in let y = s.3.1 in let z = s.4.1 in omega arith
 
-pub forward_open : (code : Code) (n p a b : ℕ) → Opens code n p a b → a ≤ b
+pub forward_open : (code : Code) (n p a b : ℕ) → EntersSlots code n p a b → a ≤ b
 forward_open code zero p a b s = omega arith
 forward_open code (suc n) p a b s = let x = s.1 in omega arith
 

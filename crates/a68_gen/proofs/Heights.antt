@@ -3,7 +3,7 @@ use Rattle.std.proofs.Common.{◌≡◌, ◌<◌, ◌≤◌, ◌⊎◌, ◌+◌,
 use Rattle.std.proofs.lemmas.Bool.{cases_lt, false≢true}
 use Rattle.a68_code.specs.declared.code.Code.{Code}
 use Rattle.a68_elab.specs.Trees.{Tree, Trees, operation, together, phrases, range, choice, cases, conformity, loop, call, parallel, meaningless, no_trees, ◌and_tree◌, count, Specs, no_specs, spec, Test, no_test, while_in, depth_of}
-use Rattle.a68_emit.specs.Stretches.{Limits, Indexes, Opens, Leaves, Stands, StandAll, StandArms, StandSpecs, Tests}
+use Rattle.a68_emit.specs.Stretches.{Limits, Indexes, EntersSlots, Leaves, Stands, StandAll, StandArms, StandSpecs, Tests}
 
 abbrev pub bit : Bool → ℕ
 bit true = 1
@@ -37,7 +37,7 @@ IndexHeights code false p a b s base k h = ⊥
 IndexHeights code true p a b s base k h = At a (base + 1) k h ⊎ (At s.0 (base + 1) k h ⊎ At s.1 (base + 2) k h)
 
 -- at an Enter
-abbrev pub OpenHeights : (code : Code) (n p a b : ℕ) → Opens code n p a b → (base : ℕ) → ℕ → ℕ → Type 0
+abbrev pub OpenHeights : (code : Code) (n p a b : ℕ) → EntersSlots code n p a b → (base : ℕ) → ℕ → ℕ → Type 0
 OpenHeights code zero p a b s base k h = ⊥
 OpenHeights code (suc n) p a b s base k h = At a base k h
 
@@ -150,7 +150,7 @@ index_piece : (code : Code) (counts : Bool) (p a b : ℕ) (s : Indexes code coun
 index_piece code false p a b s base = nothing a b s
 index_piece code true p a b s base = both _ _ _ _ _ (one a s.0 (base + 1) s.2.1) (both _ _ _ _ _ (one s.0 s.1 (base + 1) s.3.1) (one s.1 b (base + 2) s.4.1))
 
-open_piece : (code : Code) (n p a b : ℕ) (s : Opens code n p a b) (base : ℕ) → Piece a b (OpenHeights code n p a b s base)
+open_piece : (code : Code) (n p a b : ℕ) (s : EntersSlots code n p a b) (base : ℕ) → Piece a b (OpenHeights code n p a b s base)
 open_piece code zero p a b s base = nothing a b s
 open_piece code (suc n) p a b s base = one a b base s.1
 
@@ -265,7 +265,7 @@ pub starts_index : (code : Code) (counts : Bool) (p a b : ℕ) (s : Indexes code
 starts_index code false p a b s base = inr s
 starts_index code true p a b s base = inl (inl (refl, refl))
 
-pub starts_open : (code : Code) (n p a b : ℕ) (s : Opens code n p a b) (base : ℕ) → OpenHeights code n p a b s base a base ⊎ (a ≡ b)
+pub starts_open : (code : Code) (n p a b : ℕ) (s : EntersSlots code n p a b) (base : ℕ) → OpenHeights code n p a b s base a base ⊎ (a ≡ b)
 starts_open code zero p a b s base = inr s
 starts_open code (suc n) p a b s base = inl (refl, refl)
 

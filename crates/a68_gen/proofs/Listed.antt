@@ -14,7 +14,7 @@ use Rattle.a68_elab.specs.Trees.{Tree, Trees, operation, together, phrases, rang
 use Rattle.a68_emit.specs.Listing.{instr, limits, indexes, opens, leaves, size, sizes, spec_sizes, test_size, arm_places, spec_places, stretch, stretches, arm_stretches, spec_stretches, test_stretch, apart_stretches, text_entrances, unit_entrances, written, listing, texts_entered, units_entered}
 use Rattle.a68_emit.proofs.Entering.{entrances_are, map-behind, unlinked}
 use Rattle.a68_emit.proofs.Sizes.{size_leaves, size_stretch, size_stretches, size_arms, size_specs, size_test}
-use Rattle.a68_emit.specs.Stretches.{does_of, leave, Limits, Indexes, Opens, Leaves, Stands, StandAll, StandArms, StandSpecs, Tests, StandApart, member_places, wholes_of, with_last, Translates}
+use Rattle.a68_emit.specs.Stretches.{does_of, leave, Limits, Indexes, EntersSlots, Leaves, Stands, StandAll, StandArms, StandSpecs, Tests, StandApart, member_places, wholes_of, with_last, Translates}
 use Rattle.a68_emit.specs.Writing.{IsTooLong, most, places}
 use Rattle.a68_modes.specs.declared.shape.Shape.{Shape}
 
@@ -71,7 +71,7 @@ index_part code true place a b s =
     one code a s.0 b (instr place (does.Enter 1)) (instr place does.Index ∷ instr place (does.Bind 0) ∷ []) s.2.0 s.2.1
     (one code s.0 s.1 b (instr place does.Index) (instr place (does.Bind 0) ∷ []) s.3.0 s.3.1 (last code s.1 b (instr place (does.Bind 0)) s.4.0 s.4.1))
 
-open_part : (code : Code) (slots place a b : ℕ) → Opens code slots place a b → Part code a (opens slots place) b
+open_part : (code : Code) (slots place a b : ℕ) → EntersSlots code slots place a b → Part code a (opens slots place) b
 open_part code zero place a b s = none code a b s
 open_part code (suc n) place a b s = last code a b (instr place (does.Enter (suc n))) s.0 s.1
 

@@ -10,7 +10,7 @@ use Rattle.a68_code.specs.declared.does.Does.TheVariants as does
 use Rattle.a68_elab.specs.Trees.{Tree, Trees, operation, together, phrases, range, choice, cases, conformity, loop, call, parallel, meaningless, no_trees, ◌and_tree◌, count, Specs, no_specs, spec, Test, no_test, while_in, depth_of, Apart, routine_text, parallel_unit, Program}
 use Rattle.a68_emit.specs.Listing.{instr, limits, indexes, opens, leaves, size, sizes, spec_sizes, test_size, arm_places, spec_places, stretch, stretches, arm_stretches, spec_stretches, test_stretch, apart_stretch, apart_stretches, text_entrances, unit_entrances, written, texts_entered, units_entered}
 use Rattle.a68_gen.specs.Fits.{Fits, AllFit, SpecsFit, TestFits, ApartFits}
-use Rattle.a68_emit.specs.Stretches.{does_of, leave, Has, Limits, Indexes, Opens, Leaves, Stands, StandAll, StandArms, StandSpecs, Tests, StandApart, member_places, wholes_of, with_last, Translates}
+use Rattle.a68_emit.specs.Stretches.{does_of, leave, Has, Limits, Indexes, EntersSlots, Leaves, Stands, StandAll, StandArms, StandSpecs, Tests, StandApart, member_places, wholes_of, with_last, Translates}
 use Rattle.a68_emit.proofs.Fronts.{get-behind, get-front}
 use Rattle.a68_emit.proofs.Entering.{are_entrances, get-map, map-long, unlinked}
 use Rattle.a68_emit.proofs.Sizes.{apart_sizes, size_apart, size_leaves, size_one, size_stretch, size_stretches, size_arms, size_specs, size_test}
@@ -66,7 +66,7 @@ index_stands code true place at h =
     (at + 1, at + 1 + 1, has code place (does.Enter 1) at (index ∷ bind ∷ []) h, has code place does.Index (at + 1) (bind ∷ []) h1, (holds-head {at = at + 1 + 1} bind [] h2, e))
 
 -- a frame that is made
-open_stands : (code : Code) (slots place at : ℕ) → Holds code at (opens slots place) → Opens code slots place at (at + length (opens slots place))
+open_stands : (code : Code) (slots place at : ℕ) → Holds code at (opens slots place) → EntersSlots code slots place at (at + length (opens slots place))
 open_stands code zero place at h = omega arith
 open_stands code (suc n) place at h =
     let e : at + 1 ≡ at + length (instr place (does.Enter (suc n)) ∷ []) = omega arith in (holds-head (instr place (does.Enter (suc n))) [] h, e)

@@ -8,7 +8,7 @@ ghost use Rattle.a68_code.specs.declared.owner.Owner.{Owner};
 ghost use Rattle.a68_exec.specs.Memory.{SettlesNot, TakesMemory};
 ghost use Rattle.a68_exec.specs.Runs.{Machine, World, acted, opening};
 ghost use Rattle.a68_heights.specs.Heights.{Fits, height};
-ghost use Rattle.a68_heights.specs.Room.{HasRoom, is_entering};
+ghost use Rattle.a68_heights.specs.Room.{HasInnerRoom, is_entering};
 ghost use Rattle.a68_instructions.specs.Machine.{State, beginning, next_state, replied, settle};
 ghost use Rattle.a68_stack.specs.Values.{callers};
 ghost use Rattle.a68_values.specs.declared.act.Act.{Act};
@@ -48,13 +48,13 @@ pub fn activations_fit()
 /// routine is entered wants new room, which is counted above its caller. So where such a strand finds no memory on the way to
 /// its next act, one of its instructions there works on other values than plain ones.
 pub fn stacks_keep_their_room()
-    ensures holds { (code : Code) → IsValid code → (room : ℕ) (st : State) → Fits code st → HasRoom code room st → length st.stack.items < room }
-    ensures begins { (code : Code) (room at : ℕ) (chain : List Environ) → length code.list ≤ room → HasRoom code room (beginning at chain) }
-    ensures steps { (code : Code) (room : ℕ) (st next : State) → HasRoom code room st → next_state code st ≡ Some next → HasRoom code room next }
-    ensures settles { (code : Code) (room : ℕ) (st : State) → HasRoom code room st → HasRoom code room (settle code st) }
-    ensures told { (code : Code) (room : ℕ) (st : State) (reply : Reply) → is_entering st.stance ≡ false → HasRoom code room st
-        → HasRoom code room (replied code st reply) }
+    ensures holds { (code : Code) → IsValid code → (room : ℕ) (st : State) → Fits code st → HasInnerRoom code room st → length st.stack.items < room }
+    ensures begins { (code : Code) (room at : ℕ) (chain : List Environ) → length code.list ≤ room → HasInnerRoom code room (beginning at chain) }
+    ensures steps { (code : Code) (room : ℕ) (st next : State) → HasInnerRoom code room st → next_state code st ≡ Some next → HasInnerRoom code room next }
+    ensures settles { (code : Code) (room : ℕ) (st : State) → HasInnerRoom code room st → HasInnerRoom code room (settle code st) }
+    ensures told { (code : Code) (room : ℕ) (st : State) (reply : Reply) → is_entering st.stance ≡ false → HasInnerRoom code room st
+        → HasInnerRoom code room (replied code st reply) }
     ensures entered { (code : Code) (room : ℕ) (st : State) (reply : Reply) → suc (length st.stack.items) + length code.list ≤ room
-        → HasRoom code room (replied code st reply) }
-    ensures plainly { (code : Code) → IsValid code → (room : ℕ) (st : State) → Fits code st → HasRoom code room st → SettlesNot code room st → TakesMemory code st }
+        → HasInnerRoom code room (replied code st reply) }
+    ensures plainly { (code : Code) → IsValid code → (room : ℕ) (st : State) → Fits code st → HasInnerRoom code room st → SettlesNot code room st → TakesMemory code st }
 {}

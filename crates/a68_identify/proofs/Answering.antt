@@ -23,7 +23,7 @@ use Rattle.a68_ranges.proofs.Taking.{read, some_one}
 use Rattle.a68_ranges.specs.Nodes.{name_at}
 use Rattle.a68_ranges.specs.Definitions.{declared_in}
 use Rattle.a68_ranges.specs.Surroundings.{Lies}
-use Rattle.a68_ranges.specs.Tables.{AreRanges, Nested, outermost, within, Tables, TellsAbout}
+use Rattle.a68_ranges.specs.Tables.{AreRanges, Nested, outermost, within, RangeTables, TellsAbout}
 use Rattle.a68_ranges.specs.declared.nests.Layer.{Layer}
 use Rattle.a68_tree.specs.Trees.{Built}
 
@@ -145,7 +145,7 @@ module _ (tree : Built) (nodes : List Shape) (of : ByNode) (sign : ℕ) (operand
 
 -- ---- at a node
 
-module _ (tree : Built) (nodes : List Shape) (of : ByNode) (at sign : ℕ) (operands : List (List Leaf)) (tables : Tables) (are : AreRanges tree tables) (low : at < length tree.nodes) (named : sign ≡ name_at tree at)
+module _ (tree : Built) (nodes : List Shape) (of : ByNode) (at sign : ℕ) (operands : List (List Leaf)) (tables : RangeTables) (are : AreRanges tree tables) (low : at < length tree.nodes) (named : sign ≡ name_at tree at)
     (found : Option ℕ) (own : (about : List ℕ) → Lies tree at about → IsOwn tree nodes of sign operands about found) where
   about_at : TellsAbout tree tables.nests.layers at (slice_index_or tables.nests.about at None)
   about_at = let long = are.nests.long in are.nests.about at (slice_index_or tables.nests.about at None) (read tables.nests.about at None (omega arith))

@@ -4,7 +4,7 @@ use Rattle.std.specs.Prelude.{slice_get, slice_index_or}
 use Rattle.std.specs.List.{All}
 use Rattle.std.proofs.lemmas.List.Elements.{All-map}
 use Rattle.a68_declare.specs.Outcome.{AreModesOf, ByNode}
-use Rattle.a68_identify.specs.Operators.{AreThere, mode_at, operand_modes, declarers_at}
+use Rattle.a68_identify.specs.Operators.{NumbersAreThere, mode_at, operand_modes, declarers_at}
 use Rattle.a68_modes.proofs.Holding.{thirteen}
 use Rattle.a68_modes.specs.Nodes.{HoldsNodes}
 use Rattle.a68_modes.specs.declared.shape.Shape.{Shape}
@@ -17,7 +17,7 @@ default_past [] k d h = refl
 default_past (x ∷ xs) zero d h = absurd (omega arith)
 default_past (x ∷ xs) (suc k) d h = default_past xs k d (omega arith)
 
-module _ (tree : Built) (nodes : List Shape) (of : ByNode) (holds : HoldsNodes nodes) (are : AreThere tree nodes of) where
+module _ (tree : Built) (nodes : List Shape) (of : ByNode) (holds : HoldsNodes nodes) (are : NumbersAreThere tree nodes of) where
   mode_there : (d : ℕ) → mode_at of d < length nodes
   mode_there d =
       let some = thirteen nodes holds in
@@ -30,7 +30,7 @@ module _ (tree : Built) (nodes : List Shape) (of : ByNode) (holds : HoldsNodes n
       rw is (All-map (λ m. m < length nodes) (mode_at of) (declarers_at tree (slice_get (parts_at tree definition) 0)) (λ k d h. mode_there (slice_index_or (declarers_at tree (slice_get (parts_at tree definition) 0)) k d)))
 
 -- the modes that are found of declarers are there
-pub modes_are_there : (tree : Built) (nodes : List Shape) (of : ByNode) → AreModesOf tree nodes of → AreThere tree nodes of
+pub modes_are_there : (tree : Built) (nodes : List Shape) (of : ByNode) → AreModesOf tree nodes of → NumbersAreThere tree nodes of
 modes_are_there tree nodes of are = record {
   long = are.at.long;
   fixed_long = are.fixed.long;
@@ -48,5 +48,5 @@ modes_are_there tree nodes of are = record {
     elements (x ∷ xs) (suc k) a b h = elements xs k a b (omega arith)
 
 -- where nodes are added they stay there
-pub stay_there : (tree : Built) (nodes new : List Shape) (of : ByNode) → length nodes ≤ length new → AreThere tree nodes of → AreThere tree new of
+pub stay_there : (tree : Built) (nodes new : List Shape) (of : ByNode) → length nodes ≤ length new → NumbersAreThere tree nodes of → NumbersAreThere tree new of
 stay_there tree nodes new of more are = record { long = are.long; fixed_long = are.fixed_long; there = λ d z h. let l = are.there d z h in omega arith }

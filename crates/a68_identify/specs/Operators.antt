@@ -86,7 +86,7 @@ IsRelatedBefore tree nodes of count later = (range : ℕ) × (range < count) × 
 -- ---- what callers have
 
 -- each node of the tree has two numbers, and that without FLEX is the number of a mode
-pub record AreThere (tree : Built) (nodes : List Shape) (of : ByNode) : Type 0 where
+pub record NumbersAreThere (tree : Built) (nodes : List Shape) (of : ByNode) : Type 0 where
   pub long : length of.as_they_stand ≡ length tree.nodes
   pub fixed_long : length of.without_flex ≡ length tree.nodes
   pub there : All (λ m. m < length nodes) of.without_flex

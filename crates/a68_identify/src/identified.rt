@@ -6,7 +6,7 @@ ghost use Rattle.a68_equiv.specs.Classes.{AreExact};
 ghost use Rattle.a68_equiv.specs.Dimensions.{HaveDimensions};
 ghost use Rattle.a68_equiv.specs.Ways.{AreWellFormed};
 ghost use Rattle.a68_identify.specs.Identified.{DefinitionFits, IsFirstThatHolds, IsLow, IsOperator, IsOwn, StandardFits};
-ghost use Rattle.a68_identify.specs.Operators.{AreThere};
+ghost use Rattle.a68_identify.specs.Operators.{NumbersAreThere};
 ghost use Rattle.a68_ranges.specs.Nodes.{name_at};
 ghost use Rattle.a68_ranges.specs.Surroundings.{Lies};
 ghost use Rattle.a68_ranges.specs.Tables.{AreRanges};
@@ -52,7 +52,7 @@ fn definition_fits(
     requires formed { AreWellFormed modes.now }
     requires rows { HaveDimensions modes.now }
     requires exact { AreExact modes.now classes.now.of }
-    requires of { AreThere tree.now modes.now of.now }
+    requires of { NumbersAreThere tree.now modes.now of.now }
     requires leaves { All (λ o. All (IsLeafBelow (length modes.now)) o.now) formula.now.operands.now }
     requires few { All (λ o. length o.now < 2 ^ 32) formula.now.operands.now }
     ensures { IfOk result (λ fits. IsTrue fits ↔ DefinitionFits tree.now modes.now of.now formula.now.sign (map (λ o. o.now) formula.now.operands.now) definition) }
@@ -79,7 +79,7 @@ fn first_definition(
     requires formed { AreWellFormed modes.now }
     requires rows { HaveDimensions modes.now }
     requires exact { AreExact modes.now classes.now.of }
-    requires of { AreThere tree.now modes.now of.now }
+    requires of { NumbersAreThere tree.now modes.now of.now }
     requires leaves { All (λ o. All (IsLeafBelow (length modes.now)) o.now) formula.now.operands.now }
     requires few { All (λ o. length o.now < 2 ^ 32) formula.now.operands.now }
     ensures { IfOk result (IsFirstThatHolds (DefinitionFits tree.now modes.now of.now formula.now.sign (map (λ o. o.now) formula.now.operands.now)) list.now) }
@@ -107,7 +107,7 @@ fn own(
     requires formed { AreWellFormed modes.now }
     requires rows { HaveDimensions modes.now }
     requires exact { AreExact modes.now classes.now.of }
-    requires of { AreThere tree.now modes.now of.now }
+    requires of { NumbersAreThere tree.now modes.now of.now }
     requires leaves { All (λ o. All (IsLeafBelow (length modes.now)) o.now) formula.now.operands.now }
     requires few { All (λ o. length o.now < 2 ^ 32) formula.now.operands.now }
     ensures { IfOk result (λ found. (about : List ℕ) → Lies tree.now formula.now.at about → IsOwn tree.now modes.now of.now formula.now.sign (map (λ o. o.now) formula.now.operands.now) about found) }
@@ -201,7 +201,7 @@ pub fn identify(
     requires formed { AreWellFormed modes.now }
     requires rows { HaveDimensions modes.now }
     requires exact { AreExact modes.now classes.now.of }
-    requires of { AreThere tree.now modes.now of.now }
+    requires of { NumbersAreThere tree.now modes.now of.now }
     requires leaves { All (λ o. All (IsLeafBelow (length modes.now)) o.now) operands.now }
     requires few { All (λ o. length o.now < 2 ^ 32) operands.now }
     requires count { length operands.now < 2 ^ 32 }

@@ -4,7 +4,7 @@ ghost use Rattle.std.specs.List.{All, Contains};
 ghost use Rattle.a68_equiv.specs.Classes.{AreExact};
 ghost use Rattle.a68_equiv.specs.Related.{AreRelated};
 ghost use Rattle.a68_equiv.specs.Ways.{AreWellFormed};
-ghost use Rattle.a68_identify.specs.Operators.{AreRelatedOperators, AreThere, IsRelatedAt, IsRelatedBefore, IsRelatedIn, IsRelatedPair, IsRelatedTo};
+ghost use Rattle.a68_identify.specs.Operators.{AreRelatedOperators, NumbersAreThere, IsRelatedAt, IsRelatedBefore, IsRelatedIn, IsRelatedPair, IsRelatedTo};
 ghost use Rattle.a68_identify.specs.Pairs.{Pairwise};
 ghost use Rattle.a68_ranges.specs.Indexed.{IsLeast};
 ghost use Rattle.a68_ranges.specs.Tables.{AreRanges};
@@ -63,7 +63,7 @@ fn is_related_to(
 ) -> Result<bool, NoMemory>
     requires formed { AreWellFormed modes.now }
     requires exact { AreExact modes.now classes.now.of }
-    requires of { AreThere tree.now modes.now of.now }
+    requires of { NumbersAreThere tree.now modes.now of.now }
     requires parameters { All (λ m. m < length modes.now) signature.now.parameters.now }
     ensures { IfOk result (λ is. IsTrue is ↔ IsRelatedTo tree.now modes.now of.now signature.now.sign signature.now.parameters.now one) }
 {
@@ -88,7 +88,7 @@ fn any_related_to(
 ) -> Result<bool, NoMemory>
     requires formed { AreWellFormed modes.now }
     requires exact { AreExact modes.now classes.now.of }
-    requires of { AreThere tree.now modes.now of.now }
+    requires of { NumbersAreThere tree.now modes.now of.now }
     requires parameters { All (λ m. m < length modes.now) signature.now.parameters.now }
     ensures { IfOk result (λ any. IsTrue any ↔ ((one : ℕ) × Contains before.now one × IsRelatedTo tree.now modes.now of.now signature.now.sign signature.now.parameters.now one)) }
 {
@@ -112,7 +112,7 @@ fn is_late(
 ) -> Result<bool, NoMemory>
     requires formed { AreWellFormed modes.now }
     requires exact { AreExact modes.now classes.now.of }
-    requires of { AreThere tree.now modes.now of.now }
+    requires of { NumbersAreThere tree.now modes.now of.now }
     ensures { IfOk result (λ late. IsTrue late ↔ ((one : ℕ) × Contains before.now one × AreRelatedOperators tree.now modes.now of.now one later)) }
 {
     let _there = modes.len();
@@ -140,7 +140,7 @@ fn related_in(
 ) -> Result<Option<NodeId>, NoMemory>
     requires formed { AreWellFormed modes.now }
     requires exact { AreExact modes.now classes.now.of }
-    requires of { AreThere tree.now modes.now of.now }
+    requires of { NumbersAreThere tree.now modes.now of.now }
     ensures { IfOk result (λ found. IsLeast tree.now (IsRelatedIn tree.now modes.now of.now list.now (length list.now)) found) }
 {
     let mut found = None;
@@ -165,7 +165,7 @@ pub fn related_pair(
     requires ranges { AreRanges tree.now ranges.now }
     requires formed { AreWellFormed modes.now }
     requires exact { AreExact modes.now classes.now.of }
-    requires of { AreThere tree.now modes.now of.now }
+    requires of { NumbersAreThere tree.now modes.now of.now }
     ensures { IfOk result (IsLeast tree.now (IsRelatedPair tree.now modes.now of.now)) }
 {
     let mut found = None;

@@ -1,7 +1,7 @@
 //! Runs of codes with units, with journals and ends found by hand.
 use crate::table::{agrees, holds};
 use crate::world::valid_code;
-use a68_values::{End, Entry, FaultKind, Kept};
+use a68_values::{End, Entries, FaultKind, Kept};
 use a68_world::{Turned, World};
 use std::alloc::Global;
 use std::panic::Expect;
@@ -101,14 +101,15 @@ fn runs_of_units(rt: HostRuntime) {
     for (ops, fuel, events, end) in RUNS {
         let kept = kept(&rt, alloc, ops, *fuel);
         holds(&rt, kept.end == *end, ops);
-        holds(&rt, kept.journal.entries.items.len() == *events, ops);
+        holds(&rt, kept.journal.entries.len() == *events, ops);
         drop(kept);
     }
 }
 
-fn is_journal(rt: &impl Abort, alloc: Global, entries: &[Entry], wanted: &str) {
+fn is_journal(rt: &impl Abort, alloc: Global, entries: &Entries, wanted: &str) {
     let mut journal = String::new(alloc);
-    for entry in entries {
+    for at in 0..entries.len() {
+        let entry = entries.get(at).expect(rt, "an entry");
         write!(journal, "{} {:?}\n", entry.strand, entry.act).expect(rt, "memory");
     }
     agrees(rt, &journal, wanted, "journal");
@@ -118,7 +119,7 @@ fn is_journal(rt: &impl Abort, alloc: Global, entries: &[Entry], wanted: &str) {
 fn strands_take_turns(rt: HostRuntime) {
     let alloc = rt.alloc();
     let kept = kept(&rt, alloc, PASSED, 99);
-    is_journal(&rt, alloc, &kept.journal.entries.items, PASSED_IN_TURN);
+    is_journal(&rt, alloc, &kept.journal.entries, PASSED_IN_TURN);
     drop(kept);
 }
 

@@ -26,8 +26,8 @@ const OVERFLOW: StoreStop = StoreStop::Fault(FaultKind::Overflow);
 const STRANDS: StoreStop = StoreStop::Fault(FaultKind::Strands);
 
 const FRAMES: [Environ; 2] = [
-    Environ { frame: 1, scope: 1 },
     Environ { frame: 0, scope: 0 },
+    Environ { frame: 1, scope: 1 },
 ];
 
 // A frame of two slots.
@@ -38,7 +38,7 @@ fn enters(rt: &impl Abort, alloc: Global, store: &mut Store)
     holds(rt, store.frames() == 1, "one frame");
     holds(rt, store.slots(0) == 0, "no slots");
     let chain = store.enter(alloc, 0, 1, 2).ok().expect(rt, "a frame");
-    let has_both = chain.items.as_slice() == FRAMES.as_slice();
+    let has_both = chain.inwards() == FRAMES.as_slice();
     holds(rt, has_both, "a new frame");
     drop(chain);
     let unset = store.look(alloc, 1, 0).err();

@@ -24,8 +24,8 @@ const STANDARD: Environ = Environ { frame: 0, scope: 0 };
 // A strand at the beginning of a code.
 fn begun(rt: &impl Abort, alloc: Global, code: &Code) -> Strand {
     holds(rt, code.list.items.len() < 100, "a short code");
-    let items = vec![in alloc; STANDARD].expect(rt, "memory");
-    Strand::begin(alloc, code, 0, 0, Chain { items }).expect(rt, "memory")
+    let chain = Chain::of_one(alloc, STANDARD).expect(rt, "memory");
+    Strand::begin(alloc, code, 0, 0, chain).expect(rt, "memory")
 }
 
 // Whether a strand asks what is told.
@@ -55,7 +55,7 @@ fn frames(rt: &impl Abort, alloc: Global) -> Chain
     ensures { IsTrue (has_room result) }
 {
     let items = vec![in alloc; Environ { frame: 1, scope: 1 }, STANDARD].expect(rt, "memory");
-    Chain { items }
+    Chain::outwards(items)
 }
 
 // The words for replies.
@@ -137,7 +137,7 @@ fn prints(rt: HostRuntime) {
     holds(&rt, strand.place() == 1, "where it begins");
     let acts = "Print \"                  +3\" = Go";
     goes_on(&rt, alloc, &code, &mut strand, acts, "End");
-    let has_one = strand.chain().items.as_slice() == [STANDARD].as_slice();
+    let has_one = strand.chain().inwards() == [STANDARD].as_slice();
     holds(&rt, has_one, "the frame where it ends");
     holds(&rt, !strand.spent(), "memory");
     drop(strand);

@@ -5,7 +5,7 @@ ghost use Rattle.a68_code.specs.Valid.{IsValid};
 use crate::table::{agrees, holds};
 use a68_code::Code;
 use a68_code_tests::code_of;
-use a68_values::{End, Entry, FaultKind, Kept, Plain};
+use a68_values::{End, Entries, FaultKind, Kept, Plain};
 use a68_values_tests::plain_in;
 use a68_world::{Turned, World};
 use std::alloc::Global;
@@ -281,9 +281,10 @@ fn runs(rt: HostRuntime) {
     }
 }
 
-fn is_journal(rt: &impl Abort, alloc: Global, entries: &[Entry]) {
+fn is_journal(rt: &impl Abort, alloc: Global, entries: &Entries) {
     let mut journal = String::new(alloc);
-    for entry in entries {
+    for at in 0..entries.len() {
+        let entry = entries.get(at).expect(rt, "an entry");
         write!(journal, "{:?}\n", entry.act).expect(rt, "memory");
     }
     agrees(rt, &journal, JOURNAL, "journal");
@@ -297,7 +298,7 @@ fn is_printed(rt: &impl Abort, alloc: Global, kept: &Kept) {
     let five = cells.first().and_then(plain_in);
     let left = (cells.len(), kept.outer.items.len(), five);
     holds(rt, left == (1, 1, Some(Plain::Int(5))), "what is left");
-    is_journal(rt, alloc, &kept.journal.entries.items);
+    is_journal(rt, alloc, &kept.journal.entries);
 }
 
 // A run of PRINTING that is turned by hand.

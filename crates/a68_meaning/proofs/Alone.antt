@@ -5,7 +5,7 @@ use Rattle.a68_base.specs.declared.refusal.Refusal.{Refusal}
 use Rattle.a68_declare.specs.Outcome.{AreModesOf, ByNode, IsFirstBroken}
 use Rattle.a68_definitions.specs.Defined.{AllBelow, AreBelow, AreDefined}
 use Rattle.a68_definitions.specs.Tags.{AreTags}
-use Rattle.a68_identify.specs.Operators.{AreThere, IsRelatedPair}
+use Rattle.a68_identify.specs.Operators.{NumbersAreThere, IsRelatedPair}
 use Rattle.a68_meaning.specs.Meaning.{IsMeaning, IsMisused, IsUnbroken, declarer, node, related}
 use Rattle.a68_mode_table.specs.Growing.{AreSound}
 use Rattle.a68_modes.specs.declared.shape.Shape.{Shape}
@@ -14,7 +14,7 @@ use Rattle.a68_positions.specs.declared.position.Position.{Position}
 use Rattle.a68_ranges.specs.Indexed.{IsLeast}
 use Rattle.a68_ranges.specs.Nodes.{place_at}
 use Rattle.a68_ranges.specs.Twice.{IsTwice}
-use Rattle.a68_refusals.specs.First.{Asked, IsFirst}
+use Rattle.a68_refusals.specs.First.{Asked, IsFirstRefused}
 use Rattle.a68_refusals.specs.Order.{rule_of}
 use Rattle.a68_refusals.specs.declared.turn.Broken.{Broken}
 use Rattle.a68_tree.specs.Trees.{Built}
@@ -50,12 +50,12 @@ pub record Laws : Type 0 where
   pub yields_longer : (k : Known) (start nodes : List Shape) (ys : List Yielding) (fs : List Finding) → AreYields k start nodes ys fs
       → length start ≤ length nodes
   pub positions : (k : Known) (ys : List Yielding) (fs : List Finding) (start nodes others : List Shape) (ps qs : List Position) → AreSound start
-      → AreThere k.tree start k.of → AllBelow (length start) k.defined → AreTablesBelow (length start) (length k.tree.nodes) ys fs
+      → NumbersAreThere k.tree start k.of → AllBelow (length start) k.defined → AreTablesBelow (length start) (length k.tree.nodes) ys fs
       → length nodes ≤ MOST_MODES → length others ≤ MOST_MODES → ArePositions k ys fs start nodes ps → ArePositions k ys fs start others qs
       → (nodes ≡ others) × (ps ≡ qs)
   pub positions_longer : (k : Known) (ys : List Yielding) (fs : List Finding) (start nodes : List Shape) (ps : List Position)
       → ArePositions k ys fs start nodes ps → length start ≤ length nodes
-  pub first : (asked : Asked) (one other : Option Broken) → IsFirst asked one → IsFirst asked other → one ≡ other
+  pub first : (asked : Asked) (one other : Option Broken) → IsFirstRefused asked one → IsFirstRefused asked other → one ≡ other
 
 abbrev made : Built → List (Option ℕ) → List ℕ → List Shape → List Yielding → List Finding → List Position → Asked
 made tree tags defined nodes ys fs ps = record { tree = tree; tags = tags; defined = defined; nodes = nodes; ys = ys; fs = fs; ps = ps }
@@ -145,8 +145,8 @@ module _ (laws : Laws) (tree : Built) (once : DeclaresOnce tree) where
         same_asked (over tree a) (over tree b) refl_tree tags_one defined_one.1 positions_one.0 ys_one fs_one positions_one.1
 
     -- and what is broken first is one
-    first_one : (m n : Option Broken) → IsFirst (over tree a) m → IsFirst (over tree b) n → m ≡ n
-    first_one m n h i = laws.first (over tree a) m n h (subst (λ x. IsFirst x n) (sym same) i)
+    first_one : (m n : Option Broken) → IsFirstRefused (over tree a) m → IsFirstRefused (over tree b) n → m ≡ n
+    first_one m n h i = laws.first (over tree a) m n h (subst (λ x. IsFirstRefused x n) (sym same) i)
 
   abbrev AreOne : Refusal → Refusal → Type 0
   AreOne r s = (r.rule ≡ s.rule) × (r.place ≡ s.place)
@@ -164,8 +164,8 @@ module _ (laws : Laws) (tree : Built) (once : DeclaresOnce tree) where
   on_tree : (of : ByNode) (a : Asked) → a.tree ≡ tree → IsMeaning of a → IsMeaning of (over tree a)
   on_tree of a e is = subst (λ t. IsMeaning of (over t a)) e is
 
-  first_on : (a : Asked) (m : Option Broken) → a.tree ≡ tree → IsFirst a m → IsFirst (over tree a) m
-  first_on a m e is = subst (λ t. IsFirst (over t a) m) e is
+  first_on : (a : Asked) (m : Option Broken) → a.tree ≡ tree → IsFirstRefused a m → IsFirstRefused (over tree a) m
+  first_on a m e is = subst (λ t. IsFirstRefused (over t a) m) e is
 
   same_some : (b d : Broken) → Some b ≡ Some d → b ≡ d
   same_some b d e = cc

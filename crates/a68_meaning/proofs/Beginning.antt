@@ -5,7 +5,7 @@ use Rattle.a68_base.specs.declared.refusal.Refusal.{Refusal}
 use Rattle.a68_declare.specs.Outcome.{IsFirstBroken}
 use Rattle.a68_meaning.specs.Meaning.{IsMisused, declarer, node, related}
 use Rattle.a68_ranges.specs.Nodes.{place_at}
-use Rattle.a68_refusals.specs.First.{Asked, IsFirst}
+use Rattle.a68_refusals.specs.First.{Asked, IsFirstRefused}
 use Rattle.a68_refusals.specs.declared.turn.Broken.{Broken}
 use Rattle.a68_tree.specs.Trees.{Built}
 use Rattle.a68_tree.specs.declared.node.Node.{Node}
@@ -22,7 +22,7 @@ begins_at end None h = omega arith
 begins_at end (Some n) h = h n refl
 
 module _ (declared : (tree : Built) (end : ℕ) (r : Refusal) → NodesBeginBy tree end → SymbolsBeginBy tree end → IsFirstBroken tree r → r.place ≤ end)
-    (first : (a : Asked) (end : ℕ) (b : Broken) → NodesBeginBy a.tree end → SymbolsBeginBy a.tree end → IsFirst a (Some b) → b.place ≤ end) where
+    (first : (a : Asked) (end : ℕ) (b : Broken) → NodesBeginBy a.tree end → SymbolsBeginBy a.tree end → IsFirstRefused a (Some b) → b.place ≤ end) where
   pub misused_by : (tree : Built) (end : ℕ) (r : Refusal) → NodesBeginBy tree end → SymbolsBeginBy tree end → IsMisused tree r → r.place ≤ end
   misused_by tree end r by starts (declarer p) = declared tree end r by starts p
   misused_by tree end r by starts (related m f later are least rule place) =

@@ -6,13 +6,13 @@ use Rattle.a68_base.specs.declared.refusal.Rule.TheVariants.{O2}
 use Rattle.a68_declare.specs.Outcome.{AreModesOf, ByNode, IsFirstBroken}
 use Rattle.a68_definitions.specs.Defined.{AllBelow, AreDefined}
 use Rattle.a68_definitions.specs.Tags.{AreTags}
-use Rattle.a68_identify.specs.Operators.{AreThere, IsRelatedPair}
+use Rattle.a68_identify.specs.Operators.{NumbersAreThere, IsRelatedPair}
 use Rattle.a68_mode_table.specs.Growing.{AreSound}
 use Rattle.a68_modes.specs.declared.shape.Shape.{Shape}
 use Rattle.a68_positions.specs.Positions.{ArePositions}
 use Rattle.a68_ranges.specs.Indexed.{IsLeast}
 use Rattle.a68_ranges.specs.Nodes.{place_at}
-use Rattle.a68_refusals.specs.First.{Asked, IsFirst}
+use Rattle.a68_refusals.specs.First.{Asked, IsFirstRefused}
 use Rattle.a68_refusals.specs.Order.{rule_of}
 use Rattle.a68_refusals.specs.declared.turn.Broken.{Broken}
 use Rattle.a68_tree.specs.Trees.{Built}
@@ -39,7 +39,7 @@ pub record IsMeaning (of : ByNode) (a : Asked) : Type 0 where
   pub defined : AreDefined a.tree of declared named a.defined
   pub yielded : List Shape
   pub yields : AreYields (record { tree = a.tree; tags = a.tags; of = of; defined = a.defined }) named yielded a.ys a.fs
-  pub there : AreThere a.tree yielded of
+  pub there : NumbersAreThere a.tree yielded of
   pub below : AllBelow (length yielded) a.defined
   pub tables : AreTablesBelow (length yielded) (length a.tree.nodes) a.ys a.fs
   pub positions : ArePositions (record { tree = a.tree; tags = a.tags; of = of; defined = a.defined }) a.ys a.fs yielded a.nodes a.ps
@@ -48,7 +48,7 @@ pub record IsMeaning (of : ByNode) (a : Asked) : Type 0 where
 -- the meaning of a tree that breaks no rule
 pub record IsUnbroken (of : ByNode) (a : Asked) : Type 0 where
   pub is : IsMeaning of a
-  pub none : IsFirst a None
+  pub none : IsFirstRefused a None
 
 -- The rule that a tree breaks: what its declarers break; else two related operators of one range, at the later one that stands first in the text;
 -- else what its nodes break.
@@ -56,5 +56,5 @@ pub data IsMisused (tree : Built) (refusal : Refusal) : Type 0 where
   declarer : IsFirstBroken tree refusal → IsMisused tree refusal
   related : (modes : List Shape) (of : ByNode) (later : ℕ) → AreModesOf tree modes of → IsLeast tree (IsRelatedPair tree modes of) (Some later)
       → refusal.rule ≡ O2 → refusal.place ≡ place_at tree later → IsMisused tree refusal
-  node : (of : ByNode) (a : Asked) (b : Broken) → a.tree ≡ tree → IsMeaning of a → IsFirst a (Some b) → refusal.rule ≡ rule_of b.rule
+  node : (of : ByNode) (a : Asked) (b : Broken) → a.tree ≡ tree → IsMeaning of a → IsFirstRefused a (Some b) → refusal.rule ≡ rule_of b.rule
       → refusal.place ≡ b.place → IsMisused tree refusal

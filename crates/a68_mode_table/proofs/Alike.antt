@@ -8,7 +8,7 @@ use Rattle.a68_declare.specs.Clean.{renumbered}
 use Rattle.a68_equiv.proofs.Numbers.{same_mode}
 use Rattle.a68_equiv.specs.declared.mode.Mode.{Mode}
 use Rattle.a68_equiv.specs.Related.{as_it_stands, without_flex}
-use Rattle.a68_equiv.specs.Unfolding.{unfolded, constructor, is_union, passes_on, IsAt, IsPart, Alike, Equivalent}
+use Rattle.a68_equiv.specs.Unfolding.{unfolded, constructor, is_union, passes_on, IsInMode, IsModePart, Alike, Equivalent}
 use Rattle.a68_modes.specs.declared.shape.Shape.{Shape}
 use Rattle.a68_modes.specs.declared.shape.Shape.TheVariants.{Ref, Rows, Struct, Union, Proc}
 use Rattle.a68_modes.specs.Nodes.{parts_of}
@@ -42,8 +42,8 @@ shape_of_parts s t u v e each =
 -- ---- two modes with the same within them
 
 pub alike_by : (nodes : List Shape) (a b : ℕ) → unfolded nodes a ≡ unfolded nodes b
-    → ((place z : ℕ) → IsAt nodes a (unfolded nodes a) place z → IsAt nodes b (unfolded nodes b) place z)
-    → ((place z : ℕ) → IsAt nodes b (unfolded nodes b) place z → IsAt nodes a (unfolded nodes a) place z) → Equivalent nodes (as_it_stands a) (as_it_stands b)
+    → ((place z : ℕ) → IsInMode nodes a (unfolded nodes a) place z → IsInMode nodes b (unfolded nodes b) place z)
+    → ((place z : ℕ) → IsInMode nodes b (unfolded nodes b) place z → IsInMode nodes a (unfolded nodes a) place z) → Equivalent nodes (as_it_stands a) (as_it_stands b)
 alike_by nodes a b e forth back zero = tt
 alike_by nodes a b e forth back (suc depth) = (
   ap (constructor false) e,
@@ -82,7 +82,7 @@ module _ (nodes : List Shape) (depth p o : ℕ) (al : Alike nodes (suc depth) (a
   passes_too = sym (passes_made false (unfolded nodes p)) ∙ ap (passes_on true) al.0 ∙ passes_made true (unfolded nodes o)
 
   flat_part : ((a b : ℕ) → Alike nodes depth (as_it_stands a) (without_flex b) → Alike nodes depth (without_flex a) (as_it_stands a))
-      → (place : ℕ) (q : Mode) → IsPart nodes (without_flex p) place q → Alike nodes depth q (as_it_stands q.id)
+      → (place : ℕ) (q : Mode) → IsModePart nodes (without_flex p) place q → Alike nodes depth q (as_it_stands q.id)
   flat_part ih place q part = go q.fixed refl
     where
       go : (b : Truth) → q.fixed ≡ b → Alike nodes depth q (as_it_stands q.id)
@@ -105,7 +105,7 @@ flat nodes (suc depth) p o al =
         λ place q part.
             let plain = same_mode q (as_it_stands q.id) refl (part.flex ∙ passes_none (unfolded nodes p)) in
             let m : Mode = record { id = q.id; fixed = passes_on true (unfolded nodes p) } in
-            let here : IsPart nodes (without_flex p) place m = record { at = part.at; flex = refl } in
+            let here : IsModePart nodes (without_flex p) place m = record { at = part.at; flex = refl } in
             (m, here, subst (Alike nodes depth m) (sym plain) (inner place m here)),
       ),
     )
@@ -120,20 +120,20 @@ module _ (nodes : List Shape) (a b : ℕ) (s t : Shape) (a_is : unfolded nodes a
   abbrev other : ℕ → Mode
   other k = record { id = get_or (parts_of t) k 0; fixed = passes_on true t }
 
-  one_part : (k : ℕ) → k < length (parts_of s) → IsPart nodes (as_it_stands a) k (as_it_stands (one k))
-  one_part k h = record { at = subst (λ x. IsAt nodes a x k (one k)) (sym a_is) (other_at nodes a s k (one k) u (h, refl)); flex = sym (passes_none (unfolded nodes a)) }
+  one_part : (k : ℕ) → k < length (parts_of s) → IsModePart nodes (as_it_stands a) k (as_it_stands (one k))
+  one_part k h = record { at = subst (λ x. IsInMode nodes a x k (one k)) (sym a_is) (other_at nodes a s k (one k) u (h, refl)); flex = sym (passes_none (unfolded nodes a)) }
 
-  other_part : (k : ℕ) → k < length (parts_of t) → IsPart nodes (without_flex b) k (other k)
-  other_part k h = record { at = subst (λ x. IsAt nodes b x k (other k).id) (sym b_is) (other_at nodes b t k (other k).id v (h, refl)); flex = ap (passes_on true) (sym b_is) }
+  other_part : (k : ℕ) → k < length (parts_of t) → IsModePart nodes (without_flex b) k (other k)
+  other_part k h = record { at = subst (λ x. IsInMode nodes b x k (other k).id) (sym b_is) (other_at nodes b t k (other k).id v (h, refl)); flex = ap (passes_on true) (sym b_is) }
 
-  only_one : (k : ℕ) (p : Mode) → IsPart nodes (as_it_stands a) k p → (k < length (parts_of s)) × (as_it_stands (one k) ≡ p)
+  only_one : (k : ℕ) (p : Mode) → IsModePart nodes (as_it_stands a) k p → (k < length (parts_of s)) × (as_it_stands (one k) ≡ p)
   only_one k p part =
-      let at = at_other nodes a s k p.id u (subst (λ x. IsAt nodes a x k p.id) a_is part.at) in
+      let at = at_other nodes a s k p.id u (subst (λ x. IsInMode nodes a x k p.id) a_is part.at) in
       (at.0, same_mode (as_it_stands (one k)) p at.1 (sym (part.flex ∙ passes_none (unfolded nodes a))))
 
-  only_other : (k : ℕ) (q : Mode) → IsPart nodes (without_flex b) k q → (k < length (parts_of t)) × (other k ≡ q)
+  only_other : (k : ℕ) (q : Mode) → IsModePart nodes (without_flex b) k q → (k < length (parts_of t)) × (other k ≡ q)
   only_other k q part =
-      let at = at_other nodes b t k q.id v (subst (λ x. IsAt nodes b x k q.id) b_is part.at) in
+      let at = at_other nodes b t k q.id v (subst (λ x. IsInMode nodes b x k q.id) b_is part.at) in
       (at.0, same_mode (other k) q at.1 (sym (part.flex ∙ ap (passes_on true) b_is)))
 
   pub fixed_by : Equivalent nodes (as_it_stands a) (without_flex b)

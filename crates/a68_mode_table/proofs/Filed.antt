@@ -12,9 +12,9 @@ use Rattle.a68_mode_table.specs.Growing.{AreSound, IsInterned, an_old_one, a_new
 use Rattle.a68_mode_table.specs.Simple.{IsSimple}
 use Rattle.a68_mode_table.specs.Table.{IsTable}
 use Rattle.a68_modes.specs.declared.shape.Shape.{Shape}
-use Rattle.a68_modes.specs.Nodes.{shape_at, IsWithin, HoldsNodes}
+use Rattle.a68_modes.specs.Nodes.{shape_at, ShapeIsWithin, HoldsNodes}
 
-module _ (nodes : List Shape) (classes : Classified) (fixed : List ℕ) (table : IsTable nodes classes fixed) (s : Shape) (within : IsWithin (length nodes) s) (simple : IsSimple s) (after : List Shape) (id : ℕ) (is : IsNodeOf nodes after s id) where
+module _ (nodes : List Shape) (classes : Classified) (fixed : List ℕ) (table : IsTable nodes classes fixed) (s : Shape) (within : ShapeIsWithin (length nodes) s) (simple : IsSimple s) (after : List Shape) (id : ℕ) (is : IsNodeOf nodes after s id) where
   -- the node of a shape has it
   pub interned : IsInterned nodes s after id
   interned = go is

@@ -21,7 +21,7 @@ use Rattle.a68_mode_table.specs.Growing.{AreSound}
 use Rattle.a68_mode_table.specs.Simple.{IsSimple}
 use Rattle.a68_modes.specs.declared.shape.Shape.{Shape}
 use Rattle.a68_modes.specs.declared.shape.Shape.TheVariants.{Ref, Rows, Union, Proc, Same, Blank}
-use Rattle.a68_modes.specs.Nodes.{shape_at, parts_of, IsWithin, HoldsNodes}
+use Rattle.a68_modes.specs.Nodes.{shape_at, parts_of, ShapeIsWithin, HoldsNodes}
 
 simple_is_bare : (nodes : List Shape) (s : Shape) → IsSimple s → IsBare nodes s
 simple_is_bare nodes (Union ms) simple = absurd simple
@@ -29,7 +29,7 @@ simple_is_bare nodes (Same m) simple = absurd simple
 simple_is_bare nodes Blank simple = absurd simple
 simple_is_bare nodes _ simple = tt
 
-module _ (nodes : List Shape) (sound : AreSound nodes) (s : Shape) (within : IsWithin (length nodes) s) (simple : IsSimple s) where
+module _ (nodes : List Shape) (sound : AreSound nodes) (s : Shape) (within : ShapeIsWithin (length nodes) s) (simple : IsSimple s) where
   -- a node of a mode stays one
   pub node_stays : (mode : Mode) (id : ℕ) → mode.id < length nodes → IsNode nodes mode id → IsNode (nodes ++ s ∷ []) mode id
   node_stays mode id h is = record {
@@ -71,7 +71,7 @@ module _ (nodes : List Shape) (sound : AreSound nodes) (s : Shape) (within : IsW
     old_or_new : (m : ℕ) → m < length (nodes ++ s ∷ []) → (m < length nodes) ⊎ (m ≡ length nodes)
     old_or_new m h = let l = length-append nodes (s ∷ []) in ⊎_elim (λ e. inr e) (λ ne. inl (omega arith)) (cases_eq m (length nodes))
 
-    bare_on : (t : Shape) → IsWithin (length nodes) t → IsBare nodes t → IsBare (nodes ++ s ∷ []) t
+    bare_on : (t : Shape) → ShapeIsWithin (length nodes) t → IsBare nodes t → IsBare (nodes ++ s ∷ []) t
     bare_on (Union ms) in_them bare = (
       bare.0,
       λ x c. subst (λ k. leads_within k ≡ false) (sym (get_or-append nodes (s ∷ []) Blank x (All-contains (λ m. m < length nodes) ms x in_them c))) (bare.1 x c),
@@ -136,7 +136,7 @@ no_flex_within : (nodes : List Shape) (s : Shape) → passes_on true s ≡ false
 no_flex_within nodes s e x depth = subst (λ (b : Truth). Equivalent nodes (as_it_stands x) (record { id = x; fixed = b })) (sym e) (λ d. alike_itself nodes d (as_it_stands x)) depth
 
 module _ (nodes : List Shape) (sound : AreSound nodes) where
-  pub name_within : (of : ℕ) → of < length nodes → IsWithin (length nodes) (Ref of)
+  pub name_within : (of : ℕ) → of < length nodes → ShapeIsWithin (length nodes) (Ref of)
   name_within of h = one_there of h
     where
       one_there : (m : ℕ) → m < length nodes → All (λ k. k < length nodes) (m ∷ [])
@@ -146,14 +146,14 @@ module _ (nodes : List Shape) (sound : AreSound nodes) where
   pub name_itself : (of : ℕ) → of < length nodes → IsNode (nodes ++ Ref of ∷ []) (without_flex (length nodes)) (length nodes)
   name_itself of h = itself nodes sound (Ref of) (name_within of h) tt refl (λ k lt. no_flex_within (nodes ++ Ref of ∷ []) (Ref of) refl (get_or (of ∷ []) k 0))
 
-  pub procedure_within : (params : List ℕ) (of : ℕ) → All (λ param. param < length nodes) params → of < length nodes → IsWithin (length nodes) (Proc params of)
+  pub procedure_within : (params : List ℕ) (of : ℕ) → All (λ param. param < length nodes) params → of < length nodes → ShapeIsWithin (length nodes) (Proc params of)
   procedure_within params of all h = All-push (λ k. k < length nodes) params of all h
 
   pub procedure_itself : (params : List ℕ) (of : ℕ) → All (λ param. param < length nodes) params → of < length nodes → IsNode (nodes ++ Proc params of ∷ []) (without_flex (length nodes)) (length nodes)
   procedure_itself params of all h =
       itself nodes sound (Proc params of) (procedure_within params of all h) tt refl (λ k lt. no_flex_within (nodes ++ Proc params of ∷ []) (Proc params of) refl (get_or (parts_of (Proc params of)) k 0))
 
-  pub row_within : (dims : ℕ) (flex : Truth) (of : ℕ) → of < length nodes → IsWithin (length nodes) (Rows dims flex of)
+  pub row_within : (dims : ℕ) (flex : Truth) (of : ℕ) → of < length nodes → ShapeIsWithin (length nodes) (Rows dims flex of)
   row_within dims flex of h = name_within of h
 
   -- a row without FLEX, of an element without FLEX

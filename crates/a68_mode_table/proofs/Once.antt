@@ -16,7 +16,7 @@ use Rattle.a68_mode_table.specs.Simple.{IsSimple}
 use Rattle.a68_modes.proofs.Holding.{grown}
 use Rattle.a68_modes.specs.declared.shape.Shape.{Shape}
 use Rattle.a68_modes.specs.declared.shape.Shape.TheVariants.{Ref, Rows, Proc, Blank}
-use Rattle.a68_modes.specs.Nodes.{shape_at, IsWithin}
+use Rattle.a68_modes.specs.Nodes.{shape_at, ShapeIsWithin}
 
 -- no two nodes have one shape
 abbrev AreDistinct : List Shape → Type 0
@@ -86,14 +86,14 @@ row_keeps old new dims flex of id p =
     let k = two.longer in
     record { longer = omega arith; kept = λ m h. two.kept m (omega arith) ∙ one.kept m h; there = two.there; is = two.is }
 
-pub node_kept : (old new : List Shape) (shape : Shape) (id : ℕ) → AreSound old → IsWithin (length old) shape → IsSimple shape → IsInterned old shape new id
+pub node_kept : (old new : List Shape) (shape : Shape) (id : ℕ) → AreSound old → ShapeIsWithin (length old) shape → IsSimple shape → IsInterned old shape new id
     → (mode : Mode) (k : ℕ) → mode.id < length old → IsNode old mode k → IsNode new mode k
 node_kept old new shape id sound within simple (an_old_one lt e f) mode k h is = subst (λ xs. IsNode xs mode k) (sym f) is
 node_kept old new shape id sound within simple (a_new_one none e f) mode k h is = subst (λ xs. IsNode xs mode k) (sym e) (node_stays old sound shape within simple mode k h is)
 
 -- ---- sound modes stay sound
 
-sound_on : (old new : List Shape) (shape : Shape) (id : ℕ) → AreSound old → length new ≤ MOST_MODES → IsWithin (length old) shape → IsSimple shape → HasDimensions shape
+sound_on : (old new : List Shape) (shape : Shape) (id : ℕ) → AreSound old → length new ≤ MOST_MODES → ShapeIsWithin (length old) shape → IsSimple shape → HasDimensions shape
     → (twin : ℕ) → IsNode (old ++ shape ∷ []) (without_flex (length old)) twin → IsInterned old shape new id → AreSound new
 sound_on old new shape id sound few within simple dims twin twin_is (an_old_one lt e f) = subst AreSound (sym f) sound
 sound_on old new shape id sound few within simple dims twin twin_is (a_new_one none e f) =
@@ -119,7 +119,7 @@ module _ (old new : List Shape) (dims : ℕ) (flex : Truth) (of id : ℕ) (sound
   of_there : of < length p.between
   of_there = let l = one.longer in omega arith
 
-  fixed_within : IsWithin (length old) (Rows dims false p.fixed_element)
+  fixed_within : ShapeIsWithin (length old) (Rows dims false p.fixed_element)
   fixed_within = row_within old sound dims false p.fixed_element p.element_is.there
 
   pub between_sound : AreSound p.between

@@ -13,7 +13,7 @@ use Rattle.a68_equiv.proofs.Stepping.{row_of_map}
 use Rattle.a68_equiv.specs.Classes.{IsAlready}
 use Rattle.a68_equiv.specs.ModeKeys.{bare}
 use Rattle.a68_equiv.specs.Related.{as_it_stands}
-use Rattle.a68_equiv.specs.Unfolding.{unfolded, constructor, is_union, leads_within, IsAt, IsPart, Alike}
+use Rattle.a68_equiv.specs.Unfolding.{unfolded, constructor, is_union, leads_within, IsInMode, IsModePart, Alike}
 use Rattle.a68_equiv.specs.Ways.{steps_of}
 use Rattle.a68_equiv.specs.declared.mode.Mode.{Mode}
 use Rattle.a68_equiv.specs.declared.steps.Inward.TheVariants.{WithinUnions}
@@ -22,7 +22,7 @@ use Rattle.a68_mode_table.specs.Growing.{AreSound}
 use Rattle.a68_mode_table.specs.Simple.{IsSimple}
 use Rattle.a68_modes.specs.declared.shape.Shape.{Shape}
 use Rattle.a68_modes.specs.declared.shape.Shape.TheVariants.{Union, Same}
-use Rattle.a68_modes.specs.Nodes.{shape_at, parts_of, IsWithin}
+use Rattle.a68_modes.specs.Nodes.{shape_at, parts_of, ShapeIsWithin}
 
 pub simple_other : (s : Shape) → IsSimple s → is_union s ≡ false
 simple_other (Union ms) simple = absurd simple
@@ -42,13 +42,13 @@ module _ (nodes : List Shape) (sound : AreSound nodes) where
   as_written m h = ap (shape_at nodes) (stays nodes (length nodes) m (λ t e. subst (IsBare nodes) e (sound.clean.bare m h)))
 
   -- nodes of one shape are one
-  at_too : (a b : ℕ) → a < length nodes → b < length nodes → shape_at nodes a ≡ shape_at nodes b → (place z : ℕ) → IsAt nodes a (unfolded nodes a) place z → IsAt nodes b (unfolded nodes b) place z
+  at_too : (a b : ℕ) → a < length nodes → b < length nodes → shape_at nodes a ≡ shape_at nodes b → (place z : ℕ) → IsInMode nodes a (unfolded nodes a) place z → IsInMode nodes b (unfolded nodes b) place z
   at_too a b ha hb e place z at = go (is_union (unfolded nodes a)) refl
     where
       both : unfolded nodes a ≡ unfolded nodes b
       both = as_written a ha ∙ e ∙ sym (as_written b hb)
 
-      go : (u : Truth) → is_union (unfolded nodes a) ≡ u → IsAt nodes b (unfolded nodes b) place z
+      go : (u : Truth) → is_union (unfolded nodes a) ≡ u → IsInMode nodes b (unfolded nodes b) place z
       go true u =
           let i = at_union nodes a (unfolded nodes a) place z u at in
           let rows = row_of_map (steps_of WithinUnions) nodes a ha ∙ ap (steps_of WithinUnions) e ∙ sym (row_of_map (steps_of WithinUnions) nodes b hb) in
@@ -66,7 +66,7 @@ module _ (nodes : List Shape) (sound : AreSound nodes) where
   one_node mode a b p q =
       sound.clean.apart a b p.there q.there (λ depth. alike_trans nodes depth (as_it_stands a) mode (as_it_stands b) (p.equivalent depth) (alike_sym nodes depth (as_it_stands b) mode (q.equivalent depth)))
 
-  module _ (s : Shape) (within : IsWithin (length nodes) s) (simple : IsSimple s) where
+  module _ (s : Shape) (within : ShapeIsWithin (length nodes) s) (simple : IsSimple s) where
     pub old_at : (a : ℕ) → a < length nodes → unfolded (nodes ++ s ∷ []) a ≡ shape_at nodes a
     old_at a h = old_unfolded nodes s sound.holds sound.formed within a h ∙ as_written a h
 
@@ -104,16 +104,16 @@ module _ (nodes : List Shape) (sound : AreSound nodes) where
             hy : get_or (parts_of s) k 0 < length nodes
             hy = within k 0 ky
 
-            part : IsPart (nodes ++ s ∷ []) (as_it_stands a) k (as_it_stands (get_or (parts_of (shape_at nodes a)) k 0))
+            part : IsModePart (nodes ++ s ∷ []) (as_it_stands a) k (as_it_stands (get_or (parts_of (shape_at nodes a)) k 0))
             part = record {
-              at = subst (λ t. IsAt (nodes ++ s ∷ []) a t k (get_or (parts_of (shape_at nodes a)) k 0)) (sym (old_at a h)) (other_at (nodes ++ s ∷ []) a (shape_at nodes a) k (get_or (parts_of (shape_at nodes a)) k 0) ua (hk, refl));
+              at = subst (λ t. IsInMode (nodes ++ s ∷ []) a t k (get_or (parts_of (shape_at nodes a)) k 0)) (sym (old_at a h)) (other_at (nodes ++ s ∷ []) a (shape_at nodes a) k (get_or (parts_of (shape_at nodes a)) k 0) ua (hk, refl));
               flex = sym (passes_none (unfolded (nodes ++ s ∷ []) a));
             }
 
             alike : (depth : ℕ) → Alike (nodes ++ s ∷ []) depth (as_it_stands (get_or (parts_of (shape_at nodes a)) k 0)) (as_it_stands (get_or (parts_of s) k 0))
             alike depth =
                 let q = (eq (suc depth)).1.0 k (as_it_stands (get_or (parts_of (shape_at nodes a)) k 0)) part in
-                let at = at_other (nodes ++ s ∷ []) (length nodes) s k q.0.id us (subst (λ t. IsAt (nodes ++ s ∷ []) (length nodes) t k q.0.id) new_at q.1.at) in
+                let at = at_other (nodes ++ s ∷ []) (length nodes) s k q.0.id us (subst (λ t. IsInMode (nodes ++ s ∷ []) (length nodes) t k q.0.id) new_at q.1.at) in
                 let is = same_mode q.0 (as_it_stands (get_or (parts_of s) k 0)) (sym at.1) (q.1.flex ∙ passes_none (unfolded (nodes ++ s ∷ []) (length nodes))) in
                 subst (Alike (nodes ++ s ∷ []) depth (as_it_stands (get_or (parts_of (shape_at nodes a)) k 0))) is q.2
 
@@ -130,13 +130,13 @@ module _ (nodes : List Shape) (sound : AreSound nodes) where
         both : unfolded (nodes ++ s ∷ []) a ≡ unfolded (nodes ++ s ∷ []) (length nodes)
         both = a_is ∙ sym new_at
 
-        over : (m n : ℕ) → unfolded (nodes ++ s ∷ []) m ≡ s → unfolded (nodes ++ s ∷ []) n ≡ s → (place z : ℕ) → IsAt (nodes ++ s ∷ []) m (unfolded (nodes ++ s ∷ []) m) place z → IsAt (nodes ++ s ∷ []) n (unfolded (nodes ++ s ∷ []) n) place z
+        over : (m n : ℕ) → unfolded (nodes ++ s ∷ []) m ≡ s → unfolded (nodes ++ s ∷ []) n ≡ s → (place z : ℕ) → IsInMode (nodes ++ s ∷ []) m (unfolded (nodes ++ s ∷ []) m) place z → IsInMode (nodes ++ s ∷ []) n (unfolded (nodes ++ s ∷ []) n) place z
         over m n f g place z at =
-            subst (λ t. IsAt (nodes ++ s ∷ []) n t place z) (sym g)
-            (other_at (nodes ++ s ∷ []) n s place z us (at_other (nodes ++ s ∷ []) m s place z us (subst (λ t. IsAt (nodes ++ s ∷ []) m t place z) f at)))
+            subst (λ t. IsInMode (nodes ++ s ∷ []) n t place z) (sym g)
+            (other_at (nodes ++ s ∷ []) n s place z us (at_other (nodes ++ s ∷ []) m s place z us (subst (λ t. IsInMode (nodes ++ s ∷ []) m t place z) f at)))
 
-        forth : (place z : ℕ) → IsAt (nodes ++ s ∷ []) a (unfolded (nodes ++ s ∷ []) a) place z → IsAt (nodes ++ s ∷ []) (length nodes) (unfolded (nodes ++ s ∷ []) (length nodes)) place z
+        forth : (place z : ℕ) → IsInMode (nodes ++ s ∷ []) a (unfolded (nodes ++ s ∷ []) a) place z → IsInMode (nodes ++ s ∷ []) (length nodes) (unfolded (nodes ++ s ∷ []) (length nodes)) place z
         forth = over a (length nodes) a_is new_at
 
-        back : (place z : ℕ) → IsAt (nodes ++ s ∷ []) (length nodes) (unfolded (nodes ++ s ∷ []) (length nodes)) place z → IsAt (nodes ++ s ∷ []) a (unfolded (nodes ++ s ∷ []) a) place z
+        back : (place z : ℕ) → IsInMode (nodes ++ s ∷ []) (length nodes) (unfolded (nodes ++ s ∷ []) (length nodes)) place z → IsInMode (nodes ++ s ∷ []) a (unfolded (nodes ++ s ∷ []) a) place z
         back = over (length nodes) a new_at a_is

@@ -1,6 +1,6 @@
 -- The modes of a text as they grow (own): what each list of them keeps, and what a shape adds to it.
 use Rattle.std.specs.Prelude.{◌≡◌, ◌<◌, ◌≤◌, ◌++◌, ◌∷◌, [], ℕ, List, Bool, false, length}
-use Rattle.a68_declare.specs.Clean.{AreClean, MembersHaveNoFlex}
+use Rattle.a68_declare.specs.Clean.{AreClean, CleanMembersHaveNoFlex}
 pub use Rattle.a68_declare.specs.Clean.{AreFixed, IsNode}
 use Rattle.a68_equiv.specs.Dimensions.{HaveDimensions}
 use Rattle.a68_equiv.specs.Related.{without_flex}
@@ -15,7 +15,7 @@ pub record AreSound (nodes : List Shape) : Type 0 where
   pub clean : AreClean nodes
   pub formed : AreWellFormed nodes
   pub rows : HaveDimensions nodes
-  pub members : MembersHaveNoFlex nodes
+  pub members : CleanMembersHaveNoFlex nodes
   -- each mode has a node without its FLEX
   pub fixed : (m : ℕ) → m < length nodes → (id : ℕ) × IsNode nodes (without_flex m) id
 

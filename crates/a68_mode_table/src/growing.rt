@@ -6,7 +6,7 @@ ghost use Rattle.a68_equiv.specs.Related.{without_flex};
 ghost use Rattle.a68_mode_table.specs.Growing.{IsInterned, IsRowInterned};
 ghost use Rattle.a68_mode_table.specs.Simple.{IsSimple};
 ghost use Rattle.a68_mode_table.specs.Table.{IsTable};
-ghost use Rattle.a68_modes.specs.Nodes.{IsWithin};
+ghost use Rattle.a68_modes.specs.Nodes.{ShapeIsWithin};
 
 use a68_base::NoMemory;
 use a68_equiv::{Classes, intern};
@@ -45,7 +45,7 @@ pub fn grown(
     twin: ModeId,
 ) -> Result<ModeId, NoMemory>
     requires table { IsTable modes.old classes.old fixed.old.items }
-    requires within { IsWithin (length modes.old) shape }
+    requires within { ShapeIsWithin (length modes.old) shape }
     requires simple { IsSimple shape }
     requires dims { HasDimensions shape }
     requires twin { IsNode (modes.old ++ shape ∷ []) (without_flex (length modes.old)) twin }

@@ -1,7 +1,7 @@
 //! The modes of a text, as they grow.
 ghost use Rattle.std.specs.Prelude.{◌≡◌, ◌<◌, IfOk, OnErr, length};
 ghost use Rattle.std.specs.List.{All};
-ghost use Rattle.a68_declare.specs.Clean.{AreFixed, IsNode, MembersHaveNoFlex};
+ghost use Rattle.a68_declare.specs.Clean.{AreFixed, IsNode, CleanMembersHaveNoFlex};
 ghost use Rattle.a68_equiv.specs.Classes.{AreExact, AreKept};
 ghost use Rattle.a68_equiv.specs.Dimensions.{HaveDimensions};
 ghost use Rattle.a68_equiv.specs.Related.{without_flex};
@@ -79,7 +79,7 @@ impl ModeTable {
         ensures sound { AreSound self.now }
         ensures formed { AreWellFormed self.now }
         ensures rows { HaveDimensions self.now }
-        ensures members { MembersHaveNoFlex self.now }
+        ensures members { CleanMembersHaveNoFlex self.now }
         ensures holds { HoldsNodes self.now }
     {
         &self.modes

@@ -8,10 +8,10 @@ use Rattle.std.proofs.lemmas.List.{take-append-le, take-set-le, length-take, get
 use Rattle.std.proofs.lemmas.List.Elements.{All-weaker, All-from_recursion}
 use Rattle.a68_modes.specs.declared.shape.Shape.{Shape}
 use Rattle.a68_modes.specs.declared.shape.Shape.TheVariants.{Blank}
-use Rattle.a68_modes.specs.Nodes.{shape_at, parts_of, IsWithin, standard_shapes, HoldsNodes}
+use Rattle.a68_modes.specs.Nodes.{shape_at, parts_of, ShapeIsWithin, standard_shapes, HoldsNodes}
 
 -- a shape within a list is within a longer one
-pub wider : (n m : ℕ) (s : Shape) → n ≤ m → IsWithin n s → IsWithin m s
+pub wider : (n m : ℕ) (s : Shape) → n ≤ m → ShapeIsWithin n s → ShapeIsWithin m s
 wider n m s h = All-weaker (λ k. k < n) (λ k. k < m) (λ k g. omega arith) (parts_of s)
 
 -- the standard nodes are there
@@ -45,7 +45,7 @@ blank_behind nodes m h e = go (cases_lt m 13)
     go (inr le) = le
 
 -- one node more
-pub grown : (nodes : List Shape) (s : Shape) → HoldsNodes nodes → IsWithin (length nodes) s → length nodes < 16777216 → HoldsNodes (nodes ++ s ∷ [])
+pub grown : (nodes : List Shape) (s : Shape) → HoldsNodes nodes → ShapeIsWithin (length nodes) s → length nodes < 16777216 → HoldsNodes (nodes ++ s ∷ [])
 grown nodes s h w lt = record {
   standard = take-append-le 13 nodes (s ∷ []) (thirteen nodes h) ∙ h.standard;
   within = λ m g. rw more (each m (cases_eq m (length nodes)) g);
@@ -55,7 +55,7 @@ grown nodes s h w lt = record {
     more : length (nodes ++ s ∷ []) ≡ suc (length nodes)
     more = omega (arith, length-append nodes (s ∷ []))
 
-    each : (m : ℕ) → (m ≡ length nodes) ⊎ (m ≡ length nodes → ⊥) → m < length (nodes ++ s ∷ []) → IsWithin (suc (length nodes)) (shape_at (nodes ++ s ∷ []) m)
+    each : (m : ℕ) → (m ≡ length nodes) ⊎ (m ≡ length nodes → ⊥) → m < length (nodes ++ s ∷ []) → ShapeIsWithin (suc (length nodes)) (shape_at (nodes ++ s ∷ []) m)
     each m (inl e) g = rw (e, get_or-append_seam nodes s [] Blank) (wider (length nodes) (suc (length nodes)) s (omega arith) w)
     each m (inr ne) g =
         let l = more in
@@ -63,14 +63,14 @@ grown nodes s h w lt = record {
         rw (get_or-append nodes (s ∷ []) Blank m below) (wider (length nodes) (suc (length nodes)) (shape_at nodes m) (omega arith) (h.within m below))
 
 -- a Blank node gets its shape
-pub changed : (nodes : List Shape) (id : ℕ) (s : Shape) → HoldsNodes nodes → shape_at nodes id ≡ Blank → id < length nodes → IsWithin (length nodes) s → HoldsNodes (set nodes id s)
+pub changed : (nodes : List Shape) (id : ℕ) (s : Shape) → HoldsNodes nodes → shape_at nodes id ≡ Blank → id < length nodes → ShapeIsWithin (length nodes) s → HoldsNodes (set nodes id s)
 changed nodes id s h blank lt w = record {
   standard = take-set-le 13 nodes id s (blank_behind nodes id h blank) ∙ h.standard;
   within = λ m g. rw (length-set nodes id s) (each m (cases_eq m id) (let l = length-set nodes id s in omega arith));
   few = let l = length-set nodes id s in let f = h.few in omega arith;
 }
   where
-    each : (m : ℕ) → (m ≡ id) ⊎ (m ≡ id → ⊥) → m < length nodes → IsWithin (length nodes) (shape_at (set nodes id s) m)
+    each : (m : ℕ) → (m ≡ id) ⊎ (m ≡ id → ⊥) → m < length nodes → ShapeIsWithin (length nodes) (shape_at (set nodes id s) m)
     each m (inl e) g = rw (e, get_or-set_same nodes id s Blank lt) w
     each m (inr ne) g = rw (get_or-set_other nodes id m s Blank ne) (h.within m g)
 
@@ -78,7 +78,7 @@ abbrev EachWithin : ℕ → List Shape → Type 0
 EachWithin n [] = Unit {0}
 EachWithin n (s ∷ ss) = AllByRecursion (λ m. m < n) (parts_of s) × EachWithin n ss
 
-each_within : (n : ℕ) (ss : List Shape) (m : ℕ) → EachWithin n ss → m < length ss → IsWithin n (shape_at ss m)
+each_within : (n : ℕ) (ss : List Shape) (m : ℕ) → EachWithin n ss → m < length ss → ShapeIsWithin n (shape_at ss m)
 each_within n [] m h lt = absurd (omega arith)
 each_within n (s ∷ ss) zero h lt = All-from_recursion (λ k. k < n) (parts_of s) h.0
 each_within n (s ∷ ss) (suc m) h lt = each_within n ss m h.1 (omega arith)
@@ -93,6 +93,6 @@ pub standard_holds : HoldsNodes standard_shapes
 standard_holds = record { standard = refl; within = λ m g. each_within 13 standard_shapes m standard_within g; few = lit≤ tt }
 
 -- one node more, or none
-pub pushed : (b : Bool) (nodes new : List Shape) (s : Shape) → HoldsNodes nodes → IsWithin (length nodes) s → length nodes < 16777216 → new ≡ cond b (nodes ++ s ∷ []) nodes → HoldsNodes new
+pub pushed : (b : Bool) (nodes new : List Shape) (s : Shape) → HoldsNodes nodes → ShapeIsWithin (length nodes) s → length nodes < 16777216 → new ≡ cond b (nodes ++ s ∷ []) nodes → HoldsNodes new
 pushed true nodes new s h w lt e = subst HoldsNodes (sym e) (grown nodes s h w lt)
 pushed false nodes new s h w lt e = subst HoldsNodes (sym e) h

@@ -35,8 +35,8 @@ parts_of (Same m) = m ∷ []
 parts_of _ = []
 
 -- each mode within the shape is one of the first n nodes
-abbrev pub IsWithin : ℕ → Shape → Type 0
-IsWithin n shape = All (λ m. m < n) (parts_of shape)
+abbrev pub ShapeIsWithin : ℕ → Shape → Type 0
+ShapeIsWithin n shape = All (λ m. m < n) (parts_of shape)
 
 -- VOID, INT, BOOL, CHAR, BITS, SEMA, layout, [] CHAR, what can be printed, REF INT, REF STRING, [] BOOL, STRING
 abbrev pub standard_shapes : List Shape
@@ -49,6 +49,6 @@ pub record HoldsNodes (nodes : List Shape) : Type 0 where
   -- it begins with the standard modes
   pub standard : take 13 nodes ≡ standard_shapes
   -- a mode within a shape is one of its nodes
-  pub within : (m : ℕ) → m < length nodes → IsWithin (length nodes) (shape_at nodes m)
+  pub within : (m : ℕ) → m < length nodes → ShapeIsWithin (length nodes) (shape_at nodes m)
   -- it has room for no more than 16,777,216
   pub few : length nodes ≤ MOST_MODES

@@ -1,6 +1,6 @@
 //! The list of the modes.
 ghost use Rattle.std.specs.Prelude.{◌≡◌, ◌<◌, ◌≤◌, ◌↔◌, ◌++◌, ◌∷◌, [], IfOk, OnErr, Err, length, slice_set};
-ghost use Rattle.a68_modes.specs.Nodes.{shape_at, is_plain, is_void, standard_shapes, HoldsNodes, IsWithin};
+ghost use Rattle.a68_modes.specs.Nodes.{shape_at, is_plain, is_void, standard_shapes, HoldsNodes, ShapeIsWithin};
 ghost use Rattle.a68_modes.specs.declared.modes.ModeStop.TheVariants.{Full, NoMemory as no_memory};
 ghost use Rattle.a68_modes.specs.declared.shape.Shape.TheVariants.{Blank};
 
@@ -79,7 +79,7 @@ impl Modes {
     /// A new node of this shape, behind all others, and its number. Full exactly where 16,777,216 nodes are there;
     /// an error leaves the list as it was.
     pub fn add(&mut self, shape: Shape) -> Result<ModeId, ModeStop>
-        requires within { IsWithin (length self.old) shape }
+        requires within { ShapeIsWithin (length self.old) shape }
         ensures id { IfOk result (λ id. id ≡ length self.old) }
         ensures added { IfOk result (λ id. self.new ≡ self.old ++ shape ∷ []) }
         ensures full { (result ≡ Err Full) ↔ (length self.old ≡ MOST_MODES) }
@@ -99,7 +99,7 @@ impl Modes {
     pub fn set(&mut self, id: ModeId, shape: Shape)
         requires there { id < length self.old }
         requires blank { shape_at self.old id ≡ Blank }
-        requires within { IsWithin (length self.old) shape }
+        requires within { ShapeIsWithin (length self.old) shape }
         ensures { self.new ≡ slice_set self.old id shape }
     {
         self.items[id as usize] = shape;

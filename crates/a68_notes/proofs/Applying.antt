@@ -7,7 +7,7 @@ use Rattle.a68_declarers.specs.Declarers.{form_at}
 use Rattle.a68_declarers.specs.declared.form.DeclarerForm.{DeclarerForm}
 use Rattle.a68_declarers.specs.declared.form.DeclarerForm.TheVariants as forms
 use Rattle.a68_frames.specs.Frames.{frames_of, has_slot}
-use Rattle.a68_frames.specs.Tables.{AreFrames, Tables}
+use Rattle.a68_frames.specs.Tables.{AreFrames, FrameTables}
 use Rattle.a68_notes.specs.Notes.{definition_of, target_of, HasFrames, IsDefinitionOf, IsDistance, IsStep, IsStepOf, IsWordOf}
 use Rattle.a68_ranges.proofs.Looking.{lies_one}
 use Rattle.a68_ranges.proofs.Taking.{read}
@@ -32,7 +32,7 @@ word_below tree at name None is = tt
 word_below tree at name (Some d) is = definition_there tree at sorts.ModeWord name d is
 
 -- the frames about a node, as they are counted
-pub has_frames : (tree : Built) (t : Tables) (at count : ℕ) → AreFrames tree t → at < length t.chain.about
+pub has_frames : (tree : Built) (t : FrameTables) (at count : ℕ) → AreFrames tree t → at < length t.chain.about
     → ((ranges : List ℕ) → Lies tree at ranges → count ≡ frames_of tree ranges) → HasFrames tree at count
 has_frames tree t at count are low all =
     let tells = are.chain.tells at (slice_index_or t.chain.about at None) (read t.chain.about at None low) in

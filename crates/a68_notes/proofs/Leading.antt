@@ -28,7 +28,7 @@ use Rattle.a68_tree.specs.declared.kind.NodeKind.{NodeKind}
 use Rattle.a68_tree.specs.declared.kind.NodeKind.TheVariants as kind
 use Rattle.a68_yields.proofs.Tabling.{set_entry}
 use Rattle.a68_yields.specs.Leaves.{chosen, yield_at}
-use Rattle.a68_yields.specs.Yields.{any_unknown, choice, handed, is_unknown, none_yet, one_more, told, unknown, AreYieldsFrom, IsYield, Known}
+use Rattle.a68_yields.specs.Yields.{any_unknown, choice, handed, is_unknown, none_yet, one_more, told, unknown, AreYieldsFrom, IsToldYield, Known}
 use Rattle.a68_yields.specs.declared.told.Told.{Told}
 use Rattle.a68_yields.specs.declared.told.Told.TheVariants as tell
 use Rattle.a68_yields.specs.declared.yielding.Finding.{Finding}
@@ -62,7 +62,7 @@ told_none k nodes ys n found kind.Case h = choice_none ys (chosen k.tree n)
 told_none k nodes ys n found kind.Conformity h = choice_none ys (chosen k.tree n)
 told_none k nodes ys n found _ h = absurd (false≢true h)
 
-no_unit : (nodes : List Shape) (t : Told) (after : List Shape) (y : Yielding) (l : Leaf) → IsNoUnit t → IsYield nodes t after y → y ≡ yields.Unit l → ⊥
+no_unit : (nodes : List Shape) (t : Told) (after : List Shape) (y : Yielding) (l : Leaf) → IsNoUnit t → IsToldYield nodes t after y → y ≡ yields.Unit l → ⊥
 no_unit nodes (tell.Yields (yields.Unit other)) after y l none is e = none
 no_unit nodes (tell.Yields yields.Unknown) after y l none is e = let f : yields.Unknown ≡ yields.Unit l = sym is.1 ∙ e in absurd (cc)
 no_unit nodes (tell.Yields (yields.Part p)) after y l none is e = let f : yields.Part p ≡ yields.Unit l = sym is.1 ∙ e in absurd (cc)

@@ -6,7 +6,7 @@ use Rattle.std.proofs.lemmas.Bool.Decides.{eqb_tells}
 use Rattle.a68_frames.specs.Frames.{makes_frame}
 use Rattle.a68_frames.specs.Needs.{IsNeed, UsesSlotAt, UsesTag}
 use Rattle.a68_frames.specs.Tables.{Lowers, UsesSlotAtFrame}
-use Rattle.a68_notes.specs.Needs.{AreLoweredBy, AreNeeds, UsesBefore, by_tag, by_operator}
+use Rattle.a68_notes.specs.Needs.{AreLoweredBy, AreNeeds, TextUsesBefore, by_tag, by_operator}
 use Rattle.a68_notes.specs.Notes.{applied_operator, UsesFrame}
 use Rattle.a68_notes.specs.Notes.{by_tag as uses_by_tag, by_operator as uses_by_operator}
 use Rattle.a68_positions.specs.Given.{finding_at}
@@ -89,11 +89,11 @@ module _ (a : Asked) where
   abbrev at_node : ℕ → Option ℕ
   at_node at = applied_operator (finding_at a.fs at) (kind_at a.tree at)
 
-  before_more : (at text hops : ℕ) → UsesBefore a at text hops → UsesBefore a (at + 1) text hops
+  before_more : (at text hops : ℕ) → TextUsesBefore a at text hops → TextUsesBefore a (at + 1) text hops
   before_more at text hops (by_tag u) = by_tag u
   before_more at text hops (by_operator k d low e u) = by_operator k d (omega arith) e u
 
-  before_in : (at text hops : ℕ) → UsesBefore a (at + 1) text hops → UsesBefore a at text hops ⊎ ((d : ℕ) × (at_node at ≡ Some d) × UsesSlotAt a.tree at d text hops)
+  before_in : (at text hops : ℕ) → TextUsesBefore a (at + 1) text hops → TextUsesBefore a at text hops ⊎ ((d : ℕ) × (at_node at ≡ Some d) × UsesSlotAt a.tree at d text hops)
   before_in at text hops (by_tag u) = inl (by_tag u)
   before_in at text hops (by_operator k d low e u) =
       ⊎_elim
@@ -101,23 +101,23 @@ module _ (a : Asked) where
       (λ other. let differs = other.1 in inl (by_operator k d (omega arith) e u))
       (eqb_tells k at)
 
-  pub needs_before : (needs : List (Option ℕ)) → AreNeeds a.tree (UsesTag a.tree) (length a.tree.nodes) needs → AreNeeds a.tree (UsesBefore a 0) (length a.tree.nodes) needs
+  pub needs_before : (needs : List (Option ℕ)) → AreNeeds a.tree (UsesTag a.tree) (length a.tree.nodes) needs → AreNeeds a.tree (TextUsesBefore a 0) (length a.tree.nodes) needs
   needs_before needs are = record {
     long = are.long;
-    each = λ text need at form. same_need (UsesTag a.tree text) (UsesBefore a 0 text) need (λ n u. by_tag u) (none text) (are.each text need at form);
+    each = λ text need at form. same_need (UsesTag a.tree text) (TextUsesBefore a 0 text) need (λ n u. by_tag u) (none text) (are.each text need at form);
   }
     where
-      none : (text hops : ℕ) → UsesBefore a 0 text hops → UsesTag a.tree text hops
+      none : (text hops : ℕ) → TextUsesBefore a 0 text hops → UsesTag a.tree text hops
       none text hops (by_tag u) = u
       none text hops (by_operator k d low e u) = absurd (omega arith)
 
   -- one node more
   pub needs_on : (at : ℕ) (found : Option ℕ) (old new : List (Option ℕ)) → at_node at ≡ found → AreLoweredBy a.tree at found old new
-      → AreNeeds a.tree (UsesBefore a at) (length a.tree.nodes) old → AreNeeds a.tree (UsesBefore a (at + 1)) (length a.tree.nodes) new
+      → AreNeeds a.tree (TextUsesBefore a at) (length a.tree.nodes) old → AreNeeds a.tree (TextUsesBefore a (at + 1)) (length a.tree.nodes) new
   needs_on at None old new none same are = record {
     long = ap (λ (xs : List (Option ℕ)). length xs) same ∙ are.long;
     each = λ text need is form.
-        same_need (UsesBefore a at text) (UsesBefore a (at + 1) text) need (before_more at text)
+        same_need (TextUsesBefore a at text) (TextUsesBefore a (at + 1) text) need (before_more at text)
         (λ n u. ⊎_elim (λ o. o) (λ o. let some = o.1 in absurd (cc)) (before_in at text n u))
         (are.each text need (ap (λ xs. slice_get xs text) (sym same) ∙ is) form);
   }
@@ -129,7 +129,7 @@ module _ (a : Asked) where
         let long = lowered.long in
         let was : slice_get old text ≡ Some mid = read old text None (omega arith) in
         let makes = text_makes a.tree text form in
-        lower_need (UsesBefore a at text) (UsesSlotAtFrame a.tree at d text) (UsesBefore a (at + 1) text) mid need
+        lower_need (TextUsesBefore a at text) (UsesSlotAtFrame a.tree at d text) (TextUsesBefore a (at + 1) text) mid need
         (before_more at text)
         (λ n u. by_operator at d (omega arith) some u.1)
         (λ n u. ⊎_elim (λ o. inl o) (λ o. let one : o.0 ≡ d = one_definition (sym o.1 ∙ some) in inr (makes, subst (λ k. UsesSlotAt a.tree at k text n) one o.2)) (before_in at text n u))
@@ -140,17 +140,17 @@ module _ (a : Asked) where
       one_definition : {x y : ℕ} → Some x ≡ Some y → x ≡ y
       one_definition e = cc
 
-  pub needs_all : (needs : List (Option ℕ)) → AreNeeds a.tree (UsesBefore a (length a.tree.nodes)) (length a.tree.nodes) needs
+  pub needs_all : (needs : List (Option ℕ)) → AreNeeds a.tree (TextUsesBefore a (length a.tree.nodes)) (length a.tree.nodes) needs
       → AreNeeds a.tree (UsesFrame a) (length a.tree.nodes) needs
   needs_all needs are = record {
     long = are.long;
-    each = λ text need at form. same_need (UsesBefore a (length a.tree.nodes) text) (UsesFrame a text) need (to text) (from text) (are.each text need at form);
+    each = λ text need at form. same_need (TextUsesBefore a (length a.tree.nodes) text) (UsesFrame a text) need (to text) (from text) (are.each text need at form);
   }
     where
-      to : (text hops : ℕ) → UsesBefore a (length a.tree.nodes) text hops → UsesFrame a text hops
+      to : (text hops : ℕ) → TextUsesBefore a (length a.tree.nodes) text hops → UsesFrame a text hops
       to text hops (by_tag u) = uses_by_tag u
       to text hops (by_operator k d low e u) = uses_by_operator k d e u
 
-      from : (text hops : ℕ) → UsesFrame a text hops → UsesBefore a (length a.tree.nodes) text hops
+      from : (text hops : ℕ) → UsesFrame a text hops → TextUsesBefore a (length a.tree.nodes) text hops
       from text hops (uses_by_tag u) = by_tag u
       from text hops (uses_by_operator k d e u) = by_operator k d (operator_there a.tree (finding_at a.fs k) k d e) e u

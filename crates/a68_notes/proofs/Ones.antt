@@ -12,7 +12,7 @@ use Rattle.a68_declare.specs.Outcome.{AreModesOf, ByNode}
 use Rattle.a68_definitions.specs.Defined.{AllBelow, AreBelow, AreDefined}
 use Rattle.a68_equiv.specs.Related.{as_it_stands}
 use Rattle.a68_frames.specs.Frames.{WaysAreOne}
-use Rattle.a68_identify.specs.Operators.{AreThere}
+use Rattle.a68_identify.specs.Operators.{NumbersAreThere}
 use Rattle.a68_meaning.specs.Meaning.{IsMeaning}
 use Rattle.a68_mode_table.specs.Growing.{AreSound}
 use Rattle.a68_modes.specs.declared.coercion.Coercion.{Coercion}
@@ -153,7 +153,7 @@ pub record Laws : Type 0 where
   pub yields_longer : (k : Known) (start nodes : List Shape) (ys : List Yielding) (fs : List Finding) → AreYields k start nodes ys fs
       → length start ≤ length nodes
   pub positions_sound : (k : Known) (ys : List Yielding) (fs : List Finding) (start nodes : List Shape) (ps : List Position) → AreSound start
-      → AreThere k.tree start k.of → AllBelow (length start) k.defined → AreTablesBelow (length start) (length k.tree.nodes) ys fs
+      → NumbersAreThere k.tree start k.of → AllBelow (length start) k.defined → AreTablesBelow (length start) (length k.tree.nodes) ys fs
       → length nodes ≤ MOST_MODES → ArePositions k ys fs start nodes ps → AreSound nodes
   pub positions_longer : (k : Known) (ys : List Yielding) (fs : List Finding) (start nodes : List Shape) (ps : List Position)
       → ArePositions k ys fs start nodes ps → length start ≤ length nodes

@@ -7,7 +7,7 @@ use Rattle.std.proofs.Math.ListN.{get_or-append}
 use Rattle.std.proofs.Math.Seq.{drop-length}
 use Rattle.std.proofs.lemmas.List.{append-nil, take_more}
 use Rattle.std.proofs.lemmas.List.Folds.{list_any-append}
-use Rattle.a68_modes.specs.Nodes.{shape_at, IsWithin}
+use Rattle.a68_modes.specs.Nodes.{shape_at, ShapeIsWithin}
 use Rattle.a68_modes.specs.declared.shape.Shape.{Shape}
 use Rattle.a68_modes.specs.declared.shape.Shape.TheVariants.{Rows, Blank}
 use Rattle.a68_notes.specs.KnownRows.{has_key, AreRowsKnown}
@@ -105,7 +105,7 @@ one_more start of at modes new old keys are known is = record {
     next n = let e : n + 1 ≡ suc n = omega arith in ap (λ k. with_rows_to start k of) e
 
 -- the elements of a row are of a mode that is there
-pub element_within : (count : ℕ) (s : Shape) (most of : ℕ) → IsWithin count s → fewer_of s ≡ Some (most, of) → of < count
+pub element_within : (count : ℕ) (s : Shape) (most of : ℕ) → ShapeIsWithin count s → fewer_of s ≡ Some (most, of) → of < count
 element_within count (Rows n flex m) most of within e = let same : m ≡ of = ap (λ (o : Option (ℕ × ℕ)). option_map_or (λ row. row.1) o 0) e in subst (λ k. k < count) same (within 0 0 (omega arith))
 element_within count _ most of within e = absurd (cc)
 

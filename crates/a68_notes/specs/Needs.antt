@@ -11,10 +11,10 @@ use Rattle.a68_tree.specs.Trees.{Built}
 use Rattle.a68_tree.specs.declared.kind.NodeKind.TheVariants as kind
 
 -- a routine text uses a frame from outside, by a tag, or by the operator of one of so many formulas
-pub data UsesBefore (a : Asked) (count text hops : ℕ) : Type 0 where
-  by_tag : UsesTag a.tree text hops → UsesBefore a count text hops
+pub data TextUsesBefore (a : Asked) (count text hops : ℕ) : Type 0 where
+  by_tag : UsesTag a.tree text hops → TextUsesBefore a count text hops
   by_operator : (at definition : ℕ) → at < count → applied_operator (finding_at a.fs at) (kind_at a.tree at) ≡ Some definition
-      → UsesSlotAt a.tree at definition text hops → UsesBefore a count text hops
+      → UsesSlotAt a.tree at definition text hops → TextUsesBefore a count text hops
 
 -- of so many nodes the needs, right for those that are routine texts
 pub record AreNeeds (tree : Built) (Used : (text hops : ℕ) → Type 0) (count : ℕ) (needs : List (Option ℕ)) : Type 0 where

@@ -1,7 +1,7 @@
 -- The nodes of a shaped tree begin where nodes of the flat one do.
 use Rattle.std.proofs.Common.{◌≡◌, ℕ, ◌+◌, ◌<◌, ◌≤◌, false, inl, inr, ◌⊎◌, List, [], length, sym, ◌∙◌, ap, subst, arith, Some, slice_get}
 use Rattle.std.proofs.lemmas.Option.{slice_get_within, slice_get-get_or}
-use Rattle.a68_op_ident.specs.Formulas.{Each, Placed, alone, under, over, monadic_node, dyadic_node}
+use Rattle.a68_op_ident.specs.Formulas.{EachOf, Placed, alone, under, over, monadic_node, dyadic_node}
 use Rattle.a68_op_ident.specs.Shapes.{Shaped, ShapedTo, IsShaped, IsLeft, IsOperatorNode, IsBegun}
 use Rattle.a68_op_ident.specs.declared.formula.Operand.{Operand}
 use Rattle.a68_op_ident.specs.declared.formula.FormulaPart.{FormulaPart}
@@ -17,12 +17,12 @@ moved : {nodes : List Node} {a b : ℕ} → a ≡ b → IsBegun nodes a → IsBe
 moved {nodes = nodes} e b = subst (IsBegun nodes) e b
 
 -- what is placed begins where a token does
-top_begun : {nodes : List Node} {ts : List FormulaPart} {id next : ℕ} {top : Operand} (old : List Node) → Placed nodes ts id next top → Each (λ t. IsBegun old (begin_of t)) ts → IsBegun old top.span.from
+top_begun : {nodes : List Node} {ts : List FormulaPart} {id next : ℕ} {top : Operand} (old : List Node) → Placed nodes ts id next top → EachOf (λ t. IsBegun old (begin_of t)) ts → IsBegun old top.span.from
 top_begun old (alone o) are = are.0
 top_begun old (under s o c n a) are = are.0
 top_begun old (over left right s p middle a b parts l r n x y) are = top_begun old x (lefts (λ t. IsBegun old (begin_of t)) left right (token.Dyad s (Some p)) parts are)
 
-placed_begun : {nodes : List Node} {ts : List FormulaPart} {id next : ℕ} {top : Operand} (old : List Node) → Placed nodes ts id next top → Each (λ t. IsBegun old (begin_of t)) ts
+placed_begun : {nodes : List Node} {ts : List FormulaPart} {id next : ℕ} {top : Operand} (old : List Node) → Placed nodes ts id next top → EachOf (λ t. IsBegun old (begin_of t)) ts
     → (k : ℕ) (n : Node) → id ≤ k → k < next → slice_get nodes k ≡ Some n → IsBegun old n.span.from
 placed_begun old (alone o) are k n from to at = absurd (omega arith)
 placed_begun {nodes = nodes} {id = id} old (under s o c here a) are k n from to at =

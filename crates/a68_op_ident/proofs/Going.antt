@@ -4,10 +4,10 @@ use Rattle.std.specs.declared.option.Option.{Option}
 use Rattle.std.proofs.lemmas.Bool.{false≢true}
 use Rattle.std.proofs.lemmas.Option.{slice_get_within}
 use Rattle.a68_base.specs.declared.refusal.Rule.TheVariants.{O3}
-use Rattle.a68_op_ident.specs.Formulas.{Each, Reads, HasItsPriority, IsRanked, Placed, is_formula, is_sign, signs}
+use Rattle.a68_op_ident.specs.Formulas.{EachOf, ReadsParts, HasItsPriority, IsRanked, Placed, is_formula, is_sign, signs}
 use Rattle.a68_op_ident.specs.Shapes.{IsShaped, IsLeft, IsOperatorNode, Shaped, ShapedTo}
 use Rattle.a68_op_ident.specs.Lacking.{LacksPriority, IsUnshaped}
-use Rattle.a68_op_ident.specs.Inner.{Going, Same, IsLatePlace, IsLateToken, IsLeast, IsOrdered, lesser, late_of}
+use Rattle.a68_op_ident.specs.Inner.{Going, Same, IsLatePlace, IsLateToken, IsLeastNumber, IsOrdered, lesser, late_of}
 use Rattle.a68_op_ident.specs.declared.formula.Operand.{Operand}
 use Rattle.a68_op_ident.specs.declared.formula.FormulaPart.{FormulaPart}
 use Rattle.a68_op_ident.specs.declared.formula.FormulaPart.TheVariants as token
@@ -68,10 +68,10 @@ module _ (flat : Built) (nodes : List Node) (id : ℕ) (n : Node) (going : Going
   same_node m k e there = some_same (sym there ∙ ap (slice_get flat.nodes) e ∙ flat_at)
 
   -- a formula reads alike in both trees
-  to_flat : (ts : List FormulaPart) → Reads nodes (id + 1) false n.parts ts → Reads flat.nodes (id + 1) false n.parts ts
+  to_flat : (ts : List FormulaPart) → ReadsParts nodes (id + 1) false n.parts ts → ReadsParts flat.nodes (id + 1) false n.parts ts
   to_flat ts reads = reads_same nodes flat.nodes id (length nodes) (id + 1) false n.parts ts reads (going.sound.behind id n at) (λ k p. sym (going.rest k (omega arith)))
 
-  from_flat : (ts : List FormulaPart) → Reads flat.nodes (id + 1) false n.parts ts → Reads nodes (id + 1) false n.parts ts
+  from_flat : (ts : List FormulaPart) → ReadsParts flat.nodes (id + 1) false n.parts ts → ReadsParts nodes (id + 1) false n.parts ts
   from_flat ts reads = reads_same flat.nodes nodes id (length nodes) (id + 1) false n.parts ts reads (going.sound.behind id n at) (λ k p. going.rest k (omega arith))
 
   -- one node more, which stays as it is
@@ -97,17 +97,17 @@ module _ (flat : Built) (nodes : List Node) (id : ℕ) (n : Node) (going : Going
   }
 
   -- a sign of the formula here that lacks a priority
-  lacks_here : (sign : ℕ) (l : LacksPriority flat sign) → l.formula ≡ id → (l.node ≡ n) × Reads flat.nodes (id + 1) false n.parts l.tokens
+  lacks_here : (sign : ℕ) (l : LacksPriority flat sign) → l.formula ≡ id → (l.node ≡ n) × ReadsParts flat.nodes (id + 1) false n.parts l.tokens
   lacks_here sign l same =
       let eq = same_node l.node l.formula same l.there in
-      (eq, subst (λ (j : ℕ). Reads flat.nodes (j + 1) false n.parts l.tokens) same (subst (λ (x : Node). Reads flat.nodes (l.formula + 1) false x.parts l.tokens) eq l.reads))
+      (eq, subst (λ (j : ℕ). ReadsParts flat.nodes (j + 1) false n.parts l.tokens) same (subst (λ (x : Node). ReadsParts flat.nodes (l.formula + 1) false x.parts l.tokens) eq l.reads))
 
   -- ---- no formula
 
   pub pass : is_formula n.kind ≡ false → Going flat nodes (id + 1)
   pass other = one_more (λ none f. absurd (false≢true (sym other ∙ f)))
 
-  pub pass_late : is_formula n.kind ≡ false → IsLeast (IsLatePlace flat id (id + 1)) None
+  pub pass_late : is_formula n.kind ≡ false → IsLeastNumber (IsLatePlace flat id (id + 1)) None
   pass_late other = λ place late.
       let begin = late.begin in
       let end = late.end in
@@ -116,19 +116,19 @@ module _ (flat : Built) (nodes : List Node) (id : ℕ) (n : Node) (going : Going
 
   -- ---- a formula that cannot be read
 
-  pub left : ((ts : List FormulaPart) → Reads nodes (id + 1) false n.parts ts → ⊥) → Going flat nodes (id + 1)
+  pub left : ((ts : List FormulaPart) → ReadsParts nodes (id + 1) false n.parts ts → ⊥) → Going flat nodes (id + 1)
   left none = one_more (λ never f. record {
-    unread = λ m ts there reads. none ts (from_flat ts (subst (λ (x : Node). Reads flat.nodes (id + 1) false x.parts ts) (same_node m id refl there) reads));
+    unread = λ m ts there reads. none ts (from_flat ts (subst (λ (x : Node). ReadsParts flat.nodes (id + 1) false x.parts ts) (same_node m id refl there) reads));
     same = at;
   })
 
-  pub left_late : ((ts : List FormulaPart) → Reads nodes (id + 1) false n.parts ts → ⊥) → IsLeast (IsLatePlace flat id (id + 1)) None
+  pub left_late : ((ts : List FormulaPart) → ReadsParts nodes (id + 1) false n.parts ts → ⊥) → IsLeastNumber (IsLatePlace flat id (id + 1)) None
   left_late none = λ place late.
       let begin = late.begin in
       let end = late.end in
       absurd (none late.lacks.tokens (from_flat late.lacks.tokens (lacks_here late.sign late.lacks (omega arith)).1))
 
-  module _ (ts : List FormulaPart) (formed : is_formula n.kind ≡ true) (reads : Reads nodes (id + 1) false n.parts ts) (priorities : Each (HasItsPriority flat) ts) where
+  module _ (ts : List FormulaPart) (formed : is_formula n.kind ≡ true) (reads : ReadsParts nodes (id + 1) false n.parts ts) (priorities : EachOf (HasItsPriority flat) ts) where
     abbrev lacks_of : (k : ℕ) (s : _) → slice_get ts k ≡ Some (token.Dyad s None) → LacksPriority flat s.id
     lacks_of k s there = record {
       formula = id;
@@ -153,12 +153,12 @@ module _ (flat : Built) (nodes : List Node) (id : ℕ) (n : Node) (going : Going
 
     -- ---- a sign lacks a priority
 
-    pub lacking : (place : ℕ) → IsLeast (IsLateToken ts (length ts)) (Some place) → Going flat nodes (id + 1)
+    pub lacking : (place : ℕ) → IsLeastNumber (IsLateToken ts (length ts)) (Some place) → Going flat nodes (id + 1)
     lacking place least = one_more (λ none f.
         let l = late_is (slice_get ts least.0.0) place least.0.2 in
         absurd (none l.dyad.id (lacks_of least.0.0 l.dyad l.is)))
 
-    pub lacking_late : (place : ℕ) → IsLeast (IsLateToken ts (length ts)) (Some place) → IsLeast (IsLatePlace flat id (id + 1)) (Some place)
+    pub lacking_late : (place : ℕ) → IsLeastNumber (IsLateToken ts (length ts)) (Some place) → IsLeastNumber (IsLatePlace flat id (id + 1)) (Some place)
     lacking_late place least =
         let l = late_is (slice_get ts least.0.0) place least.0.2 in (
           record {
@@ -184,7 +184,7 @@ module _ (flat : Built) (nodes : List Node) (id : ℕ) (n : Node) (going : Going
 
     -- ---- all have priorities
 
-    module _ (new : List Node) (top : Operand) (ranked : Each IsRanked ts) (placed : Placed new ts id (id + signs ts) top) (same : Same nodes new id (id + signs ts)) where
+    module _ (new : List Node) (top : Operand) (ranked : EachOf IsRanked ts) (placed : Placed new ts id (id + signs ts) top) (same : Same nodes new id (id + signs ts)) where
       sign_there : (k : ℕ) → id < k → k ≤ id + signs ts → (m : Node) → slice_get flat.nodes k ≡ Some m → is_formula m.kind ≡ true → ⊥
       sign_there k low high m there f =
           let s = sign_nodes nodes (id + 1) false n.parts ts reads k (omega arith) (omega arith) in
@@ -219,7 +219,7 @@ module _ (flat : Built) (nodes : List Node) (id : ℕ) (n : Node) (going : Going
             sound = sound_placed nodes new (length flat.spellings) id n ts top going.sound at within reads placed same;
           }
 
-      pub shaped_late : IsLeast (IsLatePlace flat id (id + signs ts + 1)) None
+      pub shaped_late : IsLeastNumber (IsLatePlace flat id (id + signs ts + 1)) None
       shaped_late = λ place late.
           let begin = late.begin in
           let end = late.end in
@@ -230,10 +230,10 @@ module _ (flat : Built) (nodes : List Node) (id : ℕ) (n : Node) (going : Going
 
 -- ---- the whole tree
 
-pub none_yet : (flat : Built) → IsLeast (IsLatePlace flat 0 0) None
+pub none_yet : (flat : Built) → IsLeastNumber (IsLatePlace flat 0 0) None
 none_yet flat = λ place late. let end = late.end in absurd (omega arith)
 
-pub late_on : (flat : Built) (id next : ℕ) (late more : Option ℕ) → id < next → IsLeast (IsLatePlace flat 0 id) late → IsLeast (IsLatePlace flat id next) more → IsLeast (IsLatePlace flat 0 next) (lesser late more)
+pub late_on : (flat : Built) (id next : ℕ) (late more : Option ℕ) → id < next → IsLeastNumber (IsLatePlace flat 0 id) late → IsLeastNumber (IsLatePlace flat id next) more → IsLeastNumber (IsLatePlace flat 0 next) (lesser late more)
 late_on flat id next late more lt a b = joined (IsLatePlace flat 0 id) (IsLatePlace flat id next) (IsLatePlace flat 0 next) late more a b
     (λ p l. let end = l.end in record { sign = l.sign; lacks = l.lacks; begin = l.begin; end = omega arith; here = l.here })
     (λ p l. record { sign = l.sign; lacks = l.lacks; begin = omega arith; end = l.end; here = l.here })
@@ -246,7 +246,7 @@ late_any : (flat : Built) (sign : ℕ) → LacksPriority flat sign → IsLatePla
 late_any flat sign l = record { sign = sign; lacks = l; begin = omega arith; end = slice_get_within flat.nodes l.formula l.node l.there; here = refl }
 
 -- all formulas are shaped
-pub finished : (flat : Built) (nodes : List Node) (spellings : List (List ℕ)) (starts : List ℕ) (id : ℕ) → Going flat nodes id → id ≡ length nodes → IsLeast (IsLatePlace flat 0 id) None
+pub finished : (flat : Built) (nodes : List Node) (spellings : List (List ℕ)) (starts : List ℕ) (id : ℕ) → Going flat nodes id → id ≡ length nodes → IsLeastNumber (IsLatePlace flat 0 id) None
     → spellings ≡ flat.spellings → starts ≡ flat.starts → Shaped flat (record { nodes = nodes; spellings = spellings; starts = starts })
 finished flat nodes spellings starts id going all none same begin =
     let end : id ≡ length flat.nodes = all ∙ going.long in
@@ -258,7 +258,7 @@ finished flat nodes spellings starts id going all none same begin =
     }
 
 -- a sign lacks a priority
-pub unshaped : (flat : Built) (nodes : List Node) (id place : ℕ) → Going flat nodes id → id ≡ length nodes → IsLeast (IsLatePlace flat 0 id) (Some place) → IsUnshaped flat (record { rule = O3; place = place })
+pub unshaped : (flat : Built) (nodes : List Node) (id place : ℕ) → Going flat nodes id → id ≡ length nodes → IsLeastNumber (IsLatePlace flat 0 id) (Some place) → IsUnshaped flat (record { rule = O3; place = place })
 unshaped flat nodes id place going all least =
     let end : id ≡ length flat.nodes = all ∙ going.long in
     let late = least.0 in

@@ -3,8 +3,8 @@ use Rattle.std.proofs.Common.{◌≡◌, ℕ, zero, suc, ◌+◌, ◌<◌, inl, 
 use Rattle.std.specs.Option.{option_and_then, option_map_or}
 use Rattle.std.specs.declared.option.Option.{Option}
 use Rattle.std.proofs.lemmas.Option.{slice_get_within}
-use Rattle.a68_op_ident.specs.Formulas.{Each, IsToken, Reads, HasItsPriority, IsRanked, is_operand, signs_of, next_sign}
-use Rattle.a68_op_ident.specs.Inner.{IsLeast, IsLateToken, late_of}
+use Rattle.a68_op_ident.specs.Formulas.{EachOf, IsToken, ReadsParts, HasItsPriority, IsRanked, is_operand, signs_of, next_sign}
+use Rattle.a68_op_ident.specs.Inner.{IsLeastNumber, IsLateToken, late_of}
 use Rattle.a68_op_ident.specs.declared.formula.Sign.{Sign}
 use Rattle.a68_op_ident.specs.declared.formula.FormulaPart.{FormulaPart}
 use Rattle.a68_op_ident.specs.declared.formula.FormulaPart.TheVariants as token
@@ -32,8 +32,8 @@ lacks_too tree from true p s (token.Dyad r q) a b u v =
     ap (λ (x : Sign). token.Dyad x q) same ∙ ap (λ (o : Option ℕ). token.Dyad s o) none
 
 -- a sign that lacks a priority lacks it however its formula is read
-pub lacks_always : (tree : Built) (from : ℕ) (after : Bool) (parts : List ℕ) (ts us : List FormulaPart) (k : ℕ) (s : Sign) → Reads tree.nodes from after parts ts → Reads tree.nodes from after parts us
-    → Each (HasItsPriority tree) ts → Each (HasItsPriority tree) us → slice_get ts k ≡ Some (token.Dyad s None) → slice_get us k ≡ Some (token.Dyad s None)
+pub lacks_always : (tree : Built) (from : ℕ) (after : Bool) (parts : List ℕ) (ts us : List FormulaPart) (k : ℕ) (s : Sign) → ReadsParts tree.nodes from after parts ts → ReadsParts tree.nodes from after parts us
+    → EachOf (HasItsPriority tree) ts → EachOf (HasItsPriority tree) us → slice_get ts k ≡ Some (token.Dyad s None) → slice_get us k ≡ Some (token.Dyad s None)
 lacks_always tree from after [] [] us k s a b u v e = absurd (cc)
 lacks_always tree from after [] (t ∷ ts) us k s a b u v e = absurd a
 lacks_always tree from after (p ∷ ps) [] us k s a b u v e = absurd a
@@ -44,7 +44,7 @@ lacks_always tree from after (p ∷ ps) (t ∷ ts) (x ∷ us) zero s a b u v e =
 lacks_always tree from after (p ∷ ps) (t ∷ ts) (x ∷ us) (suc k) s a b u v e =
     let same = alike tree.nodes from after p x t b.0 a.0 in
     lacks_always tree (from + signs_of t) (is_operand t) ps ts us k s a.1
-    (subst (λ (y : Bool). Reads tree.nodes (from + signs_of t) y ps us) same.1 (subst (λ (j : ℕ). Reads tree.nodes (from + j) (is_operand x) ps us) same.0 b.1)) u.1 v.1 e
+    (subst (λ (y : Bool). ReadsParts tree.nodes (from + signs_of t) y ps us) same.1 (subst (λ (j : ℕ). ReadsParts tree.nodes (from + j) (is_operand x) ps us) same.0 b.1)) u.1 v.1 e
 
 -- where a sign stands
 pub record StandsAt (tree : Built) (s : Sign) : Type 0 where
@@ -65,7 +65,7 @@ dyad_stands : (tree : Built) (from : ℕ) (after : Bool) (p : ℕ) (s : Sign) (q
 dyad_stands tree from false p s q a = absurd a
 dyad_stands tree from true p s q a = sign_stands tree from p s a
 
-pub stands_at : (tree : Built) (from : ℕ) (after : Bool) (parts : List ℕ) (ts : List FormulaPart) (k : ℕ) (s : Sign) (q : Option ℕ) → Reads tree.nodes from after parts ts → slice_get ts k ≡ Some (token.Dyad s q) → StandsAt tree s
+pub stands_at : (tree : Built) (from : ℕ) (after : Bool) (parts : List ℕ) (ts : List FormulaPart) (k : ℕ) (s : Sign) (q : Option ℕ) → ReadsParts tree.nodes from after parts ts → slice_get ts k ≡ Some (token.Dyad s q) → StandsAt tree s
 stands_at tree from after [] [] k s q r e = absurd (cc)
 stands_at tree from after [] (t ∷ ts) k s q r e = absurd r
 stands_at tree from after (p ∷ ps) [] k s q r e = absurd r
@@ -92,7 +92,7 @@ ranked_one (token.Monad s) none = tt
 ranked_one (token.Dyad s (Some p)) none = tt
 ranked_one (token.Dyad s None) none = none s.from refl
 
-all_ranked : (ts : List FormulaPart) → ((k place : ℕ) → option_and_then late_of (slice_get ts k) ≡ Some place → ⊥) → Each IsRanked ts
+all_ranked : (ts : List FormulaPart) → ((k place : ℕ) → option_and_then late_of (slice_get ts k) ≡ Some place → ⊥) → EachOf IsRanked ts
 all_ranked [] none = tt
 all_ranked (t ∷ ts) none = (ranked_one t (none 0), all_ranked ts (λ k. none (suc k)))
 
@@ -100,5 +100,5 @@ late_there : (ts : List FormulaPart) (k place : ℕ) → option_and_then late_of
 late_there ts k place e = let l = late_is (slice_get ts k) place e in slice_get_within ts k (token.Dyad l.dyad None) l.is
 
 -- where none lacks a priority, all have one
-pub ranked : (ts : List FormulaPart) → IsLeast (IsLateToken ts (length ts)) None → Each IsRanked ts
+pub ranked : (ts : List FormulaPart) → IsLeastNumber (IsLateToken ts (length ts)) None → EachOf IsRanked ts
 ranked ts none = all_ranked ts (λ k place e. none place (k, late_there ts k place e, e))

@@ -1,5 +1,5 @@
 -- Lists, and what holds of all their elements.
-use Rattle.a68_op_ident.specs.Formulas.{Each}
+use Rattle.a68_op_ident.specs.Formulas.{EachOf}
 use Rattle.std.proofs.Common.{◌≡◌, ◌≢◌, ℕ, zero, suc, ◌+◌, ◌-◌, ◌<◌, ◌≤◌, ◌⊎◌, inl, inr, List, [], ◌∷◌, ◌++◌, length, take, drop, refl, ap, arith, add-one, length-drop, Some, slice_get, slice_set}
 
 pub some_same : {X : Type 0} {x y : X} → Some x ≡ Some y → x ≡ y
@@ -59,29 +59,29 @@ get-set_there (x ∷ xs) (suc i) (suc j) y p = get-set_there xs i j y (λ e. p (
 
 -- ---- all elements
 
-pub all_left : {X : Type 0} (P : X → Type 0) (xs ys : List X) → Each P (xs ++ ys) → Each P xs
+pub all_left : {X : Type 0} (P : X → Type 0) (xs ys : List X) → EachOf P (xs ++ ys) → EachOf P xs
 all_left P [] ys a = tt
 all_left P (x ∷ xs) ys a = (a.0, all_left P xs ys a.1)
 
-pub all_right : {X : Type 0} (P : X → Type 0) (xs ys : List X) → Each P (xs ++ ys) → Each P ys
+pub all_right : {X : Type 0} (P : X → Type 0) (xs ys : List X) → EachOf P (xs ++ ys) → EachOf P ys
 all_right P [] ys a = a
 all_right P (x ∷ xs) ys a = all_right P xs ys a.1
 
-pub all_join : {X : Type 0} (P : X → Type 0) (xs ys : List X) → Each P xs → Each P ys → Each P (xs ++ ys)
+pub all_join : {X : Type 0} (P : X → Type 0) (xs ys : List X) → EachOf P xs → EachOf P ys → EachOf P (xs ++ ys)
 all_join P [] ys a b = b
 all_join P (x ∷ xs) ys a b = (a.0, all_join P xs ys a.1 b)
 
-pub all_at : {X : Type 0} (P : X → Type 0) (xs : List X) (k : ℕ) (x : X) → Each P xs → slice_get xs k ≡ Some x → P x
+pub all_at : {X : Type 0} (P : X → Type 0) (xs : List X) (k : ℕ) (x : X) → EachOf P xs → slice_get xs k ≡ Some x → P x
 all_at P [] k x a e = absurd (cc)
 all_at P (y ∷ ys) zero x a e = let same : y ≡ x = some_same e in rw (← same) a.0
 all_at P (y ∷ ys) (suc k) x a e = all_at P ys k x a.1 e
 
-pub all_before : {X : Type 0} (P : X → Type 0) (xs : List X) (n : ℕ) → ((k : ℕ) (x : X) → k < n → slice_get xs k ≡ Some x → P x) → Each P (take n xs)
+pub all_before : {X : Type 0} (P : X → Type 0) (xs : List X) (n : ℕ) → ((k : ℕ) (x : X) → k < n → slice_get xs k ≡ Some x → P x) → EachOf P (take n xs)
 all_before P xs zero h = tt
 all_before P [] (suc n) h = tt
 all_before P (x ∷ xs) (suc n) h = (h 0 x (omega arith) refl, all_before P xs n (λ k y p e. h (suc k) y (omega arith) e))
 
-pub all_from : {X : Type 0} (P : X → Type 0) (xs : List X) (n : ℕ) → ((k : ℕ) (x : X) → n ≤ k → slice_get xs k ≡ Some x → P x) → Each P (drop n xs)
+pub all_from : {X : Type 0} (P : X → Type 0) (xs : List X) (n : ℕ) → ((k : ℕ) (x : X) → n ≤ k → slice_get xs k ≡ Some x → P x) → EachOf P (drop n xs)
 all_from P [] zero h = tt
 all_from P (x ∷ xs) zero h = (h 0 x (omega arith) refl, all_from P xs zero (λ k y p e. h (suc k) y (omega arith) e))
 all_from P [] (suc n) h = tt

@@ -3,7 +3,7 @@ use Rattle.std.proofs.Common.{◌≡◌, ℕ, suc, ◌+◌, ◌<◌, ◌≤◌, 
 use Rattle.std.specs.declared.option.Option.{Option}
 use Rattle.std.proofs.lemmas.Option.{slice_get_within, slice_get-get_or}
 use Rattle.a68_base.specs.declared.refusal.Refusal.{Refusal}
-use Rattle.a68_op_ident.specs.Formulas.{Each, IsToken, Reads, HasItsPriority, IsRanked, BindsFrom, BindsAbove, BindsClosest, is_operand, signs_of, signs, Placed, alone, under, over, monadic_node, dyadic_node}
+use Rattle.a68_op_ident.specs.Formulas.{EachOf, IsToken, ReadsParts, HasItsPriority, IsRanked, BindsFrom, BindsAbove, BindsClosest, is_operand, signs_of, signs, Placed, alone, under, over, monadic_node, dyadic_node}
 use Rattle.a68_op_ident.specs.Lacking.{LacksPriority, IsUnshaped}
 use Rattle.a68_op_ident.specs.Shapes.{Shaped, ShapedTo, IsShaped, IsLeft, IsOperatorNode}
 use Rattle.a68_op_ident.specs.declared.formula.Operand.{Operand}
@@ -40,7 +40,7 @@ from_same : {s r : Sign} {p q : Option ℕ} → token.Dyad s p ≡ token.Dyad r 
 from_same e = (cc, cc)
 
 -- a sign is among those of which something holds
-there_holds : (P : FormulaPart → Type 0) (xs ys : List FormulaPart) (t : FormulaPart) → Each P (xs ++ t ∷ ys) → P t
+there_holds : (P : FormulaPart → Type 0) (xs ys : List FormulaPart) (t : FormulaPart) → EachOf P (xs ++ t ∷ ys) → P t
 there_holds P [] ys t a = a.0
 there_holds P (x ∷ xs) ys t a = there_holds P xs ys t a.1
 
@@ -50,17 +50,17 @@ record SameSides (left right left' right' : List FormulaPart) (s s' : Sign) : Ty
   signs_are : s ≡ s'
 
 same_sides : (left right left' right' : List FormulaPart) (s s' : Sign) (p p' : ℕ) → left ++ token.Dyad s (Some p) ∷ right ≡ left' ++ token.Dyad s' (Some p') ∷ right'
-    → Each (BindsFrom p) left → Each (BindsAbove p) right → Each (BindsFrom p') left' → Each (BindsAbove p') right' → SameSides left right left' right' s s'
+    → EachOf (BindsFrom p) left → EachOf (BindsAbove p) right → EachOf (BindsFrom p') left' → EachOf (BindsAbove p') right' → SameSides left right left' right' s s'
 same_sides [] right [] right' s s' p p' e l r l' r' = record { lefts = refl; rights = tail_same e; signs_are = (from_same (head_same e)).0 }
 same_sides [] right (x ∷ left') right' s s' p p' e l r l' r' =
     let first : BindsFrom p' (token.Dyad s (Some p)) = subst (BindsFrom p') (sym (head_same e)) l'.0 in
-    let behind : BindsAbove p (token.Dyad s' (Some p')) = there_holds (BindsAbove p) left' right' (token.Dyad s' (Some p')) (subst (Each (BindsAbove p)) (tail_same e) r) in
+    let behind : BindsAbove p (token.Dyad s' (Some p')) = there_holds (BindsAbove p) left' right' (token.Dyad s' (Some p')) (subst (EachOf (BindsAbove p)) (tail_same e) r) in
     let low : p' ≤ p = first in
     let high : p < p' = behind in
     absurd (omega arith)
 same_sides (x ∷ left) right [] right' s s' p p' e l r l' r' =
     let first : BindsFrom p (token.Dyad s' (Some p')) = subst (BindsFrom p) (head_same e) l.0 in
-    let behind : BindsAbove p' (token.Dyad s (Some p)) = there_holds (BindsAbove p') left right (token.Dyad s (Some p)) (subst (Each (BindsAbove p')) (sym (tail_same e)) r') in
+    let behind : BindsAbove p' (token.Dyad s (Some p)) = there_holds (BindsAbove p') left right (token.Dyad s (Some p)) (subst (EachOf (BindsAbove p')) (sym (tail_same e)) r') in
     let low : p ≤ p' = first in
     let high : p' < p = behind in
     absurd (omega arith)
@@ -77,10 +77,10 @@ no_operand o (x ∷ []) right s p e = let t : [] ≡ token.Dyad s (Some p) ∷ r
 no_operand o (x ∷ y ∷ left) right s p e = let t : [] ≡ y ∷ left ++ token.Dyad s (Some p) ∷ right = tail_same e in absurd (cc)
 
 -- nor is a monadic sign over what binds closest
-no_monad : (m : Sign) (ts left right : List FormulaPart) (s : Sign) (p : ℕ) → Each BindsClosest ts → token.Monad m ∷ ts ≡ left ++ token.Dyad s (Some p) ∷ right → ⊥
+no_monad : (m : Sign) (ts left right : List FormulaPart) (s : Sign) (p : ℕ) → EachOf BindsClosest ts → token.Monad m ∷ ts ≡ left ++ token.Dyad s (Some p) ∷ right → ⊥
 no_monad m ts [] right s p a e = let h : token.Monad m ≡ token.Dyad s (Some p) = head_same e in absurd (cc)
 no_monad m ts (x ∷ left) right s p a e =
-    let none : Some p ≡ None = there_holds BindsClosest left right (token.Dyad s (Some p)) (subst (Each BindsClosest) (tail_same e) a) in absurd (cc)
+    let none : Some p ≡ None = there_holds BindsClosest left right (token.Dyad s (Some p)) (subst (EachOf BindsClosest) (tail_same e) a) in absurd (cc)
 
 -- what is placed ends at one place, has one node over it, and has the same nodes
 record AreOne (a b : List Node) (id next next' : ℕ) (top top' : Operand) : Type 0 where
@@ -157,8 +157,8 @@ module _ (flat : Built) (one : (at name : ℕ) (p q : Option ℕ) → IsPriority
       let priority : q ≡ z = one s.id s.name q z h (subst (λ (x : Sign). IsPriorityOf flat x.id x.name z) (sym same) j) in
       ap (λ (x : Sign). token.Dyad x q) same ∙ ap (λ (x : Option ℕ). token.Dyad r x) priority
 
-  one_reading : (from : ℕ) (after : Bool) (parts : List ℕ) (ts us : List FormulaPart) → Reads flat.nodes from after parts ts → Reads flat.nodes from after parts us
-      → Each (HasItsPriority flat) ts → Each (HasItsPriority flat) us → ts ≡ us
+  one_reading : (from : ℕ) (after : Bool) (parts : List ℕ) (ts us : List FormulaPart) → ReadsParts flat.nodes from after parts ts → ReadsParts flat.nodes from after parts us
+      → EachOf (HasItsPriority flat) ts → EachOf (HasItsPriority flat) us → ts ≡ us
   one_reading from after [] [] [] a b h j = refl
   one_reading from after [] [] (u ∷ us) a b h j = absurd b
   one_reading from after [] (t ∷ ts) us a b h j = absurd a
@@ -166,12 +166,12 @@ module _ (flat : Built) (one : (at name : ℕ) (p q : Option ℕ) → IsPriority
   one_reading from after (p ∷ ps) (t ∷ ts) [] a b h j = absurd b
   one_reading from after (p ∷ ps) (t ∷ ts) (u ∷ us) a b h j =
       let head = one_token from after p t u a.0 b.0 h.0 j.0 in
-      let rest : Reads flat.nodes (from + signs_of t) (is_operand t) ps us = subst (λ (x : FormulaPart). Reads flat.nodes (from + signs_of x) (is_operand x) ps us) (sym head) b.1 in
+      let rest : ReadsParts flat.nodes (from + signs_of t) (is_operand t) ps us = subst (λ (x : FormulaPart). ReadsParts flat.nodes (from + signs_of x) (is_operand x) ps us) (sym head) b.1 in
       let tail = one_reading (from + signs_of t) (is_operand t) ps ts us a.1 rest h.1 j.1 in
       ap (λ (x : FormulaPart). x ∷ ts) head ∙ ap (λ (xs : List FormulaPart). u ∷ xs) tail
 
   -- two shapes of a formula have the same nodes
-  one_shaped : {a b : List Node} {f id : ℕ} {parts : List ℕ} (ts : List FormulaPart) → Reads flat.nodes (f + 1) false parts ts → f ≤ id → id < f + signs ts
+  one_shaped : {a b : List Node} {f id : ℕ} {parts : List ℕ} (ts : List FormulaPart) → ReadsParts flat.nodes (f + 1) false parts ts → f ≤ id → id < f + signs ts
       → IsShaped flat a (length flat.nodes) f parts → IsShaped flat b (length flat.nodes) f parts → slice_get a id ≡ slice_get b id
   one_shaped {f = f} {id = id} {parts = parts} ts reads from below is so =
       let same = one_reading (f + 1) false parts is.tokens so.tokens is.reads so.reads is.priorities so.priorities in

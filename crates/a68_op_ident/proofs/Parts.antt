@@ -5,7 +5,7 @@ use Rattle.std.specs.Option.{option_and_then}
 use Rattle.std.specs.declared.option.Option.{Option}
 use Rattle.std.proofs.lemmas.Bool.{false≢true}
 use Rattle.std.proofs.lemmas.Option.{slice_get_within}
-use Rattle.a68_op_ident.specs.Formulas.{Each, IsToken, Reads, HasItsPriority, is_operand, is_sign, signs_of, signs, sign_at, sign_of, operand_at, operand_of, next_sign}
+use Rattle.a68_op_ident.specs.Formulas.{EachOf, IsToken, ReadsParts, HasItsPriority, is_operand, is_sign, signs_of, signs, sign_at, sign_of, operand_at, operand_of, next_sign}
 use Rattle.a68_op_ident.specs.Inner.{Alternates, StandsBetween}
 use Rattle.a68_op_ident.specs.Shapes.{IsBegun}
 use Rattle.a68_op_ident.specs.declared.formula.Operand.{Operand}
@@ -13,7 +13,7 @@ use Rattle.a68_op_ident.specs.declared.formula.Sign.{Sign}
 use Rattle.a68_op_ident.specs.declared.formula.FormulaPart.{FormulaPart}
 use Rattle.a68_op_ident.specs.declared.formula.FormulaPart.TheVariants as token
 use Rattle.a68_op_ident.proofs.Lists.{some_same, rest_at, less_or_not, all_join}
-use Rattle.a68_ranges.specs.Tables.{AreRanges, Tables}
+use Rattle.a68_ranges.specs.Tables.{AreRanges, RangeTables}
 use Rattle.a68_tree.specs.Trees.{Built, AllBetween}
 use Rattle.a68_tree.specs.declared.node.Node.{Node}
 
@@ -112,50 +112,50 @@ drop_all [] = refl
 drop_all (x ∷ xs) = drop_all xs
 
 -- what is read of the first parts, with what is due behind them
-pub record ReadTo (nodes : List Node) (ranges : Tables) (parts : List ℕ) (formula i : ℕ) (tokens : List FormulaPart) (from : ℕ) (after : Bool) : Type 0 where
+pub record ReadTo (nodes : List Node) (ranges : RangeTables) (parts : List ℕ) (formula i : ℕ) (tokens : List FormulaPart) (from : ℕ) (after : Bool) : Type 0 where
   pub low : from ≤ length nodes
-  pub on : (rest : List FormulaPart) → Reads nodes from after (drop i parts) rest → Reads nodes (formula + 1) false parts (tokens ++ rest)
-  pub none : ((rest : List FormulaPart) → Reads nodes from after (drop i parts) rest → ⊥) → (all : List FormulaPart) → Reads nodes (formula + 1) false parts all → ⊥
-  pub ranked : (tree : Built) → AreRanges tree ranges → Each (HasItsPriority tree) tokens
+  pub on : (rest : List FormulaPart) → ReadsParts nodes from after (drop i parts) rest → ReadsParts nodes (formula + 1) false parts (tokens ++ rest)
+  pub none : ((rest : List FormulaPart) → ReadsParts nodes from after (drop i parts) rest → ⊥) → (all : List FormulaPart) → ReadsParts nodes (formula + 1) false parts all → ⊥
+  pub ranked : (tree : Built) → AreRanges tree ranges → EachOf (HasItsPriority tree) tokens
 
-pub read_first : (nodes : List Node) (ranges : Tables) (parts : List ℕ) (formula : ℕ) → formula < length nodes → ReadTo nodes ranges parts formula 0 [] (formula + 1) false
+pub read_first : (nodes : List Node) (ranges : RangeTables) (parts : List ℕ) (formula : ℕ) → formula < length nodes → ReadTo nodes ranges parts formula 0 [] (formula + 1) false
 read_first nodes ranges parts formula lt = record { low = omega arith; on = λ rest r. r; none = λ h. h; ranked = λ tree are. tt }
 
-module _ {nodes : List Node} {ranges : Tables} {parts : List ℕ} {formula i : ℕ} {tokens : List FormulaPart} {from : ℕ} {after : Bool} (read : ReadTo nodes ranges parts formula i tokens from after) where
+module _ {nodes : List Node} {ranges : RangeTables} {parts : List ℕ} {formula i : ℕ} {tokens : List FormulaPart} {from : ℕ} {after : Bool} (read : ReadTo nodes ranges parts formula i tokens from after) where
   pub read_more : (p : ℕ) (t : FormulaPart) (new : List FormulaPart) → slice_get parts i ≡ Some p → IsToken nodes from after p t → ((tree : Built) → AreRanges tree ranges → HasItsPriority tree t)
       → new ≡ tokens ++ t ∷ [] → ReadTo nodes ranges parts formula (i + 1) new (from + signs_of t) (is_operand t)
   read_more p t new at is ranked grown = record {
     low = token_low nodes from after p t is read.low;
-    on = λ rest r. rw (grown, push_then tokens rest t) (read.on (t ∷ rest) (subst (λ (ps : List ℕ). Reads nodes from after ps (t ∷ rest)) (sym (rest_at parts i p at)) (is, r)));
-    none = λ never. read.none (λ rest r. other never rest (subst (λ (ps : List ℕ). Reads nodes from after ps rest) (rest_at parts i p at) r));
+    on = λ rest r. rw (grown, push_then tokens rest t) (read.on (t ∷ rest) (subst (λ (ps : List ℕ). ReadsParts nodes from after ps (t ∷ rest)) (sym (rest_at parts i p at)) (is, r)));
+    none = λ never. read.none (λ rest r. other never rest (subst (λ (ps : List ℕ). ReadsParts nodes from after ps rest) (rest_at parts i p at) r));
     ranked = λ tree are. rw grown (all_join (HasItsPriority tree) tokens (t ∷ []) (read.ranked tree are) (ranked tree are, tt));
   }
     where
-      other : ((rest : List FormulaPart) → Reads nodes (from + signs_of t) (is_operand t) (drop (i + 1) parts) rest → ⊥) → (rest : List FormulaPart) → Reads nodes from after (p ∷ drop (i + 1) parts) rest → ⊥
+      other : ((rest : List FormulaPart) → ReadsParts nodes (from + signs_of t) (is_operand t) (drop (i + 1) parts) rest → ⊥) → (rest : List FormulaPart) → ReadsParts nodes from after (p ∷ drop (i + 1) parts) rest → ⊥
       other never [] r = r
       other never (u ∷ us) r =
           let same = alike nodes from after p u t r.0 is in
-          never us (subst (λ (b : Bool). Reads nodes (from + signs_of t) b (drop (i + 1) parts) us) same.1
-          (subst (λ (k : ℕ). Reads nodes (from + k) (is_operand u) (drop (i + 1) parts) us) same.0 r.1))
+          never us (subst (λ (b : Bool). ReadsParts nodes (from + signs_of t) b (drop (i + 1) parts) us) same.1
+          (subst (λ (k : ℕ). ReadsParts nodes (from + k) (is_operand u) (drop (i + 1) parts) us) same.0 r.1))
 
   -- a part that is no token
-  pub read_stop : (p : ℕ) → slice_get parts i ≡ Some p → ((t : FormulaPart) → IsToken nodes from after p t → ⊥) → (all : List FormulaPart) → Reads nodes (formula + 1) false parts all → ⊥
-  read_stop p at never = read.none (λ rest r. go rest (subst (λ (ps : List ℕ). Reads nodes from after ps rest) (rest_at parts i p at) r))
+  pub read_stop : (p : ℕ) → slice_get parts i ≡ Some p → ((t : FormulaPart) → IsToken nodes from after p t → ⊥) → (all : List FormulaPart) → ReadsParts nodes (formula + 1) false parts all → ⊥
+  read_stop p at never = read.none (λ rest r. go rest (subst (λ (ps : List ℕ). ReadsParts nodes from after ps rest) (rest_at parts i p at) r))
     where
-      go : (rest : List FormulaPart) → Reads nodes from after (p ∷ drop (i + 1) parts) rest → ⊥
+      go : (rest : List FormulaPart) → ReadsParts nodes from after (p ∷ drop (i + 1) parts) rest → ⊥
       go [] r = r
       go (u ∷ us) r = never u r.0
 
   at_end : i ≡ length parts → drop i parts ≡ []
   at_end e = ap (λ (k : ℕ). drop k parts) e ∙ drop_all parts
 
-  pub read_all : i ≡ length parts → after ≡ true → Reads nodes (formula + 1) false parts tokens
-  read_all e operand = subst (Reads nodes (formula + 1) false parts) (then_none tokens) (read.on [] (subst (λ (ps : List ℕ). Reads nodes from after ps []) (sym (at_end e)) operand))
+  pub read_all : i ≡ length parts → after ≡ true → ReadsParts nodes (formula + 1) false parts tokens
+  read_all e operand = subst (ReadsParts nodes (formula + 1) false parts) (then_none tokens) (read.on [] (subst (λ (ps : List ℕ). ReadsParts nodes from after ps []) (sym (at_end e)) operand))
 
-  pub read_short : i ≡ length parts → after ≡ false → (all : List FormulaPart) → Reads nodes (formula + 1) false parts all → ⊥
-  read_short e none = read.none (λ rest r. go rest (subst (λ (ps : List ℕ). Reads nodes from after ps rest) (at_end e) r))
+  pub read_short : i ≡ length parts → after ≡ false → (all : List FormulaPart) → ReadsParts nodes (formula + 1) false parts all → ⊥
+  read_short e none = read.none (λ rest r. go rest (subst (λ (ps : List ℕ). ReadsParts nodes from after ps rest) (at_end e) r))
     where
-      go : (rest : List FormulaPart) → Reads nodes from after [] rest → ⊥
+      go : (rest : List FormulaPart) → ReadsParts nodes from after [] rest → ⊥
       go [] r = false≢true (sym none ∙ r)
       go (u ∷ us) r = r
 
@@ -169,13 +169,13 @@ order_of nodes from true p (token.Operand o) ts a r = absurd a
 order_of nodes from true p (token.Monad s) ts a r = absurd a
 order_of nodes from true p (token.Dyad s q) ts a r = r
 
-pub alternates : (nodes : List Node) (from : ℕ) (after : Bool) (parts : List ℕ) (ts : List FormulaPart) → Reads nodes from after parts ts → Alternates after ts
+pub alternates : (nodes : List Node) (from : ℕ) (after : Bool) (parts : List ℕ) (ts : List FormulaPart) → ReadsParts nodes from after parts ts → Alternates after ts
 alternates nodes from after [] [] r = r
 alternates nodes from after [] (t ∷ ts) r = absurd r
 alternates nodes from after (p ∷ ps) [] r = absurd r
 alternates nodes from after (p ∷ ps) (t ∷ ts) r = order_of nodes from after p t ts r.0 (alternates nodes (from + signs_of t) (is_operand t) ps ts r.1)
 
-pub ends : (nodes : List Node) (from : ℕ) (after : Bool) (parts : List ℕ) (ts : List FormulaPart) → Reads nodes from after parts ts → from ≤ length nodes → from + signs ts ≤ length nodes
+pub ends : (nodes : List Node) (from : ℕ) (after : Bool) (parts : List ℕ) (ts : List FormulaPart) → ReadsParts nodes from after parts ts → from ≤ length nodes → from + signs ts ≤ length nodes
 ends nodes from after [] [] r low = omega arith
 ends nodes from after [] (t ∷ ts) r low = absurd r
 ends nodes from after (p ∷ ps) [] r low = absurd r
@@ -202,7 +202,7 @@ at_token nodes from true p k (token.Operand o) a low lt = absurd a
 at_token nodes from true p k (token.Monad s) a low lt = absurd a
 at_token nodes from true p k (token.Dyad s q) a low lt = at_next nodes from p k s a (omega arith)
 
-pub sign_nodes : (nodes : List Node) (from : ℕ) (after : Bool) (parts : List ℕ) (ts : List FormulaPart) → Reads nodes from after parts ts → (k : ℕ) → from ≤ k → k < from + signs ts → IsSignNode nodes k
+pub sign_nodes : (nodes : List Node) (from : ℕ) (after : Bool) (parts : List ℕ) (ts : List FormulaPart) → ReadsParts nodes from after parts ts → (k : ℕ) → from ≤ k → k < from + signs ts → IsSignNode nodes k
 sign_nodes nodes from after [] [] r k low lt = absurd (omega arith)
 sign_nodes nodes from after [] (t ∷ ts) r k low lt = absurd r
 sign_nodes nodes from after (p ∷ ps) [] r k low lt = absurd r
@@ -224,8 +224,8 @@ token_between nodes f last from true p (token.Monad s) a lt are = tt
 token_between nodes f last from true p (token.Dyad s q) a lt are = tt
 
 -- the operands stand behind all signs
-pub between : (nodes : List Node) (f last from : ℕ) (after : Bool) (parts : List ℕ) (ts : List FormulaPart) → Reads nodes from after parts ts → AllBetween f (length nodes) parts
-    → ((k : ℕ) → f < k → k ≤ last → IsSignNode nodes k) → Each (StandsBetween last (length nodes)) ts
+pub between : (nodes : List Node) (f last from : ℕ) (after : Bool) (parts : List ℕ) (ts : List FormulaPart) → ReadsParts nodes from after parts ts → AllBetween f (length nodes) parts
+    → ((k : ℕ) → f < k → k ≤ last → IsSignNode nodes k) → EachOf (StandsBetween last (length nodes)) ts
 between nodes f last from after [] [] r all are = tt
 between nodes f last from after [] (t ∷ ts) r all are = absurd r
 between nodes f last from after (p ∷ ps) [] r all are = absurd r
@@ -253,7 +253,7 @@ token_named nodes names from true p (token.Operand o) a are = absurd a
 token_named nodes names from true p (token.Monad s) a are = absurd a
 token_named nodes names from true p (token.Dyad s q) a are = sign_named nodes names from p s a are
 
-pub named : (nodes : List Node) (names from : ℕ) (after : Bool) (parts : List ℕ) (ts : List FormulaPart) → Reads nodes from after parts ts → ((i : ℕ) (n : Node) → slice_get nodes i ≡ Some n → n.name < names) → Each (IsNamed names) ts
+pub named : (nodes : List Node) (names from : ℕ) (after : Bool) (parts : List ℕ) (ts : List FormulaPart) → ReadsParts nodes from after parts ts → ((i : ℕ) (n : Node) → slice_get nodes i ≡ Some n → n.name < names) → EachOf (IsNamed names) ts
 named nodes names from after [] [] r are = tt
 named nodes names from after [] (t ∷ ts) r are = absurd r
 named nodes names from after (p ∷ ps) [] r are = absurd r
@@ -280,7 +280,7 @@ token_begun nodes from true p (token.Monad s) a = absurd a
 token_begun nodes from true p (token.Dyad s q) a = sign_begun nodes from p s a
 
 -- each token begins where a node does
-pub all_begun : (nodes : List Node) (from : ℕ) (after : Bool) (parts : List ℕ) (ts : List FormulaPart) → Reads nodes from after parts ts → Each (λ t. IsBegun nodes (begin_of t)) ts
+pub all_begun : (nodes : List Node) (from : ℕ) (after : Bool) (parts : List ℕ) (ts : List FormulaPart) → ReadsParts nodes from after parts ts → EachOf (λ t. IsBegun nodes (begin_of t)) ts
 all_begun nodes from after [] [] r = tt
 all_begun nodes from after [] (t ∷ ts) r = absurd r
 all_begun nodes from after (p ∷ ps) [] r = absurd r
@@ -300,8 +300,8 @@ token_same a b from true p (token.Monad s) i same = absurd i
 token_same a b from true p (token.Dyad s q) i same = next_same a b from p same ∙ i
 
 -- a formula reads the same where all nodes behind its own are the same
-pub reads_same : (a b : List Node) (f count from : ℕ) (after : Bool) (parts : List ℕ) (ts : List FormulaPart) → Reads a from after parts ts → AllBetween f count parts
-    → ((k : ℕ) → f < k → slice_get b k ≡ slice_get a k) → Reads b from after parts ts
+pub reads_same : (a b : List Node) (f count from : ℕ) (after : Bool) (parts : List ℕ) (ts : List FormulaPart) → ReadsParts a from after parts ts → AllBetween f count parts
+    → ((k : ℕ) → f < k → slice_get b k ≡ slice_get a k) → ReadsParts b from after parts ts
 reads_same a b f count from after [] [] r all same = r
 reads_same a b f count from after [] (t ∷ ts) r all same = absurd r
 reads_same a b f count from after (p ∷ ps) [] r all same = absurd r
@@ -309,7 +309,7 @@ reads_same a b f count from after (p ∷ ps) (t ∷ ts) r all same =
     (token_same a b from after p t r.0 (same p all.0), reads_same a b f count (from + signs_of t) (is_operand t) ps ts r.1 all.2 same)
 
 -- two readings have as many signs
-pub same_count : (nodes : List Node) (from : ℕ) (after : Bool) (parts : List ℕ) (ts us : List FormulaPart) → Reads nodes from after parts ts → Reads nodes from after parts us → signs ts ≡ signs us
+pub same_count : (nodes : List Node) (from : ℕ) (after : Bool) (parts : List ℕ) (ts us : List FormulaPart) → ReadsParts nodes from after parts ts → ReadsParts nodes from after parts us → signs ts ≡ signs us
 same_count nodes from after [] [] [] r s = refl
 same_count nodes from after [] [] (u ∷ us) r s = absurd s
 same_count nodes from after [] (t ∷ ts) us r s = absurd r
@@ -318,6 +318,6 @@ same_count nodes from after (p ∷ ps) (t ∷ ts) [] r s = absurd s
 same_count nodes from after (p ∷ ps) (t ∷ ts) (u ∷ us) r s =
     let same = alike nodes from after p u t s.0 r.0 in
     let rest = same_count nodes (from + signs_of t) (is_operand t) ps ts us r.1
-    (subst (λ (b : Bool). Reads nodes (from + signs_of t) b ps us) same.1 (subst (λ (k : ℕ). Reads nodes (from + k) (is_operand u) ps us) same.0 s.1)) in
+    (subst (λ (b : Bool). ReadsParts nodes (from + signs_of t) b ps us) same.1 (subst (λ (k : ℕ). ReadsParts nodes (from + k) (is_operand u) ps us) same.0 s.1)) in
     let count = same.0 in
     omega arith

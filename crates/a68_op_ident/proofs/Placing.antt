@@ -2,7 +2,7 @@
 use Rattle.std.proofs.Common.{◌≡◌, ℕ, zero, suc, ◌+◌, ◌<◌, ◌≤◌, false, List, [], ◌∷◌, ◌++◌, length, take, drop, refl, sym, ◌∙◌, ap, subst, arith, Some, None, slice_get, slice_set}
 use Rattle.std.proofs.Math.ListN.{length-set}
 use Rattle.std.specs.declared.option.Option.{Option}
-use Rattle.a68_op_ident.specs.Formulas.{Each, Placed, alone, under, over, monadic_node, dyadic_node, standing, IsRanked, signs}
+use Rattle.a68_op_ident.specs.Formulas.{EachOf, Placed, alone, under, over, monadic_node, dyadic_node, standing, IsRanked, signs}
 use Rattle.a68_op_ident.specs.Inner.{Alternates, IsRoot, Same}
 use Rattle.a68_op_ident.specs.declared.formula.Operand.{Operand}
 use Rattle.a68_op_ident.specs.declared.formula.Sign.{Sign}
@@ -37,17 +37,17 @@ keeps {id = id} (over left right s p middle a b e l r n x y) same =
 pub record Halves (tokens : List FormulaPart) (root : ℕ) : Type 0 where
   pub left_order : Alternates false (take root tokens)
   pub right_order : Alternates false (drop (root + 1) tokens)
-  pub left_ranked : Each IsRanked (take root tokens)
-  pub right_ranked : Each IsRanked (drop (root + 1) tokens)
+  pub left_ranked : EachOf IsRanked (take root tokens)
+  pub right_ranked : EachOf IsRanked (drop (root + 1) tokens)
   pub count : signs tokens ≡ signs (take root tokens) + (1 + signs (drop (root + 1) tokens))
 
-pub halves : (tokens : List FormulaPart) (root : ℕ) (s : Sign) (p : Option ℕ) → slice_get tokens root ≡ Some (token.Dyad s p) → Alternates false tokens → Each IsRanked tokens → Halves tokens root
+pub halves : (tokens : List FormulaPart) (root : ℕ) (s : Sign) (p : Option ℕ) → slice_get tokens root ≡ Some (token.Dyad s p) → Alternates false tokens → EachOf IsRanked tokens → Halves tokens root
 halves tokens root s p there order ranked =
     let left = take root tokens in
     let right = drop (root + 1) tokens in
     let split : tokens ≡ left ++ token.Dyad s p ∷ right = split_at tokens root (token.Dyad s p) there in
     let two = sides_alternate false left right s p (subst (Alternates false) split order) in
-    let all : Each IsRanked (left ++ token.Dyad s p ∷ right) = subst (Each IsRanked) split ranked in
+    let all : EachOf IsRanked (left ++ token.Dyad s p ∷ right) = subst (EachOf IsRanked) split ranked in
     record {
       left_order = two.0;
       right_order = two.1;
@@ -60,7 +60,7 @@ halves tokens root s p there order ranked =
 pub record Rest (tokens : List FormulaPart) (root : ℕ) : Type 0 where
   pub first : root ≡ 0
   pub order : Alternates false (drop (root + 1) tokens)
-  pub ranked : Each IsRanked (drop (root + 1) tokens)
+  pub ranked : EachOf IsRanked (drop (root + 1) tokens)
   pub count : signs tokens ≡ 1 + signs (drop (root + 1) tokens)
 
 -- all tokens are the first one and the rest
@@ -69,11 +69,11 @@ from_first tokens root t there first =
     let split = split_at tokens root t there in
     split ∙ ap (λ (k : ℕ). take k tokens ++ t ∷ drop (root + 1) tokens) first
 
-pub rest : (tokens : List FormulaPart) (root : ℕ) (s : Sign) → IsRoot tokens (length tokens) root → slice_get tokens root ≡ Some (token.Monad s) → Alternates false tokens → Each IsRanked tokens → Rest tokens root
+pub rest : (tokens : List FormulaPart) (root : ℕ) (s : Sign) → IsRoot tokens (length tokens) root → slice_get tokens root ≡ Some (token.Monad s) → Alternates false tokens → EachOf IsRanked tokens → Rest tokens root
 rest tokens root s is there order ranked =
     let first = root_first tokens root (token.Monad s) is there refl in
     let whole = from_first tokens root (token.Monad s) there first in
-    let all : Each IsRanked (token.Monad s ∷ drop (root + 1) tokens) = subst (Each IsRanked) whole ranked in
+    let all : EachOf IsRanked (token.Monad s ∷ drop (root + 1) tokens) = subst (EachOf IsRanked) whole ranked in
     record {
       first = first;
       order = subst (Alternates false) whole order;
@@ -84,11 +84,11 @@ rest tokens root s is there order ranked =
 -- ---- what is placed
 
 pub one_operand : (tokens : List FormulaPart) (nodes : List Node) (root id : ℕ) (o : Operand) → IsRoot tokens (length tokens) root → slice_get tokens root ≡ Some (token.Operand o)
-    → Alternates false tokens → Each IsRanked tokens → Placed nodes tokens id id o × (signs tokens ≡ 0)
+    → Alternates false tokens → EachOf IsRanked tokens → Placed nodes tokens id id o × (signs tokens ≡ 0)
 one_operand tokens nodes root id o is there order ranked =
     let first = root_first tokens root (token.Operand o) is there refl in
     let whole = from_first tokens root (token.Operand o) there first in
-    let all : Each IsRanked (token.Operand o ∷ drop (root + 1) tokens) = subst (Each IsRanked) whole ranked in
+    let all : EachOf IsRanked (token.Operand o ∷ drop (root + 1) tokens) = subst (EachOf IsRanked) whole ranked in
     let none = operand_alone o (drop (root + 1) tokens) (subst (Alternates false) whole order) (binds_closest tokens root (token.Operand o) is there refl) all.1 in
     let one : tokens ≡ token.Operand o ∷ [] = whole ∙ ap (λ (r : List FormulaPart). token.Operand o ∷ r) none in
     (subst (λ (ts : List FormulaPart). Placed nodes ts id id o) (sym one) (alone o), ap signs one)
@@ -117,10 +117,10 @@ put_over tokens n1 n2 root id middle next p s a b is there x y same within =
     (keeps y (λ k p q. other k node (λ e. absurd (omega arith))))
 
 -- a dyadic sign that has a priority, since all have
-pub ranked_at : (tokens : List FormulaPart) (root : ℕ) (s : Sign) (p : Option ℕ) → Each IsRanked tokens → slice_get tokens root ≡ Some (token.Dyad s p) → (q : ℕ) × (p ≡ Some q)
+pub ranked_at : (tokens : List FormulaPart) (root : ℕ) (s : Sign) (p : Option ℕ) → EachOf IsRanked tokens → slice_get tokens root ≡ Some (token.Dyad s p) → (q : ℕ) × (p ≡ Some q)
 ranked_at tokens root s None ranked there = absurd (all_ranked tokens root ranked there)
   where
-    all_ranked : (ts : List FormulaPart) (k : ℕ) → Each IsRanked ts → slice_get ts k ≡ Some (token.Dyad s None) → ⊥
+    all_ranked : (ts : List FormulaPart) (k : ℕ) → EachOf IsRanked ts → slice_get ts k ≡ Some (token.Dyad s None) → ⊥
     all_ranked [] k a e = absurd (cc)
     all_ranked (t ∷ ts) zero a e = let same : t ≡ token.Dyad s None = cc in subst IsRanked same a.0
     all_ranked (t ∷ ts) (suc k) a e = all_ranked ts k a.1 e

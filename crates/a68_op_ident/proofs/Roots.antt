@@ -3,7 +3,7 @@ use Rattle.std.proofs.Common.{◌≡◌, ℕ, ◌+◌, ⊎_elim, Bool, true, fal
 use Rattle.std.specs.declared.option.Option.{Option}
 use Rattle.std.proofs.lemmas.Bool.{leb-true, leb-false, le-leb, false≢true}
 use Rattle.std.proofs.lemmas.Option.{slice_get-get_or, slice_get_within}
-use Rattle.a68_op_ident.specs.Formulas.{Each, priority_of, FromPriority, AbovePriority, BindsFrom, BindsAbove, BindsClosest, IsRanked, signs}
+use Rattle.a68_op_ident.specs.Formulas.{EachOf, priority_of, FromPriority, AbovePriority, BindsFrom, BindsAbove, BindsClosest, IsRanked, signs}
 use Rattle.a68_op_ident.specs.Inner.{Alternates, IsRoot, stands_over}
 use Rattle.a68_op_ident.specs.declared.formula.FormulaPart.{FormulaPart}
 use Rattle.a68_op_ident.specs.declared.formula.FormulaPart.TheVariants as token
@@ -73,15 +73,15 @@ closest_over : (o : Option ℕ) → stands_over o None ≡ false → o ≡ None
 closest_over None e = refl
 closest_over (Some p) e = absurd (false≢true (sym e))
 
-pub binds_from : (tokens : List FormulaPart) (root p : ℕ) (r : FormulaPart) → IsRoot tokens (length tokens) root → slice_get tokens root ≡ Some r → priority_of r ≡ Some p → Each (BindsFrom p) (take root tokens)
+pub binds_from : (tokens : List FormulaPart) (root p : ℕ) (r : FormulaPart) → IsRoot tokens (length tokens) root → slice_get tokens root ≡ Some r → priority_of r ≡ Some p → EachOf (BindsFrom p) (take root tokens)
 binds_from tokens root p r is there e = all_before (BindsFrom p) tokens root
     (λ k t lt at. from_over p (priority_of t) (subst (λ (o : Option ℕ). stands_over o (priority_of t) ≡ true) e (is.left k t r lt at there)))
 
-pub binds_above : (tokens : List FormulaPart) (root p : ℕ) (r : FormulaPart) → IsRoot tokens (length tokens) root → slice_get tokens root ≡ Some r → priority_of r ≡ Some p → Each (BindsAbove p) (drop (root + 1) tokens)
+pub binds_above : (tokens : List FormulaPart) (root p : ℕ) (r : FormulaPart) → IsRoot tokens (length tokens) root → slice_get tokens root ≡ Some r → priority_of r ≡ Some p → EachOf (BindsAbove p) (drop (root + 1) tokens)
 binds_above tokens root p r is there e = all_from (BindsAbove p) tokens (root + 1)
     (λ k t ge at. above_over p (priority_of t) (subst (λ (o : Option ℕ). stands_over (priority_of t) o ≡ false) e (is.right k t r (omega arith) (slice_get_within tokens k t at) at there)))
 
-pub binds_closest : (tokens : List FormulaPart) (root : ℕ) (r : FormulaPart) → IsRoot tokens (length tokens) root → slice_get tokens root ≡ Some r → priority_of r ≡ None → Each BindsClosest (drop (root + 1) tokens)
+pub binds_closest : (tokens : List FormulaPart) (root : ℕ) (r : FormulaPart) → IsRoot tokens (length tokens) root → slice_get tokens root ≡ Some r → priority_of r ≡ None → EachOf BindsClosest (drop (root + 1) tokens)
 binds_closest tokens root r is there e = all_from BindsClosest tokens (root + 1)
     (λ k t ge at. closest_over (priority_of t) (subst (λ (o : Option ℕ). stands_over (priority_of t) o ≡ false) e (is.right k t r (omega arith) (slice_get_within tokens k t at) at there)))
 
@@ -109,7 +109,7 @@ sides_alternate true (token.Monad t ∷ left) right s p a = absurd a
 sides_alternate true (token.Dyad t q ∷ left) right s p a = sides_alternate false left right s p a
 
 -- an operand over all others stands alone
-pub operand_alone : (o : _) (right : List FormulaPart) → Alternates false (token.Operand o ∷ right) → Each BindsClosest right → Each IsRanked right → right ≡ []
+pub operand_alone : (o : _) (right : List FormulaPart) → Alternates false (token.Operand o ∷ right) → EachOf BindsClosest right → EachOf IsRanked right → right ≡ []
 operand_alone o [] a closest ranked = refl
 operand_alone o (token.Operand q ∷ right) a closest ranked = absurd a
 operand_alone o (token.Monad t ∷ right) a closest ranked = absurd a

@@ -13,9 +13,9 @@ use Rattle.a68_tree.specs.declared.kind.NodeKind.TheVariants as kind
 use Rattle.a68_tree.specs.declared.node.Node.{Node}
 
 -- that holds of each of them
-abbrev pub Each : {X : Type 0} → (X → Type 0) → List X → Type 0
-Each P [] = Unit {0}
-Each P (x ∷ xs) = P x × Each P xs
+abbrev pub EachOf : {X : Type 0} → (X → Type 0) → List X → Type 0
+EachOf P [] = Unit {0}
+EachOf P (x ∷ xs) = P x × EachOf P xs
 
 abbrev pub is_formula : NodeKind → Bool
 is_formula kind.Formula = true
@@ -65,10 +65,10 @@ IsToken nodes from true part (token.Dyad s priority) = next_sign nodes from part
 IsToken nodes from _ part _ = ⊥
 
 -- the parts of a formula, one by one; the last one is an operand
-abbrev pub Reads : List Node → (from : ℕ) → (after_operand : Bool) → (parts : List ℕ) → List FormulaPart → Type 0
-Reads nodes from after [] [] = after ≡ true
-Reads nodes from after (p ∷ ps) (t ∷ ts) = IsToken nodes from after p t × Reads nodes (from + signs_of t) (is_operand t) ps ts
-Reads nodes from after _ _ = ⊥
+abbrev pub ReadsParts : List Node → (from : ℕ) → (after_operand : Bool) → (parts : List ℕ) → List FormulaPart → Type 0
+ReadsParts nodes from after [] [] = after ≡ true
+ReadsParts nodes from after (p ∷ ps) (t ∷ ts) = IsToken nodes from after p t × ReadsParts nodes (from + signs_of t) (is_operand t) ps ts
+ReadsParts nodes from after _ _ = ⊥
 
 -- a dyadic sign has the priority that is declared for it about its node, or none where none is
 abbrev pub HasItsPriority : Built → FormulaPart → Type 0
@@ -122,9 +122,9 @@ standing id n = record { id = id; span = n.span }
 -- right.
 pub data Placed (nodes : List Node) : List FormulaPart → (id next : ℕ) → (top : Operand) → Type 0 where
   alone : {id : ℕ} (o : Operand) → Placed nodes (token.Operand o ∷ []) id id o
-  under : {ts : List FormulaPart} {id next : ℕ} (s : Sign) (o : Operand) → Each BindsClosest ts → slice_get nodes id ≡ Some (monadic_node s o)
+  under : {ts : List FormulaPart} {id next : ℕ} (s : Sign) (o : Operand) → EachOf BindsClosest ts → slice_get nodes id ≡ Some (monadic_node s o)
       → Placed nodes ts (id + 1) next o → Placed nodes (token.Monad s ∷ ts) id next (standing id (monadic_node s o))
   over : {ts : List FormulaPart} {id next : ℕ} (left right : List FormulaPart) (s : Sign) (priority middle : ℕ) (a b : Operand)
-      → ts ≡ left ++ token.Dyad s (Some priority) ∷ right → Each (BindsFrom priority) left → Each (BindsAbove priority) right
+      → ts ≡ left ++ token.Dyad s (Some priority) ∷ right → EachOf (BindsFrom priority) left → EachOf (BindsAbove priority) right
       → slice_get nodes id ≡ Some (dyadic_node s a b)
       → Placed nodes left (id + 1) middle a → Placed nodes right middle next b → Placed nodes ts id next (standing id (dyadic_node s a b))

@@ -60,9 +60,9 @@ lesser (Some a) None = Some a
 lesser (Some a) (Some b) = if nat_le a b then Some a else Some b
 
 -- the least number for which that holds, if any
-abbrev pub IsLeast : (ℕ → Type 0) → Option ℕ → Type 0
-IsLeast P None = (place : ℕ) → P place → ⊥
-IsLeast P (Some place) = P place × ((other : ℕ) → P other → place ≤ other)
+abbrev pub IsLeastNumber : (ℕ → Type 0) → Option ℕ → Type 0
+IsLeastNumber P None = (place : ℕ) → P place → ⊥
+IsLeastNumber P (Some place) = P place × ((other : ℕ) → P other → place ≤ other)
 
 -- one of the first tokens lacks a priority there
 abbrev pub IsLateToken : List FormulaPart → (count place : ℕ) → Type 0

@@ -2,7 +2,7 @@
 use Rattle.std.specs.Prelude.{◌≡◌, ◌+◌, ℕ, true, false, List, None, Some, slice_get}
 use Rattle.a68_base.specs.declared.refusal.Refusal.{Refusal}
 use Rattle.a68_base.specs.declared.refusal.Rule.TheVariants.{O3}
-use Rattle.a68_op_ident.specs.Formulas.{Each, is_formula, Reads, HasItsPriority}
+use Rattle.a68_op_ident.specs.Formulas.{EachOf, is_formula, ReadsParts, HasItsPriority}
 use Rattle.a68_op_ident.specs.declared.formula.Sign.{Sign}
 use Rattle.a68_op_ident.specs.declared.formula.FormulaPart.{FormulaPart}
 use Rattle.a68_op_ident.specs.declared.formula.FormulaPart.TheVariants as token
@@ -18,8 +18,8 @@ pub record LacksPriority (tree : Built) (sign : ℕ) : Type 0 where
   pub there : slice_get tree.nodes formula ≡ Some node
   pub formed : is_formula node.kind ≡ true
   pub tokens : List FormulaPart
-  pub reads : Reads tree.nodes (formula + 1) false node.parts tokens
-  pub priorities : Each (HasItsPriority tree) tokens
+  pub reads : ReadsParts tree.nodes (formula + 1) false node.parts tokens
+  pub priorities : EachOf (HasItsPriority tree) tokens
   pub place : ℕ
   pub dyad : Sign
   pub lacks : slice_get tokens place ≡ Some (token.Dyad dyad None)

@@ -1,6 +1,6 @@
 -- A tree whose formulas are shaped by the priorities of their signs (Report, 5.4.2).
 use Rattle.std.specs.Prelude.{◌≡◌, ◌<◌, ◌≤◌, ◌+◌, ◌⊎◌, ℕ, true, false, List, length, Some, slice_get}
-use Rattle.a68_op_ident.specs.Formulas.{Each, is_formula, signs, Reads, HasItsPriority, IsRanked, Placed}
+use Rattle.a68_op_ident.specs.Formulas.{EachOf, is_formula, signs, ReadsParts, HasItsPriority, IsRanked, Placed}
 use Rattle.a68_op_ident.specs.declared.formula.Operand.{Operand}
 use Rattle.a68_op_ident.specs.declared.formula.FormulaPart.{FormulaPart}
 use Rattle.a68_tree.specs.Trees.{Built, IsSound}
@@ -10,16 +10,16 @@ use Rattle.a68_tree.specs.declared.node.Node.{Node}
 -- of the last sign stays as it was. Every dyadic sign has a priority.
 pub record IsShaped (flat : Built) (shaped : List Node) (bound formula : ℕ) (parts : List ℕ) : Type 0 where
   pub tokens : List FormulaPart
-  pub reads : Reads flat.nodes (formula + 1) false parts tokens
-  pub priorities : Each (HasItsPriority flat) tokens
-  pub ranked : Each IsRanked tokens
+  pub reads : ReadsParts flat.nodes (formula + 1) false parts tokens
+  pub priorities : EachOf (HasItsPriority flat) tokens
+  pub ranked : EachOf IsRanked tokens
   pub within : formula + signs tokens < bound
   pub top : Operand
   pub placed : Placed shaped tokens formula (formula + signs tokens) top
 
 -- the parts of the node are no operands and signs of a formula
 abbrev pub IsUnread : List Node → (formula : ℕ) → Type 0
-IsUnread nodes formula = (n : Node) (tokens : List FormulaPart) → slice_get nodes formula ≡ Some n → Reads nodes (formula + 1) false n.parts tokens → ⊥
+IsUnread nodes formula = (n : Node) (tokens : List FormulaPart) → slice_get nodes formula ≡ Some n → ReadsParts nodes (formula + 1) false n.parts tokens → ⊥
 
 -- a formula that stays as it was, since its parts do not read so
 pub record IsLeft (flat : Built) (shaped : List Node) (formula : ℕ) (node : Node) : Type 0 where
@@ -34,7 +34,7 @@ pub record IsOperatorNode (flat : Built) (id : ℕ) : Type 0 where
   pub there : slice_get flat.nodes formula ≡ Some node
   pub formed : is_formula node.kind ≡ true
   pub tokens : List FormulaPart
-  pub reads : Reads flat.nodes (formula + 1) false node.parts tokens
+  pub reads : ReadsParts flat.nodes (formula + 1) false node.parts tokens
   pub from : formula ≤ id
   pub below : id < formula + signs tokens
 

@@ -1,7 +1,7 @@
 //! Signs without a priority.
 ghost use Rattle.std.specs.Prelude.{◌≡◌, length};
 ghost use Rattle.a68_op_ident.specs.Inner as inner;
-ghost use Rattle.a68_op_ident.specs.Inner.{IsLeast, IsLateToken};
+ghost use Rattle.a68_op_ident.specs.Inner.{IsLeastNumber, IsLateToken};
 
 use crate::FormulaPart;
 
@@ -34,7 +34,7 @@ fn late_of(token: FormulaPart) -> Option<u32>
 
 /// The first place in the text of a dyadic sign that has no priority.
 pub fn first_late(tokens: &[FormulaPart]) -> Option<u32>
-    ensures { IsLeast (IsLateToken tokens.now (length tokens.now)) result }
+    ensures { IsLeastNumber (IsLateToken tokens.now (length tokens.now)) result }
 {
     let mut late = None;
     for k in 0..tokens.len() {

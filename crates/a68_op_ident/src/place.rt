@@ -1,7 +1,7 @@
 //! The nodes of a formula.
 ghost use Rattle.std.specs.Prelude.{◌≡◌, ◌≤◌, ◌<◌, ◌+◌, ◌^◌, false, length, take, drop, vec_len, slice_set, IfOk, OnOk};
 ghost use Rattle.a68_op_ident.specs.Formulas as formulas;
-ghost use Rattle.a68_op_ident.specs.Formulas.{Each, IsRanked, Placed, signs, monadic_node, dyadic_node, standing};
+ghost use Rattle.a68_op_ident.specs.Formulas.{EachOf, IsRanked, Placed, signs, monadic_node, dyadic_node, standing};
 ghost use Rattle.a68_op_ident.specs.Inner as inner;
 ghost use Rattle.a68_op_ident.specs.Inner.{Alternates, IsRoot, Same, StandsBetween};
 
@@ -147,7 +147,7 @@ pub fn place(
     id: NodeId,
 ) -> Result<Placement, NoMemory>
     requires order { Alternates false tokens.now }
-    requires ranked { Each IsRanked tokens.now }
+    requires ranked { EachOf IsRanked tokens.now }
     requires room { id + signs tokens.now < vec_len nodes.old }
     requires few { vec_len nodes.old < 2 ^ 32 }
     ensures placed { IfOk result (λ done. Placed nodes.new.items tokens.now id done.next done.top) }

@@ -1,7 +1,7 @@
 //! The operands and the signs of a formula.
 ghost use Rattle.std.specs.Prelude.{◌≡◌, ◌≤◌, ◌+◌, ◌<◌, ◌^◌, List, false, true, length, IfOk, IfSome, IfNone};
 ghost use Rattle.a68_op_ident.specs.Formulas as formulas;
-ghost use Rattle.a68_op_ident.specs.Formulas.{Each, IsToken, Reads, HasItsPriority};
+ghost use Rattle.a68_op_ident.specs.Formulas.{EachOf, IsToken, ReadsParts, HasItsPriority};
 ghost use Rattle.a68_op_ident.specs.declared.formula.FormulaPart.{FormulaPart as Part};
 ghost use Rattle.a68_ranges.specs.Tables.{AreRanges};
 ghost use Rattle.a68_tree.specs.Trees.{Built};
@@ -142,9 +142,9 @@ pub fn tokens(
     requires there { formula < length nodes.now }
     requires few { length nodes.now < 2 ^ 32 }
     requires ranges { length nodes.now ≤ length ranges.now.nests.about }
-    ensures none { IfOk result (λ found. IfNone found ((ts : List Part) → Reads nodes.now (formula + 1) false parts.now ts → ⊥)) }
-    ensures reads { IfOk result (λ found. IfSome found (λ ts. Reads nodes.now (formula + 1) false parts.now ts.items)) }
-    ensures ranked { IfOk result (λ found. IfSome found (λ ts. (tree : Built) → AreRanges tree ranges.now → Each (HasItsPriority tree) ts.items)) }
+    ensures none { IfOk result (λ found. IfNone found ((ts : List Part) → ReadsParts nodes.now (formula + 1) false parts.now ts → ⊥)) }
+    ensures reads { IfOk result (λ found. IfSome found (λ ts. ReadsParts nodes.now (formula + 1) false parts.now ts.items)) }
+    ensures ranked { IfOk result (λ found. IfSome found (λ ts. (tree : Built) → AreRanges tree ranges.now → EachOf (HasItsPriority tree) ts.items)) }
 {
     let mut tokens = Vec::new(alloc);
     let mut from = formula + 1;

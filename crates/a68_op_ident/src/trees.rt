@@ -2,7 +2,7 @@
 ghost use Rattle.std.specs.Prelude.{◌≡◌, ◌≤◌, ◌<◌, ℕ, length, vec_len, slice_get, Some, IfOk, IfErr};
 ghost use Rattle.a68_base.specs.declared.refusal.Refusal.{Refusal as Why};
 ghost use Rattle.a68_op_ident.specs.Formulas as formulas;
-ghost use Rattle.a68_op_ident.specs.Inner.{Going, IsLatePlace, IsLeast, IsOrdered};
+ghost use Rattle.a68_op_ident.specs.Inner.{Going, IsLatePlace, IsLeastNumber, IsOrdered};
 ghost use Rattle.a68_op_ident.specs.Lacking.{IsUnshaped};
 ghost use Rattle.a68_op_ident.specs.Shapes.{Shaped, IsBegun};
 ghost use Rattle.a68_ranges.specs.Tables.{AreRanges};
@@ -42,7 +42,7 @@ fn shape_at(
     requires ordered { IsOrdered nodes.old.items }
     requires ranges { vec_len nodes.old ≤ length ranges.now.nests.about }
     ensures going { IfOk result (λ step. (flat : Built) → AreRanges flat ranges.now → Going flat nodes.old.items id → Going flat nodes.new.items step.next) }
-    ensures late { IfOk result (λ step. (flat : Built) → AreRanges flat ranges.now → Going flat nodes.old.items id → IsLeast (IsLatePlace flat id step.next) step.late) }
+    ensures late { IfOk result (λ step. (flat : Built) → AreRanges flat ranges.now → Going flat nodes.old.items id → IsLeastNumber (IsLatePlace flat id step.next) step.late) }
     ensures onward { IfOk result (λ step. (id < step.next) × (step.next ≤ vec_len nodes.new) × (vec_len nodes.new ≡ vec_len nodes.old)) }
 {
     let on = ShapingStep {

@@ -12,7 +12,7 @@ use Rattle.a68_values.specs.declared.act.FaultKind.TheVariants as fault
 use Rattle.a68_values.specs.declared.plain.Plain.TheVariants as value
 use Rattle.a68_ops.specs.Applied.{applied, as_int, plain_yield}
 use Rattle.a68_ops.specs.Bits.{shifted, element}
-use Rattle.a68_ops.specs.Fitting.{has_mode, is_silent, IsOf, IsFitting}
+use Rattle.a68_ops.specs.Fitting.{has_mode, is_silent, YieldIsOf, IsFitting}
 use Rattle.a68_ops.specs.Integers.{abs_of, modulo, divided, raised, sign_of, char_of, bits_of}
 use Rattle.a68_ops.specs.Operators.{dyadic_of}
 use Rattle.a68_signs.specs.Signs.{op, SignGroup, candidates, entry_of, dyadic_entries, monadic_entries}
@@ -111,50 +111,50 @@ int_first row operator e w b n t = rw (t.set, e, t.no_counted operator n, t.text
 
 -- ---- yields and their modes
 
-int_if : (z : ℤ) (fits : Bool) → is_int z ≡ fits → IsOf 1 (yield_of (cond fits (Ok (value.Int z)) (Err fault.Overflow)))
+int_if : (z : ℤ) (fits : Bool) → is_int z ≡ fits → YieldIsOf 1 (yield_of (cond fits (Ok (value.Int z)) (Err fault.Overflow)))
 int_if z true e = e
 int_if z false e = tt
 
-an_int : (z : ℤ) → IsOf 1 (yield_of (int z))
+an_int : (z : ℤ) → YieldIsOf 1 (yield_of (int z))
 an_int z = int_if z (is_int z) refl
 
-int_unless : (zero : Bool) (z : ℤ) → IsOf 1 (yield_of (cond zero (Err fault.Divisor) (int z)))
+int_unless : (zero : Bool) (z : ℤ) → YieldIsOf 1 (yield_of (cond zero (Err fault.Divisor) (int z)))
 int_unless true z = tt
 int_unless false z = an_int z
 
-a_quotient : (b z : ℤ) → IsOf 1 (yield_of (divided b z))
+a_quotient : (b z : ℤ) → YieldIsOf 1 (yield_of (divided b z))
 a_quotient b z = int_unless (int_eq b (pos 0)) z
 
-a_power : (a b : ℤ) → IsOf 1 (yield_of (raised a b))
+a_power : (a b : ℤ) → YieldIsOf 1 (yield_of (raised a b))
 a_power a (pos n) = an_int (int_pow a n)
 a_power a (negsuc n) = tt
 
-moved_left : (b : ℕ) (n : ℤ) → IsOf 4 (yield_of (shifted dyadic.ShiftLeft b n))
+moved_left : (b : ℕ) (n : ℤ) → YieldIsOf 4 (yield_of (shifted dyadic.ShiftLeft b n))
 moved_left b (pos n) = refl
 moved_left b (negsuc n) = refl
 
-moved_right : (b : ℕ) (n : ℤ) → IsOf 4 (yield_of (shifted dyadic.ShiftRight b n))
+moved_right : (b : ℕ) (n : ℤ) → YieldIsOf 4 (yield_of (shifted dyadic.ShiftRight b n))
 moved_right b (pos n) = refl
 moved_right b (negsuc n) = refl
 
-place_if : (within set : Bool) → IsOf 2 (yield_of (cond within (Ok (value.Bool set)) (Err fault.Domain)))
+place_if : (within set : Bool) → YieldIsOf 2 (yield_of (cond within (Ok (value.Bool set)) (Err fault.Domain)))
 place_if true set = refl
 place_if false set = tt
 
-a_place : (n : ℤ) (b : ℕ) → IsOf 2 (yield_of (element n b))
+a_place : (n : ℤ) (b : ℕ) → YieldIsOf 2 (yield_of (element n b))
 a_place (pos zero) b = tt
 a_place (pos (suc n)) b = place_if (nat_lt n 64) _
 a_place (negsuc n) b = tt
 
-char_if : (within : Bool) (n : ℕ) → IsOf 3 (yield_of (cond within (Ok (value.Char n)) (Err fault.Domain)))
+char_if : (within : Bool) (n : ℕ) → YieldIsOf 3 (yield_of (cond within (Ok (value.Char n)) (Err fault.Domain)))
 char_if true n = refl
 char_if false n = tt
 
-a_char : (n : ℤ) → IsOf 3 (yield_of (char_of n))
+a_char : (n : ℤ) → YieldIsOf 3 (yield_of (char_of n))
 a_char (pos n) = char_if (nat_lt n 256) n
 a_char (negsuc n) = tt
 
-some_bits : (n : ℤ) → IsOf 4 (yield_of (bits_of n))
+some_bits : (n : ℤ) → YieldIsOf 4 (yield_of (bits_of n))
 some_bits (pos n) = refl
 some_bits (negsuc n) = tt
 
@@ -162,55 +162,55 @@ all_chars : (items : List ℕ) → are_chars (contents_of (char_values items)) �
 all_chars [] = refl
 all_chars (item ∷ items) = all_chars items
 
-text_unless : (long : Bool) (items : List ℕ) → IsOf 7 (cond long (Err fault.Cells) (Ok (text_row items)))
+text_unless : (long : Bool) (items : List ℕ) → YieldIsOf 7 (cond long (Err fault.Cells) (Ok (text_row items)))
 text_unless true items = tt
 text_unless false items = all_chars items
 
-a_text : (items : List ℕ) → IsOf 7 (text items)
+a_text : (items : List ℕ) → YieldIsOf 7 (text items)
 a_text items = text_unless (nat_lt most_parts (length items)) items
 
-a_repeated : (items : List ℕ) (n : ℤ) → IsOf 7 (repeated items n)
+a_repeated : (items : List ℕ) (n : ℤ) → YieldIsOf 7 (repeated items n)
 a_repeated items (pos n) = a_text (times n items)
 a_repeated items (negsuc n) = a_text []
 
 -- ---- operators by the modes that they take
 
-two_ints : (row res : ℕ) → ((a : ℤ) (b : ℤ) → IsOf res (applied row (plain (value.Int a)) (plain (value.Int b)))) → IsFitting (op row 1 1 res)
+two_ints : (row res : ℕ) → ((a : ℤ) (b : ℤ) → YieldIsOf res (applied row (plain (value.Int a)) (plain (value.Int b)))) → IsFitting (op row 1 1 res)
 two_ints row res f s v w hv hw =
-    at_int (λ v. IsOf res (applied row v w)) (λ a. at_int (λ w. IsOf res (applied row (plain (value.Int a)) w)) (f a) w hw) v hv
+    at_int (λ v. YieldIsOf res (applied row v w)) (λ a. at_int (λ w. YieldIsOf res (applied row (plain (value.Int a)) w)) (f a) w hw) v hv
 
-two_truths : (row res : ℕ) → ((a : Bool) (b : Bool) → IsOf res (applied row (plain (value.Bool a)) (plain (value.Bool b)))) → IsFitting (op row 2 2 res)
+two_truths : (row res : ℕ) → ((a : Bool) (b : Bool) → YieldIsOf res (applied row (plain (value.Bool a)) (plain (value.Bool b)))) → IsFitting (op row 2 2 res)
 two_truths row res f s v w hv hw =
-    at_bool (λ v. IsOf res (applied row v w)) (λ a. at_bool (λ w. IsOf res (applied row (plain (value.Bool a)) w)) (f a) w hw) v hv
+    at_bool (λ v. YieldIsOf res (applied row v w)) (λ a. at_bool (λ w. YieldIsOf res (applied row (plain (value.Bool a)) w)) (f a) w hw) v hv
 
-two_bits : (row res : ℕ) → ((a : ℕ) (b : ℕ) → IsOf res (applied row (plain (value.Bits a)) (plain (value.Bits b)))) → IsFitting (op row 4 4 res)
+two_bits : (row res : ℕ) → ((a : ℕ) (b : ℕ) → YieldIsOf res (applied row (plain (value.Bits a)) (plain (value.Bits b)))) → IsFitting (op row 4 4 res)
 two_bits row res f s v w hv hw =
-    at_bits (λ v. IsOf res (applied row v w)) (λ a. at_bits (λ w. IsOf res (applied row (plain (value.Bits a)) w)) (f a) w hw) v hv
+    at_bits (λ v. YieldIsOf res (applied row v w)) (λ a. at_bits (λ w. YieldIsOf res (applied row (plain (value.Bits a)) w)) (f a) w hw) v hv
 
-bits_and_int : (row res : ℕ) → ((b : ℕ) (n : ℤ) → IsOf res (applied row (plain (value.Bits b)) (plain (value.Int n)))) → IsFitting (op row 4 1 res)
+bits_and_int : (row res : ℕ) → ((b : ℕ) (n : ℤ) → YieldIsOf res (applied row (plain (value.Bits b)) (plain (value.Int n)))) → IsFitting (op row 4 1 res)
 bits_and_int row res f s v w hv hw =
-    at_bits (λ v. IsOf res (applied row v w)) (λ b. at_int (λ w. IsOf res (applied row (plain (value.Bits b)) w)) (f b) w hw) v hv
+    at_bits (λ v. YieldIsOf res (applied row v w)) (λ b. at_int (λ w. YieldIsOf res (applied row (plain (value.Bits b)) w)) (f b) w hw) v hv
 
-int_and_bits : (row res : ℕ) → ((n : ℤ) (b : ℕ) → IsOf res (applied row (plain (value.Int n)) (plain (value.Bits b)))) → IsFitting (op row 1 4 res)
+int_and_bits : (row res : ℕ) → ((n : ℤ) (b : ℕ) → YieldIsOf res (applied row (plain (value.Int n)) (plain (value.Bits b)))) → IsFitting (op row 1 4 res)
 int_and_bits row res f s v w hv hw =
-    at_int (λ v. IsOf res (applied row v w)) (λ n. at_bits (λ w. IsOf res (applied row (plain (value.Int n)) w)) (f n) w hw) v hv
+    at_int (λ v. YieldIsOf res (applied row v w)) (λ n. at_bits (λ w. YieldIsOf res (applied row (plain (value.Int n)) w)) (f n) w hw) v hv
 
-an_operand_int : (row res : ℕ) → ((a : ℤ) → IsOf res (applied row void (plain (value.Int a)))) → IsFitting (op row 0 1 res)
-an_operand_int row res f s v w hv hw = at_void (λ v. IsOf res (applied row v w)) (at_int (λ w. IsOf res (applied row void w)) f w hw) v hv
+an_operand_int : (row res : ℕ) → ((a : ℤ) → YieldIsOf res (applied row void (plain (value.Int a)))) → IsFitting (op row 0 1 res)
+an_operand_int row res f s v w hv hw = at_void (λ v. YieldIsOf res (applied row v w)) (at_int (λ w. YieldIsOf res (applied row void w)) f w hw) v hv
 
-an_operand_truth : (row res : ℕ) → ((b : Bool) → IsOf res (applied row void (plain (value.Bool b)))) → IsFitting (op row 0 2 res)
-an_operand_truth row res f s v w hv hw = at_void (λ v. IsOf res (applied row v w)) (at_bool (λ w. IsOf res (applied row void w)) f w hw) v hv
+an_operand_truth : (row res : ℕ) → ((b : Bool) → YieldIsOf res (applied row void (plain (value.Bool b)))) → IsFitting (op row 0 2 res)
+an_operand_truth row res f s v w hv hw = at_void (λ v. YieldIsOf res (applied row v w)) (at_bool (λ w. YieldIsOf res (applied row void w)) f w hw) v hv
 
-an_operand_bits : (row res : ℕ) → ((b : ℕ) → IsOf res (applied row void (plain (value.Bits b)))) → IsFitting (op row 0 4 res)
-an_operand_bits row res f s v w hv hw = at_void (λ v. IsOf res (applied row v w)) (at_bits (λ w. IsOf res (applied row void w)) f w hw) v hv
+an_operand_bits : (row res : ℕ) → ((b : ℕ) → YieldIsOf res (applied row void (plain (value.Bits b)))) → IsFitting (op row 0 4 res)
+an_operand_bits row res f s v w hv hw = at_void (λ v. YieldIsOf res (applied row v w)) (at_bits (λ w. YieldIsOf res (applied row void w)) f w hw) v hv
 
-an_operand_char : (row res : ℕ) → ((c : ℕ) → IsOf res (applied row void (plain (value.Char c)))) → IsFitting (op row 0 3 res)
-an_operand_char row res f s v w hv hw = at_void (λ v. IsOf res (applied row v w)) (at_char (λ w. IsOf res (applied row void w)) f w hw) v hv
+an_operand_char : (row res : ℕ) → ((c : ℕ) → YieldIsOf res (applied row void (plain (value.Char c)))) → IsFitting (op row 0 3 res)
+an_operand_char row res f s v w hv hw = at_void (λ v. YieldIsOf res (applied row v w)) (at_char (λ w. YieldIsOf res (applied row void w)) f w hw) v hv
 
 two_texts : (row left right res : ℕ) (operator : Dyadic) → dyadic_of row ≡ Some operator
     → ((v : Content) → IsTrue (has_mode left v) → (items : List ℕ) × IsText v items)
     → ((w : Content) → IsTrue (has_mode right w) → (items : List ℕ) × IsText w items)
-    → ((a b : List ℕ) → IsOf res (on_texts operator a b)) → IsFitting (op row left right res)
+    → ((a b : List ℕ) → YieldIsOf res (on_texts operator a b)) → IsFitting (op row left right res)
 two_texts row left right res operator e of_left of_right f s v w hv hw =
     let one = of_left v hv in
     let other = of_right w hw in
@@ -218,17 +218,17 @@ two_texts row left right res operator e of_left of_right f s v w hv hw =
 
 text_and_int : (row left res : ℕ) (operator : Dyadic) → dyadic_of row ≡ Some operator
     → ((v : Content) → IsTrue (has_mode left v) → (items : List ℕ) × IsText v items)
-    → ((a : List ℕ) (n : ℤ) → IsOf res (text_times operator a n)) → IsFitting (op row left 1 res)
+    → ((a : List ℕ) (n : ℤ) → YieldIsOf res (text_times operator a n)) → IsFitting (op row left 1 res)
 text_and_int row left res operator e of_left f s v w hv hw =
     let one = of_left v hv in
-    at_int (λ w. IsOf res (applied row v w)) (λ n. rw (text_first row operator e v one.0 n one.1) (f one.0 n)) w hw
+    at_int (λ w. YieldIsOf res (applied row v w)) (λ n. rw (text_first row operator e v one.0 n one.1) (f one.0 n)) w hw
 
 int_and_text : (row right res : ℕ) (operator : Dyadic) → dyadic_of row ≡ Some operator
     → ((w : Content) → IsTrue (has_mode right w) → (items : List ℕ) × IsText w items)
-    → ((b : List ℕ) (n : ℤ) → IsOf res (text_times operator b n)) → IsFitting (op row 1 right res)
+    → ((b : List ℕ) (n : ℤ) → YieldIsOf res (text_times operator b n)) → IsFitting (op row 1 right res)
 int_and_text row right res operator e of_right f s v w hv hw =
     let other = of_right w hw in
-    at_int (λ v. IsOf res (applied row v w)) (λ n. rw (int_first row operator e w other.0 n other.1) (f other.0 n)) v hv
+    at_int (λ v. YieldIsOf res (applied row v w)) (λ n. rw (int_first row operator e w other.0 n other.1) (f other.0 n)) v hv
 
 -- a row that does not yield at once
 later : (row left right res : ℕ) → is_silent row ≡ false → IsFitting (op row left right res)

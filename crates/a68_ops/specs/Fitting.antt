@@ -21,11 +21,11 @@ has_mode mode (row_value (b ∷ []) parts) = nat_eq mode 7 && are_chars parts
 has_mode mode _ = false
 
 -- a value of the mode, or a fault of the operator's own
-abbrev pub IsOf : (mode : ℕ) → Yield → Type 0
-IsOf mode (Ok v) = IsTrue (has_mode mode v)
-IsOf mode (Err fault.Unset) = ⊥
-IsOf mode (Err fault.Kind) = ⊥
-IsOf mode (Err _) = Unit {0}
+abbrev pub YieldIsOf : (mode : ℕ) → Yield → Type 0
+YieldIsOf mode (Ok v) = IsTrue (has_mode mode v)
+YieldIsOf mode (Err fault.Unset) = ⊥
+YieldIsOf mode (Err fault.Kind) = ⊥
+YieldIsOf mode (Err _) = Unit {0}
 
 -- the rows that yield at once
 abbrev pub is_silent : (row : ℕ) → Bool
@@ -34,4 +34,4 @@ is_silent row = (nat_le 7 row && nat_le row 23) || (nat_le 26 row && nat_le row 
 -- what an operator of such a row does with values of the modes of its operands
 abbrev pub IsFitting : Operator → Type 0
 IsFitting o = IsTrue (is_silent o.row) → (left right : Content)
-    → IsTrue (has_mode o.left left) → IsTrue (has_mode o.right right) → IsOf o.result (applied o.row left right)
+    → IsTrue (has_mode o.left left) → IsTrue (has_mode o.right right) → YieldIsOf o.result (applied o.row left right)

@@ -13,5 +13,5 @@ pub record IsRest (dividend divisor rest : ℤ) : Type 0 where
   pub below : rest <ℤ abs_of divisor
 
 -- each place that is set in the one is set in the other
-abbrev pub IsWithin : (a b : ℕ) → Type 0
-IsWithin a b = (i : ℕ) → i < 64 → bit_at a i ≤ bit_at b i
+abbrev pub BitsAreWithin : (a b : ℕ) → Type 0
+BitsAreWithin a b = (i : ℕ) → i < 64 → bit_at a i ≤ bit_at b i

@@ -6,7 +6,7 @@ use Rattle.std.specs.List.{Contains}
 use Rattle.std.proofs.lemmas.Bool.{cases_eq}
 use Rattle.std.proofs.lemmas.List.{get_or_default, length-replicate, get_or-replicate}
 use Rattle.std.proofs.lemmas.List.Elements.{All-contains}
-use Rattle.a68_partition.specs.Finite.{IsSettled, LeadsOn, Ends, Ended}
+use Rattle.a68_partition.specs.Finite.{IsSettled, LeadsOn, UnfoldingEnds, Ended}
 use Rattle.a68_partition.specs.Rows.{row_at, Stands}
 use Rattle.a68_partition.specs.Rounds.{at_key, AlikeIn, IsRowKey, IsWired, IsCoarse, IsNumbered}
 use Rattle.a68_partition.proofs.Numbering.{same_or_not}
@@ -34,7 +34,7 @@ none_settled heads rows table classes te ce = record {
     none : (v : ℕ) → v < length rows → get_or classes v 0 ≡ 4294967295
     none v h = ap (λ (xs : List ℕ). get_or xs v 0) ce ∙ get_or-replicate (length rows) v 4294967295 0 h
 
-deeper_end : (rows : List (Bool × List ℕ)) (depth v : ℕ) → Ends rows depth v → Ends rows (suc depth) v
+deeper_end : (rows : List (Bool × List ℕ)) (depth v : ℕ) → UnfoldingEnds rows depth v → UnfoldingEnds rows (suc depth) v
 deeper_end rows zero v h = absurd h
 deeper_end rows (suc depth) v h = λ w i. deeper_end rows depth w (h w i)
 
@@ -88,7 +88,7 @@ module _ (heads : List ℕ) (rows : List (Bool × List ℕ)) (old new : List (Ve
       parts_on v h s (inl e) w i = still w (parts w (subst (λ (k : ℕ). Contains (row_at rows k).1 w) e i))
       parts_on v h s (inr ne) w i = still w (so.parts v h (was v ne s) w i)
 
-      ends_on : (v : ℕ) → v < length rows → IsSettled (set classes u n) v → (v ≡ u) ⊎ (v ≡ u → ⊥) → Ends rows (suc so.depth) v
+      ends_on : (v : ℕ) → v < length rows → IsSettled (set classes u n) v → (v ≡ u) ⊎ (v ≡ u → ⊥) → UnfoldingEnds rows (suc so.depth) v
       ends_on v h s (inl e) = λ w i. let j : Contains (row_at rows u).1 w = subst (λ (k : ℕ). Contains (row_at rows k).1 w) e i in so.ends w (inside_row w j) (parts w j)
       ends_on v h s (inr ne) = deeper_end rows so.depth v (so.ends v h (was v ne s))
 
@@ -109,18 +109,18 @@ module _ (heads : List ℕ) (rows : List (Bool × List ℕ)) (wired : IsWired he
   inside v w h i = All-contains (λ k. k < length rows) (row_at rows v).1 w (wired.closed v h) i
 
   -- an unfolding that is equal to one that ends, ends
-  same_end : (depth v w : ℕ) → Ends rows depth v → AlikeIn heads rows depth v w → Ends rows depth w
+  same_end : (depth v w : ℕ) → UnfoldingEnds rows depth v → AlikeIn heads rows depth v w → UnfoldingEnds rows depth w
   same_end zero v w e al = e
   same_end (suc depth) v w e al = λ y i.
       let p = at_place (row_at rows w).0 (row_at rows w).1 y i in
       let x = al.1.1 p.0 y p.1 in
       same_end depth x.0 y (e x.0 (in_row (row_at rows v).0 (row_at rows v).1 p.0 x.0 x.1)) x.2
 
-  endless : (depth v : ℕ) → v < length rows → get_or classes v 0 ≡ 4294967295 → Ends rows depth v → ⊥
+  endless : (depth v : ℕ) → v < length rows → get_or classes v 0 ≡ 4294967295 → UnfoldingEnds rows depth v → ⊥
   endless zero v h e ends = ends
   endless (suc depth) v h e ends = let w = rest v h e in endless depth w.0 (inside v w.0 h w.1) w.2 (ends w.0 w.1)
 
-  one_class : (depth v w : ℕ) → v < length rows → w < length rows → IsSettled classes v → IsSettled classes w → Ends rows depth v → AlikeIn heads rows depth v w → SameIn classes v w
+  one_class : (depth v w : ℕ) → v < length rows → w < length rows → IsSettled classes v → IsSettled classes w → UnfoldingEnds rows depth v → AlikeIn heads rows depth v w → SameIn classes v w
   one_class zero v w h g s t e al = absurd e
   one_class (suc depth) v w h g s t e al =
       let there : Covers (SameIn classes) (row_at rows v).0 (row_at rows v).1 (row_at rows w).0 (row_at rows w).1 = λ place x st.

@@ -77,7 +77,7 @@ pub fn made(
 ) -> Result<Doing, NoMemory>
     ensures { IfOk result (λ doing. doing ≡ operations.in_frame chain.now (λ (e : Environ). operations.making modes.now mode e.scope (ints_of bounds.now))) }
 {
-    let Some(environ) = chain.items.first() else {
+    let Some(environ) = chain.outer(0) else {
         return Ok(Doing::Meets(FaultKind::Kind));
     };
     let doing = making(alloc, modes, mode, environ.scope, bounds)?;
@@ -90,13 +90,13 @@ pub fn made(
 pub fn routine(text: u32, distance: Option<u32>, chain: &Chain) -> Doing
     ensures { (modes : List Shape) → result ≡ operations.start modes (operations.routine text distance) chain.now [] }
 {
-    let Some(environ) = chain.items.first() else {
+    let Some(environ) = chain.outer(0) else {
         return Doing::Meets(FaultKind::Kind);
     };
     let frame = environ.frame;
     let scope = match distance {
         None => 0,
-        Some(hops) => match chain.items.get(hops as usize) {
+        Some(hops) => match chain.outer(hops) {
             None => return Doing::Meets(FaultKind::Kind),
             Some(outer) => outer.scope,
         },

@@ -9,7 +9,7 @@ use Rattle.a68_definitions.specs.Defined.{AllBelow, part_from_end}
 use Rattle.a68_equiv.specs.Dimensions.{HaveDimensions, HasDimensions}
 use Rattle.a68_equiv.specs.Related.{without_flex}
 use Rattle.a68_equiv.specs.declared.mode.Mode.{Mode}
-use Rattle.a68_identify.specs.Operators.{AreThere}
+use Rattle.a68_identify.specs.Operators.{NumbersAreThere}
 use Rattle.a68_identify.specs.declared.identified.Identified.{Identified}
 use Rattle.a68_identify.specs.declared.identified.Identified.TheVariants.{Declared, Standard}
 use Rattle.a68_mode_table.proofs.Once.{row_keeps, row_keeps_node, row_sound, rows_one}
@@ -133,7 +133,7 @@ module _ (k : Known) (ys : List Yielding) (fs : List Finding) (start : List Shap
   -- what is known of the modes and the positions so far
   pub record AreGood (nodes : List Shape) (ps : List Position) : Type 0 where
     pub sound : AreSound nodes
-    pub of : AreThere k.tree nodes k.of
+    pub of : NumbersAreThere k.tree nodes k.of
     pub defined : AllBelow (length nodes) k.defined
     pub tables : AreTablesBelow (length nodes) (length k.tree.nodes) ys fs
     pub below : ArePositionsBelow (length nodes) ps
@@ -151,7 +151,7 @@ module _ (k : Known) (ys : List Yielding) (fs : List Finding) (start : List Shap
       let some : 13 ≤ length before = thirteen before good.sound.holds in
       let long : IsLonger before nodes m = aside_longer k before ys a nodes m some set in
       let sound : AreSound nodes = aside_sound k before ys a nodes m good.sound few below (aside_small k.tree before n (position_at those n) (finding_at fs n) (kind_at k.tree n) good.sound.rows) set in
-      let of : AreThere k.tree nodes k.of = there_longer k.tree before nodes k.of long.long good.of in
+      let of : NumbersAreThere k.tree nodes k.of = there_longer k.tree before nodes k.of long.long good.of in
       let defined : AllBelow (length nodes) k.defined = all_longer (length before) (length nodes) k.defined long.long good.defined in
       let more : 0 < length nodes = omega (arith, many nodes sound) in
       record {
@@ -165,7 +165,7 @@ module _ (k : Known) (ys : List Yielding) (fs : List Finding) (start : List Shap
             long.there (positions_longer (length before) (length nodes) long.long those good.below));
       }
 
-  module _ (sound : AreSound start) (of : AreThere k.tree start k.of) (defined : AllBelow (length start) k.defined) (tables : AreTablesBelow (length start) (length k.tree.nodes) ys fs) where
+  module _ (sound : AreSound start) (of : NumbersAreThere k.tree start k.of) (defined : AllBelow (length start) k.defined) (tables : AreTablesBelow (length start) (length k.tree.nodes) ys fs) where
     good_begun : (nodes : List Shape) (ps : List Position) → nodes ≡ start → ps ≡ at_start (length k.tree.nodes) → AreGood nodes ps
     good_begun nodes ps same begun =
         let good : AreGood start (at_start (length k.tree.nodes)) =

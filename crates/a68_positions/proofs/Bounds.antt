@@ -6,10 +6,10 @@ use Rattle.std.specs.Prelude.{nat_lt, slice_index_or, slice_set}
 use Rattle.a68_declare.specs.Outcome.{ByNode}
 use Rattle.a68_definitions.specs.Defined.{AllBelow, first_declarer, fixed_mode_at, is_declarer, part_from_end, part_number}
 use Rattle.a68_definitions.specs.Tags.{called_by}
-use Rattle.a68_identify.specs.Operators.{AreThere}
+use Rattle.a68_identify.specs.Operators.{NumbersAreThere}
 use Rattle.a68_identify.specs.declared.identified.Identified.{Identified}
 use Rattle.a68_identify.specs.declared.identified.Identified.TheVariants.{Declared, Standard}
-use Rattle.a68_modes.specs.Nodes.{HoldsNodes, IsWithin, shape_at}
+use Rattle.a68_modes.specs.Nodes.{HoldsNodes, ShapeIsWithin, shape_at}
 use Rattle.a68_modes.specs.declared.coercion.Sort.{Sort}
 use Rattle.a68_modes.specs.declared.coercion.Sort.TheVariants as by
 use Rattle.a68_modes.specs.declared.shape.Shape.{Shape}
@@ -46,7 +46,7 @@ entry_below n (x ∷ xs) (suc k) some all = entry_below n xs k some (λ i d h. a
 abbrev pub AreFixedBelow : ℕ → ByNode → Type 0
 AreFixedBelow n of = (d : ℕ) → fixed_mode_at of d < n
 
-pub fixed_below : (tree : Built) (nodes : List Shape) (of : ByNode) → 0 < length nodes → AreThere tree nodes of → AreFixedBelow (length nodes) of
+pub fixed_below : (tree : Built) (nodes : List Shape) (of : ByNode) → 0 < length nodes → NumbersAreThere tree nodes of → AreFixedBelow (length nodes) of
 fixed_below tree nodes of some there d = entry_below (length nodes) of.without_flex d some there.there
 
 -- a parameter by its place; VOID where there is none
@@ -55,7 +55,7 @@ front_below n m [] k some all = some
 front_below n m (x ∷ xs) zero some all = all 0 0 (omega arith)
 front_below n m (x ∷ xs) (suc k) some all = front_below n m xs k some (λ i d h. all (suc i) d (omega (arith, h)))
 
-parameters_below : (n : ℕ) (s : Shape) (k : ℕ) → 0 < n → IsWithin n s → slice_index_or (parameters_of s) k 0 < n
+parameters_below : (n : ℕ) (s : Shape) (k : ℕ) → 0 < n → ShapeIsWithin n s → slice_index_or (parameters_of s) k 0 < n
 parameters_below n (Proc params m) k some within = front_below n m params k some within
 parameters_below n _ k some within = some
 
@@ -125,7 +125,7 @@ module _ (n : ℕ) (some : 8 < n) where
   field_within node count place fields all =
       either (nat_eq (length fields) count) (specs.goal node (slice_index_or fields place (0, 0)).1) position.Unlooked (field_below n fields place (omega arith) all) tt
 
-  unit_within : (node count place x : ℕ) (s : Shape) → x < n → IsWithin n s → IsPositionBelow n (specs.unit_of node count place x s)
+  unit_within : (node count place x : ℕ) (s : Shape) → x < n → ShapeIsWithin n s → IsPositionBelow n (specs.unit_of node count place x s)
   unit_within node count place x Void h within = omega arith
   unit_within node count place x (Rows dims flex of) h within = either_mode (nat_lt 1 dims) x of h (within 0 0 (omega arith))
   unit_within node count place x (Struct fields) h within = field_within node count place fields within
@@ -149,7 +149,7 @@ module _ (n : ℕ) (some : 8 < n) where
   start_within count = set_within (replicate count position.Nowhere) 0 (position.Goal 0 None) (nowhere_within count) (omega arith)
 
 module _ (nodes : List Shape) (holds : HoldsNodes nodes) (some : 8 < length nodes) where
-  found_shape : (m : ℕ) → m < length nodes → IsWithin (length nodes) (shape_at nodes m)
+  found_shape : (m : ℕ) → m < length nodes → ShapeIsWithin (length nodes) (shape_at nodes m)
   found_shape m h = holds.within m h
 
   -- the k-th parameter of the procedure at a node
@@ -255,7 +255,7 @@ module _ (nodes : List Shape) (holds : HoldsNodes nodes) (some : 8 < length node
 
   -- ---- what is set aside
 
-  referred_within : (s : Shape) → IsWithin (length nodes) s → IsAsideBelow (length nodes) (referred s)
+  referred_within : (s : Shape) → ShapeIsWithin (length nodes) s → IsAsideBelow (length nodes) (referred s)
   referred_within (Ref a) within = within 0 0 (omega arith)
   referred_within _ within = tt
 
@@ -263,7 +263,7 @@ module _ (nodes : List Shape) (holds : HoldsNodes nodes) (some : 8 < length node
   source_aside (finding.Mode (Some name)) within = referred_within (shape_at nodes name) (found_shape name within)
   source_aside _ within = tt
 
-  row_aside : (s : Shape) → IsWithin (length nodes) s → IsAsideBelow (length nodes) (row_within s)
+  row_aside : (s : Shape) → ShapeIsWithin (length nodes) s → IsAsideBelow (length nodes) (row_within s)
   row_aside (Rows dims flex of) within = by (nat_lt 1 dims) refl
     where
       by : (t : Bool) → nat_lt 1 dims ≡ t → IsAsideBelow (length nodes) (if t then aside.Row (dims - 1) flex of else aside.Nothing)

@@ -3,7 +3,7 @@ use Rattle.std.proofs.Common.{◌<◌, ◌≤◌, ℕ, List, None, Some, length,
 use Rattle.a68_definitions.proofs.Defining.{IsLonger, interned_long}
 use Rattle.std.specs.Prelude.{slice_index_or}
 use Rattle.a68_declare.specs.Outcome.{ByNode}
-use Rattle.a68_identify.specs.Operators.{AreThere}
+use Rattle.a68_identify.specs.Operators.{NumbersAreThere}
 use Rattle.a68_modes.specs.declared.shape.Shape.{Shape}
 use Rattle.a68_positions.specs.Aside.{IsSetAside, mode_or_void}
 use Rattle.a68_positions.specs.Given.{finding_at, position_at}
@@ -39,7 +39,7 @@ module _ (n more : ℕ) (longer : n ≤ more) where
   pub positions_longer : (ps : List Position) → ArePositionsBelow n ps → ArePositionsBelow more ps
   positions_longer ps all node = position_longer (position_at ps node) (all node)
 
-pub there_longer : (tree : Built) (nodes more : List Shape) (of : ByNode) → length nodes ≤ length more → AreThere tree nodes of → AreThere tree more of
+pub there_longer : (tree : Built) (nodes more : List Shape) (of : ByNode) → length nodes ≤ length more → NumbersAreThere tree nodes of → NumbersAreThere tree more of
 there_longer tree nodes more of longer there = record {
   long = there.long;
   fixed_long = there.fixed_long;

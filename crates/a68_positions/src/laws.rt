@@ -2,7 +2,7 @@
 ghost use Rattle.std.specs.Prelude.{◌≡◌, ◌<◌, ◌≤◌, ℕ, List, length};
 ghost use Rattle.a68_base.specs.declared.limits.TheConstants.{MOST_MODES};
 ghost use Rattle.a68_definitions.specs.Defined.{AllBelow};
-ghost use Rattle.a68_identify.specs.Operators.{AreThere};
+ghost use Rattle.a68_identify.specs.Operators.{NumbersAreThere};
 ghost use Rattle.a68_equiv.specs.declared.mode.Mode.{Mode};
 ghost use Rattle.a68_mode_table.specs.Growing.{AreSound, IsNode};
 ghost use Rattle.a68_modes.specs.Nodes.{shape_at};
@@ -18,7 +18,7 @@ ghost use Rattle.a68_yields.specs.declared.yielding.Yielding.{Yielding};
 /// A law: over sound modes a tree has one table of positions, and the modes that join the others are one, as long as there is room for them.
 pub fn positions_are_one()
     ensures { (k : Known) (ys : List Yielding) (fs : List Finding) (start nodes others : List Shape) (ps qs : List Position) → AreSound start
-        → AreThere k.tree start k.of → AllBelow (length start) k.defined → AreTablesBelow (length start) (length k.tree.nodes) ys fs
+        → NumbersAreThere k.tree start k.of → AllBelow (length start) k.defined → AreTablesBelow (length start) (length k.tree.nodes) ys fs
         → length nodes ≤ MOST_MODES → length others ≤ MOST_MODES → ArePositions k ys fs start nodes ps → ArePositions k ys fs start others qs
         → (nodes ≡ others) × (ps ≡ qs) }
 {}
@@ -27,10 +27,10 @@ pub fn positions_are_one()
 /// them.
 pub fn positions_are_sound()
     ensures sound { (k : Known) (ys : List Yielding) (fs : List Finding) (start nodes : List Shape) (ps : List Position) → AreSound start
-        → AreThere k.tree start k.of → AllBelow (length start) k.defined → AreTablesBelow (length start) (length k.tree.nodes) ys fs
+        → NumbersAreThere k.tree start k.of → AllBelow (length start) k.defined → AreTablesBelow (length start) (length k.tree.nodes) ys fs
         → length nodes ≤ MOST_MODES → ArePositions k ys fs start nodes ps → AreSound nodes }
     ensures below { (k : Known) (ys : List Yielding) (fs : List Finding) (start nodes : List Shape) (ps : List Position) → AreSound start
-        → AreThere k.tree start k.of → AllBelow (length start) k.defined → AreTablesBelow (length start) (length k.tree.nodes) ys fs
+        → NumbersAreThere k.tree start k.of → AllBelow (length start) k.defined → AreTablesBelow (length start) (length k.tree.nodes) ys fs
         → length nodes ≤ MOST_MODES → ArePositions k ys fs start nodes ps → ArePositionsBelow (length nodes) ps }
 {}
 
@@ -45,7 +45,7 @@ pub fn positions_keep_shapes()
 /// A law: a node of an old mode stays one as the modes of positions join them.
 pub fn positions_keep_nodes()
     ensures { (k : Known) (ys : List Yielding) (fs : List Finding) (start nodes : List Shape) (ps : List Position) → AreSound start
-        → AreThere k.tree start k.of → AllBelow (length start) k.defined → AreTablesBelow (length start) (length k.tree.nodes) ys fs
+        → NumbersAreThere k.tree start k.of → AllBelow (length start) k.defined → AreTablesBelow (length start) (length k.tree.nodes) ys fs
         → length nodes ≤ MOST_MODES → ArePositions k ys fs start nodes ps
         → (mode : Mode) (node : ℕ) → mode.id < length start → IsNode start mode node → IsNode nodes mode node }
 {}

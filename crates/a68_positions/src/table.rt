@@ -1,7 +1,7 @@
 //! What is asked of all nodes.
 ghost use Rattle.std.specs.Prelude.{◌≡◌, ◌<◌, ◌≤◌, ◌+◌, IfOk, List, OnOk, length, slice_set};
 ghost use Rattle.a68_definitions.specs.Defined.{AllBelow};
-ghost use Rattle.a68_identify.specs.Operators.{AreThere};
+ghost use Rattle.a68_identify.specs.Operators.{NumbersAreThere};
 ghost use Rattle.a68_modes.specs.declared.shape.Shape.{Shape};
 ghost use Rattle.a68_positions.specs.Positions.{ArePositions, ArePositionsFrom, with_parts};
 ghost use Rattle.a68_positions.specs.Positions as specs;
@@ -66,13 +66,13 @@ fn look(
     positions: &mut [Position],
     node: NodeId,
 ) -> Result<(), NoMemory>
-    requires of { AreThere tree.now modes.old of.now }
+    requires of { NumbersAreThere tree.now modes.old of.now }
     requires defined { AllBelow (length modes.old) defined.now }
     requires tables { AreTablesBelow (length modes.old) (length tree.now.nodes) yields.now findings.now }
     requires positions { ArePositionsBelow (length modes.old) positions.old }
     ensures positions { OnOk result ((start : List Shape) → ArePositionsFrom (record { tree = tree.now; tags = tags.now; of = of.now; defined = defined.now }) yields.now findings.now start node modes.old positions.old → ArePositionsFrom (record { tree = tree.now; tags = tags.now; of = of.now; defined = defined.now }) yields.now findings.now start (node + 1) modes.new positions.new) }
     ensures below { OnOk result (ArePositionsBelow (length modes.new) positions.new) }
-    ensures of { OnOk result (AreThere tree.now modes.new of.now) }
+    ensures of { OnOk result (NumbersAreThere tree.now modes.new of.now) }
     ensures defined { OnOk result (AllBelow (length modes.new) defined.now) }
     ensures tables { OnOk result (AreTablesBelow (length modes.new) (length tree.now.nodes) yields.now findings.now) }
 {
@@ -102,13 +102,13 @@ fn look_at_all(
     findings: &[Finding],
     positions: &mut [Position],
 ) -> Result<(), NoMemory>
-    requires of { AreThere tree.now modes.old of.now }
+    requires of { NumbersAreThere tree.now modes.old of.now }
     requires defined { AllBelow (length modes.old) defined.now }
     requires tables { AreTablesBelow (length modes.old) (length tree.now.nodes) yields.now findings.now }
     requires start { positions.old ≡ specs.at_start (length tree.now.nodes) }
     ensures positions { OnOk result (ArePositions (record { tree = tree.now; tags = tags.now; of = of.now; defined = defined.now }) yields.now findings.now modes.old modes.new positions.new) }
     ensures below { OnOk result (ArePositionsBelow (length modes.new) positions.new) }
-    ensures of { OnOk result (AreThere tree.now modes.new of.now) }
+    ensures of { OnOk result (NumbersAreThere tree.now modes.new of.now) }
     ensures defined { OnOk result (AllBelow (length modes.new) defined.now) }
     ensures tables { OnOk result (AreTablesBelow (length modes.new) (length tree.now.nodes) yields.now findings.now) }
 {
@@ -133,12 +133,12 @@ pub fn positions(
     yields: &[Yielding],
     findings: &[Finding],
 ) -> Result<Vec<Position>, NoMemory>
-    requires of { AreThere tree.now modes.old of.now }
+    requires of { NumbersAreThere tree.now modes.old of.now }
     requires defined { AllBelow (length modes.old) defined.now }
     requires tables { AreTablesBelow (length modes.old) (length tree.now.nodes) yields.now findings.now }
     ensures positions { IfOk result (λ found. ArePositions (record { tree = tree.now; tags = tags.now; of = of.now; defined = defined.now }) yields.now findings.now modes.old modes.new found.items) }
     ensures below { IfOk result (λ found. ArePositionsBelow (length modes.new) found.items) }
-    ensures of { OnOk result (AreThere tree.now modes.new of.now) }
+    ensures of { OnOk result (NumbersAreThere tree.now modes.new of.now) }
     ensures defined { OnOk result (AllBelow (length modes.new) defined.now) }
     ensures tables { OnOk result (AreTablesBelow (length modes.new) (length tree.now.nodes) yields.now findings.now) }
 {

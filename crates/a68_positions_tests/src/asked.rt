@@ -1,7 +1,7 @@
 //! What is asked of a node of a text.
 ghost use Rattle.std.specs.Prelude.{◌<◌, ℕ, length};
 ghost use Rattle.a68_definitions.specs.Defined.{AreBelow};
-ghost use Rattle.a68_identify.specs.Operators.{AreThere};
+ghost use Rattle.a68_identify.specs.Operators.{NumbersAreThere};
 ghost use Rattle.a68_ranges.specs.Tables.{AreRanges};
 ghost use Rattle.a68_ranges.specs.Twice.{IsTwice};
 
@@ -77,7 +77,7 @@ fn declared(
     requires ranges { AreRanges tree.now ranges.now }
     requires once { (id : ℕ) → IsTwice tree.now id → ⊥ }
     ensures below { AreBelow (length result.0) result.1 }
-    ensures there { AreThere tree.now result.0 result.1 }
+    ensures there { NumbersAreThere tree.now result.0 result.1 }
 {
     let declared = declare(alloc, tree, ranges).expect(rt, text);
     let Declared {

@@ -11,10 +11,10 @@ use Rattle.a68_ranges.proofs.Taking.{some_one, read, past, below_or, is_there}
 use Rattle.a68_ranges.specs.Nodes.{IsPartAt, kind_at, name_at}
 use Rattle.a68_ranges.specs.Surroundings.{Lies, alone, part, IsUnder}
 use Rattle.a68_ranges.specs.Links.{has_layer, layered}
-use Rattle.a68_ranges.specs.Definitions.{defines, declared_in, Declares, FirstDefinition, here, further, IsDefinition, Undefined}
+use Rattle.a68_ranges.specs.Definitions.{defines, declared_in, Declares, FirstDefinition, here, further, IsWordDefinition, Undefined}
 use Rattle.a68_ranges.specs.Standard.{IsTagOf, IsModeWordOf, IsPriorityOf, spelled, standard_of, standard_priority, standard_tags}
 use Rattle.a68_signs.specs.Signs.{priority_of}
-use Rattle.a68_ranges.specs.Tables.{Nested, outermost, within, FindsOut, at_key, first_named, has_name, is_sort, same_sort, AreFirst, AreRanges, Tables, priority_or}
+use Rattle.a68_ranges.specs.Tables.{Nested, outermost, within, FindsOut, at_key, first_named, has_name, is_sort, same_sort, AreFirst, AreRanges, RangeTables, priority_or}
 use Rattle.a68_ranges.specs.Tables.{here as out_here, further as out_further, nothing}
 use Rattle.a68_ranges.specs.declared.nests.Layer.{Layer}
 use Rattle.a68_ranges.specs.declared.sort.IndicatorKind.{IndicatorKind}
@@ -192,9 +192,9 @@ module _ (tree : Built) (sort : IndicatorKind) (name : ℕ) where
 -- what was found at a node
 abbrev pub FoundAt : Built → (at : ℕ) → IndicatorKind → (name : ℕ) → Option ℕ → Type 0
 FoundAt tree at sort name None = Undefined tree at sort name
-FoundAt tree at sort name (Some d) = IsDefinition tree at sort name d
+FoundAt tree at sort name (Some d) = IsWordDefinition tree at sort name d
 
-pub found_at : (tree : Built) (t : Tables) (at name : ℕ) (sort : IndicatorKind) (entries : List ((ℕ × ℕ) × ℕ)) (found : Option ℕ) → AreRanges tree t → at < length t.nests.about → AreFirst tree sort entries
+pub found_at : (tree : Built) (t : RangeTables) (at name : ℕ) (sort : IndicatorKind) (entries : List ((ℕ × ℕ) × ℕ)) (found : Option ℕ) → AreRanges tree t → at < length t.nests.about → AreFirst tree sort entries
     → FindsOut t.nests.layers entries name (slice_index_or t.nests.about at None) found → FoundAt tree at sort name found
 found_at tree t at name sort entries found are there first out =
     let nest : Option ℕ = slice_index_or t.nests.about at None in
@@ -236,7 +236,7 @@ tag_under (Some s) k e = found_under 9 standard_tags s k (lit< tt, (lit< tt, (li
 
 -- ---- the three look-ups
 
-pub tag_is : (tree : Built) (t : Tables) (at name : ℕ) (found place answer : Option ℕ) → AreRanges tree t → at < length t.nests.about → FindsOut t.nests.layers t.tags name (slice_index_or t.nests.about at None) found
+pub tag_is : (tree : Built) (t : RangeTables) (at name : ℕ) (found place answer : Option ℕ) → AreRanges tree t → at < length t.nests.about → FindsOut t.nests.layers t.tags name (slice_index_or t.nests.about at None) found
     → place ≡ option_and_then (λ (s : Standard). s.tag) (slice_get t.standard name)
     → ((id : ℕ) → found ≡ Some id → answer ≡ Some id) → (found ≡ None → place ≡ None → answer ≡ None)
     → ((k : ℕ) → found ≡ None → place ≡ Some k → t.count + k < 2 ^ 32 → answer ≡ Some (t.count + k)) → IsTagOf tree at name answer
@@ -252,7 +252,7 @@ tag_is tree t at name found place answer are there out is one none standard =
         let under = tag_under (slice_get tree.spellings name) k (sym said) in
         rw (standard k refl refl (omega arith)) (inr (never, k, sym said, ap (λ n. n + k) count))
 
-pub mode_word_found : (tree : Built) (t : Tables) (at name : ℕ) (found : Option ℕ) → AreRanges tree t → at < length t.nests.about → FindsOut t.nests.layers t.mode_words name (slice_index_or t.nests.about at None) found
+pub mode_word_found : (tree : Built) (t : RangeTables) (at name : ℕ) (found : Option ℕ) → AreRanges tree t → at < length t.nests.about → FindsOut t.nests.layers t.mode_words name (slice_index_or t.nests.about at None) found
     → IsModeWordOf tree at name found
 mode_word_found tree t at name found are there out = go found (found_at tree t at name sorts.ModeWord t.mode_words found are there are.mode_words out)
   where
@@ -272,7 +272,7 @@ first_there : {tree : Built} {sort : IndicatorKind} {name d : ℕ} {ranges : Lis
 first_there {tree = tree} {sort = sort} {d = d} (here s) = defines_there tree d sort s.sort_is
 first_there (further n more) = first_there more
 
-pub priority_is : (tree : Built) (t : Tables) (at name : ℕ) (found standard answer : Option ℕ) → AreRanges tree t → at < length t.nests.about
+pub priority_is : (tree : Built) (t : RangeTables) (at name : ℕ) (found standard answer : Option ℕ) → AreRanges tree t → at < length t.nests.about
     → FindsOut t.nests.layers t.priorities name (slice_index_or t.nests.about at None) found
     → standard ≡ option_and_then (λ (s : Standard). s.priority) (slice_get t.standard name) → answer ≡ priority_or found t.written standard → IsPriorityOf tree at name answer
 priority_is tree t at name found standard answer are there out is gives =
@@ -297,7 +297,7 @@ found_further layers entries name i nest (Some id) found layer e is at t rest = 
 found_further layers entries name i nest None found layer e is at t rest = rw e (out_further i layer is (sym at) rest)
 
 -- the layers about a node are those of its ranges that have layers
-pub about_is : (tree : Built) (t : Tables) (at : ℕ) (nest : Option ℕ) (ranges : List ℕ) → AreRanges tree t → at < length t.nests.about → nest ≡ slice_index_or t.nests.about at None
+pub about_is : (tree : Built) (t : RangeTables) (at : ℕ) (nest : Option ℕ) (ranges : List ℕ) → AreRanges tree t → at < length t.nests.about → nest ≡ slice_index_or t.nests.about at None
     → Lies tree at ranges → Nested t.nests.layers nest (layered tree ranges)
 about_is tree t at nest ranges are there is lies =
     let tells = are.nests.about at nest (read t.nests.about at None there ∙ ap (λ (o : Option ℕ). Some o) (sym is)) in

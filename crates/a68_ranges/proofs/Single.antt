@@ -4,7 +4,7 @@ use Rattle.std.specs.Option.{option_map_or}
 use Rattle.std.specs.List.{Contains}
 use Rattle.a68_ranges.proofs.Taking.{some_one, read, past, below_or}
 use Rattle.a68_ranges.proofs.Looking.{lies_one}
-use Rattle.a68_ranges.specs.Definitions.{declared_in, declared_by, Declares, FirstDefinition, here, further, IsDefinition}
+use Rattle.a68_ranges.specs.Definitions.{declared_in, declared_by, Declares, FirstDefinition, here, further, IsWordDefinition}
 use Rattle.a68_ranges.specs.Standard.{IsPriorityOf, written_priority}
 use Rattle.a68_ranges.specs.Twice.{IsTwice, IsSingle, single_priority}
 use Rattle.a68_ranges.specs.declared.sort.IndicatorKind.{IndicatorKind}
@@ -78,7 +78,7 @@ module _ (tree : Built) (sort : IndicatorKind) (name : ℕ) (single : IsSingle s
       first_one a b tails
 
   -- the definition of a word is one
-  pub definition_one : (at d e : ℕ) → IsDefinition tree at sort name d → IsDefinition tree at sort name e → d ≡ e
+  pub definition_one : (at d e : ℕ) → IsWordDefinition tree at sort name d → IsWordDefinition tree at sort name e → d ≡ e
   definition_one at d e a b = first_one a.first b.first (lies_one a.lies b.lies refl)
 
 pub priority_one : (tree : Built) → ((id : ℕ) → IsTwice tree id → ⊥) → (at name : ℕ) (one other : Option ℕ) → IsPriorityOf tree at name one → IsPriorityOf tree at name other → one ≡ other

@@ -74,11 +74,11 @@ pub data FirstDefinition (tree : Built) (sort : IndicatorKind) (name : ℕ) : Li
   further : {range definition : ℕ} {more : List ℕ} → ((d : ℕ) → Declares tree range sort name d → ⊥) → FirstDefinition tree sort name more definition → FirstDefinition tree sort name (range ∷ more) definition
 
 -- the definition of a word that is applied at a node, in a surrounding range
-pub record IsDefinition (tree : Built) (at : ℕ) (sort : IndicatorKind) (name definition : ℕ) : Type 0 where
+pub record IsWordDefinition (tree : Built) (at : ℕ) (sort : IndicatorKind) (name definition : ℕ) : Type 0 where
   pub ranges : List ℕ
   pub lies : Lies tree at ranges
   pub first : FirstDefinition tree sort name ranges definition
 
 -- no surrounding range has one
 abbrev pub Undefined : Built → (at : ℕ) → IndicatorKind → (name : ℕ) → Type 0
-Undefined tree at sort name = (definition : ℕ) → IsDefinition tree at sort name definition → ⊥
+Undefined tree at sort name = (definition : ℕ) → IsWordDefinition tree at sort name definition → ⊥

@@ -30,7 +30,7 @@ IsBelow bound None = Unit {0}
 IsBelow bound (Some i) = i < bound
 
 -- layers lead outwards to earlier ones
-pub record AreLinked (about : List (Option ℕ)) (layers : List Layer) : Type 0 where
+pub record LayersAreLinked (about : List (Option ℕ)) (layers : List Layer) : Type 0 where
   pub out : (i : ℕ) (layer : Layer) → slice_get layers i ≡ Some layer → IsBelow i layer.outer
   pub there : (at : ℕ) (nest : Option ℕ) → slice_get about at ≡ Some nest → IsBelow (length layers) nest
 

@@ -35,6 +35,6 @@ abbrev pub IsPart : Built → (n p : ℕ) → Type 0
 IsPart tree n p = (k : ℕ) × IsPartAt tree n k p
 
 -- d is a, or stands within it
-pub data IsWithin (tree : Built) (a : ℕ) : ℕ → Type 0 where
-  itself : IsWithin tree a a
-  part : {n p : ℕ} → IsWithin tree a n → IsPart tree n p → IsWithin tree a p
+pub data StandsWithin (tree : Built) (a : ℕ) : ℕ → Type 0 where
+  itself : StandsWithin tree a a
+  part : {n p : ℕ} → StandsWithin tree a n → IsPart tree n p → StandsWithin tree a p

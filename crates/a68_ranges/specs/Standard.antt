@@ -3,7 +3,7 @@ use Rattle.std.specs.Prelude.{◌≡◌, ◌<◌, ◌+◌, ◌-◌, ◌⊎◌, �
 use Rattle.std.specs.Option.{option_and_then, option_map_or}
 use Rattle.a68_base.specs.Tables.{find}
 use Rattle.a68_ranges.specs.Nodes.{parts_at, spelling_at}
-use Rattle.a68_ranges.specs.Definitions.{IsDefinition, Undefined}
+use Rattle.a68_ranges.specs.Definitions.{IsWordDefinition, Undefined}
 use Rattle.a68_ranges.specs.declared.sort.IndicatorKind.TheVariants as sorts
 use Rattle.a68_ranges.specs.declared.standard.Standard.{Standard}
 use Rattle.a68_signs.specs.Signs.{priority_of}
@@ -24,12 +24,12 @@ standard_of spelling = record { tag = find standard_tags spelling; priority = pr
 
 -- the node of the definition; a standard tag has a number from that of the nodes upwards
 abbrev pub IsTagOf : Built → (at name : ℕ) → Option ℕ → Type 0
-IsTagOf tree at name (Some id) = IsDefinition tree at sorts.Tag name id ⊎ (Undefined tree at sorts.Tag name × (k : ℕ) × (spelled tree name standard_tags ≡ Some k) × (id ≡ length tree.nodes + k))
+IsTagOf tree at name (Some id) = IsWordDefinition tree at sorts.Tag name id ⊎ (Undefined tree at sorts.Tag name × (k : ℕ) × (spelled tree name standard_tags ≡ Some k) × (id ≡ length tree.nodes + k))
 IsTagOf tree at name None = Undefined tree at sorts.Tag name × (spelled tree name standard_tags ≡ None)
 
 -- no mode word is standard: those that are, are reserved
 abbrev pub IsModeWordOf : Built → (at name : ℕ) → Option ℕ → Type 0
-IsModeWordOf tree at name (Some id) = IsDefinition tree at sorts.ModeWord name id
+IsModeWordOf tree at name (Some id) = IsWordDefinition tree at sorts.ModeWord name id
 IsModeWordOf tree at name None = Undefined tree at sorts.ModeWord name
 
 -- the priority that a sign has in the standard environ
@@ -51,6 +51,6 @@ pub record AreWritten (tree : Built) (count : ℕ) (written : List ℕ) : Type 0
 
 abbrev pub IsPriorityOf : Built → (at name : ℕ) → Option ℕ → Type 0
 IsPriorityOf tree at name (Some p) =
-    ((d : ℕ) × IsDefinition tree at sorts.Priority name d × (p ≡ written_priority tree d))
+    ((d : ℕ) × IsWordDefinition tree at sorts.Priority name d × (p ≡ written_priority tree d))
     ⊎ (Undefined tree at sorts.Priority name × (standard_priority tree name ≡ Some p))
 IsPriorityOf tree at name None = Undefined tree at sorts.Priority name × (standard_priority tree name ≡ None)

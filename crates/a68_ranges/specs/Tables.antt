@@ -7,7 +7,7 @@ use Rattle.a68_ranges.specs.Definitions.{defines, declared_in, AreDeclared}
 use Rattle.a68_ranges.specs.Standard.{standard_of, AreWritten}
 use Rattle.a68_ranges.specs.declared.nests.Layer.{Layer}
 use Rattle.a68_ranges.specs.declared.nests.Parent.{Parent}
-use Rattle.a68_ranges.specs.Links.{AreLinked, AreEntered, layered}
+use Rattle.a68_ranges.specs.Links.{LayersAreLinked, AreEntered, layered}
 use Rattle.a68_ranges.specs.declared.sort.IndicatorKind.{IndicatorKind}
 use Rattle.a68_ranges.specs.declared.sort.IndicatorKind.TheVariants as sorts
 use Rattle.a68_ranges.specs.declared.standard.Standard.{Standard}
@@ -42,7 +42,7 @@ IsNestOf tree about old new id (Some parent) nest =
 -- the layers of the nodes before one
 pub record AreNestsBefore (tree : Built) (count : ℕ) (about : List (Option ℕ)) (layers : List Layer) : Type 0 where
   pub long : length about ≡ count
-  pub linked : AreLinked about layers
+  pub linked : LayersAreLinked about layers
   pub tells : (at : ℕ) (nest : Option ℕ) → slice_get about at ≡ Some nest → TellsAbout tree layers at nest
 
 -- whether two sorts are one
@@ -102,7 +102,7 @@ abbrev pub AreFirst : Built → IndicatorKind → List ((ℕ × ℕ) × ℕ) →
 AreFirst tree sort entries = (range name : ℕ) → at_key entries range name ≡ first_named tree sort name (declared_in tree range)
 
 -- all tables of the ranges of a tree
-pub record Tables : Type 0 where
+pub record RangeTables : Type 0 where
   pub count : ℕ
   pub nests : Nest
   pub declared : List (List ℕ)
@@ -114,7 +114,7 @@ pub record Tables : Type 0 where
   pub written : List ℕ
 
 -- the tables are those of the tree
-pub record AreRanges (tree : Built) (tables : Tables) : Type 0 where
+pub record AreRanges (tree : Built) (tables : RangeTables) : Type 0 where
   pub count : tables.count ≡ length tree.nodes
   pub few : length tree.nodes + 9 < 2 ^ 32
   pub nests : AreNests tree tables.nests

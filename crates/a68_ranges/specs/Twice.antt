@@ -40,7 +40,7 @@ pub record IsFirstInText (tree : Built) (Broken : ℕ → Type 0) (id : ℕ) : T
   pub first : (other : ℕ) → other < length tree.nodes → Broken other → place_at tree id ≤ place_at tree other
 
 -- the rule that a tree breaks, and where
-pub record IsRefused (tree : Built) (refusal : Refusal) : Type 0 where
+pub record RefusesTwice (tree : Built) (refusal : Refusal) : Type 0 where
   pub id : ℕ
   pub rule_is : refusal.rule ≡ N3
   pub place_is : refusal.place ≡ place_at tree id

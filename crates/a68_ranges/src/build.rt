@@ -5,7 +5,7 @@ ghost use Rattle.a68_ranges.specs.Definitions.{AreDeclared};
 ghost use Rattle.a68_ranges.specs.Indexed.{IsLeast};
 ghost use Rattle.a68_ranges.specs.Nodes as nodes;
 ghost use Rattle.a68_ranges.specs.Tables.{AreFirst, AreRanges};
-ghost use Rattle.a68_ranges.specs.Twice.{IsTwice, IsFirstInText, IsRefused, StopsBy};
+ghost use Rattle.a68_ranges.specs.Twice.{IsTwice, IsFirstInText, RefusesTwice, StopsBy};
 ghost use Rattle.a68_ranges.specs.declared.sort.IndicatorKind.TheVariants as sorts;
 
 use crate::declared::declared_of;
@@ -91,7 +91,7 @@ fn tables_of(
 pub fn ranges(alloc: Global, tree: &Tree) -> Result<Ranges, Stop>
     ensures are { IfOk result (λ ranges. AreRanges tree.now ranges) }
     ensures once { IfOk result (λ ranges. (id : ℕ) → IsTwice tree.now id → ⊥) }
-    ensures refused { IfErr result (λ why. StopsBy (IsRefused tree.now) why) }
+    ensures refused { IfErr result (λ why. StopsBy (RefusesTwice tree.now) why) }
 {
     if tree.len() >= u32::MAX - 9 {
         return Err(Stop::NoMemory);

@@ -38,13 +38,13 @@ pub struct Nests {
 
 impl Model for Nests {
     ghost use Rattle.a68_ranges.specs.Tables.{Nest};
-    ghost use Rattle.a68_ranges.specs.Links.{AreLinked};
+    ghost use Rattle.a68_ranges.specs.Links.{LayersAreLinked};
 
     ghost Value = { Nest };
 
     ghost view = { λ nests. record { about = nests.about.items; layers = nests.layers.items } };
 
-    ghost invariant = { λ nests. AreLinked nests.about.items nests.layers.items };
+    ghost invariant = { λ nests. LayersAreLinked nests.about.items nests.layers.items };
 }
 
 impl Nests {

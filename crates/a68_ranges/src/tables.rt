@@ -33,9 +33,9 @@ pub struct Ranges {
 }
 
 impl Model for Ranges {
-    ghost use Rattle.a68_ranges.specs.Tables.{Tables};
+    ghost use Rattle.a68_ranges.specs.Tables.{RangeTables};
 
-    ghost Value = { Tables };
+    ghost Value = { RangeTables };
 
     ghost view = { λ ranges. record { count = ranges.count; nests = ranges.nests; declared = ranges.declared.items; operators = ranges.operators.items; tags = ranges.tags.entries; mode_words = ranges.mode_words.entries; priorities = ranges.priorities.entries; standard = ranges.standard.items; written = ranges.written.items } };
 }

@@ -15,7 +15,7 @@ use Rattle.a68_unit_productions.specs.declared.goal.Goal.TheVariants as g
 use Rattle.a68_read.specs.Fits as f
 use Rattle.a68_read.specs.Fits.{Shape, all_fit, names_first}
 use Rattle.a68_read.specs.Awaits as a
-use Rattle.a68_read.specs.Awaits.{Run, all_await}
+use Rattle.a68_read.specs.Awaits.{Awaited, all_await}
 use Rattle.a68_read.specs.Readings.{IsWhole, IsEnd, Reading, IsDone}
 
 as_node : (x : Layer) → x.bracket ≡ None → x ≡ node x.forest
@@ -24,7 +24,7 @@ as_node x e = ap (λ (b : Option Bracket). let y : Layer = record { bracket = b;
 pub not_identity : (j : NodeKind) → names_first j ≡ true → j ≡ k.Identity → ⊥
 not_identity j e h = false≢true (sym (ap names_first h) ∙ e)
 
-abbrev pub Goes : (NodeKind → Forest → Run) → List Sym → List Layer → List Sym → Type 0
+abbrev pub Goes : (NodeKind → Forest → Awaited) → List Sym → List Layer → List Sym → Type 0
 Goes K whole S rest = (j : NodeKind) (u : Forest) → IsEnclosed j u → whole ≡ spells u [] → K j u S rest
 
 module _ (rest : List Sym) (old new : DraftState) where

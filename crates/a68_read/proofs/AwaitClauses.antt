@@ -19,7 +19,7 @@ use Rattle.a68_read.specs.Middles as m
 use Rattle.a68_read.specs.Fits as f
 use Rattle.a68_read.specs.Fits.{Shape, fits}
 use Rattle.a68_read.specs.Awaits as a
-use Rattle.a68_read.specs.Awaits.{Run, awaits, all_await}
+use Rattle.a68_read.specs.Awaits.{Awaited, awaits, all_await}
 use Rattle.a68_productions.specs.Clauses as clauses
 use Rattle.a68_tree.proofs.Joining.{joined_assoc, spells_joined}
 use Rattle.a68_read.proofs.Forms as forms
@@ -29,7 +29,7 @@ use Rattle.a68_read.proofs.Behind as behind
 not_loop : (s : Sym) → set.begins_from s ≡ false → {f : Forest} → gr.IsFrom f → (r : List Sym) → starts s (spells f r) ≡ false
 not_loop s out p r = no_first set.begins_from s out (first.first_from p r)
 
-pub enclosed_awaits : (K0 : Shape) (K : Run) (S : List Layer) (x : List Sym) → fits g.Enclosed K0 S → awaits g.Enclosed K S x → all_await (clauses.enclosed x) K S x
+pub enclosed_awaits : (K0 : Shape) (K : Awaited) (S : List Layer) (x : List Sym) → fits g.Enclosed K0 S → awaits g.Enclosed K S x → all_await (clauses.enclosed x) K S x
 enclosed_awaits K0 K S x (f.fresh ends) (a.turns_free (gr.closed gr.closing_round p) h) = a.opened (a.rest_within (m.brief_serial p m.serial_closes) h)
 enclosed_awaits K0 K S x (f.fresh ends) (a.turns_free (gr.closed gr.closing_begin p) h) = a.opened (a.rest_within (m.block_serial p) h)
 enclosed_awaits K0 K S x (f.fresh ends) (a.turns_free (gr.collateral gr.closing_round p) h) = a.opened (a.rest_within (m.brief_units p) h)
@@ -50,7 +50,7 @@ enclosed_awaits K0 K S x (f.fresh ends) (a.turns_free {r = r} (gr.loop (gr.no_fo
     (a.reads_free p h)
 
 -- a serial clause within brackets, by its first phrase
-pub brief_awaits : (K0 : Shape) (K : Run) (S : List Layer) (x : List Sym) → fits g.Brief K0 S → awaits g.Brief K S x → all_await (clauses.brief x) K S x
+pub brief_awaits : (K0 : Shape) (K : Awaited) (S : List Layer) (x : List Sym) → fits g.Brief K0 S → awaits g.Brief K S x → all_await (clauses.brief x) K S x
 brief_awaits K0 K S x (f.within ends) (a.rest_within m.brief_vacuum h) = a.closed h
 brief_awaits K0 K S x (f.within ends) (a.rest_within {r = r} (m.brief_units (gr.two {f = y} p q)) h) =
     let X : List Sym = Is t.Comma ∷ spells y (Closes b.Round ∷ r) in
@@ -68,18 +68,18 @@ brief_awaits K0 K S x (f.within {S = S'} ends) (a.rest_within {j = j} {r = r} (m
     rw (spells_joined d (mark t.Semicolon z) X, behind.declaration_opens b.Round p (Is t.Semicolon ∷ spells z X), behind.declaration_ahead p (Is t.Semicolon ∷ spells z X))
     (a.reads p (next refl) (a.takes (a.reads s (behind.after_serial_follows q (next refl)) (a.rest_within q h'))))
 
-pub brief_unit_awaits : (K0 : Shape) (K : Run) (S : List Layer) (x : List Sym) → fits g.BriefUnit K0 S → awaits g.BriefUnit K S x → all_await (clauses.brief_unit x) K S x
+pub brief_unit_awaits : (K0 : Shape) (K : Awaited) (S : List Layer) (x : List Sym) → fits g.BriefUnit K0 S → awaits g.BriefUnit K S x → all_await (clauses.brief_unit x) K S x
 brief_unit_awaits K0 K S x (f.within_unit p ends) (a.unit_comma q h) = a.takes (a.reads q (next refl) (a.closed h))
 brief_unit_awaits K0 K S x (f.within_unit p ends) (a.unit_serial {f = y} {r = r} m.serial_end q h) =
     let e : Follows set.ends_clause (spells y (Closes b.Round ∷ r)) = behind.after_serial_follows q (next refl) in
     rw (no_next set.ends_clause (Is t.Comma) refl e) (a.reads m.serial_end e (a.rest_within q h))
 brief_unit_awaits K0 K S x (f.within_unit p ends) (a.unit_serial (m.serial_on s) q h) = a.reads (m.serial_on s) (behind.after_serial_follows q (next refl)) (a.rest_within q h)
 
-pub brief_end_awaits : (K0 : Shape) (K : Run) (S : List Layer) (x : List Sym) → fits g.BriefEnd K0 S → awaits g.BriefEnd K S x → all_await (clauses.brief_end x) K S x
+pub brief_end_awaits : (K0 : Shape) (K : Awaited) (S : List Layer) (x : List Sym) → fits g.BriefEnd K0 S → awaits g.BriefEnd K S x → all_await (clauses.brief_end x) K S x
 brief_end_awaits K0 K S x (f.within_serial p ends) (a.rest_within m.serial_closes h) = a.closed h
 brief_end_awaits K0 K S x (f.within_serial p ends) (a.rest_within (m.serial_bar c) h) = a.takes (a.rest_within c h)
 
-pub brief_choice_awaits : (K0 : Shape) (K : Run) (S : List Layer) (x : List Sym) → fits g.BriefChoice K0 S → awaits g.BriefChoice K S x → all_await (clauses.brief_choice x) K S x
+pub brief_choice_awaits : (K0 : Shape) (K : Awaited) (S : List Layer) (x : List Sym) → fits g.BriefChoice K0 S → awaits g.BriefChoice K S x → all_await (clauses.brief_choice x) K S x
 brief_choice_awaits K0 K S x (f.within_serial p ends) (a.rest_within {r = r} (m.choice_conditional {e = y} (gr.serial_one q) e) h) =
     let X : List Sym = spells y (Closes b.Round ∷ r) in
     let o = behind.else_brief_follows e (next refl) in
@@ -99,7 +99,7 @@ brief_choice_awaits K0 K S x (f.within_serial p ends) (a.rest_within {r = r} (m.
     let X : List Sym = spells y (Closes b.Round ∷ r) in
     rw (spells_joined z y (Closes b.Round ∷ r), told.choices_seen q X) (a.reads q (behind.outc_brief_follows e (next refl)) (a.reads e (next refl) (a.closed h)))
 
-pub brief_chosen_awaits : (K0 : Shape) (K : Run) (S : List Layer) (x : List Sym) → fits g.BriefChosen K0 S → awaits g.BriefChosen K S x → all_await (clauses.brief_chosen x) K S x
+pub brief_chosen_awaits : (K0 : Shape) (K : Awaited) (S : List Layer) (x : List Sym) → fits g.BriefChosen K0 S → awaits g.BriefChosen K S x → all_await (clauses.brief_chosen x) K S x
 brief_chosen_awaits K0 K S x (f.within_chosen p q ends) (a.chosen_comma s e h) = a.takes (a.reads s (behind.out_brief_follows e (next refl)) (a.reads e (next refl) (a.closed h)))
 brief_chosen_awaits K0 K S x (f.within_chosen p q ends) (a.chosen_serial {e = y} {r = r} m.serial_end e h) =
     let o : Follows set.ends_clause (spells y (Closes b.Round ∷ r)) = behind.else_brief_follows e (next refl) in
@@ -107,7 +107,7 @@ brief_chosen_awaits K0 K S x (f.within_chosen p q ends) (a.chosen_serial {e = y}
 brief_chosen_awaits K0 K S x (f.within_chosen p q ends) (a.chosen_serial (m.serial_on s) e h) =
     a.reads (m.serial_on s) (behind.else_brief_follows e (next refl)) (a.reads e (next refl) (a.closed h))
 
-pub block_awaits : (K0 : Shape) (K : Run) (S : List Layer) (x : List Sym) → fits g.Block K0 S → awaits g.Block K S x → all_await (clauses.block x) K S x
+pub block_awaits : (K0 : Shape) (K : Awaited) (S : List Layer) (x : List Sym) → fits g.Block K0 S → awaits g.Block K S x → all_await (clauses.block x) K S x
 block_awaits K0 K S x (f.within ends) (a.rest_within m.block_vacuum h) = a.closed h
 block_awaits K0 K S x (f.within ends) (a.rest_within {r = r} (m.block_units (gr.two {f = y} p q)) h) =
     let X : List Sym = Is t.Comma ∷ spells y (Closes b.Begin ∷ r) in
@@ -124,16 +124,16 @@ block_awaits K0 K S x (f.within {S = S'} ends) (a.rest_within {r = r} (m.block_s
     rw (spells_joined d (mark t.Semicolon z) X, behind.declaration_opens b.Begin p (Is t.Semicolon ∷ spells z X), behind.declaration_ahead p (Is t.Semicolon ∷ spells z X))
     (a.reads p (next refl) (a.takes (a.reads s (next refl) (a.closed h'))))
 
-pub block_unit_awaits : (K0 : Shape) (K : Run) (S : List Layer) (x : List Sym) → fits g.BlockUnit K0 S → awaits g.BlockUnit K S x → all_await (clauses.block_unit x) K S x
+pub block_unit_awaits : (K0 : Shape) (K : Awaited) (S : List Layer) (x : List Sym) → fits g.BlockUnit K0 S → awaits g.BlockUnit K S x → all_await (clauses.block_unit x) K S x
 block_unit_awaits K0 K S x (f.within_unit p ends) (a.unit_comma q h) = a.takes (a.reads q (next refl) (a.closed h))
 block_unit_awaits K0 K S x (f.within_unit p ends) (a.unit_serial m.serial_end a.block_ends h) = a.reads m.serial_end (next refl) (a.closed h)
 block_unit_awaits K0 K S x (f.within_unit p ends) (a.unit_serial (m.serial_on s) a.block_ends h) = a.reads (m.serial_on s) (next refl) (a.closed h)
 
-pub parallel_awaits : (K0 : Shape) (K : Run) (S : List Layer) (x : List Sym) → fits g.Parallel K0 S → awaits g.Parallel K S x → all_await (clauses.parallel x) K S x
+pub parallel_awaits : (K0 : Shape) (K : Awaited) (S : List Layer) (x : List Sym) → fits g.Parallel K0 S → awaits g.Parallel K S x → all_await (clauses.parallel x) K S x
 parallel_awaits K0 K S x (f.within_parallel ends) (a.parallel_units gr.closing_round p h) = a.opened (a.reads p (next refl) (a.closed h))
 parallel_awaits K0 K S x (f.within_parallel ends) (a.parallel_units gr.closing_begin p h) = a.opened (a.reads p (next refl) (a.closed h))
 
-pub case_choice_awaits : (K0 : Shape) (K : Run) (S : List Layer) (x : List Sym) → fits g.CaseChoice K0 S → awaits g.CaseChoice K S x → all_await (clauses.case_choice x) K S x
+pub case_choice_awaits : (K0 : Shape) (K : Awaited) (S : List Layer) (x : List Sym) → fits g.CaseChoice K0 S → awaits g.CaseChoice K S x → all_await (clauses.case_choice x) K S x
 case_choice_awaits K0 K S x (f.within_serial p ends) (a.rest_within {r = r} (m.in_case {e = y} (gr.two {j = j} {u = u} {f = z} q s) e) h) =
     let X : List Sym = Is t.Comma ∷ spells z (spells y (Closes b.Case ∷ r)) in
     rw (spells_joined (part j u (mark t.Comma z)) y (Closes b.Case ∷ r), told.unit_unspecced q X) (a.reads_node q (next refl) (a.takes (a.reads s (behind.out_follows e (next refl)) (a.reads e (next refl) (a.closed h)))))

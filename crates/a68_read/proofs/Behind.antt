@@ -19,7 +19,7 @@ use Rattle.a68_lookahead.proofs.Told.{behind_declarer, plain_ahead, declarer_uns
 use Rattle.a68_unit_productions.specs.declared.goal.Defining.{Defining}
 use Rattle.a68_unit_productions.specs.declared.goal.Defining.TheVariants as d
 use Rattle.a68_read.specs.Middles as m
-use Rattle.a68_read.specs.Middles.{IsRun, run, IsTail, tail_end, tail_on, IsMore, more_same, more_anew, IsDefinition, IsInitial, IsSerialTail, IsCommaTail}
+use Rattle.a68_read.specs.Middles.{AreJoinedDefinitions, run, IsTail, tail_end, tail_on, IsMore, more_same, more_anew, IsDefinition, IsInitial, IsSerialTail, IsCommaTail}
 use Rattle.a68_read.specs.Awaits as a
 use Rattle.a68_read.specs.Awaits.{IsDeclaring, IsNamed, IsProcedureForm, IsOperatorForm}
 use Rattle.a68_tree.proofs.Joining.{joined_end}
@@ -80,35 +80,35 @@ defines_var : {f : Forest} → IsVariable f → IsDefinition d.Variable k.Variab
 defines_var gr.variable = m.defines_variable m.no_initial
 defines_var (gr.variable_set p) = m.defines_variable (m.an_initial p)
 
-modes_run : {f x : Forest} → IsModes f → IsTail d.Mode x → IsRun d.Mode (joined f x)
+modes_run : {f x : Forest} → IsModes f → IsTail d.Mode x → AreJoinedDefinitions d.Mode (joined f x)
 modes_run (gr.mode_one p) l = run (m.defines_mode p) l
 modes_run (gr.mode_more p q) l = run (m.defines_mode p) (tail_on (more_same (modes_run q l)))
 
-priorities_run : {f x : Forest} → IsPriorities f → IsTail d.Priority x → IsRun d.Priority (joined f x)
+priorities_run : {f x : Forest} → IsPriorities f → IsTail d.Priority x → AreJoinedDefinitions d.Priority (joined f x)
 priorities_run (gr.prio_one p) l = run (m.defines_priority p) l
 priorities_run (gr.prio_more p q) l = run (m.defines_priority p) (tail_on (more_same (priorities_run q l)))
 
-ops_run : {f x : Forest} → IsOps f → IsTail d.Operator x → IsRun d.Operator (joined f x)
+ops_run : {f x : Forest} → IsOps f → IsTail d.Operator x → AreJoinedDefinitions d.Operator (joined f x)
 ops_run (gr.op_one p q) l = run (m.defines_operator p q) l
 ops_run (gr.op_more p q r) l = run (m.defines_operator p q) (tail_on (more_same (ops_run r l)))
 
-planned_run : {f x : Forest} → IsPlanned f → IsTail d.Planned x → IsRun d.Planned (joined f x)
+planned_run : {f x : Forest} → IsPlanned f → IsTail d.Planned x → AreJoinedDefinitions d.Planned (joined f x)
 planned_run (gr.planned_one p q) l = run (m.defines_planned p q) l
 planned_run (gr.planned_more p q r) l = run (m.defines_planned p q) (tail_on (more_same (planned_run r l)))
 
-identities_run : {f x : Forest} → IsIdentities f → IsTail d.Identity x → IsRun d.Identity (joined f x)
+identities_run : {f x : Forest} → IsIdentities f → IsTail d.Identity x → AreJoinedDefinitions d.Identity (joined f x)
 identities_run (gr.identity_one p) l = run (m.defines_identity p) l
 identities_run (gr.identity_more p q) l = run (m.defines_identity p) (tail_on (more_same (identities_run q l)))
 
-procs_run : {f x : Forest} → IsProcs t.Equals k.IdentityDefinition f → IsTail d.Procedure x → IsRun d.Procedure (joined f x)
+procs_run : {f x : Forest} → IsProcs t.Equals k.IdentityDefinition f → IsTail d.Procedure x → AreJoinedDefinitions d.Procedure (joined f x)
 procs_run (gr.procs_one p) l = run (m.defines_procedure p) l
 procs_run (gr.procs_more p q) l = run (m.defines_procedure p) (tail_on (more_same (procs_run q l)))
 
-proc_variables_run : {f x : Forest} → IsProcs t.Becomes k.Variable f → IsTail d.ProcedureVariable x → IsRun d.ProcedureVariable (joined f x)
+proc_variables_run : {f x : Forest} → IsProcs t.Becomes k.Variable f → IsTail d.ProcedureVariable x → AreJoinedDefinitions d.ProcedureVariable (joined f x)
 proc_variables_run (gr.procs_one p) l = run (m.defines_procedure_variable p) l
 proc_variables_run (gr.procs_more p q) l = run (m.defines_procedure_variable p) (tail_on (more_same (proc_variables_run q l)))
 
-variables_run : {f x : Forest} → IsVariables f → IsTail d.Variable x → IsRun d.Variable (joined f x)
+variables_run : {f x : Forest} → IsVariables f → IsTail d.Variable x → AreJoinedDefinitions d.Variable (joined f x)
 variables_run (gr.variable_one p) l = run (defines_var p) l
 variables_run (gr.variable_more p q) l = run (defines_var p) (tail_on (more_same (variables_run q l)))
 
@@ -135,7 +135,7 @@ procedure_ahead : {f : Forest} → IsProcedureForm f → (r : List Sym) → phra
 procedure_ahead (a.form_procedures (run (m.defines_procedure p) l)) r = refl
 procedure_ahead (a.form_procedure_variables (run (m.defines_procedure_variable p) l)) r = refl
 
-variables_ahead : {c f : Forest} → IsDeclarer c → IsRun d.Variable f → (r : List Sym) → behind lm.Tag zero due.Declarer (spells c (spells f r)) ≡ true
+variables_ahead : {c f : Forest} → IsDeclarer c → AreJoinedDefinitions d.Variable f → (r : List Sym) → behind lm.Tag zero due.Declarer (spells c (spells f r)) ≡ true
 variables_ahead {f = f} p (run (m.defines_variable q) l) r = behind_declarer lm.Tag p (spells f r)
 
 named_ahead : {c f : Forest} → IsDeclarer c → IsNamed f → (r : List Sym) → behind lm.Tag zero due.Declarer (spells c (spells f r)) ≡ true

@@ -8,7 +8,7 @@ use Rattle.a68_unit_productions.specs.declared.goal.Goal.{Goal}
 use Rattle.a68_unit_productions.specs.declared.goal.Goal.TheVariants as g
 use Rattle.a68_productions.specs.Expand.{expand}
 use Rattle.a68_read.specs.Fits.{Shape, fits, all_fit}
-use Rattle.a68_read.specs.Awaits.{Run, awaits, all_await}
+use Rattle.a68_read.specs.Awaits.{Awaited, awaits, all_await}
 use Rattle.a68_read.specs.Weights.{weight, weights, is_sure, has_sure, is_lighter}
 use Rattle.a68_read.proofs.Steps.{OnGoals, fits_on, awaits_on}
 use Rattle.a68_read.proofs.Lighter.{lighter_on}
@@ -19,7 +19,7 @@ fit_same : (K : Shape) (xs ys : List Goal) → all_fit xs (all_fit ys K) ≡ all
 fit_same K [] ys = refl
 fit_same K (x ∷ xs) ys = ap (fits x) (fit_same K xs ys)
 
-await_same : (K : Run) (xs ys : List Goal) → all_await xs (all_await ys K) ≡ all_await (xs ++ ys) K
+await_same : (K : Awaited) (xs ys : List Goal) → all_await xs (all_await ys K) ≡ all_await (xs ++ ys) K
 await_same K [] ys = refl
 await_same K (x ∷ xs) ys = ap (awaits x) (await_same K xs ys)
 
@@ -36,7 +36,7 @@ expanded goal more goals rest whole s e r =
           let go : OnGoals (Some more) (λ xs. all_await xs (all_await goals (IsEnd j u)) r.stack rest) =
           subst (λ (o : Option (List Goal)). OnGoals o (λ xs. all_await xs (all_await goals (IsEnd j u)) r.stack rest)) e
           (awaits_on (all_fit goals IsWhole) (all_await goals (IsEnd j u)) goal r.stack rest r.fits (r.awaits j u p q)) in
-          subst (λ (F : Run). F r.stack rest) (await_same (IsEnd j u) more goals) go;
+          subst (λ (F : Awaited). F r.stack rest) (await_same (IsEnd j u) more goals) go;
     }
 
 -- ---- how much is to be done

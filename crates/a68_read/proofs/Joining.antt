@@ -13,7 +13,7 @@ use Rattle.a68_unit_productions.specs.declared.goal.Goal.TheVariants as g
 use Rattle.a68_read.specs.Fits as f
 use Rattle.a68_read.specs.Fits.{all_fit}
 use Rattle.a68_read.specs.Awaits as a
-use Rattle.a68_read.specs.Awaits.{Run, all_await}
+use Rattle.a68_read.specs.Awaits.{Awaited, all_await}
 use Rattle.a68_read.specs.Readings.{IsWhole, IsEnd, Reading, IsDone}
 use Rattle.a68_read.proofs.Acting.{Leaves, Wraps, Goes, not_identity}
 
@@ -23,11 +23,11 @@ none b e f = false≢true (sym f ∙ e)
 unforget : {v x : Forest} → forget v ≡ forget x → v ≡ x
 unforget e = cc
 
-one_awaits : (K : Run) (x : Forest) (l : Layer) (S : List Layer) (rest : List Sym) → (Several x → ⊥) → (y z : Layer) → y ≡ node (forget x) → z ≡ l → a.AwaitsJoin K (y ∷ z ∷ S) rest → K (put l (forget x) ∷ S) rest
+one_awaits : (K : Awaited) (x : Forest) (l : Layer) (S : List Layer) (rest : List Sym) → (Several x → ⊥) → (y z : Layer) → y ≡ node (forget x) → z ≡ l → a.AwaitsJoin K (y ∷ z ∷ S) rest → K (put l (forget x) ∷ S) rest
 one_awaits K x l S rest no_ y z e i (a.joins_one {f = v} s h) = let q = unforget (ap (λ (w : Layer). w.forest) e) in rw (← q, ← i) h
 one_awaits K x l S rest no_ y z e i (a.joins_more {f = v} s h) = let q = unforget (ap (λ (w : Layer). w.forest) e) in absurd (no_ (subst Several q s))
 
-more_awaits : (K : Run) (x : Forest) (l : Layer) (S : List Layer) (rest : List Sym) → (Single x → ⊥) → (y z : Layer) → y ≡ node (forget x) → z ≡ l → a.AwaitsJoin K (y ∷ z ∷ S) rest → K (put l (part k.Joined (forget x) end) ∷ S) rest
+more_awaits : (K : Awaited) (x : Forest) (l : Layer) (S : List Layer) (rest : List Sym) → (Single x → ⊥) → (y z : Layer) → y ≡ node (forget x) → z ≡ l → a.AwaitsJoin K (y ∷ z ∷ S) rest → K (put l (part k.Joined (forget x) end) ∷ S) rest
 more_awaits K x l S rest no_ y z e i (a.joins_more {f = v} s h) = let q = unforget (ap (λ (w : Layer). w.forest) e) in rw (← q, ← i) h
 more_awaits K x l S rest no_ y z e i (a.joins_one {f = v} s h) = let q = unforget (ap (λ (w : Layer). w.forest) e) in absurd (no_ (subst Single q s))
 

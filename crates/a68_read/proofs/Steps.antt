@@ -7,7 +7,7 @@ use Rattle.a68_unit_productions.specs.declared.goal.Goal.{Goal}
 use Rattle.a68_unit_productions.specs.declared.goal.Goal.TheVariants as g
 use Rattle.a68_productions.specs.Expand.{expand}
 use Rattle.a68_read.specs.Fits.{Shape, fits, all_fit}
-use Rattle.a68_read.specs.Awaits.{Run, awaits, all_await}
+use Rattle.a68_read.specs.Awaits.{Awaited, awaits, all_await}
 use Rattle.a68_read.proofs.FitClauses as fit_clauses
 use Rattle.a68_read.proofs.AwaitClauses as await_clauses
 use Rattle.a68_read.proofs.FitChoices as fit_choices
@@ -161,7 +161,7 @@ fits_on K (g.More x) [] text h = absurd h
 fits_on K (g.More x) (l ∷ S) text h = fit_declarations.more_fits K l S x text h
 fits_on K goal S text h = record {}
 
-pub awaits_on : (K0 : Shape) (K : Run) (goal : Goal) (S : List Layer) (text : List Sym) → fits goal K0 S → awaits goal K S text → OnGoals (expand goal text) (λ goals. all_await goals K S text)
+pub awaits_on : (K0 : Shape) (K : Awaited) (goal : Goal) (S : List Layer) (text : List Sym) → fits goal K0 S → awaits goal K S text → OnGoals (expand goal text) (λ goals. all_await goals K S text)
 awaits_on K0 K g.Enclosed S text e h = await_clauses.enclosed_awaits K0 K S text e h
 awaits_on K0 K g.Brief S text e h = await_clauses.brief_awaits K0 K S text e h
 awaits_on K0 K g.BriefUnit S text e h = await_clauses.brief_unit_awaits K0 K S text e h

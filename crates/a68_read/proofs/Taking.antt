@@ -16,7 +16,7 @@ use Rattle.a68_unit_productions.specs.declared.goal.Goal.TheVariants as g
 use Rattle.a68_read.specs.Fits as f
 use Rattle.a68_read.specs.Fits.{Shape, all_fit}
 use Rattle.a68_read.specs.Awaits as a
-use Rattle.a68_read.specs.Awaits.{Run, all_await}
+use Rattle.a68_read.specs.Awaits.{Awaited, all_await}
 use Rattle.a68_read.specs.Readings.{IsWhole, IsEnd, Reading, IsDone, Fails, Lacks, LacksAny, FirstOf}
 
 abbrev pub Goes : List Sym → List Goal → List Layer → List Sym → Type 0
@@ -27,7 +27,7 @@ Goes whole goals S rest = (j : NodeKind) (u : Forest) → IsEnclosed j u → who
 behind_it : {x y : Sym} {r after : List Sym} → x ∷ r ≡ y ∷ after → r ≡ after
 behind_it e = cc
 
-token_awaits : (s : Token) (K : Run) (l : Layer) (S : List Layer) (x after : List Sym) → a.Takes s K (l ∷ S) x → x ≡ Is s ∷ after → K (put l (mark s end) ∷ S) after
+token_awaits : (s : Token) (K : Awaited) (l : Layer) (S : List Layer) (x after : List Sym) → a.TakesSymbol s K (l ∷ S) x → x ≡ Is s ∷ after → K (put l (mark s end) ∷ S) after
 token_awaits s K l S x after (a.takes h) e = subst (K (put l (mark s end) ∷ S)) (behind_it e) h
 
 module _ (whole : List Sym) (goals : List Goal) (s : Token) (after : List Sym) (d : DraftState) where
@@ -40,7 +40,7 @@ module _ (whole : List Sym) (goals : List Goal) (s : Token) (after : List Sym) (
     awaits = λ j u p e. token_awaits s (all_await goals (IsEnd j u)) l S (Is s ∷ after) after (w j u p e) refl;
   }
 
-  mark_awaits : (P : Token → Type 0) (K : Run) (l : Layer) (S : List Layer) → a.TakesMark P K (l ∷ S) (Is s ∷ after) → K (put l (mark s end) ∷ S) after
+  mark_awaits : (P : Token → Type 0) (K : Awaited) (l : Layer) (S : List Layer) → a.TakesMark P K (l ∷ S) (Is s ∷ after) → K (put l (mark s end) ∷ S) after
   mark_awaits P K l S (a.takes_mark p h) = h
 
   marks_at : (P : Token → Type 0) → P s → (S : List Layer) → IsDraftOf whole S (Is s ∷ after) d → f.fits_marks P (all_fit goals IsWhole) S
@@ -58,13 +58,13 @@ token_does s rest after d e whole goals r =
     token_at whole goals s after d r.stack (subst (λ (x : List Sym). IsDraftOf whole r.stack x d) e r.built) r.fits
     (λ j u p q. subst (λ (x : List Sym). all_await (g.Take s ∷ goals) (IsEnd j u) r.stack x) e (r.awaits j u p q))
 
-no_token : (s : Token) (K : Run) (S : List Layer) (rest : List Sym) → Lacks (Is s) rest → a.Takes s K S rest → ⊥
+no_token : (s : Token) (K : Awaited) (S : List Layer) (rest : List Sym) → Lacks (Is s) rest → a.TakesSymbol s K S rest → ⊥
 no_token s K S rest no_ (a.takes {r = r} h) = no_ r refl
 
 pub token_fails : (s : Token) (rest : List Sym) (d : DraftState) → Lacks (Is s) rest → Fails (g.Take s) rest d
 token_fails s rest d no_ whole goals r j u p e = no_token s (all_await goals (IsEnd j u)) r.stack rest no_ (r.awaits j u p e)
 
-no_mark : (P : Token → Type 0) (K : Run) (S : List Layer) (rest : List Sym) → LacksAny P rest → a.TakesMark P K S rest → ⊥
+no_mark : (P : Token → Type 0) (K : Awaited) (S : List Layer) (rest : List Sym) → LacksAny P rest → a.TakesMark P K S rest → ⊥
 no_mark P K S rest no_ (a.takes_mark {s = s} {r = r} p h) = no_ s r p refl
 
 pub operator_does : (rest after : List Sym) (d : DraftState) → FirstOf IsSign rest after → IsDone g.Operator rest after d d
@@ -93,16 +93,16 @@ plain_fails rest d no_ whole goals r j u p e = no_mark IsPlain (all_await goals 
 
 -- ---- a bracket
 
-opening_awaits : (c : Bracket) (K : Run) (S : List Layer) (x after : List Sym) → a.IsOpened c K S x → x ≡ Opens c ∷ after → K (inside c end ∷ S) after
+opening_awaits : (c : Bracket) (K : Awaited) (S : List Layer) (x after : List Sym) → a.IsOpened c K S x → x ≡ Opens c ∷ after → K (inside c end ∷ S) after
 opening_awaits c K S x after (a.opened h) e = subst (K (inside c end ∷ S)) (behind_it e) h
 
-no_opening : (c : Bracket) (K : Run) (S : List Layer) (rest : List Sym) → Lacks (Opens c) rest → a.IsOpened c K S rest → ⊥
+no_opening : (c : Bracket) (K : Awaited) (S : List Layer) (rest : List Sym) → Lacks (Opens c) rest → a.IsOpened c K S rest → ⊥
 no_opening c K S rest no_ (a.opened {r = r} h) = no_ r refl
 
-closing_awaits : (c : Bracket) (K : Run) (x l : Layer) (S : List Layer) (y after : List Sym) → a.IsClosed c K (x ∷ l ∷ S) y → y ≡ Closes c ∷ after → K (put l (group c x.forest end) ∷ S) after
+closing_awaits : (c : Bracket) (K : Awaited) (x l : Layer) (S : List Layer) (y after : List Sym) → a.IsClosed c K (x ∷ l ∷ S) y → y ≡ Closes c ∷ after → K (put l (group c x.forest end) ∷ S) after
 closing_awaits c K x l S y after (a.closed h) e = subst (K (put l (group c x.forest end) ∷ S)) (behind_it e) h
 
-no_closing : (c : Bracket) (K : Run) (S : List Layer) (rest : List Sym) → Lacks (Closes c) rest → a.IsClosed c K S rest → ⊥
+no_closing : (c : Bracket) (K : Awaited) (S : List Layer) (rest : List Sym) → Lacks (Closes c) rest → a.IsClosed c K S rest → ⊥
 no_closing c K S rest no_ (a.closed {r = r} h) = no_ r refl
 
 module _ (c : Bracket) (rest after : List Sym) (old new : DraftState) where
@@ -144,7 +144,7 @@ module _ (c : Bracket) (rest after : List Sym) (old new : DraftState) where
 
 -- ---- a sign
 
-sign_awaits : (P : Token → Type 0) (s : Token) (after : List Sym) (K : Run) (l : Layer) (S : List Layer) → a.TakesSign P K (l ∷ S) (Is s ∷ after) → K (put l (sign s end) ∷ S) after
+sign_awaits : (P : Token → Type 0) (s : Token) (after : List Sym) (K : Awaited) (l : Layer) (S : List Layer) → a.TakesSign P K (l ∷ S) (Is s ∷ after) → K (put l (sign s end) ∷ S) after
 sign_awaits P s after K l S (a.takes_sign p h) = h
 
 sign_at : (P : Token → Type 0) (whole : List Sym) (goals : List Goal) (s : Token) (after : List Sym) (old new : DraftState)
@@ -159,7 +159,7 @@ sign_at P whole goals s after old new built p (l ∷ S) b h w = record {
   awaits = λ j u q e. sign_awaits P s after (all_await goals (IsEnd j u)) l S (w j u q e);
 }
 
-no_sign : (P : Token → Type 0) (K : Run) (S : List Layer) (rest : List Sym) → LacksAny P rest → a.TakesSign P K S rest → ⊥
+no_sign : (P : Token → Type 0) (K : Awaited) (S : List Layer) (rest : List Sym) → LacksAny P rest → a.TakesSign P K S rest → ⊥
 no_sign P K S rest no_ (a.takes_sign {s = s} {r = r} p h) = no_ s r p refl
 
 module _ (rest after : List Sym) (old new : DraftState) (built : (whole : List Sym) (l : Layer) (ls : List Layer) (t : Token) → IsDraftOf whole (l ∷ ls) (Is t ∷ after) old → IsDraftOf whole (put l (sign t end) ∷ ls) after new) where

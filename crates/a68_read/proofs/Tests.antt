@@ -15,7 +15,7 @@ use Rattle.a68_lookahead.proofs.Firsts.{no_first, no_next, no_first_pair}
 use Rattle.a68_unit_productions.specs.declared.goal.Defining.{Defining}
 use Rattle.a68_unit_productions.specs.declared.goal.Defining.TheVariants as d
 use Rattle.a68_read.specs.Middles as m
-use Rattle.a68_read.specs.Middles.{IsDefinition, IsRun, run}
+use Rattle.a68_read.specs.Middles.{IsDefinition, AreJoinedDefinitions, run}
 use Rattle.a68_read.specs.Awaits as a
 use Rattle.a68_read.specs.Awaits.{IsDeclaring, IsNamed, EndsPlace, place_comma, place_closes}
 

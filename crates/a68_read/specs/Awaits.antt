@@ -17,82 +17,82 @@ use Rattle.a68_nodes.specs.Stack.{Layer, node, inside, put}
 use Rattle.a68_unit_productions.specs.declared.goal.Goal.{Goal}
 use Rattle.a68_unit_productions.specs.declared.goal.Goal.TheVariants as g
 use Rattle.a68_unit_productions.specs.declared.goal.Defining.TheVariants as d
-use Rattle.a68_read.specs.Middles.{IsCommaTail, IsSerialTail, IsOperandsTail, IsSpecTag, IsInitial, IsPlanTail, IsTagsMore, IsProcedurePlan, IsBase, InChoice, AfterSerial, InBrief, InBlock, InCase, UnitRest, IsDefinition, IsRun, IsTail, IsMore}
+use Rattle.a68_read.specs.Middles.{IsCommaTail, IsSerialTail, IsOperandsTail, IsSpecTag, IsInitial, IsPlanTail, IsTagsMore, IsProcedurePlan, IsBase, InChoice, AfterSerial, InBrief, InBlock, InCase, UnitRest, IsDefinition, AreJoinedDefinitions, IsTail, IsMore}
 
 -- what is said of a stack of layers and of the text that is left
-abbrev pub Run : Type 1
-Run = List Layer → List Sym → Type 0
+abbrev pub Awaited : Type 1
+Awaited = List Layer → List Sym → Type 0
 
 -- ---- symbols, and what is done with what was read
 
-pub data Takes (s : Token) (K : Run) : List Layer → List Sym → Type 0 where
-  takes : {l : Layer} {S : List Layer} {r : List Sym} → K (put l (mark s end) ∷ S) r → Takes s K (l ∷ S) (Is s ∷ r)
+pub data TakesSymbol (s : Token) (K : Awaited) : List Layer → List Sym → Type 0 where
+  takes : {l : Layer} {S : List Layer} {r : List Sym} → K (put l (mark s end) ∷ S) r → TakesSymbol s K (l ∷ S) (Is s ∷ r)
 
-pub data TakesMark (P : Token → Type 0) (K : Run) : List Layer → List Sym → Type 0 where
+pub data TakesMark (P : Token → Type 0) (K : Awaited) : List Layer → List Sym → Type 0 where
   takes_mark : {l : Layer} {S : List Layer} {s : Token} {r : List Sym} → P s → K (put l (mark s end) ∷ S) r → TakesMark P K (l ∷ S) (Is s ∷ r)
 
-pub data TakesSign (P : Token → Type 0) (K : Run) : List Layer → List Sym → Type 0 where
+pub data TakesSign (P : Token → Type 0) (K : Awaited) : List Layer → List Sym → Type 0 where
   takes_sign : {l : Layer} {S : List Layer} {s : Token} {r : List Sym} → P s → K (put l (sign s end) ∷ S) r → TakesSign P K (l ∷ S) (Is s ∷ r)
 
-pub data IsOpened (c : Bracket) (K : Run) : List Layer → List Sym → Type 0 where
+pub data IsOpened (c : Bracket) (K : Awaited) : List Layer → List Sym → Type 0 where
   opened : {S : List Layer} {r : List Sym} → K (inside c end ∷ S) r → IsOpened c K S (Opens c ∷ r)
 
-pub data IsClosed (c : Bracket) (K : Run) : List Layer → List Sym → Type 0 where
+pub data IsClosed (c : Bracket) (K : Awaited) : List Layer → List Sym → Type 0 where
   closed : {x l : Layer} {S : List Layer} {r : List Sym} → K (put l (group c x.forest end) ∷ S) r → IsClosed c K (x ∷ l ∷ S) (Closes c ∷ r)
 
-abbrev pub awaits_leave : Run → Run
+abbrev pub awaits_leave : Awaited → Awaited
 awaits_leave K [] text = ⊥
 awaits_leave K (x ∷ []) text = ⊥
 awaits_leave K (x ∷ l ∷ S) text = K (put l x.forest ∷ S) text
 
-abbrev pub awaits_wrap : NodeKind → Run → Run
+abbrev pub awaits_wrap : NodeKind → Awaited → Awaited
 awaits_wrap j K [] text = ⊥
 awaits_wrap j K (x ∷ S) text = K (node (part j x.forest end) ∷ S) text
 
-abbrev pub awaits_close : NodeKind → Run → Run
+abbrev pub awaits_close : NodeKind → Awaited → Awaited
 awaits_close j K [] text = ⊥
 awaits_close j K (x ∷ []) text = ⊥
 awaits_close j K (x ∷ l ∷ S) text = K (put l (part j x.forest end) ∷ S) text
 
-abbrev pub awaits_aside : NodeKind → Run → Run
+abbrev pub awaits_aside : NodeKind → Awaited → Awaited
 awaits_aside j K [] text = ⊥
 awaits_aside j K (x ∷ []) text = ⊥
 awaits_aside j K (x ∷ l ∷ S) text = K (put l (aside j x.forest end) ∷ S) text
 
-abbrev pub awaits_put : Forest → Run → Run
+abbrev pub awaits_put : Forest → Awaited → Awaited
 awaits_put f K [] text = ⊥
 awaits_put f K (l ∷ S) text = K (put l f ∷ S) text
 
-pub data AwaitsJoin (K : Run) : List Layer → List Sym → Type 0 where
+pub data AwaitsJoin (K : Awaited) : List Layer → List Sym → Type 0 where
   joins_one : {f : Forest} {l : Layer} {S : List Layer} {r : List Sym} → Single f → K (put l (forget f) ∷ S) r → AwaitsJoin K (node (forget f) ∷ l ∷ S) r
   joins_more : {f : Forest} {l : Layer} {S : List Layer} {r : List Sym} → Several f → K (put l (part k.Joined (forget f) end) ∷ S) r → AwaitsJoin K (node (forget f) ∷ l ∷ S) r
 
 -- ---- forms of the grammar
 
 -- a list, where a symbol of the set stands behind it
-pub data Reads (P : Forest → Type 0) (A : Sym → Bool) (K : Run) : List Layer → List Sym → Type 0 where
+pub data Reads (P : Forest → Type 0) (A : Sym → Bool) (K : Awaited) : List Layer → List Sym → Type 0 where
   reads : {l : Layer} {S : List Layer} {f : Forest} {r : List Sym} → P f → Follows A r → K (put l f ∷ S) r → Reads P A K (l ∷ S) (spells f r)
 
 -- a list, whatever stands behind it
-pub data ReadsFree (P : Forest → Type 0) (K : Run) : List Layer → List Sym → Type 0 where
+pub data ReadsFree (P : Forest → Type 0) (K : Awaited) : List Layer → List Sym → Type 0 where
   reads_free : {l : Layer} {S : List Layer} {f : Forest} {r : List Sym} → P f → K (put l f ∷ S) r → ReadsFree P K (l ∷ S) (spells f r)
 
 -- a node
-pub data ReadsNode (P : NodeKind → Forest → Type 0) (A : Sym → Bool) (K : Run) : List Layer → List Sym → Type 0 where
+pub data ReadsNode (P : NodeKind → Forest → Type 0) (A : Sym → Bool) (K : Awaited) : List Layer → List Sym → Type 0 where
   reads_node : {l : Layer} {S : List Layer} {j : NodeKind} {u : Forest} {r : List Sym} → P j u → Follows A r → K (put l (part j u end) ∷ S) r → ReadsNode P A K (l ∷ S) (spells u r)
 
 -- a node of one kind
-pub data ReadsPart (j : NodeKind) (P : Forest → Type 0) (A : Sym → Bool) (K : Run) : List Layer → List Sym → Type 0 where
+pub data ReadsPart (j : NodeKind) (P : Forest → Type 0) (A : Sym → Bool) (K : Awaited) : List Layer → List Sym → Type 0 where
   reads_part : {l : Layer} {S : List Layer} {u : Forest} {r : List Sym} → P u → Follows A r → K (put l (part j u end) ∷ S) r → ReadsPart j P A K (l ∷ S) (spells u r)
 
-pub data ReadsPartFree (j : NodeKind) (P : Forest → Type 0) (K : Run) : List Layer → List Sym → Type 0 where
+pub data ReadsPartFree (j : NodeKind) (P : Forest → Type 0) (K : Awaited) : List Layer → List Sym → Type 0 where
   reads_part_free : {l : Layer} {S : List Layer} {u : Forest} {r : List Sym} → P u → K (put l (part j u end) ∷ S) r → ReadsPartFree j P K (l ∷ S) (spells u r)
 
 -- what begins here becomes a node
-pub data Turns (P : NodeKind → Forest → Type 0) (A : Sym → Bool) (K : Run) : List Layer → List Sym → Type 0 where
+pub data Turns (P : NodeKind → Forest → Type 0) (A : Sym → Bool) (K : Awaited) : List Layer → List Sym → Type 0 where
   turns : {x : Layer} {S : List Layer} {j : NodeKind} {u : Forest} {r : List Sym} → P j u → Follows A r → K (node (part j u end) ∷ S) r → Turns P A K (x ∷ S) (spells u r)
 
-pub data TurnsFree (P : NodeKind → Forest → Type 0) (K : Run) : List Layer → List Sym → Type 0 where
+pub data TurnsFree (P : NodeKind → Forest → Type 0) (K : Awaited) : List Layer → List Sym → Type 0 where
   turns_free : {x : Layer} {S : List Layer} {j : NodeKind} {u : Forest} {r : List Sym} → P j u → K (node (part j u end) ∷ S) r → TurnsFree P K (x ∷ S) (spells u r)
 
 -- a comma or a closing square bracket, behind a place in square brackets
@@ -100,17 +100,17 @@ pub data EndsPlace : List Sym → Type 0 where
   place_comma : {r : List Sym} → EndsPlace (Is t.Comma ∷ r)
   place_closes : {r : List Sym} → EndsPlace (Closes b.Square ∷ r)
 
-pub data ReadsPlace (P : Forest → Type 0) (K : Run) : List Layer → List Sym → Type 0 where
+pub data ReadsPlace (P : Forest → Type 0) (K : Awaited) : List Layer → List Sym → Type 0 where
   reads_place : {l : Layer} {S : List Layer} {f : Forest} {r : List Sym} → P f → EndsPlace r → K (put l f ∷ S) r → ReadsPlace P K (l ∷ S) (spells f r)
 
 -- a list up to a closing square bracket
-pub data ReadsSquare (P : Forest → Type 0) (K : Run) : List Layer → List Sym → Type 0 where
+pub data ReadsSquare (P : Forest → Type 0) (K : Awaited) : List Layer → List Sym → Type 0 where
   reads_square : {l : Layer} {S : List Layer} {f : Forest} {r : List Sym} → P f → K (put l f ∷ S) (Closes b.Square ∷ r) → ReadsSquare P K (l ∷ S) (spells f (Closes b.Square ∷ r))
 
 -- ---- what is left of a form
 
 -- the rest of a clause in brackets
-pub data AwaitsWithin (c : Bracket) (P : NodeKind → Forest → Type 0) (K : Run) : List Layer → List Sym → Type 0 where
+pub data AwaitsWithin (c : Bracket) (P : NodeKind → Forest → Type 0) (K : Awaited) : List Layer → List Sym → Type 0 where
   rest_within : {i n : Layer} {S : List Layer} {j : NodeKind} {f : Forest} {r : List Sym} → P j f
       → K (node (part j (group c (joined i.forest f) end) end) ∷ S) r → AwaitsWithin c P K (i ∷ n ∷ S) (spells f (Closes c ∷ r))
 
@@ -119,13 +119,13 @@ pub data BlockEnds : NodeKind → Forest → Type 0 where
   block_ends : BlockEnds k.Closed end
 
 -- the rest behind a first unit: more units, or the rest of a serial clause
-pub data AwaitsUnit (c : Bracket) (P : NodeKind → Forest → Type 0) (K : Run) : List Layer → List Sym → Type 0 where
+pub data AwaitsUnit (c : Bracket) (P : NodeKind → Forest → Type 0) (K : Awaited) : List Layer → List Sym → Type 0 where
   unit_comma : {x i n : Layer} {S : List Layer} {f : Forest} {r : List Sym} → IsUnits f
       → K (node (part k.Collateral (group c (joined x.forest (mark t.Comma f)) end) end) ∷ S) r → AwaitsUnit c P K (x ∷ i ∷ n ∷ S) (Is t.Comma ∷ spells f (Closes c ∷ r))
   unit_serial : {x i n : Layer} {S : List Layer} {j : NodeKind} {y f : Forest} {r : List Sym} → IsSerialTail y → P j f
       → K (node (part j (group c (part k.Serial (joined x.forest y) f) end) end) ∷ S) r → AwaitsUnit c P K (x ∷ i ∷ n ∷ S) (spells y (spells f (Closes c ∷ r)))
 
-pub data AwaitsChosen (K : Run) : List Layer → List Sym → Type 0 where
+pub data AwaitsChosen (K : Awaited) : List Layer → List Sym → Type 0 where
   chosen_comma : {x i n : Layer} {S : List Layer} {f e : Forest} {r : List Sym} → IsUnits f → IsOutBrief e
       → K (node (part k.Case (group b.Round (joined i.forest (joined x.forest (mark t.Comma (joined f e)))) end) end) ∷ S) r
       → AwaitsChosen K (x ∷ i ∷ n ∷ S) (Is t.Comma ∷ spells f (spells e (Closes b.Round ∷ r)))
@@ -133,33 +133,33 @@ pub data AwaitsChosen (K : Run) : List Layer → List Sym → Type 0 where
       → K (node (part k.Conditional (group b.Round (joined i.forest (part k.Serial (joined x.forest y) e)) end) end) ∷ S) r
       → AwaitsChosen K (x ∷ i ∷ n ∷ S) (spells y (spells e (Closes b.Round ∷ r)))
 
-pub data AwaitsParallel (K : Run) : List Layer → List Sym → Type 0 where
+pub data AwaitsParallel (K : Awaited) : List Layer → List Sym → Type 0 where
   parallel_units : {x : Layer} {S : List Layer} {c : Bracket} {f : Forest} {r : List Sym} → IsClosing c → IsUnits f
       → K (node (part k.Parallel (mark t.Par (group c f end)) end) ∷ S) r → AwaitsParallel K (x ∷ S) (Opens c ∷ spells f (Closes c ∷ r))
 
-pub data AwaitsUnitTail (K : Run) : List Layer → List Sym → Type 0 where
+pub data AwaitsUnitTail (K : Awaited) : List Layer → List Sym → Type 0 where
   unit_stays : {x : Layer} {S : List Layer} {r : List Sym} → Follows set.ends_unit r → K (x ∷ S) r → AwaitsUnitTail K (x ∷ S) r
   unit_rests : {x : Layer} {S : List Layer} {j : NodeKind} {f : Forest} {r : List Sym} → UnitRest j f → Follows set.ends_unit r
       → K (node (part j (joined x.forest f) end) ∷ S) r → AwaitsUnitTail K (x ∷ S) (spells f r)
 
-pub data AwaitsTertiaryTail (K : Run) : List Layer → List Sym → Type 0 where
+pub data AwaitsTertiaryTail (K : Awaited) : List Layer → List Sym → Type 0 where
   tertiary_stays : {x : Layer} {S : List Layer} {r : List Sym} → Follows set.ends_tertiary r → K (x ∷ S) r → AwaitsTertiaryTail K (x ∷ S) r
   tertiary_rests : {x : Layer} {S : List Layer} {s : Token} {f : Forest} {r : List Sym} → IsSign s → IsOperands f → Follows set.ends_tertiary r
       → K (node (part k.Formula (joined x.forest (sign s f)) end) ∷ S) r → AwaitsTertiaryTail K (x ∷ S) (Is s ∷ spells f r)
 
-pub data AwaitsPrimaryTail (K : Run) : List Layer → List Sym → Type 0 where
+pub data AwaitsPrimaryTail (K : Awaited) : List Layer → List Sym → Type 0 where
   primary_stays : {x : Layer} {S : List Layer} {r : List Sym} → Follows set.ends_secondary r → K (x ∷ S) r → AwaitsPrimaryTail K (x ∷ S) r
   primary_slice : {x : Layer} {S : List Layer} {f : Forest} {r : List Sym} → IsIndexes f
       → AwaitsPrimaryTail K (node (part k.Slice (joined x.forest (group b.Square f end)) end) ∷ S) r → AwaitsPrimaryTail K (x ∷ S) (Opens b.Square ∷ spells f (Closes b.Square ∷ r))
   primary_call : {x : Layer} {S : List Layer} {f : Forest} {r : List Sym} → IsUnits f
       → AwaitsPrimaryTail K (node (part k.Call (joined x.forest (group b.Round f end)) end) ∷ S) r → AwaitsPrimaryTail K (x ∷ S) (Opens b.Round ∷ spells f (Closes b.Round ∷ r))
 
-pub data AwaitsIndexTail (K : Run) : List Layer → List Sym → Type 0 where
+pub data AwaitsIndexTail (K : Awaited) : List Layer → List Sym → Type 0 where
   index_stays : {x l : Layer} {S : List Layer} {r : List Sym} → EndsPlace r → K (put l x.forest ∷ S) r → AwaitsIndexTail K (x ∷ l ∷ S) r
   index_rests : {x l : Layer} {S : List Layer} {f : Forest} {r : List Sym} → IsTrimmer f → EndsPlace r
       → K (put l (part k.Lower x.forest (mark t.Colon f)) ∷ S) r → AwaitsIndexTail K (x ∷ l ∷ S) (Is t.Colon ∷ spells f r)
 
-pub data AwaitsBoundTail (K : Run) : List Layer → List Sym → Type 0 where
+pub data AwaitsBoundTail (K : Awaited) : List Layer → List Sym → Type 0 where
   bound_stays : {x l : Layer} {S : List Layer} {r : List Sym} → EndsPlace r → K (put l (part k.Upper x.forest end) ∷ S) r → AwaitsBoundTail K (x ∷ l ∷ S) r
   bound_rests : {x l : Layer} {S : List Layer} {j : NodeKind} {u : Forest} {r : List Sym} → IsUnit j u → EndsPlace r
       → K (put l (part k.Lower x.forest (mark t.Colon (part k.Upper (part j u end) end))) ∷ S) r → AwaitsBoundTail K (x ∷ l ∷ S) (Is t.Colon ∷ spells u r)
@@ -167,31 +167,31 @@ pub data AwaitsBoundTail (K : Run) : List Layer → List Sym → Type 0 where
 -- ---- declarations by their definitions
 
 pub data IsOperatorForm : Forest → Type 0 where
-  form_operators : {f : Forest} → IsRun d.Operator f → IsOperatorForm f
-  form_planned : {c f : Forest} → IsPlan c → IsRun d.Planned f → IsOperatorForm (aside k.Plan c f)
+  form_operators : {f : Forest} → AreJoinedDefinitions d.Operator f → IsOperatorForm f
+  form_planned : {c f : Forest} → IsPlan c → AreJoinedDefinitions d.Planned f → IsOperatorForm (aside k.Plan c f)
 
 pub data IsProcedureForm : Forest → Type 0 where
-  form_procedures : {f : Forest} → IsRun d.Procedure f → IsProcedureForm f
-  form_procedure_variables : {f : Forest} → IsRun d.ProcedureVariable f → IsProcedureForm f
+  form_procedures : {f : Forest} → AreJoinedDefinitions d.Procedure f → IsProcedureForm f
+  form_procedure_variables : {f : Forest} → AreJoinedDefinitions d.ProcedureVariable f → IsProcedureForm f
 
 pub data IsNamed : Forest → Type 0 where
-  named_identities : {f : Forest} → IsRun d.Identity f → IsNamed f
-  named_variables : {f : Forest} → IsRun d.Variable f → IsNamed f
+  named_identities : {f : Forest} → AreJoinedDefinitions d.Identity f → IsNamed f
+  named_variables : {f : Forest} → AreJoinedDefinitions d.Variable f → IsNamed f
 
 -- a declaration and those that commas join to it
 pub data IsDeclaring : Forest → Type 0 where
-  declares_modes : {f : Forest} → IsRun d.Mode f → IsDeclaring (mark t.Mode f)
-  declares_priorities : {f : Forest} → IsRun d.Priority f → IsDeclaring (mark t.Prio f)
+  declares_modes : {f : Forest} → AreJoinedDefinitions d.Mode f → IsDeclaring (mark t.Mode f)
+  declares_priorities : {f : Forest} → AreJoinedDefinitions d.Priority f → IsDeclaring (mark t.Prio f)
   declares_operators : {f : Forest} → IsOperatorForm f → IsDeclaring (mark t.Op f)
   declares_procedures : {f : Forest} → IsProcedureForm f → IsDeclaring (mark t.Proc f)
-  declares_local : {c f : Forest} → IsDeclarer c → IsRun d.Variable f → IsDeclaring (mark t.Loc (aside k.Declarer c f))
-  declares_heap : {c f : Forest} → IsDeclarer c → IsRun d.Variable f → IsDeclaring (aside k.Heap (mark t.Heap end) (aside k.Declarer c f))
+  declares_local : {c f : Forest} → IsDeclarer c → AreJoinedDefinitions d.Variable f → IsDeclaring (mark t.Loc (aside k.Declarer c f))
+  declares_heap : {c f : Forest} → IsDeclarer c → AreJoinedDefinitions d.Variable f → IsDeclaring (aside k.Heap (mark t.Heap end) (aside k.Declarer c f))
   declares_named : {c f : Forest} → IsDeclarer c → IsNamed f → IsDeclaring (aside k.Declarer c f)
 
 -- ---- all goals
 
-abbrev pub awaits : Goal → Run → Run
-awaits (g.Take s) K S x = Takes s K S x
+abbrev pub awaits : Goal → Awaited → Awaited
+awaits (g.Take s) K S x = TakesSymbol s K S x
 awaits (g.Opens c) K S x = IsOpened c K S x
 awaits (g.Closes c) K S x = IsClosed c K S x
 awaits g.Monadic K S x = TakesSign IsMonadic K S x
@@ -285,6 +285,6 @@ awaits (g.More y) K S x = Reads (IsMore y) set.ends_declaration K S x
 awaits g.Initial K S x = Reads IsInitial set.ends_definition K S x
 
 -- goals one after another
-abbrev pub all_await : List Goal → Run → Run
+abbrev pub all_await : List Goal → Awaited → Awaited
 all_await [] K S x = K S x
 all_await (goal ∷ goals) K S x = awaits goal (all_await goals K) S x

@@ -113,8 +113,8 @@ pub data IsDefinition : Defining → NodeKind → Forest → Type 0 where
 
 mutual
   -- definitions from one of that form on, to the last one that commas join to it
-  pub data IsRun : Defining → Forest → Type 0 where
-    run : {x : Defining} {j : NodeKind} {u f : Forest} → IsDefinition x j u → IsTail x f → IsRun x (part j u f)
+  pub data AreJoinedDefinitions : Defining → Forest → Type 0 where
+    run : {x : Defining} {j : NodeKind} {u f : Forest} → IsDefinition x j u → IsTail x f → AreJoinedDefinitions x (part j u f)
 
   -- what is joined to a definition of that form
   pub data IsTail : Defining → Forest → Type 0 where
@@ -123,5 +123,5 @@ mutual
 
   -- a definition of the same declaration, or another declaration
   pub data IsMore : Defining → Forest → Type 0 where
-    more_same : {x : Defining} {f : Forest} → IsRun x f → IsMore x f
+    more_same : {x : Defining} {f : Forest} → AreJoinedDefinitions x f → IsMore x f
     more_anew : {x : Defining} {f : Forest} → IsDefinitions f → IsMore x (forget f)

@@ -2,7 +2,7 @@
 use Rattle.std.proofs.Common.{◌≡◌, ℕ, ◌≤◌, List, [], ◌∷◌, Option, Some, None, Bool, true, false, nat_lt, if◌then◌else◌, refl, subst, suc, slice_get, arith}
 use Rattle.std.specs.Option.{option_map_or}
 use Rattle.a68_ranges.specs.Nodes.{parts_at, place_at}
-use Rattle.a68_refusals.specs.First.{Asked, Breaks, IsFirst, coerced, itself, own_at, told_misfit, told_own}
+use Rattle.a68_refusals.specs.First.{Asked, Breaks, IsFirstRefused, coerced, itself, own_at, told_misfit, told_own}
 use Rattle.a68_refusals.specs.Order.{told_by}
 use Rattle.a68_refusals.specs.Rules.{is_operator_lacking, last_start, place_of, sign_of}
 use Rattle.a68_refusals.specs.declared.rule.NodeRule.{NodeRule}
@@ -51,5 +51,5 @@ broken_by a end b by starts n (itself e) = itself_by a.tree end by starts n (own
 broken_by a end b by starts n (coerced m is e) = coerced_by a.tree end by starts n m b e
 
 pub first_by : (a : Asked) (end : ℕ) (b : Broken) → ((id : ℕ) (n : Node) → slice_get a.tree.nodes id ≡ Some n → n.span.from ≤ end)
-    → ((i s : ℕ) → slice_get a.tree.starts i ≡ Some s → s ≤ end) → IsFirst a (Some b) → b.place ≤ end
+    → ((i s : ℕ) → slice_get a.tree.starts i ≡ Some s → s ≤ end) → IsFirstRefused a (Some b) → b.place ≤ end
 first_by a end b by starts ((n, lt, breaks), least) = broken_by a end b by starts n breaks

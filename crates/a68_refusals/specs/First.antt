@@ -51,5 +51,5 @@ abbrev pub IsBroken : Asked → (count : ℕ) → Broken → Type 0
 IsBroken a count b = (n : ℕ) × (n < count) × Breaks a n b
 
 -- the first of these, or none
-abbrev pub IsFirst : Asked → Option Broken → Type 0
-IsFirst a found = IsFirstOf (IsBroken a (length a.tree.nodes)) found
+abbrev pub IsFirstRefused : Asked → Option Broken → Type 0
+IsFirstRefused a found = IsFirstOf (IsBroken a (length a.tree.nodes)) found

@@ -7,7 +7,7 @@ ghost use Rattle.a68_positions.specs.Below.{ArePositionsBelow};
 ghost use Rattle.a68_positions.specs.Given.{finding_at, position_at};
 ghost use Rattle.a68_ranges.specs.Nodes.{kind_at};
 ghost use Rattle.a68_refusals.specs.First as specs;
-ghost use Rattle.a68_refusals.specs.First.{IsFirst, IsMisfitAt};
+ghost use Rattle.a68_refusals.specs.First.{IsFirstRefused, IsMisfitAt};
 ghost use Rattle.a68_refusals.specs.Order.{earlier};
 ghost use Rattle.a68_yields.specs.Below.{AreTablesBelow};
 
@@ -59,7 +59,7 @@ pub fn first_broken(
     requires some { 0 < length modes.now }
     requires tables { AreTablesBelow (length modes.now) (length tree.now.nodes) yields.now findings.now }
     requires positions { ArePositionsBelow (length modes.now) positions.now }
-    ensures { IfOk result (IsFirst (record { tree = tree.now; tags = tags.now; defined = defined.now; nodes = modes.now; ys = yields.now; fs = findings.now; ps = positions.now })) }
+    ensures { IfOk result (IsFirstRefused (record { tree = tree.now; tags = tags.now; defined = defined.now; nodes = modes.now; ys = yields.now; fs = findings.now; ps = positions.now })) }
 {
     let mut first = None;
     for node in 0..tree.len() {

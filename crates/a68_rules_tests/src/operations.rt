@@ -255,8 +255,7 @@ fn choices(rt: HostRuntime) {
 fn a_name_is_made(rt: HostRuntime) {
     let alloc = rt.alloc();
     let modes = Modes::new(alloc).expect(&rt, "memory");
-    let items = vec![in alloc; Environ { frame: 0, scope: 3 }].expect(&rt, "memory");
-    let chain = Chain { items };
+    let chain = Chain::of_one(alloc, Environ { frame: 0, scope: 3 }).expect(&rt, "memory");
     let asked = made(alloc, &modes, 1, &chain, &[]).expect(&rt, "memory");
     drop(chain);
     is_shown(&rt, alloc, asked, "Make 1 of scope 3", "a new INT");

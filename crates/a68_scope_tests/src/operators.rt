@@ -5,7 +5,7 @@ ghost use Rattle.a68_coerce.specs.Below.{IsLeafBelow};
 ghost use Rattle.a68_equiv.specs.Classes.{AreKept};
 ghost use Rattle.a68_equiv.specs.Dimensions.{HaveDimensions};
 ghost use Rattle.a68_equiv.specs.Ways.{AreWellFormed};
-ghost use Rattle.a68_identify.specs.Operators.{AreThere};
+ghost use Rattle.a68_identify.specs.Operators.{NumbersAreThere};
 ghost use Rattle.a68_ranges.specs.Tables.{AreRanges};
 
 use crate::shapes::{operator_at, shaped};
@@ -617,7 +617,7 @@ fn identified(
     requires formed { AreWellFormed found.now.modes }
     requires rows { HaveDimensions found.now.modes }
     requires kept { AreKept found.now.modes found.now.classes }
-    requires there { AreThere tree.now found.now.modes found.now.of }
+    requires there { NumbersAreThere tree.now found.now.modes found.now.of }
     requires left { All (IsLeafBelow (length found.now.modes)) left.now }
     requires right { All (IsLeafBelow (length found.now.modes)) right.now }
 {

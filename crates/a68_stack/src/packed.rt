@@ -1,6 +1,6 @@
 //! Items in the form in which a stack keeps them.
 ghost use Rattle.std.specs.Prelude.{◌≡◌, false, None, IfOk, IsTrue, MatchBool, MatchOption, OnErr, slice_get, true};
-ghost use Rattle.std.specs.Option.{option_map};
+ghost use Rattle.std.specs.Option.{option_copied, option_map};
 ghost use Rattle.a68_stack.specs.declared.stack.Item.{Item};
 ghost use Rattle.a68_acts.specs.declared.operation.Counter.{Counter};
 ghost use Rattle.a68_stack.specs.Below.{caller_scope};
@@ -75,7 +75,7 @@ impl Model for Packed {
 fn scope_of_first(chain: &Chain) -> Option<u32>
     ensures { result ≡ option_map (λ (e : Environ). e.scope) (slice_get chain.now 0) }
 {
-    match chain.items.first() {
+    match chain.outer(0) {
         Some(environ) => Some(environ.scope),
         None => None,
     }
@@ -145,6 +145,12 @@ impl Packed {
     pub fn of_plain(held: Plain) -> Packed
         ensures { result ≡ Item.Value (plain held) }
     {
+        // A truth value is made anew, so that its byte alone is moved.
+        if let Plain::Bool(holds) = held {
+            return Packed {
+                form: Form::Plain(Plain::Bool(holds)),
+            };
+        }
         Packed {
             form: Form::Plain(held),
         }
@@ -226,6 +232,25 @@ impl Packed {
     {
         match &self.form {
             Form::Plain(held) => Some(*held),
+            Form::Value(_) => None,
+            Form::Void => None,
+            Form::Bounded {
+                at: _,
+                by: _,
+                to: _,
+            } => None,
+            Form::Endless { at: _, by: _ } => None,
+            Form::Caller { to: _, chain: _ } => None,
+        }
+    }
+
+    /// The plain value that it is, where it stands; none where it is another item.
+    #[inline(always)]
+    pub fn held(&self) -> Option<&Plain>
+        ensures { option_copied result ≡ plain_in self.now }
+    {
+        match &self.form {
+            Form::Plain(held) => Some(held),
             Form::Value(_) => None,
             Form::Void => None,
             Form::Bounded {
@@ -334,6 +359,24 @@ impl Packed {
             Form::Endless { at: _, by: _ } => false,
             Form::Caller { to: _, chain: _ } => false,
         }
+    }
+
+    /// Puts an equal plain value in the place of the one that it is; another item stays. Each kind is moved by itself, since a
+    /// move of all that a plain value may be stalls the processor where one kind has just been written.
+    #[inline(always)]
+    pub fn set_copy(&mut self, held: &Plain) -> bool
+        ensures { MatchBool result ((p : Plain) × (self.old ≡ Item.Value (plain p)) × (self.new ≡ Item.Value (plain held.now))) ((plain_in self.old ≡ None) × (self.new ≡ self.old)) }
+    {
+        if let Plain::Int(number) = held {
+            return self.set_plain(Plain::Int(*number));
+        }
+        if let Plain::Name(name) = held {
+            return self.set_plain(Plain::Name(*name));
+        }
+        if let Plain::Bool(holds) = held {
+            return self.set_plain(Plain::Bool(*holds));
+        }
+        self.set_plain(*held)
     }
 
     /// Puts a counter in the place of the one that it is; another item stays.

@@ -1,6 +1,6 @@
 //! The stack of a strand.
 ghost use Rattle.std.specs.Prelude.{◌≡◌, ◌⊎◌, ◌+◌, ◌≤◌, [], ◌∷◌, true, false, None, Some, List, length, reverse, OnOk, OnErr, IfOk, IfSome, MatchOption, MatchBool};
-ghost use Rattle.std.specs.Option.{option_map};
+ghost use Rattle.std.specs.Option.{is_some, option_copied, option_map};
 ghost use Rattle.a68_acts.specs.declared.operation.Counter.{Counter};
 ghost use Rattle.a68_values.specs.Content.{Content, plain, scope_of};
 ghost use Rattle.a68_values.specs.declared.plain.Plain.{Plain};
@@ -182,6 +182,26 @@ impl Stack {
         self.push_grown(Packed::of_plain(held))
     }
 
+    /// Puts an equal plain value on top. Each kind is moved by itself, since a move of all that a plain value may be stalls the
+    /// processor where one kind has just been written.
+    #[inline(always)]
+    pub fn push_copy(&mut self, held: &Plain) -> Result<(), NoMemory>
+        ensures ok { OnOk result (self.new ≡ record self.old { items = Item.Value (plain held.now) ∷ self.old.items }) }
+        ensures err { OnErr result (self.new ≡ self.old) }
+        ensures full { OnErr result (self.old.room ≤ length self.old.items) }
+    {
+        if let Plain::Int(number) = held {
+            return self.push_plain(Plain::Int(*number));
+        }
+        if let Plain::Name(name) = held {
+            return self.push_plain(Plain::Name(*name));
+        }
+        if let Plain::Bool(holds) = held {
+            return self.push_plain(Plain::Bool(*holds));
+        }
+        self.push_plain(*held)
+    }
+
     /// Puts a counter on top.
     #[inline(always)]
     pub fn push_counter(&mut self, counter: Counter) -> Result<(), NoMemory>
@@ -235,6 +255,30 @@ impl Stack {
         }
     }
 
+    /// The plain value on top, where it stands; none where another item is on top, or none is.
+    #[inline(always)]
+    pub fn held(&self) -> Option<&Plain>
+        ensures { option_copied result ≡ top_plain self.now.items }
+    {
+        match self.items.last() {
+            Some(kept) => kept.held(),
+            None => None,
+        }
+    }
+
+    /// The two topmost items, where they stand, the lower one first; none where they are not both plain values.
+    #[inline(always)]
+    pub fn two_held(&self) -> Option<(&Plain, &Plain)>
+        ensures { MatchOption result (top_two self.now.items ≡ None) (λ two. (rest : List Item) × (self.now.items ≡ Item.Value (plain two.1.now) ∷ Item.Value (plain two.0.now) ∷ rest)) }
+    {
+        let [.., below, topmost] = self.items.as_slice() else {
+            return None;
+        };
+        let right = topmost.held()?;
+        let left = below.held()?;
+        Some((left, right))
+    }
+
     /// Takes the topmost item off where it is a plain value; elsewhere the stack stays.
     #[inline(always)]
     pub fn take_plain(&mut self) -> Option<Plain>
@@ -263,6 +307,27 @@ impl Stack {
             return false;
         };
         kept.set_plain(held)
+    }
+
+    /// Puts an equal plain value in the place of the topmost item where that is a plain value; elsewhere the stack stays.
+    #[inline(always)]
+    pub fn set_copy(&mut self, held: &Plain) -> bool
+        ensures { MatchBool result ((p : Plain) × (rest : List Item) × (self.old.items ≡ Item.Value (plain p) ∷ rest) × (self.new ≡ record self.old { items = Item.Value (plain held.now) ∷ rest })) ((top_plain self.old.items ≡ None) × (self.new ≡ self.old)) }
+    {
+        let Some(kept) = self.items.last_mut() else {
+            return false;
+        };
+        kept.set_copy(held)
+    }
+
+    /// Lets the topmost item go, which is a plain value.
+    #[inline(always)]
+    pub fn forget_plain(&mut self)
+        requires { is_some (top_plain self.old.items) ≡ true }
+        ensures { (p : Plain) × (self.old ≡ record self.new { items = Item.Value (plain p) ∷ self.new.items }) }
+    {
+        // A plain value holds no memory.
+        mem::forget(self.items.pop());
     }
 
     /// The plain value that stands so many items below the topmost one; none where another item stands there, or none does.

@@ -57,5 +57,5 @@ pub fn chain_behind(
         }
         at = frame.outer;
     }
-    Ok(Chain { items })
+    Ok(Chain::outwards(items))
 }

@@ -33,8 +33,42 @@ fn make_room_to_keep(
     Ok(())
 }
 
-/// Makes room for a new frame, its slots, and what is kept of it where it is frame 1.
+/// Makes room for a new frame, its slots, and what is kept of it where it is frame 1. Mostly there is room already.
+#[inline(always)]
 pub fn make_room(
+    alloc: Global,
+    frames: &mut Vec<Frame>,
+    bound: &mut Vec<Slot>,
+    kept: &mut Vec<Option<Value>>,
+    new: Frame,
+) -> Result<(), NoMemory>
+    requires none { kept.old.items ≡ [] }
+    requires room { HasRoom frames.old.items kept.old }
+    ensures frames { frames.new.items ≡ frames.old.items }
+    ensures bound { bound.new.items ≡ bound.old.items }
+    ensures none { kept.new.items ≡ [] }
+    ensures frame_room { OnOk result (vec_len frames.new < vec_capacity frames.new) }
+    ensures slots_room { OnOk result (vec_len bound.new + new.count ≤ vec_capacity bound.new) }
+    ensures ok { OnOk result (HasRoom (frames.old.items ++ new ∷ []) kept.new) }
+    ensures err { OnErr result (HasRoom frames.old.items kept.new) }
+{
+    let many = frames.len();
+    if many == 1 {
+        return make_more_room(alloc, frames, bound, kept, new);
+    }
+    if many >= frames.capacity() {
+        return make_more_room(alloc, frames, bound, kept, new);
+    }
+    if new.count as usize > bound.capacity() - bound.len() {
+        return make_more_room(alloc, frames, bound, kept, new);
+    }
+    Ok(())
+}
+
+// Makes room where there may be none yet.
+#[cold]
+#[inline(never)]
+fn make_more_room(
     alloc: Global,
     frames: &mut Vec<Frame>,
     bound: &mut Vec<Slot>,

@@ -1,5 +1,6 @@
 //! Slots as the store keeps them.
 ghost use Rattle.std.specs.Prelude.{◌≡◌, ◌-◌, ◌^◌, None, Some, min, is_some, IfOk, OnErr};
+ghost use Rattle.std.specs.Option.{option_copied};
 ghost use Rattle.a68_acts.specs.Store.{slot_weight};
 ghost use Rattle.a68_store.specs.Bound.{bound_of};
 ghost use Rattle.a68_store.specs.Frames.{plain_bound};
@@ -7,7 +8,7 @@ ghost use Rattle.a68_values.specs.Content.{as_plain, plain};
 
 use crate::weight::weight;
 use a68_base::NoMemory;
-use a68_values::{Plain, Value};
+use a68_values::{Plain, Value, ValueNode};
 use std::alloc::Global;
 use std::marker::Model;
 
@@ -63,6 +64,16 @@ impl Model for Slot {
     ghost use Rattle.a68_store.specs.Bound.{bound_of};
 
     ghost view = { λ slot. bound_of slot.node };
+}
+
+// The plain value that a value is, where it stands; none where it is another.
+fn plain_of(value: &Value) -> Option<&Plain>
+    ensures { option_copied result ≡ as_plain value.now }
+{
+    match &value.node {
+        ValueNode::Plain(held) => Some(held),
+        _ => None,
+    }
 }
 
 impl Slot {
@@ -121,15 +132,15 @@ impl Slot {
         }
     }
 
-    /// The plain value that it is bound to; none where it is bound to none.
+    /// The plain value that it is bound to, where it stands; none where it is bound to none.
     #[inline(always)]
-    pub fn held(&self) -> Option<Plain>
-        ensures { result ≡ plain_bound (Some self.now) }
+    pub fn held(&self) -> Option<&Plain>
+        ensures { option_copied result ≡ plain_bound (Some self.now) }
     {
         match &self.node {
             SlotNode::Unbound => None,
-            SlotNode::Plain(held) => Some(*held),
-            SlotNode::Other(value) => value.plain(),
+            SlotNode::Plain(held) => Some(held),
+            SlotNode::Other(value) => plain_of(value),
         }
     }
 

@@ -79,13 +79,72 @@ fn set_slot(slot: &mut Slot, bound: Slot)
     drop(old);
 }
 
-// The plain value that is held; none where another is.
+// Binds a slot to an equal plain value. Each kind is moved by itself, since a move of all that a plain value may be stalls the
+// processor where one kind has just been written.
 #[inline(always)]
-fn plain_of(held: &Held) -> Option<Plain>
-    ensures { result ≡ plain_held (Some held.now) }
+fn bind_to(slot: &mut Slot, held: &Plain)
+    ensures { slot.new ≡ Some (plain held.now) }
+{
+    if let Plain::Int(number) = held {
+        return set_slot(slot, Slot::plain(Plain::Int(*number)));
+    }
+    if let Plain::Name(name) = held {
+        return set_slot(slot, Slot::plain(Plain::Name(*name)));
+    }
+    if let Plain::Bool(holds) = held {
+        return set_slot(slot, Slot::plain(Plain::Bool(*holds)));
+    }
+    set_slot(slot, Slot::plain(*held));
+}
+
+// Gives a place an equal plain value, kind by kind.
+#[inline(always)]
+fn copy_to(place: &mut Plain, held: &Plain)
+    ensures { place.new ≡ held.now }
+{
+    if let Plain::Int(number) = held {
+        *place = Plain::Int(*number);
+        return;
+    }
+    if let Plain::Name(name) = held {
+        *place = Plain::Name(*name);
+        return;
+    }
+    if let Plain::Bool(holds) = held {
+        *place = Plain::Bool(*holds);
+        return;
+    }
+    *place = *held;
+}
+
+// Gives a cell something to hold, and lets what it held go.
+#[inline(always)]
+fn set_cell(cell: &mut Held, held: Held)
+    ensures { cell.new ≡ held }
+{
+    let old = mem::replace(cell, held);
+    drop(old);
+}
+
+// Gives a cell an equal plain value to hold, in its place where it holds one already.
+#[inline(always)]
+fn hold(cell: &mut Held, held: &Plain)
+    ensures { cell.new ≡ Held.Plain held.now }
+{
+    match cell {
+        Held::Plain(place) => copy_to(place, held),
+        Held::Rows(_) => set_cell(cell, Held::Plain(*held)),
+        Held::Member { .. } => set_cell(cell, Held::Plain(*held)),
+    }
+}
+
+// The plain value that is held, where it stands; none where another is.
+#[inline(always)]
+fn plain_of(held: &Held) -> Option<&Plain>
+    ensures { option_copied result ≡ plain_held (Some held.now) }
 {
     match held {
-        Held::Plain(held) => Some(*held),
+        Held::Plain(held) => Some(held),
         Held::Rows(_) => None,
         Held::Member { .. } => None,
     }
@@ -181,6 +240,7 @@ impl Store {
     }
 
     // A new frame behind all others, which may have so many slots that are not bound.
+    #[inline(always)]
     fn add_frame(
         &mut self,
         alloc: Global,
@@ -232,6 +292,7 @@ impl Store {
 
     /// A new frame of this scope within another one, with so many slots that are not bound. Tells whether it was made: nothing
     /// is done where the other frame is not there or the act would meet a fault, and there alone.
+    #[inline(always)]
     pub fn enter_frame(
         &mut self,
         alloc: Global,
@@ -303,11 +364,20 @@ impl Store {
     pub fn bind_plain(&mut self, frame: u32, slot: u32, held: Plain) -> bool
         ensures { MatchBool result (does (Want.Bind frame slot (plain held)) self.old ≡ did (Act.Bind frame slot) Reply.Go self.new) ((self.new ≡ self.old) × (slot_in self.old frame slot ≡ None)) }
     {
+        self.bind_copy(frame, slot, &held)
+    }
+
+    /// Binds a slot to an equal plain value, and takes no memory. Tells whether it did: it does nothing where the slot is not
+    /// there, and there alone.
+    #[inline(always)]
+    pub fn bind_copy(&mut self, frame: u32, slot: u32, held: &Plain) -> bool
+        ensures { MatchBool result (does (Want.Bind frame slot (plain held.now)) self.old ≡ did (Act.Bind frame slot) Reply.Go self.new) ((self.new ≡ self.old) × (slot_in self.old frame slot ≡ None)) }
+    {
         let Some(place) = place(&self.frames, frame, slot) else {
             return false;
         };
         let replaced = self.slots[place].weight();
-        set_slot(&mut self.slots[place], Slot::plain(held));
+        bind_to(&mut self.slots[place], held);
         self.counted = (u64::from(self.counted) - replaced + 1) as u32;
         true
     }
@@ -337,6 +407,15 @@ impl Store {
     #[inline(always)]
     pub fn plain_at(&self, frame: u32, slot: u32) -> Option<Plain>
         ensures { result ≡ plain_bound (slot_in self.now frame slot) }
+    {
+        self.held_at(frame, slot).copied()
+    }
+
+    /// The plain value that a slot is bound to, where it stands; none where it is bound to none, or is not there. It takes no
+    /// memory.
+    #[inline(always)]
+    pub fn held_at(&self, frame: u32, slot: u32) -> Option<&Plain>
+        ensures { option_copied result ≡ plain_bound (slot_in self.now frame slot) }
     {
         self.slot(frame, slot)?.held()
     }
@@ -401,6 +480,14 @@ impl Store {
     pub fn plain_in(&self, cell: u32) -> Option<Plain>
         ensures { result ≡ plain_held (slice_get self.now.cells cell) }
     {
+        self.held_in(cell).copied()
+    }
+
+    /// The plain value that a cell holds, where it stands; none where it holds another, or is not there. It takes no memory.
+    #[inline(always)]
+    pub fn held_in(&self, cell: u32) -> Option<&Plain>
+        ensures { option_copied result ≡ plain_held (slice_get self.now.cells cell) }
+    {
         plain_of(self.cells.get(cell as usize)?)
     }
 
@@ -418,8 +505,7 @@ impl Store {
         requires { cell < length self.old.cells }
         ensures { does (Want.Assign cell held) self.old ≡ did (Act.Assign cell) Reply.Go self.new }
     {
-        let old = mem::replace(&mut self.cells[cell as usize], held);
-        drop(old);
+        set_cell(&mut self.cells[cell as usize], held);
     }
 
     /// Gives a cell a plain value to hold, and takes no memory. Tells whether it did: it does nothing where the cell is not
@@ -428,10 +514,19 @@ impl Store {
     pub fn assign_plain(&mut self, cell: u32, held: Plain) -> bool
         ensures { MatchBool result (does (Want.Assign cell (Held.Plain held)) self.old ≡ did (Act.Assign cell) Reply.Go self.new) ((self.new ≡ self.old) × (length self.old.cells ≤ cell)) }
     {
+        self.assign_copy(cell, &held)
+    }
+
+    /// Gives a cell an equal plain value to hold, and takes no memory. Tells whether it did: it does nothing where the cell is
+    /// not there, and there alone.
+    #[inline(always)]
+    pub fn assign_copy(&mut self, cell: u32, held: &Plain) -> bool
+        ensures { MatchBool result (does (Want.Assign cell (Held.Plain held.now)) self.old ≡ did (Act.Assign cell) Reply.Go self.new) ((self.new ≡ self.old) × (length self.old.cells ≤ cell)) }
+    {
         if cell as usize >= self.cells.len() {
             return false;
         }
-        self.assign(cell, Held::Plain(held));
+        hold(&mut self.cells[cell as usize], held);
         true
     }
 

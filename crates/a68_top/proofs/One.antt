@@ -15,7 +15,7 @@ use Rattle.a68_top.specs.Compiles.{IsTreeOf, IsProgramOf, RefusedAs, unlike_symb
 use Rattle.a68_tree.specs.Trees.{Built}
 use Rattle.a68_tree.specs.declared.node.Node.{Node}
 use Rattle.a68_parse.specs.Drafted.{SpellsAlike, AreStarts}
-use Rattle.a68_words.specs.Classes.{IsClassed, IsRefused}
+use Rattle.a68_words.specs.Classes.{IsClassed, IsRefusedAt}
 use Rattle.a68_words.specs.declared.class.Class.{Class}
 use Rattle.std.specs.declared.option.Option.{Option}
 
@@ -23,8 +23,8 @@ use Rattle.std.specs.declared.option.Option.{Option}
 pub record Laws : Type 0 where
   pub named : (text : List ℕ) (found other : Named) → map piece_of other.symbols ≡ map piece_of found.symbols → AreNamed text found → AreNamed text other → other ≡ found
   pub classes : (found : Named) (classes others : List (Option Class)) → IsClassed found classes → IsClassed found others → others ≡ classes
-  pub unclassed : (found : Named) (rule other : Rule) (place at : ℕ) → IsRefused found rule place → IsRefused found other at → (other ≡ rule) × (at ≡ place)
-  pub apart : (found : Named) (rule : Rule) (place : ℕ) (classes : List (Option Class)) → IsRefused found rule place → IsClassed found classes → ⊥
+  pub unclassed : (found : Named) (rule other : Rule) (place at : ℕ) → IsRefusedAt found rule place → IsRefusedAt found other at → (other ≡ rule) × (at ≡ place)
+  pub apart : (found : Named) (rule : Rule) (place : ℕ) (classes : List (Option Class)) → IsRefusedAt found rule place → IsClassed found classes → ⊥
   pub broken : (flat : Built) (r s : Refusal) → Refuses flat r → Refuses flat s → (r.rule ≡ s.rule) × (r.place ≡ s.place)
   pub unbroken : (flat : Built) (program : Annotated) (r : Refusal) → Annotates flat program → Refuses flat r → ⊥
   pub programs : (flat : Built) (a b : Annotated) → Annotates flat a → Annotates flat b → a ≡ b
@@ -63,7 +63,7 @@ module _ (laws : Laws) (text : List ℕ) where
   tree_symbols tree rule place is r = r.none (map piece_of is.found.symbols) is.symbols.has
 
   tree_classed : (tree : Built) (found : Named) (rule : Rule) (place : ℕ) → IsTreeOf text tree → SymbolsAre text (map piece_of found.symbols) → AreNamed text found
-      → IsRefused found rule place → ⊥
+      → IsRefusedAt found rule place → ⊥
   tree_classed tree found rule place is symbols named r =
       let same : is.found ≡ found = same_found is.found found is.symbols is.named symbols named in
       laws.apart found rule place is.classes r (subst (λ f. IsClassed f is.classes) same is.classed)
@@ -114,17 +114,17 @@ module _ (laws : Laws) (text : List ℕ) where
   one_refusal r s (unclassed f symbols n u) (unlike_symbols v) = absurd (v.none (map piece_of f.symbols) symbols.has)
   one_refusal r s (unclassed f symbols n u) (unclassed g also m v) =
       let same : f ≡ g = same_found f g symbols n also m in
-      let e = laws.unclassed g s.rule r.rule s.place r.place v (subst (λ x. IsRefused x r.rule r.place) same u) in
+      let e = laws.unclassed g s.rule r.rule s.place r.place v (subst (λ x. IsRefusedAt x r.rule r.place) same u) in
       (e.0, inr e.1)
   one_refusal r s (unclassed f symbols n u) (no_tree g c also m cl v) =
       let same : f ≡ g = same_found f g symbols n also m in
-      absurd (laws.apart g r.rule r.place c (subst (λ x. IsRefused x r.rule r.place) same u) cl)
+      absurd (laws.apart g r.rule r.place c (subst (λ x. IsRefusedAt x r.rule r.place) same u) cl)
   one_refusal r s (unclassed f symbols n u) (no_meaning t i v) = absurd (tree_classed t f r.rule r.place i symbols n u)
   one_refusal r s (unclassed f symbols n u) (not_generated p i v) = absurd (tree_classed i.tree f r.rule r.place i.is symbols n u)
   one_refusal r s (no_tree f c symbols n cl u) (unlike_symbols v) = absurd (v.none (map piece_of f.symbols) symbols.has)
   one_refusal r s (no_tree f c symbols n cl u) (unclassed g also m v) =
       let same : g ≡ f = same_found g f also m symbols n in
-      absurd (laws.apart f s.rule s.place c (subst (λ x. IsRefused x s.rule s.place) same v) cl)
+      absurd (laws.apart f s.rule s.place c (subst (λ x. IsRefusedAt x s.rule s.place) same v) cl)
   one_refusal r s (no_tree f c symbols n cl u) (no_tree g d also m dl v) = (u.0 ∙ sym v.0, inl u.0)
   one_refusal r s (no_tree f c symbols n cl u) (no_meaning t i v) = absurd (tree_parsed t f c i symbols n cl u.2)
   one_refusal r s (no_tree f c symbols n cl u) (not_generated p i v) = absurd (tree_parsed i.tree f c i.is symbols n cl u.2)

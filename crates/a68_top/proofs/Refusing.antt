@@ -12,7 +12,7 @@ use Rattle.a68_parse.specs.Parses.{Parses}
 use Rattle.a68_symbols.specs.Names.{Named, AreNamed}
 use Rattle.a68_symbols.specs.Symbols.{SymbolsAre, piece_of}
 use Rattle.a68_top.specs.Compiles.{IsTreeOf, IsProgramOf, RefusedAs, unclassed, no_tree, no_meaning, not_generated}
-use Rattle.a68_words.specs.Classes.{Answers, IsClassed}
+use Rattle.a68_words.specs.Classes.{AnswersWords, IsClassed}
 use Rattle.a68_words.specs.declared.class.Class.{Class}
 use Rattle.std.specs.declared.option.Option.{Option}
 use Rattle.a68_tree.specs.Trees.{Built}
@@ -22,7 +22,7 @@ pub unparsed : (text : List ℕ) (found : Named) (classes : List (Option Class))
 unparsed text found classes end e symbols named classed NoMemory p = tt
 unparsed text found classes end e symbols named classed (Refused f) p = no_tree found classes symbols named classed (subst (λ x. Parses found classes x (Err (Refused f))) e p)
 
-pub unsorted : (text : List ℕ) (found : Named) → SymbolsAre text (map piece_of found.symbols) → AreNamed text found → (s : Stop) → Answers found (Err s) → StopsBy (RefusedAs text) s
+pub unsorted : (text : List ℕ) (found : Named) → SymbolsAre text (map piece_of found.symbols) → AreNamed text found → (s : Stop) → AnswersWords found (Err s) → StopsBy (RefusedAs text) s
 unsorted text found symbols named NoMemory p = tt
 unsorted text found symbols named (Refused f) p = unclassed found symbols named p
 

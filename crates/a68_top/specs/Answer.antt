@@ -80,13 +80,13 @@ pub data IsRunOf (text : List ℕ) (workers fuel : ℕ) (telling : Telling) (fin
       → IsRunOf text workers fuel telling finish out notes
 
 -- The program is kept and not run, and this is on out.
-abbrev pub IsKept : Made → List ℕ → Finish → List ℕ → List ℕ → Type 0
-IsKept made shown finish out notes = Says finish out notes (record { status = Done; refusal = None; made = Some made; ran = None }) shown []
+abbrev pub ProgramIsKept : Made → List ℕ → Finish → List ℕ → List ℕ → Type 0
+ProgramIsKept made shown finish out notes = Says finish out notes (record { status = Done; refusal = None; made = Some made; ran = None }) shown []
 
 -- The text is refused, or it is compiled and not run; what is shown of its code is then on out.
 pub data IsMadeOf (text : List ℕ) (shown : Code → List ℕ) (finish : Finish) (out notes : List ℕ) : Type 0 where
   unmade : (refusal : Refusal) → RefusedAs text refusal → IsRefusal refusal finish out notes → IsMadeOf text shown finish out notes
-  compiled : (made : Made) → Compiles text made → IsKept made (shown made.code) finish out notes → IsMadeOf text shown finish out notes
+  compiled : (made : Made) → Compiles text made → ProgramIsKept made (shown made.code) finish out notes → IsMadeOf text shown finish out notes
 
 -- nothing is shown of a code
 abbrev pub nothing : Code → List ℕ

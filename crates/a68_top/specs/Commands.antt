@@ -5,7 +5,7 @@ use Rattle.a68_base.specs.declared.limits.TheConstants.{MOST_FUEL, USUAL_FUEL}
 use Rattle.a68_maker.specs.declared.maker.TheConstants.{FEWEST_UNITS, MOST_UNITS}
 use Rattle.a68_report.specs.Listing.{code_text}
 use Rattle.a68_workers.specs.Workers.{most_workers}
-use Rattle.a68_top.specs.Answer.{HasRun, IsKept, telling_of}
+use Rattle.a68_top.specs.Answer.{HasRun, ProgramIsKept, telling_of}
 use Rattle.a68_top.specs.Words.{Task, run, check, show_code, make_units}
 use Rattle.a68_top.specs.declared.finish.Finish.{Finish}
 use Rattle.a68_top.specs.declared.finish.Made.{Made}
@@ -28,6 +28,6 @@ HasRange (Make units workers) = ((1 ≤ workers) × (workers ≤ most_workers)) 
 
 abbrev pub AnswersMade : Task → Made → Finish → List ℕ → List ℕ → Type 0
 AnswersMade (run file workers fuel names) made finish out notes = HasRun made workers fuel (telling_of names) finish out notes
-AnswersMade (check file) made finish out notes = IsKept made [] finish out notes
-AnswersMade (show_code file) made finish out notes = IsKept made (code_text made.code) finish out notes
+AnswersMade (check file) made finish out notes = ProgramIsKept made [] finish out notes
+AnswersMade (show_code file) made finish out notes = ProgramIsKept made (code_text made.code) finish out notes
 AnswersMade (make_units units workers) made finish out notes = HasRun made workers USUAL_FUEL (Units units) finish out notes

@@ -12,7 +12,7 @@ use Rattle.a68_parse.specs.Parses.{IsTree, Parses}
 use Rattle.a68_symbols.specs.Names.{Named, AreNamed}
 use Rattle.a68_symbols.specs.Symbols.{SymbolsAre, RefusalIs, piece_of}
 use Rattle.a68_top.specs.declared.finish.Made.{Made}
-use Rattle.a68_words.specs.Classes.{IsClassed, IsRefused}
+use Rattle.a68_words.specs.Classes.{IsClassed, IsRefusedAt}
 use Rattle.a68_words.specs.declared.class.Class.{Class}
 use Rattle.std.specs.declared.option.Option.{Option}
 use Rattle.a68_tree.specs.Trees.{Built}
@@ -47,7 +47,7 @@ pub record Compiles (text : List ℕ) (made : Made) : Type 0 where
 -- annotated, the limit of code.
 pub data RefusedAs (text : List ℕ) (refusal : Refusal) : Type 0 where
   unlike_symbols : RefusalIs text refusal.rule refusal.place → RefusedAs text refusal
-  unclassed : (found : Named) → SymbolsAre text (map piece_of found.symbols) → AreNamed text found → IsRefused found refusal.rule refusal.place → RefusedAs text refusal
+  unclassed : (found : Named) → SymbolsAre text (map piece_of found.symbols) → AreNamed text found → IsRefusedAt found refusal.rule refusal.place → RefusedAs text refusal
   no_tree : (found : Named) (classes : List (Option Class)) → SymbolsAre text (map piece_of found.symbols) → AreNamed text found → IsClassed found classes → Parses found classes (length text) (Err (Refused refusal)) → RefusedAs text refusal
   no_meaning : (tree : Built) → IsTreeOf text tree → Refuses tree refusal → RefusedAs text refusal
   not_generated : (program : Annotated) → IsProgramOf text program → IsNotGenerated program refusal → RefusedAs text refusal

@@ -11,8 +11,8 @@ use Rattle.a68_top.specs.declared.options.NextWord.TheVariants.{Word, Workers, F
 use Rattle.a68_top.specs.declared.options.WordsSoFar.{WordsSoFar}
 
 -- the workers and the fuel are such as a run may have
-abbrev pub HasRange : WordsSoFar → Type 0
-HasRange found = IfSome found.workers (λ workers. (1 ≤ workers) × (workers ≤ most_workers)) × IfSome found.fuel (λ fuel. (1 ≤ fuel) × (fuel ≤ MOST_FUEL))
+abbrev pub WordsHaveRange : WordsSoFar → Type 0
+WordsHaveRange found = IfSome found.workers (λ workers. (1 ≤ workers) × (workers ≤ most_workers)) × IfSome found.fuel (λ fuel. (1 ≤ fuel) × (fuel ≤ MOST_FUEL))
 
 -- a word that names a file: `-`, or one that does not begin with `-`
 abbrev pub is_operand : List ℕ → Bool

@@ -25,8 +25,8 @@ sunk faults received old new = record { faults_old = faults old; faults_new = fa
 abbrev pub Whole : Sunk → List ℕ → Type 0
 Whole sink text = sink.new ≡ append_known sink.old text
 
-abbrev pub Front : Sunk → List ℕ → Type 0
-Front sink text = ReceivesFront sink.old sink.new text
+abbrev pub SinkGotFront : Sunk → List ℕ → Type 0
+SinkGotFront sink text = ReceivesFront sink.old sink.new text
 
 abbrev pub Untouched : Sunk → Type 0
 Untouched sink = (sink.new ≡ sink.old) × (sink.faults_new ≡ sink.faults_old)
@@ -62,8 +62,8 @@ pub record Answered (task : Option Task) (under : List ℕ → Option (List ℕ)
 
 -- The first write that failed ended the call: out has a front and notes nothing, or out has all and notes a front.
 pub data Broke (out notes : Sunk) (on_out on_notes : List ℕ) : Type 0 where
-  at_out : Front out on_out → HasFailed out → Untouched notes → Broke out notes on_out on_notes
-  at_notes : Whole out on_out → Front notes on_notes → HasFailed notes → Broke out notes on_out on_notes
+  at_out : SinkGotFront out on_out → HasFailed out → Untouched notes → Broke out notes on_out on_notes
+  at_notes : Whole out on_out → SinkGotFront notes on_notes → HasFailed notes → Broke out notes on_out on_notes
 
 -- Status 7: all but the status is as in the answer, and a write failed.
 pub record BrokenOff (task : Option Task) (under : List ℕ → Option (List ℕ)) (out notes : Sunk) (finish : Finish) : Type 0 where
@@ -79,7 +79,7 @@ pub record Unread (shelf_old shelf_new : ℕ) (out notes : Sunk) (finish : Finis
   pub finish_is : finish ≡ bare ReadFault
   pub shelf : Rose shelf_old shelf_new
   pub out_same : Untouched out
-  pub notes_front : Front notes read_fault_line
+  pub notes_front : SinkGotFront notes read_fault_line
   pub notes_whole : Whole notes read_fault_line ⊎ HasFailed notes
 
 -- Status 8: nothing is kept and nothing is written.

@@ -2,7 +2,7 @@
 ghost use Rattle.std.specs.Prelude.{◌≡◌, ◌≤◌, List, ℕ, MatchOption, IfSome, drop, false, length, map, string_bytes, take, true};
 ghost use Rattle.std.specs.Str.{bytes_eq};
 ghost use Rattle.a68_top.specs.Options as spec;
-ghost use Rattle.a68_top.specs.Options.{HasRange};
+ghost use Rattle.a68_top.specs.Options.{WordsHaveRange};
 
 use a68_base::MOST_FUEL;
 use a68_denote::int_of;
@@ -61,9 +61,9 @@ pub fn number_in(most: u32, word: &[u8]) -> Option<u32>
 
 // The number of workers.
 fn workers_in(found: WordsSoFar, word: &[u8]) -> Option<WordsSoFar>
-    requires { HasRange found }
+    requires { WordsHaveRange found }
     ensures found { result ≡ spec.workers_in found word.now }
-    ensures range { IfSome result HasRange }
+    ensures range { IfSome result WordsHaveRange }
 {
     match number_in(MOST_WORKERS, word) {
         Some(workers) if found.workers.is_none() => Some(WordsSoFar {
@@ -77,9 +77,9 @@ fn workers_in(found: WordsSoFar, word: &[u8]) -> Option<WordsSoFar>
 
 // The fuel.
 fn fuel_in(found: WordsSoFar, word: &[u8]) -> Option<WordsSoFar>
-    requires { HasRange found }
+    requires { WordsHaveRange found }
     ensures found { result ≡ spec.fuel_in found word.now }
-    ensures range { IfSome result HasRange }
+    ensures range { IfSome result WordsHaveRange }
 {
     match number_in(MOST_FUEL, word) {
         Some(fuel) if found.fuel.is_none() => Some(WordsSoFar {
@@ -93,9 +93,9 @@ fn fuel_in(found: WordsSoFar, word: &[u8]) -> Option<WordsSoFar>
 
 // The names are asked for, once at most.
 fn with_names(found: WordsSoFar) -> Option<WordsSoFar>
-    requires { HasRange found }
+    requires { WordsHaveRange found }
     ensures found { result ≡ spec.with_names found }
-    ensures range { IfSome result HasRange }
+    ensures range { IfSome result WordsHaveRange }
 {
     if found.names {
         return None;
@@ -108,9 +108,9 @@ fn with_names(found: WordsSoFar) -> Option<WordsSoFar>
 
 // The word of this number names the file.
 fn with_file(found: WordsSoFar, at: usize) -> Option<WordsSoFar>
-    requires { HasRange found }
+    requires { WordsHaveRange found }
     ensures found { result ≡ spec.with_file found at }
-    ensures range { IfSome result HasRange }
+    ensures range { IfSome result WordsHaveRange }
 {
     if found.file.is_some() {
         return None;
@@ -131,9 +131,9 @@ fn behind<'a>(beginning: &[u8], word: &'a [u8]) -> Option<&'a [u8]>
 
 // A word with an option and its number.
 fn joined(found: WordsSoFar, word: &[u8]) -> Option<WordsSoFar>
-    requires { HasRange found }
+    requires { WordsHaveRange found }
     ensures found { result ≡ spec.joined found word.now }
-    ensures range { IfSome result HasRange }
+    ensures range { IfSome result WordsHaveRange }
 {
     match behind(b"--workers=", word) {
         Some(number) => workers_in(found, number),
@@ -146,9 +146,9 @@ fn joined(found: WordsSoFar, word: &[u8]) -> Option<WordsSoFar>
 
 // A word where options may stand.
 fn any_word(found: WordsSoFar, at: usize, word: &str) -> Option<WordsSoFar>
-    requires { HasRange found }
+    requires { WordsHaveRange found }
     ensures found { result ≡ spec.any_word found at word.now }
-    ensures range { IfSome result HasRange }
+    ensures range { IfSome result WordsHaveRange }
 {
     if word == "--" {
         return Some(WordsSoFar {
@@ -180,9 +180,9 @@ fn any_word(found: WordsSoFar, at: usize, word: &str) -> Option<WordsSoFar>
 
 // What the words up to this one give; none where it may not stand here.
 fn step(found: WordsSoFar, at: usize, word: &str) -> Option<WordsSoFar>
-    requires { HasRange found }
+    requires { WordsHaveRange found }
     ensures found { result ≡ spec.step found at word.now }
-    ensures range { IfSome result HasRange }
+    ensures range { IfSome result WordsHaveRange }
 {
     match found.due {
         NextWord::Word => any_word(found, at, word),
@@ -195,7 +195,7 @@ fn step(found: WordsSoFar, at: usize, word: &str) -> Option<WordsSoFar>
 /// What the words behind the first one give; none where one of them may not stand where it does.
 pub fn found_in(words: &[String]) -> Option<WordsSoFar>
     ensures found { result ≡ spec.steps spec.start 0 (map string_bytes words.now) }
-    ensures range { IfSome result HasRange }
+    ensures range { IfSome result WordsHaveRange }
 {
     let mut found = WordsSoFar {
         due: NextWord::Word,

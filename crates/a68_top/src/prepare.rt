@@ -9,7 +9,7 @@ ghost use Rattle.a68_strand.specs.RunOf.{RunOf};
 ghost use Rattle.a68_top.specs.Commands.{task_of, AnswersMade, HasRange};
 ghost use Rattle.a68_report.specs.Variables.{names_text};
 ghost use Rattle.a68_report.specs.Listing.{code_text as listing};
-ghost use Rattle.a68_top.specs.Answer.{AnswersText, IsKept, IsRefusal, HasRun, IsUsage, read_of, run_lines, size_line, telling_of};
+ghost use Rattle.a68_top.specs.Answer.{AnswersText, ProgramIsKept, IsRefusal, HasRun, IsUsage, read_of, run_lines, size_line, telling_of};
 ghost use Rattle.a68_report.specs.Lines.{end_line};
 ghost use Rattle.a68_top.specs.Outcome.{IsAnswer, IsTextFor, Owes};
 ghost use Rattle.a68_workers.specs.Workers.{most_workers};
@@ -120,7 +120,7 @@ fn add_size(alloc: Global, notes: &mut Text, units: u32, kept: &Kept) -> Result<
 {
     match kept.end {
         End::Done => {
-            let line = units_line(alloc, units, kept.journal.entries.items.len())?;
+            let line = units_line(alloc, units, kept.journal.entries.len())?;
             notes.items.extend_from_slice(line.as_slice())?;
             Ok(())
         }
@@ -256,7 +256,7 @@ fn ran<R: Threads + Wait + Sync, G: Gate>(
 // What is owed for a program that is kept and not run, where this is written to out.
 fn keep(alloc: Global, made: Made, out: Text) -> Owed
     ensures status { IsAnswer result.finish.status }
-    ensures says { IsKept made out result.finish result.out result.notes }
+    ensures says { ProgramIsKept made out result.finish result.out result.notes }
 {
     Owed {
         finish: Finish {
@@ -275,7 +275,7 @@ fn keep(alloc: Global, made: Made, out: Text) -> Owed
 // What is owed for a program whose code is listed.
 fn listed(alloc: Global, made: Made) -> Result<Owed, NoMemory>
     ensures status { IfOk result (λ due. IsAnswer due.finish.status) }
-    ensures says { IfOk result (λ due. IsKept made (listing made.code) due.finish due.out due.notes) }
+    ensures says { IfOk result (λ due. ProgramIsKept made (listing made.code) due.finish due.out due.notes) }
 {
     match code_text(alloc, &made.code) {
         Ok(out) => Ok(keep(alloc, made, out)),

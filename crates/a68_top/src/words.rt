@@ -1,7 +1,7 @@
 //! The words of the command line.
 ghost use Rattle.std.specs.Prelude.{◌≡◌, ◌≤◌, List, ℕ, map, string_bytes, IfOk, IfSome, None, Some, if◌then◌else◌};
 ghost use Rattle.std.specs.Option.{option_map, option_and_then};
-ghost use Rattle.a68_top.specs.Options.{HasRange, start, steps};
+ghost use Rattle.a68_top.specs.Options.{WordsHaveRange, start, steps};
 ghost use Rattle.a68_top.specs.Words.{compiled_by, fuel_or_usual, has_no_option, has_workers_alone, make_units, task_in, task_by, task_of_found, unit_count_in, workers_or_one};
 ghost use Rattle.a68_maker.specs.declared.maker.TheConstants.{FEWEST_UNITS, MOST_UNITS};
 ghost use Rattle.a68_workers.specs.Workers.{most_workers};
@@ -121,7 +121,7 @@ fn unit_count_in(word: &str) -> Option<u32>
 
 // What `make` asks for.
 fn made_by(found: WordsSoFar, operand: &str) -> Option<Command>
-    requires { HasRange found }
+    requires { WordsHaveRange found }
     ensures task { option_map task_of result
         ≡ (if has_workers_alone found then option_map (λ units. make_units units (workers_or_one found.workers)) (unit_count_in operand.now) else None) }
     ensures range { IfSome result commands.HasRange }
@@ -161,7 +161,7 @@ fn command_by(
     found: WordsSoFar,
     operand: &str,
 ) -> Result<Option<Command>, NoMemory>
-    requires { HasRange found }
+    requires { WordsHaveRange found }
     ensures task { IfOk result (λ command. option_map task_of command ≡ task_by verb.now found operand.now) }
     ensures range { IfOk result (λ command. IfSome command commands.HasRange) }
 {
@@ -193,7 +193,7 @@ fn command_in(
     words: &[String],
     found: WordsSoFar,
 ) -> Result<Option<Command>, NoMemory>
-    requires { HasRange found }
+    requires { WordsHaveRange found }
     ensures task { IfOk result (λ command. option_map task_of command ≡ task_of_found verb.now (map string_bytes words.now) found) }
     ensures range { IfOk result (λ command. IfSome command commands.HasRange) }
 {

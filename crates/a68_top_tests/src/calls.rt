@@ -60,7 +60,7 @@ fn shelf(rt: &impl Abort, alloc: Global, given: Words<'_>) -> MemoryShelf {
 // The number of the status, and how many entries the kept journal has.
 fn status_and_events(finish: &Finish) -> (u8, usize) {
     match &finish.ran {
-        Some(kept) => (finish.status.number(), kept.journal.entries.items.len()),
+        Some(kept) => (finish.status.number(), kept.journal.entries.len()),
         None => (finish.status.number(), 0),
     }
 }

@@ -1,4 +1,5 @@
 pub mod Codes
 pub mod Content
+pub mod Logs
 pub mod Nodes
 pub mod PartsFall

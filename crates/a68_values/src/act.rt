@@ -1,5 +1,4 @@
 //! The acts of a run, and the faults that it can meet.
-use std::marker::Model;
 
 /// Why a run ends with a fault. The rules are own: the Report leaves undefined what a program does here.
 #[derive(Clone, Copy, Debug, PartialEq, Eq)]
@@ -62,19 +61,4 @@ pub enum Act {
 pub struct Entry {
     pub strand: u32,
     pub act: Act,
-}
-
-/// Entries in the order in which they were done.
-#[derive(Drop)]
-pub struct Entries {
-    pub items: Vec<Entry>,
-}
-
-impl Model for Entries {
-    ghost use Rattle.std.specs.Prelude.{List};
-    ghost use Rattle.a68_values.specs.declared.act.Entry.{Entry};
-
-    ghost Value = { List Entry };
-
-    ghost view = { λ entries. entries.items.items };
 }

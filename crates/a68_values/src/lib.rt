@@ -5,12 +5,14 @@ mod act;
 mod chain;
 mod held;
 mod kept;
+mod log;
 mod plain;
 mod value;
 
-pub use act::{Act, Entries, Entry, FaultKind};
+pub use act::{Act, Entry, FaultKind};
 pub use chain::{Chain, Entrances, Environ};
 pub use held::{Cells, Descriptor, Dim, Dims, Held, Slots};
 pub use kept::{End, Journal, Kept};
+pub use log::{Brief, Entries, Log};
 pub use plain::{Layout, Name, Plain, Routine};
 pub use value::{Bounds, Value, ValueNode, Values};

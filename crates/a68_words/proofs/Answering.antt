@@ -7,7 +7,7 @@ use Rattle.a68_symbols.specs.Names.{Named}
 use Rattle.a68_words.specs.declared.class.Class.{Class}
 use Rattle.a68_words.specs.declared.role.Role.{Role}
 use Rattle.a68_words.specs.declared.known.BrokenRule.{BrokenRule}
-use Rattle.a68_words.specs.Classes.{AreClasses, IsClassed, IsRefused}
+use Rattle.a68_words.specs.Classes.{AreClasses, IsClassed, IsRefusedAt}
 use Rattle.a68_words.specs.Known.{IsFirstFault, Outline}
 use Rattle.a68_words.specs.Spellings.{names_of, role_in, roles_of}
 use Rattle.a68_words.proofs.Faults.{breaks_within}
@@ -29,7 +29,7 @@ symbol_within found o fault e first =
     omega arith
 
 pub is_refused : (found : Named) (o : Outline) (fault : BrokenRule) (s : Symbol) → o ≡ outline_of found → IsFirstFault o (Some fault)
-    → slice_get found.symbols fault.symbol ≡ Some s → IsRefused found fault.rule s.span.from
+    → slice_get found.symbols fault.symbol ≡ Some s → IsRefusedAt found fault.rule s.span.from
 is_refused found o fault s e first is =
     let there : IsFirstFault (outline_of found) (Some fault) = subst (λ (o : Outline). IsFirstFault o (Some fault)) e first in
     record { at = fault.symbol; symbol = s; is = is; here = refl; broken = there.0; first = there.1 }

@@ -18,11 +18,11 @@ use Rattle.a68_words.specs.Roles.{is_definable}
 use Rattle.a68_words.specs.Levels.{role_at}
 use Rattle.a68_words.specs.Definitions.{Defines}
 use Rattle.a68_words.specs.Classes.{AreClasses, HasClass, IsClassOf, IsDefined, IsDefinedAt}
-use Rattle.a68_words.specs.Classes.Breaks.{defined_otherwise, undefined}
+use Rattle.a68_words.specs.Classes.BreaksAt.{defined_otherwise, undefined}
 use Rattle.a68_words.specs.Classes.HasClass.{reserved, standard, defined}
 use Rattle.a68_words.specs.Known.{IsFine, IsKnown, Outline, class_in}
 use Rattle.a68_words.specs.Spellings.{names_of, roles_of}
-use Rattle.a68_words.specs.Steps.{IsFirst, is_standard_role, is_bold_role}
+use Rattle.a68_words.specs.Steps.{IsFirstSymbol, is_standard_role, is_bold_role}
 use Rattle.a68_words.proofs.Judging.{defines_cases, defines_within}
 
 before_or_behind : (j k : ℕ) → (j ≤ k) ⊎ (k ≤ j)
@@ -54,8 +54,8 @@ as_operator o fine i k at = record {
 }
 
 has_class : (o : Outline) → IsFine o → (i : ℕ) (r : Role) (fm fo : Option ℕ) → role_at o.roles i ≡ r
-    → IsFirst (λ j. IsDefinedAt o.roles o.names i j ModeWord) (length o.roles) fm
-    → IsFirst (λ j. IsDefinedAt o.roles o.names i j OperatorWord) (length o.roles) fo
+    → IsFirstSymbol (λ j. IsDefinedAt o.roles o.names i j ModeWord) (length o.roles) fm
+    → IsFirstSymbol (λ j. IsDefinedAt o.roles o.names i j OperatorWord) (length o.roles) fo
     → HasClass o.roles o.names i (if is_standard_role r then OperatorWord else (if is_bold_role r then (if is_some fm then ModeWord else OperatorWord) else Reserved))
 has_class o fine i Standard fm fo e m op = standard e
 has_class o fine i Bold (Some k) fo e m op = defined e (as_mode o fine i k m.1)

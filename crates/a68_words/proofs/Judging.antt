@@ -16,10 +16,10 @@ use Rattle.a68_words.specs.Roles.{is_definable, definer}
 use Rattle.a68_words.specs.Levels.{role_at}
 use Rattle.a68_words.specs.Definitions.{Defines}
 use Rattle.a68_words.specs.Definitions.Defines.{behind_mode, behind_prio, behind_op, before_equals, joined}
-use Rattle.a68_words.specs.Classes.{IsDefinedAt, Breaks}
-use Rattle.a68_words.specs.Classes.Breaks.{defined_otherwise, standard_mode, undefined}
+use Rattle.a68_words.specs.Classes.{IsDefinedAt, BreaksAt}
+use Rattle.a68_words.specs.Classes.BreaksAt.{defined_otherwise, standard_mode, undefined}
 use Rattle.a68_words.specs.Known.{IsKnown, differs, is_undefined}
-use Rattle.a68_words.specs.Steps.{IsFirst, is_by, is_standard_role, is_bold_role}
+use Rattle.a68_words.specs.Steps.{IsFirstSymbol, is_by, is_standard_role, is_bold_role}
 use Rattle.a68_words.proofs.Defining.{both, either, and_true, or_left, or_right}
 
 definer_cases : (r : Role) (class : Class) → definer r ≡ Some class → (class ≡ ModeWord) ⊎ (class ≡ OperatorWord)
@@ -63,14 +63,14 @@ bold_is : (r : Role) → is_bold_role r ≡ true → r ≡ Bold
 bold_is Bold e = refl
 bold_is _ e = absurd (cc)
 
-by_there : (P : ℕ → Type 0) (n i : ℕ) (o : Option ℕ) → IsFirst P n o → is_by o i ≡ true → (j : ℕ) × (j ≤ i) × P j
+by_there : (P : ℕ → Type 0) (n i : ℕ) (o : Option ℕ) → IsFirstSymbol P n o → is_by o i ≡ true → (j : ℕ) × (j ≤ i) × P j
 by_there P n i None f e = absurd (cc)
 by_there P n i (Some k) f e = (k, leb-true k i e, f.1)
 
 below : (k i : ℕ) → k ≤ i → nat_le k i ≡ true
 below k i h = grind (arith, nat_tests)
 
-by_flag : (P : ℕ → Type 0) (n i : ℕ) (o : Option ℕ) → IsFirst P n o → (j : ℕ) → j < n → j ≤ i → P j → is_by o i ≡ true
+by_flag : (P : ℕ → Type 0) (n i : ℕ) (o : Option ℕ) → IsFirstSymbol P n o → (j : ℕ) → j < n → j ≤ i → P j → is_by o i ≡ true
 by_flag P n i None f j lt le p = absurd (f j lt p)
 by_flag P n i (Some k) f j lt le p = elim (within_or_past j k) [
   | inl earlier ↦ absurd (f.2 j earlier p)
@@ -78,7 +78,7 @@ by_flag P n i (Some k) f j lt le p = elim (within_or_past j k) [
 ]
 
 differs_there : (roles : List Role) (names : List ℕ) (i : ℕ) (known : Known) → IsKnown roles names i known → differs i known ≡ true
-    → Breaks roles names i S4
+    → BreaksAt roles names i S4
 differs_there roles names i known is e =
     elim (either (known.mode && (is_standard_role known.role || is_by known.first_operator i)) (known.operator && is_by known.first_mode i) e) [
       | inl m ↦
@@ -95,7 +95,7 @@ differs_there roles names i known is e =
           defined_otherwise (is.operator.0 p.0) f.1 f.2 (λ same. absurd (cc (same)))
     ]
 
-differs_flag : (roles : List Role) (names : List ℕ) (i : ℕ) (known : Known) → IsKnown roles names i known → Breaks roles names i S4
+differs_flag : (roles : List Role) (names : List ℕ) (i : ℕ) (known : Known) → IsKnown roles names i known → BreaksAt roles names i S4
     → differs i known ≡ true
 differs_flag roles names i known is (standard_mode s d) =
     or_left (known.mode && (is_standard_role known.role || is_by known.first_operator i)) (known.operator && is_by known.first_mode i)
@@ -123,7 +123,7 @@ differs_flag roles names i known is (defined_otherwise {j} {class} {other} d le 
     ]
 
 pub differs_is : (roles : List Role) (names : List ℕ) (i : ℕ) (known : Known) (b : Bool) → IsKnown roles names i known → b ≡ differs i known
-    → (b ≡ true) ↔ Breaks roles names i S4
+    → (b ≡ true) ↔ BreaksAt roles names i S4
 differs_is roles names i known b is e = rw e (differs_there roles names i known is, differs_flag roles names i known is)
 
 unset : (o : Option ℕ) → is_some o ≡ false → o ≡ None
@@ -135,16 +135,16 @@ neither true b e = absurd (cc)
 neither false true e = absurd (cc)
 neither false false e = (refl, refl)
 
-none_first : (P : ℕ → Type 0) (n : ℕ) (o : Option ℕ) → IsFirst P n o → is_some o ≡ false → (j : ℕ) → j < n → P j → ⊥
+none_first : (P : ℕ → Type 0) (n : ℕ) (o : Option ℕ) → IsFirstSymbol P n o → is_some o ≡ false → (j : ℕ) → j < n → P j → ⊥
 none_first P n None f e = f
 none_first P n (Some k) f e = absurd (cc)
 
-first_none : (P : ℕ → Type 0) (n : ℕ) (o : Option ℕ) → IsFirst P n o → ((j : ℕ) → P j → ⊥) → is_some o ≡ false
+first_none : (P : ℕ → Type 0) (n : ℕ) (o : Option ℕ) → IsFirstSymbol P n o → ((j : ℕ) → P j → ⊥) → is_some o ≡ false
 first_none P n None f none = refl
 first_none P n (Some k) f none = absurd (none k f.1)
 
 undefined_there : (roles : List Role) (names : List ℕ) (i : ℕ) (known : Known) → IsKnown roles names i known → is_undefined known ≡ true
-    → Breaks roles names i N2
+    → BreaksAt roles names i N2
 undefined_there roles names i known is e =
     let p = both (is_bold_role known.role) (not (is_some known.first_mode || is_some known.first_operator)) e in
     let q = neither (is_some known.first_mode) (is_some known.first_operator) p.1 in
@@ -155,7 +155,7 @@ undefined_there roles names i known is e =
           (subst (λ (c : Class). Defines roles j c) o at.0, at.1)
     ])
 
-undefined_flag : (roles : List Role) (names : List ℕ) (i : ℕ) (known : Known) → IsKnown roles names i known → Breaks roles names i N2
+undefined_flag : (roles : List Role) (names : List ℕ) (i : ℕ) (known : Known) → IsKnown roles names i known → BreaksAt roles names i N2
     → is_undefined known ≡ true
 undefined_flag roles names i known is (undefined bold none) =
     let m : is_some known.first_mode ≡ false = first_none (λ j. IsDefinedAt roles names i j ModeWord) (length roles) known.first_mode is.first_mode (λ j. none j ModeWord) in
@@ -164,5 +164,5 @@ undefined_flag roles names i known is (undefined bold none) =
     (ap (λ (b : Bool). not (b || is_some known.first_operator)) m ∙ ap not o)
 
 pub undefined_is : (roles : List Role) (names : List ℕ) (i : ℕ) (known : Known) (b : Bool) → IsKnown roles names i known → b ≡ is_undefined known
-    → (b ≡ true) ↔ Breaks roles names i N2
+    → (b ≡ true) ↔ BreaksAt roles names i N2
 undefined_is roles names i known b is e = rw e (undefined_there roles names i known is, undefined_flag roles names i known is)

@@ -4,7 +4,7 @@ use Rattle.std.specs.Prelude.{◌↔◌}
 use Rattle.std.proofs.lemmas.List.{get_or_append_left}
 use Rattle.std.proofs.Math.Seq.{get_or-append_seam}
 use Rattle.std.proofs.Math.ListN.{length-append}
-use Rattle.a68_words.specs.Steps.{AreFlags, IsFirst, first}
+use Rattle.a68_words.specs.Steps.{AreFlags, IsFirstSymbol, first}
 
 pub mark_more : (P : ℕ → Type 0) (n : ℕ) (flags more : List Bool) (b : Bool) → AreFlags P n flags → (b ≡ true) ↔ P n → more ≡ flags ++ b ∷ []
     → AreFlags P (n + 1) more
@@ -16,7 +16,7 @@ mark_more P n flags more b mark here e = rw e (record {
 })
 
 -- the first symbol that has a property, one symbol on
-pub first_more : (P : ℕ → Type 0) (n : ℕ) (found : Option ℕ) (b : Bool) → IsFirst P n found → (b ≡ true) ↔ P n → IsFirst P (n + 1) (first found b n)
+pub first_more : (P : ℕ → Type 0) (n : ℕ) (found : Option ℕ) (b : Bool) → IsFirstSymbol P n found → (b ≡ true) ↔ P n → IsFirstSymbol P (n + 1) (first found b n)
 first_more P n (Some k) b p here = (omega (arith, p.0), p.1, p.2)
 first_more P n None true p here = (omega arith, here.0 refl, p)
 first_more P n None false p here = below_more (λ (k : ℕ). P k → ⊥) n p (λ q. absurd (cc (here.1 q)))

@@ -10,7 +10,7 @@ use Rattle.a68_symbols.specs.Names.{Named}
 use Rattle.a68_words.specs.declared.class.Class.{Class}
 use Rattle.a68_words.specs.declared.role.Role.{Role}
 use Rattle.a68_words.specs.Roles.{is_definable}
-use Rattle.a68_words.specs.Classes.{HasClass, IsClassOf, IsClassed, IsRefused, rank}
+use Rattle.a68_words.specs.Classes.{HasClass, IsClassOf, IsClassed, IsRefusedAt, rank}
 use Rattle.a68_words.specs.Classes.HasClass.{reserved, standard, defined}
 use Rattle.a68_words.specs.Spellings.{names_of, roles_of}
 use Rattle.a68_words.proofs.Faults.{rule_is}
@@ -80,7 +80,7 @@ one_place i j rule other (inl p) (inr q) = let e = q.0 in absurd (omega arith)
 one_place i j rule other (inr p) (inl q) = let e = p.0 in absurd (omega arith)
 one_place i j rule other (inr p) (inr q) = let a = p.1 in let b = q.1 in (p.0, omega arith)
 
-pub one_refusal : (found : Named) (rule other : Rule) (place at : ℕ) → IsRefused found rule place → IsRefused found other at
+pub one_refusal : (found : Named) (rule other : Rule) (place at : ℕ) → IsRefusedAt found rule place → IsRefusedAt found other at
     → (other ≡ rule) × (at ≡ place)
 one_refusal found rule other place at p q =
     let same = one_place p.at q.at rule other (p.first q.at other q.broken) (q.first p.at rule p.broken) in
@@ -90,5 +90,5 @@ one_refusal found rule other place at p q =
       q.here ∙ ap (λ (s : Symbol). s.span.from) symbol ∙ sym p.here,
     )
 
-pub apart : (found : Named) (rule : Rule) (place : ℕ) (classes : List (Option Class)) → IsRefused found rule place → IsClassed found classes → ⊥
+pub apart : (found : Named) (rule : Rule) (place : ℕ) (classes : List (Option Class)) → IsRefusedAt found rule place → IsClassed found classes → ⊥
 apart found rule place classes p q = q.fine p.at rule p.broken

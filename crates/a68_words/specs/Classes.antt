@@ -47,16 +47,16 @@ pub record AreClasses (found : Named) (classes : List (Option Class)) : Type 0 w
       → (class : Option Class) × (slice_get classes i ≡ Some class) × IsClassOf (roles_of found) (names_of found) i s.kind class
 
 -- What is broken at symbol i.
-pub data Breaks (roles : List Role) (names : List ℕ) (i : ℕ) : Rule → Type 0 where
+pub data BreaksAt (roles : List Role) (names : List ℕ) (i : ℕ) : Rule → Type 0 where
   -- a word is defined, and it is defined otherwise there or at an earlier place
   defined_otherwise : {j : ℕ} {class other : Class} → Defines roles i class → j ≤ i → IsDefinedAt roles names i j other → other ≢ class
-      → Breaks roles names i S4
+      → BreaksAt roles names i S4
   -- a standard operator word is defined as a mode
-  standard_mode : role_at roles i ≡ Standard → Defines roles i ModeWord → Breaks roles names i S4
+  standard_mode : role_at roles i ≡ Standard → Defines roles i ModeWord → BreaksAt roles names i S4
   -- a word that is neither reserved nor a standard operator word is defined nowhere
-  undefined : role_at roles i ≡ Bold → ((j : ℕ) (class : Class) → IsDefinedAt roles names i j class → ⊥) → Breaks roles names i N2
+  undefined : role_at roles i ≡ Bold → ((j : ℕ) (class : Class) → IsDefinedAt roles names i j class → ⊥) → BreaksAt roles names i N2
   -- more brackets are open, or a symbol is nested deeper, than may be
-  too_deep : i < length roles → IsTooDeep roles i → Breaks roles names i L3
+  too_deep : i < length roles → IsTooDeep roles i → BreaksAt roles names i L3
 
 -- at one symbol S4 comes before N2, and N2 before L3
 abbrev pub rank : Rule → ℕ
@@ -69,21 +69,21 @@ abbrev pub IsBefore : ℕ → Rule → ℕ → Rule → Type 0
 IsBefore i rule j other = (i < j) ⊎ ((i ≡ j) × (rank rule ≤ rank other))
 
 -- the first thing broken, and the first byte of the symbol at which it is
-pub record IsRefused (found : Named) (rule : Rule) (place : ℕ) : Type 0 where
+pub record IsRefusedAt (found : Named) (rule : Rule) (place : ℕ) : Type 0 where
   pub at : ℕ
   pub symbol : Symbol
   pub is : slice_get found.symbols at ≡ Some symbol
   pub here : place ≡ symbol.span.from
-  pub broken : Breaks (roles_of found) (names_of found) at rule
-  pub first : (j : ℕ) (other : Rule) → Breaks (roles_of found) (names_of found) j other → IsBefore at rule j other
+  pub broken : BreaksAt (roles_of found) (names_of found) at rule
+  pub first : (j : ℕ) (other : Rule) → BreaksAt (roles_of found) (names_of found) j other → IsBefore at rule j other
 
 -- nothing is broken, and each word has its class
 pub record IsClassed (found : Named) (classes : List (Option Class)) : Type 0 where
   pub words : AreClasses found classes
-  pub fine : (j : ℕ) (rule : Rule) → Breaks (roles_of found) (names_of found) j rule → ⊥
+  pub fine : (j : ℕ) (rule : Rule) → BreaksAt (roles_of found) (names_of found) j rule → ⊥
 
 -- what the words of a text are answered with
-abbrev pub Answers : Named → Result (List (Option Class)) Stop → Type 0
-Answers found (Ok classes) = IsClassed found classes
-Answers found (Err (Refused refusal)) = IsRefused found refusal.rule refusal.place
-Answers found (Err NoMemory) = Unit {0}
+abbrev pub AnswersWords : Named → Result (List (Option Class)) Stop → Type 0
+AnswersWords found (Ok classes) = IsClassed found classes
+AnswersWords found (Err (Refused refusal)) = IsRefusedAt found refusal.rule refusal.place
+AnswersWords found (Err NoMemory) = Unit {0}

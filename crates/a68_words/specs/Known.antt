@@ -12,8 +12,8 @@ use Rattle.a68_words.specs.declared.known.Known.{Known}
 use Rattle.a68_words.specs.declared.known.BrokenRule.{BrokenRule}
 use Rattle.a68_words.specs.Levels.{role_at}
 use Rattle.a68_words.specs.Definitions.{Defines}
-use Rattle.a68_words.specs.Classes.{IsDefinedAt, Breaks, IsBefore}
-use Rattle.a68_words.specs.Steps.{AreBelow, AreFirsts, IsFirst, AreFlags, is_by, is_standard_role, is_bold_role}
+use Rattle.a68_words.specs.Classes.{IsDefinedAt, BreaksAt, IsBefore}
+use Rattle.a68_words.specs.Steps.{NamesAreBelow, AreFirstFlagged, IsFirstSymbol, AreFlags, is_by, is_standard_role, is_bold_role}
 
 -- The symbols of a text by their roles and names.
 pub record Outline : Type 0 where
@@ -26,17 +26,17 @@ pub record AreTables (outline : Outline) (modes operators : List Bool) (first_mo
   pub are_modes : AreFlags (λ i. Defines outline.roles i ModeWord) (length outline.roles) modes
   pub are_operators : AreFlags (λ i. Defines outline.roles i OperatorWord) (length outline.roles) operators
   pub count : ℕ
-  pub below : AreBelow outline.names count
-  pub firsts_of_modes : AreFirsts modes outline.names count (length outline.names) first_modes
-  pub firsts_of_operators : AreFirsts operators outline.names count (length outline.names) first_operators
+  pub below : NamesAreBelow outline.names count
+  pub firsts_of_modes : AreFirstFlagged modes outline.names count (length outline.names) first_modes
+  pub firsts_of_operators : AreFirstFlagged operators outline.names count (length outline.names) first_operators
 
 -- the role of symbol i, what it is defined as there, and the first symbols that define its word
 pub record IsKnown (roles : List Role) (names : List ℕ) (i : ℕ) (known : Known) : Type 0 where
   pub role : known.role ≡ role_at roles i
   pub mode : (known.mode ≡ true) ↔ Defines roles i ModeWord
   pub operator : (known.operator ≡ true) ↔ Defines roles i OperatorWord
-  pub first_mode : IsFirst (λ j. IsDefinedAt roles names i j ModeWord) (length roles) known.first_mode
-  pub first_operator : IsFirst (λ j. IsDefinedAt roles names i j OperatorWord) (length roles) known.first_operator
+  pub first_mode : IsFirstSymbol (λ j. IsDefinedAt roles names i j ModeWord) (length roles) known.first_mode
+  pub first_operator : IsFirstSymbol (λ j. IsDefinedAt roles names i j OperatorWord) (length roles) known.first_operator
 
 -- is symbol i defined otherwise than at an earlier place?
 abbrev pub differs : ℕ → Known → Bool
@@ -71,10 +71,10 @@ fault_of rule None = None
 -- the first thing broken, if anything is
 abbrev pub IsFirstFault : Outline → Option BrokenRule → Type 0
 IsFirstFault outline (Some fault) =
-    Breaks outline.roles outline.names fault.symbol fault.rule
-    × ((j : ℕ) (other : Rule) → Breaks outline.roles outline.names j other → IsBefore fault.symbol fault.rule j other)
-IsFirstFault outline None = (j : ℕ) (rule : Rule) → Breaks outline.roles outline.names j rule → ⊥
+    BreaksAt outline.roles outline.names fault.symbol fault.rule
+    × ((j : ℕ) (other : Rule) → BreaksAt outline.roles outline.names j other → IsBefore fault.symbol fault.rule j other)
+IsFirstFault outline None = (j : ℕ) (rule : Rule) → BreaksAt outline.roles outline.names j rule → ⊥
 
 -- nothing is broken
 abbrev pub IsFine : Outline → Type 0
-IsFine outline = (j : ℕ) (rule : Rule) → Breaks outline.roles outline.names j rule → ⊥
+IsFine outline = (j : ℕ) (rule : Rule) → BreaksAt outline.roles outline.names j rule → ⊥

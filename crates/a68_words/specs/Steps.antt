@@ -108,9 +108,9 @@ pub record AreFlags (P : ℕ → Type 0) (n : ℕ) (flags : List Bool) : Type 0 
   pub each : (k : ℕ) → k < n → (slice_index_or flags k false ≡ true) ↔ P k
 
 -- the first of the first n symbols that has the property, if one has
-abbrev pub IsFirst : (ℕ → Type 0) → ℕ → Option ℕ → Type 0
-IsFirst P n (Some i) = (i < n) × P i × ((k : ℕ) → k < i → P k → ⊥)
-IsFirst P n None = (k : ℕ) → k < n → P k → ⊥
+abbrev pub IsFirstSymbol : (ℕ → Type 0) → ℕ → Option ℕ → Type 0
+IsFirstSymbol P n (Some i) = (i < n) × P i × ((k : ℕ) → k < i → P k → ⊥)
+IsFirstSymbol P n None = (k : ℕ) → k < n → P k → ⊥
 
 -- the first symbol so far, where symbol i has the property or not
 abbrev pub first : Option ℕ → Bool → ℕ → Option ℕ
@@ -123,13 +123,13 @@ abbrev pub IsFlagged : List Bool → List ℕ → ℕ → ℕ → Type 0
 IsFlagged flags names name j = (slice_index_or flags j false ≡ true) × (slice_index names j ≡ name)
 
 -- all names are below a count
-abbrev pub AreBelow : List ℕ → ℕ → Type 0
-AreBelow names count = (i : ℕ) → i < length names → slice_index names i < count
+abbrev pub NamesAreBelow : List ℕ → ℕ → Type 0
+NamesAreBelow names count = (i : ℕ) → i < length names → slice_index names i < count
 
 -- for each name below a count the first of the first n symbols that is flagged and has it
-pub record AreFirsts (flags : List Bool) (names : List ℕ) (count n : ℕ) (table : List (Option ℕ)) : Type 0 where
+pub record AreFirstFlagged (flags : List Bool) (names : List ℕ) (count n : ℕ) (table : List (Option ℕ)) : Type 0 where
   pub whole : length table ≡ count
-  pub each : (name : ℕ) → name < count → IsFirst (IsFlagged flags names name) n (slice_index_or table name None)
+  pub each : (name : ℕ) → name < count → IsFirstSymbol (IsFlagged flags names name) n (slice_index_or table name None)
 
 -- is there one, and does it stand at i or before?
 abbrev pub is_by : Option ℕ → ℕ → Bool

@@ -5,7 +5,7 @@ ghost use Rattle.a68_base.specs.declared.refusal.Stop.TheVariants.{Refused};
 ghost use Rattle.a68_symbols.specs.declared.symbol.Symbol.{Symbol};
 ghost use Rattle.a68_symbols.specs.Names.{Named};
 ghost use Rattle.a68_words.specs.declared.class.Class.{Class};
-ghost use Rattle.a68_words.specs.Classes.{Answers, AreClasses, IsClassed, IsRefused};
+ghost use Rattle.a68_words.specs.Classes.{AnswersWords, AreClasses, IsClassed, IsRefusedAt};
 ghost use Rattle.a68_words.specs.Known.{IsFine};
 ghost use Rattle.a68_words.specs.Spellings.{names_of, roles_of};
 
@@ -58,7 +58,7 @@ fn classes(
 /// where 200 are open, or at a symbol that is nested deeper than 1,000. At one symbol S4 comes before N2, and N2 before
 /// L3.
 pub fn words(alloc: Global, symbols: &Symbols) -> Result<Classed, Stop>
-    ensures { Answers symbols.now result }
+    ensures { AnswersWords symbols.now result }
 {
     let roles = roles(alloc, symbols)?;
     let names = names(alloc, symbols)?;
@@ -79,7 +79,7 @@ pub fn words(alloc: Global, symbols: &Symbols) -> Result<Classed, Stop>
 pub fn classes_are_one()
     ensures list { (found : Named) (classes others : List (Option Class)) → IsClassed found classes → IsClassed found others → others ≡ classes }
     ensures refusal { (found : Named) (rule other : Rule) (place at : ℕ)
-        → IsRefused found rule place → IsRefused found other at → (other ≡ rule) × (at ≡ place) }
+        → IsRefusedAt found rule place → IsRefusedAt found other at → (other ≡ rule) × (at ≡ place) }
     ensures apart { (found : Named) (rule : Rule) (place : ℕ) (classes : List (Option Class))
-        → IsRefused found rule place → IsClassed found classes → ⊥ }
+        → IsRefusedAt found rule place → IsClassed found classes → ⊥ }
 {}

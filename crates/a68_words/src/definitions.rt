@@ -2,7 +2,7 @@
 ghost use Rattle.std.specs.Prelude.{◌≡◌, ◌<◌, length, IfOk};
 ghost use Rattle.a68_base.specs.declared.refusal.Rule.TheVariants.{S4, N2};
 ghost use Rattle.a68_words.specs.declared.class.Class.TheVariants.{ModeWord, OperatorWord};
-ghost use Rattle.a68_words.specs.Classes.{Breaks};
+ghost use Rattle.a68_words.specs.Classes.{BreaksAt};
 ghost use Rattle.a68_words.specs.Definitions.{Defines};
 ghost use Rattle.a68_words.specs.Known as known;
 ghost use Rattle.a68_words.specs.Levels.{IsTooDeep};
@@ -39,7 +39,7 @@ impl Model for Definitions {
 
 // A number above all names.
 fn count_of(names: &[u32]) -> usize
-    ensures { steps.AreBelow names.now result }
+    ensures { steps.NamesAreBelow names.now result }
 {
     let mut count = 0;
     for name in names {
@@ -56,8 +56,8 @@ fn firsts(
     count: usize,
 ) -> Result<Vec<Option<usize>>, NoMemory>
     requires same { length flags.now ≡ length names.now }
-    requires below { steps.AreBelow names.now count }
-    ensures { IfOk result (λ table. steps.AreFirsts flags.now names.now count (length names.now) table.items) }
+    requires below { steps.NamesAreBelow names.now count }
+    ensures { IfOk result (λ table. steps.AreFirstFlagged flags.now names.now count (length names.now) table.items) }
 {
     let mut table = vec![in alloc; None; count]?;
     for i in 0..names.len() {
@@ -120,7 +120,7 @@ impl Definitions {
 
     // The first symbol that is defined otherwise than before.
     fn differs(&self) -> Option<usize>
-        ensures { steps.IsFirst (λ i. Breaks self.now.roles self.now.names i S4) (length self.now.roles) result }
+        ensures { steps.IsFirstSymbol (λ i. BreaksAt self.now.roles self.now.names i S4) (length self.now.roles) result }
     {
         let mut found = None;
         for i in 0..self.roles.len() {
@@ -131,7 +131,7 @@ impl Definitions {
 
     // The first word that is defined nowhere.
     fn undefined(&self) -> Option<usize>
-        ensures { steps.IsFirst (λ i. Breaks self.now.roles self.now.names i N2) (length self.now.roles) result }
+        ensures { steps.IsFirstSymbol (λ i. BreaksAt self.now.roles self.now.names i N2) (length self.now.roles) result }
     {
         let mut found = None;
         for i in 0..self.roles.len() {
@@ -142,7 +142,7 @@ impl Definitions {
 
     /// The first thing broken in a text whose first symbol that is too deep is that one.
     pub fn first_fault(&self, too_deep: Option<usize>) -> Option<BrokenRule>
-        requires { steps.IsFirst (IsTooDeep self.now.roles) (length self.now.roles) too_deep }
+        requires { steps.IsFirstSymbol (IsTooDeep self.now.roles) (length self.now.roles) too_deep }
         ensures { known.IsFirstFault self.now result }
     {
         let differs = fault_of(Rule::S4, self.differs());

@@ -89,7 +89,7 @@ pub fn walk(alloc: Global, roles: &[Role]) -> Result<DefinedWords, NoMemory>
     requires { length roles.now < 2 ^ 32 }
     ensures modes { IfOk result (λ found. steps.AreFlags (λ i. Defines roles.now i ModeWord) (length roles.now) found.modes.items) }
     ensures operators { IfOk result (λ found. steps.AreFlags (λ i. Defines roles.now i OperatorWord) (length roles.now) found.operators.items) }
-    ensures deep { IfOk result (λ found. steps.IsFirst (IsTooDeep roles.now) (length roles.now) found.too_deep) }
+    ensures deep { IfOk result (λ found. steps.IsFirstSymbol (IsTooDeep roles.now) (length roles.now) found.too_deep) }
 {
     let mut levels = Levels::new(alloc);
     let mut modes = Vec::new(alloc);

@@ -21,8 +21,8 @@ use Rattle.a68_values.specs.declared.kept.End.{End}
 use Rattle.a68_values.specs.declared.kept.End.TheVariants as ends
 use Rattle.a68_values.specs.declared.kept.Kept.{Kept}
 use Rattle.a68_workers.specs.Runs.{GoesFrom, TookTurns}
-use Rattle.a68_world.specs.Run.{Run, AllHome, EndsWithoutTurn, Begins, IsNumber, IsRun, world}
-use Rattle.a68_world.specs.Turns.{Acts, SetsEnd, EndsAt, EndsHere, HadEnded, IsReady, IsAble, last_strand, Finishes}
+use Rattle.a68_world.specs.Run.{Run, AllHome, EndsWithoutTurn, RunBegins, IsNumber, IsSoundRun, world}
+use Rattle.a68_world.specs.Turns.{Acts, SetsEnd, EndsAt, EndsHere, HadEnded, IsReady, IsAble, last_strand, FinishesRun}
 use Rattle.a68_world.specs.Worlds.{behind, goes, world_of}
 use Rattle.a68_world.specs.declared.status.StrandState.{StrandState}
 use Rattle.a68_world.specs.declared.status.StrandState.TheVariants as status
@@ -111,7 +111,7 @@ within xs n there = by (cases_lt n (length xs)) where
   by (inr p) = absurd (there (none_past xs n p))
 
 -- where none is spent each strand that has a turn stands in the world
-module _ (run : Run) (known : IsRun run) (kept : run.lost ≡ false) where
+module _ (run : Run) (known : IsSoundRun run) (kept : run.lost ≡ false) where
   pub all_home : AllHome run.status
   all_home k spent = let lost = known.spent k spent in absurd (cc)
 
@@ -136,7 +136,7 @@ only_first : (code : Code) (n : ℕ) → HasTurn code (opening code) n → n ≡
 only_first code zero turn = refl
 only_first code (suc n) turn = absurd (turn_is_there code (opening code) (suc n) turn refl)
 
-by_last : (run : Run) (es : List Entry) → run.entries ≡ es → HasLast es → IsRun run → run.lost ≡ false → (n : ℕ) → IsFirstBehind (IsAble run) (last_strand es) n
+by_last : (run : Run) (es : List Entry) → run.entries ≡ es → HasLast es → IsSoundRun run → run.lost ≡ false → (n : ℕ) → IsFirstBehind (IsAble run) (last_strand es) n
     → IsTurnOf run.code (world run) (last_of None es) n
 by_last run _ same no_entry known kept n f =
     only_first run.code n (subst (λ (x : List Entry). HasTurn run.code (world_of run.code x) n) same f.such.ready.turn)
@@ -145,7 +145,7 @@ by_last run _ same (ends_by es e) known kept n f =
     (subst (λ b. IsFirstBehind (HasTurn run.code (world run)) b n) (last_strand_more es e) (able_first run known kept (last_strand (es ++ e ∷ [])) n f))
 
 -- the first strand that can be turned is the one whose turn it is
-pub first_has_turn : (run : Run) (n : ℕ) → IsRun run → run.lost ≡ false → IsFirstBehind (IsAble run) (last_strand run.entries) n → IsTurnOf run.code (world run) (last_of None run.entries) n
+pub first_has_turn : (run : Run) (n : ℕ) → IsSoundRun run → run.lost ≡ false → IsFirstBehind (IsAble run) (last_strand run.entries) n → IsTurnOf run.code (world run) (last_of None run.entries) n
 first_has_turn run n known kept f = by_last run run.entries refl (has_last run.entries) known kept n f
 
 -- ---- turns
@@ -174,7 +174,7 @@ end_without new before e h is =
     silent_end new.code (world new) before e (subst (λ o. EndsWithoutTurn new.code (world new) o) is (h.whole home))
 
 -- an act in turn
-pub took_more : (old now new : Run) (n : ℕ) → GoesFrom old now → TookTurns old now → IsRun now → IsFirstBehind (IsAble now) (last_strand now.entries) n → Acts now n new → TookTurns old new
+pub took_more : (old now new : Run) (n : ℕ) → GoesFrom old now → TookTurns old now → IsSoundRun now → IsFirstBehind (IsAble now) (last_strand now.entries) n → Acts now n new → TookTurns old new
 took_more old now new n from took known first a =
     let e : Entry = record { strand = n; act = a.act } in
     let turn = first_has_turn now n known a.goes_on.kept first in
@@ -265,7 +265,7 @@ turn_end run n before (ends.Fault why place strand) turn p = subst (λ k. IsTurn
 turn_end run n before ends.Spent turn p =
     λ k other. subst (λ x. fault_of (world run) x ≡ None) (one_turn_of run.code (world run) before n k turn other) (no_fault run.code (world run) n p.1)
 
-ends_here : (old now new : Run) (n : ℕ) (e : End) → GoesFrom old now → TookTurns old now → IsRun now → IsFirstBehind (IsAble now) (last_strand now.entries) n → EndsHere now n e new → TookTurns old new
+ends_here : (old now new : Run) (n : ℕ) (e : End) → GoesFrom old now → TookTurns old now → IsSoundRun now → IsFirstBehind (IsAble now) (last_strand now.entries) n → EndsHere now n e new → TookTurns old new
 ends_here old now new n e from took known first h =
     let turn = first_has_turn now n known h.goes_on.kept first in
     let in_turn = turn_end now n (last_of None now.entries) e turn h.ends in
@@ -281,7 +281,7 @@ ends_here old now new n e from took known first h =
     ended_no : (x : End) → old.end ≡ Some x → now ≡ old → now.end ≡ None → ⊥
     ended_no x is same none = let e : old.end ≡ None = subst (λ (r : Run). r.end ≡ None) same none in absurd (cc)
 
-pub took_ended : (old now new : Run) (n : ℕ) (e : End) → GoesFrom old now → TookTurns old now → IsRun now → IsFirstBehind (IsAble now) (last_strand now.entries) n
+pub took_ended : (old now new : Run) (n : ℕ) (e : End) → GoesFrom old now → TookTurns old now → IsSoundRun now → IsFirstBehind (IsAble now) (last_strand now.entries) n
     → HadEnded now e new ⊎ EndsHere now n e new → TookTurns old new
 took_ended old now new n e from took known first (inl h) = subst (λ r. TookTurns old r) (sym h.after) took
 took_ended old now new n e from took known first (inr h) = ends_here old now new n e from took known first h
@@ -347,6 +347,6 @@ module _ (code : Code) (fuel : ℕ) (end : Option End) (new : Run) where
         (subst (λ es. EndsInTurn code (world new) (last_of None es) kept.end) (sym entries) (by_end kept.end end refl without took is));
   }
 
-pub cycled : (code : Code) (fuel : ℕ) (old new : Run) (handed : Code) (kept : Kept) → Begins code fuel old → TookTurns old new → Finishes new handed kept → Cyclic code kept
+pub cycled : (code : Code) (fuel : ℕ) (old new : Run) (handed : Code) (kept : Kept) → RunBegins code fuel old → TookTurns old new → FinishesRun new handed kept → Cyclic code kept
 cycled code fuel old new handed kept begins took f =
     has_cycled code fuel old.end new begins.ends (subst (λ (r : Run). TookTurns r new) begins.is took) kept f.entries f.end

@@ -6,7 +6,7 @@ ghost use Rattle.a68_strand.specs.RunOf.{RunOf};
 ghost use Rattle.a68_workers.specs.Runs.{GoesFrom, TookTurns};
 ghost use Rattle.a68_workers.specs.Workers.{most_workers};
 ghost use Rattle.a68_world.specs.Run.{most_fuel};
-ghost use Rattle.a68_world.specs.Turns.{Finishes};
+ghost use Rattle.a68_world.specs.Turns.{FinishesRun};
 
 use crate::alone::turn_rest;
 use crate::shared::run_shared;
@@ -62,7 +62,7 @@ pub fn run_all<R: Threads + Wait + Sync, G: Gate>(
 // What is kept of a run that has ended.
 fn finished(world: World) -> (Code, Kept)
     requires { world.end ≢ None }
-    ensures { Finishes world result.0 result.1 }
+    ensures { FinishesRun world result.0 result.1 }
 {
     match world.finish() {
         Ok(done) => done,

@@ -6,7 +6,7 @@ use Rattle.a68_code.specs.declared.code.Code.{Code}
 use Rattle.a68_instructions.specs.Machine.{State, beginning, settle}
 use Rattle.a68_strand.specs.Strands.{standing}
 use Rattle.a68_values.specs.declared.chain.Environ.{Environ}
-use Rattle.a68_world.specs.Stepping.{AreUnits, IsUnit, units_at}
+use Rattle.a68_world.specs.Stepping.{AreUnits, IsNewSeat, units_at}
 use Rattle.a68_world.specs.declared.seat.Seat.{Seat}
 use Rattle.a68_world.specs.declared.seat.Seat.TheVariants as seat
 use Rattle.a68_world.proofs.Places.{get_front, get_behind, parted}
@@ -16,7 +16,7 @@ units-joined code chain [] ys = refl
 units-joined code chain (x ∷ xs) ys = ap (λ l. settle code (beginning x chain) ∷ l) (units-joined code chain xs ys)
 
 one-more : (code : Code) (states : List State) (first : ℕ) (units : List Seat) (new : List State) (x : Seat) → length new ≡ 1 → AreUnits code states first units
-    → IsUnit code new (first + length units) 0 x → AreUnits code (states ++ new) first (units ++ x ∷ [])
+    → IsNewSeat code new (first + length units) 0 x → AreUnits code (states ++ new) first (units ++ x ∷ [])
 one-more code states first units new x one are is = record {
   long = omega (arith, length-append units (x ∷ []), length-append states new, are.long, one);
   each = λ i y e. elim (parted units (x ∷ []) i y e) [
@@ -25,28 +25,28 @@ one-more code states first units new x one are is = record {
   ];
 }
   where
-    old : (i : ℕ) (y : Seat) → IsUnit code states first i y → IsUnit code (states ++ new) first i y
+    old : (i : ℕ) (y : Seat) → IsNewSeat code states first i y → IsNewSeat code (states ++ new) first i y
     old i (seat.Home strand) u = (u.0, get_front states new i (standing strand) u.1, u.2, u.3)
     old i seat.Spent u = u
 
-    new_one : (i : ℕ) (y : Seat) → i ≡ length units → IsUnit code new (first + length units) 0 y → IsUnit code (states ++ new) first i y
+    new_one : (i : ℕ) (y : Seat) → i ≡ length units → IsNewSeat code new (first + length units) 0 y → IsNewSeat code (states ++ new) first i y
     new_one i (seat.Home strand) e u =
         let at : i ≡ length states + 0 = omega (arith, e, are.long) in
         (omega (arith, u.0, e), ap (slice_get (states ++ new)) at ∙ get_behind states new 0 ∙ u.1, u.2, u.3)
     new_one i seat.Spent e u = u
 
-    at_last : (j i : ℕ) (y : Seat) → i ≡ length units + j → slice_get (x ∷ []) j ≡ Some y → IsUnit code (states ++ new) first i y
-    at_last zero i y e f = let same : x ≡ y = cc in new_one i y (omega (arith, e)) (subst (λ z. IsUnit code new (first + length units) 0 z) same is)
+    at_last : (j i : ℕ) (y : Seat) → i ≡ length units + j → slice_get (x ∷ []) j ≡ Some y → IsNewSeat code (states ++ new) first i y
+    at_last zero i y e f = let same : x ≡ y = cc in new_one i y (omega (arith, e)) (subst (λ z. IsNewSeat code new (first + length units) 0 z) same is)
     at_last (suc j) i y e f = absurd (cc)
 
 -- the unit at the next entrance
 pub units_more : (code : Code) (chain : List Environ) (entrances : List ℕ) (first i : ℕ) (units grown : List Seat) (x : Seat) → i < length entrances
-    → AreUnits code (units_at code chain (take i entrances)) first units → IsUnit code (units_at code chain (get_or entrances i 0 ∷ [])) (first + i) 0 x
+    → AreUnits code (units_at code chain (take i entrances)) first units → IsNewSeat code (units_at code chain (get_or entrances i 0 ∷ [])) (first + i) 0 x
     → length (take i entrances) ≡ i → grown ≡ units ++ x ∷ [] → AreUnits code (units_at code chain (take (i + 1) entrances)) first grown
 units_more code chain entrances first i units grown x h are is long e =
     rw e (subst (λ l. AreUnits code l first (units ++ x ∷ [])) (sym (ap (units_at code chain) (take_more entrances i 0 h) ∙ units-joined code chain (take i entrances) (get_or entrances i 0 ∷ [])))
     (one-more code (units_at code chain (take i entrances)) first units (units_at code chain (get_or entrances i 0 ∷ [])) x refl are
-    (subst (λ j. IsUnit code (units_at code chain (get_or entrances i 0 ∷ [])) (first + j) 0 x) (sym (are.long ∙ length-units (take i entrances) ∙ long)) is)))
+    (subst (λ j. IsNewSeat code (units_at code chain (get_or entrances i 0 ∷ [])) (first + j) 0 x) (sym (are.long ∙ length-units (take i entrances) ∙ long)) is)))
   where
     length-units : (l : List ℕ) → length (units_at code chain l) ≡ length l
     length-units [] = refl

@@ -2,9 +2,6 @@
 use Rattle.std.proofs.Common.{◌≡◌, ◌∙◌, inl, inr, ℕ, ◌+◌, ◌<◌, ◌≤◌, false, List, [], ◌∷◌, ◌++◌, length, length-append, map, refl, ap, sym, subst, arith}
 use Rattle.std.specs.Prelude.{Some, slice_get, slice_set, if◌then◌else◌}
 use Rattle.std.specs.Option.{is_some, option_map_or}
-use Rattle.std.specs.Vec.{vec_capacity}
-use Rattle.std.specs.declared.alloc.Global.{Global}
-use Rattle.std.specs.declared.vec.Vec.{Vec}
 use Rattle.std.proofs.Math.ListN.{length-set}
 use Rattle.a68_acts.specs.Does.{Outcome, did, refused, does}
 use Rattle.a68_acts.specs.Store.{Store}
@@ -21,12 +18,12 @@ use Rattle.a68_instructions.specs.declared.ask.Ask.{Ask}
 use Rattle.a68_instructions.specs.declared.ask.Stance.TheVariants.{Waits}
 use Rattle.a68_instructions.specs.declared.ask.Ask.TheVariants as ask
 use Rattle.a68_strand.specs.declared.strand.Strand.{Strand}
+use Rattle.a68_values.specs.Logs.{Logged}
 use Rattle.a68_values.specs.declared.act.Act.{Act}
-use Rattle.a68_values.specs.declared.act.Entry.{Entry}
 use Rattle.a68_world.specs.Inside.{run_of, IsSound}
 use Rattle.a68_world.specs.Run.{AllHome, world}
 use Rattle.a68_world.specs.Seats.{Sits, SitsAt, SitsHere, AreSeated, AllSit, status_of}
-use Rattle.a68_world.specs.Stepping.{DoneFor, AreUnits, IsUnit, units_asked, units_at, units_begun}
+use Rattle.a68_world.specs.Stepping.{DoneFor, AreUnits, IsNewSeat, units_asked, units_at, units_begun}
 use Rattle.a68_world.specs.Turns.{GoesOn, IsReady}
 use Rattle.a68_world.specs.Waking.{AllRest, WaitBelow}
 use Rattle.a68_world.specs.declared.seat.Seat.{Seat}
@@ -61,9 +58,9 @@ all_here s sound goes = all_sit s.code (now s).strands s.seats.items sound.seats
 -- ---- an act
 
 -- the journal with one entry more
-pub record Noted (s : Inside) (n : ℕ) (act : Act) (journal : Vec Entry Global) : Type 0 where
+pub record Noted (s : Inside) (n : ℕ) (act : Act) (journal : Logged) : Type 0 where
   pub items : journal.items ≡ s.journal.items ++ record { strand = n; act = act } ∷ []
-  pub room : s.fuel ≤ vec_capacity journal
+  pub room : s.fuel ≤ journal.room
 
 -- the strand of a seat asks for an act, which the store does, and its units have begun
 pub record Moved (s : Inside) (n : ℕ) (act : Act) (store : Store) (units : List Seat) : Type 0 where
@@ -158,7 +155,7 @@ module _ (s : Inside) (n : ℕ) (act : Act) (store : Store) (units : List Seat) 
   old-here k (seat.Home strand) ne p = old-stays k strand ne p
   old-here k seat.Spent ne p = p
 
-  born-here : (k i : ℕ) (x : Seat) → k ≡ length s.seats.items + i → IsUnit s.code new (length s.seats.items) i x → SitsHere s.code all k x
+  born-here : (k i : ℕ) (x : Seat) → k ≡ length s.seats.items + i → IsNewSeat s.code new (length s.seats.items) i x → SitsHere s.code all k x
   born-here k i (seat.Home strand) e u = record {
     number = u.0 ∙ sym e;
     there =

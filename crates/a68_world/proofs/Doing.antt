@@ -14,8 +14,8 @@ use Rattle.a68_exec.specs.Runs.{woken}
 use Rattle.a68_strand.specs.Strands.{standing}
 use Rattle.a68_instructions.specs.declared.ask.Stance.TheVariants.{Asking}
 use Rattle.a68_strand.specs.declared.strand.Strand.{Strand}
+use Rattle.a68_values.specs.Logs.{Logged}
 use Rattle.a68_values.specs.declared.act.Act.{Act}
-use Rattle.a68_values.specs.declared.act.Entry.{Entry}
 use Rattle.a68_values.specs.declared.act.FaultKind.{FaultKind}
 use Rattle.a68_values.specs.declared.kept.End.{End}
 use Rattle.a68_values.specs.declared.kept.End.TheVariants as ends
@@ -57,10 +57,10 @@ module _ (s : Inside) (n : ℕ) (sound : IsSound s) (goes : GoesOn (run_of s)) (
     pub are : AreUnitsAt s.code s.store s.seats.items n units
     pub comes : ComesToAt s.code s.store x (deed.Told act) store y
 
-  abbrev pub run_told : Vec Entry Global → Store → Vec Seat Global → (below : ℕ) → Bool → Option End → Inside
+  abbrev pub run_told : Logged → Store → Vec Seat Global → (below : ℕ) → Bool → Option End → Inside
   run_told journal store seats below lost end = record s { journal = journal; store = store; seats = seats; waits_below = below; lost = lost; end = end }
 
-  told-all : (x y : Seat) (act : Act) (store : Store) (units : List Seat) (journal : Vec Entry Global) (seats : Vec Seat Global) (below : ℕ) (lost : Bool) (end : Option End)
+  told-all : (x y : Seat) (act : Act) (store : Store) (units : List Seat) (journal : Logged) (seats : Vec Seat Global) (below : ℕ) (lost : Bool) (end : Option End)
       → slice_get s.seats.items n ≡ Some x → AreUnitsAt s.code s.store s.seats.items n units → ComesToAt s.code s.store x (deed.Told act) store y → Noted s n act journal
       → StaysBelow s.waits_below (slice_set s.seats.items n y ++ units) n below → WakesBehind s.code n below (slice_set s.seats.items n y ++ units) seats.items lost
       → MatchBool lost (end ≡ None) (EndShown seats.items store end)
@@ -74,7 +74,7 @@ module _ (s : Inside) (n : ℕ) (sound : IsSound s) (goes : GoesOn (run_of s)) (
   told-all (seat.Home strand) seat.Spent act store units journal seats below lost end there are comes noted stays w e = absurd comes
   told-all seat.Spent y act store units journal seats below lost end there are comes noted stays w e = absurd comes
 
-  pub told_all : (x y : Seat) (act : Act) (store : Store) (units placed shown seen : List Seat) (journal : Vec Entry Global) (seats : Vec Seat Global) (below : ℕ) (lost : Bool) (end : Option End)
+  pub told_all : (x y : Seat) (act : Act) (store : Store) (units placed shown seen : List Seat) (journal : Logged) (seats : Vec Seat Global) (below : ℕ) (lost : Bool) (end : Option End)
       → Told x y act store units → Noted s n act journal → placed ≡ slice_set s.seats.items n y ++ units → seen ≡ placed → StaysBelow s.waits_below seen n below
       → WakesBehind s.code n below placed seats.items lost → shown ≡ seats.items → MatchBool lost (end ≡ None) (EndShown shown store end)
       → IsSound (run_told journal store seats below lost end) × Acts (run_of s) n (run_of (run_told journal store seats below lost end))
@@ -103,10 +103,10 @@ module _ (s : Inside) (n : ℕ) (sound : IsSound s) (goes : GoesOn (run_of s)) (
 
   -- ---- there was no memory to tell it
 
-  abbrev pub run_untold : Vec Entry Global → Store → Vec Seat Global → Inside
+  abbrev pub run_untold : Logged → Store → Vec Seat Global → Inside
   run_untold journal store seats = record s { journal = journal; store = store; seats = seats; lost = true }
 
-  pub untold_all : (x y : Seat) (act : Act) (store : Store) (units : List Seat) (journal : Vec Entry Global) (seats : Vec Seat Global)
+  pub untold_all : (x y : Seat) (act : Act) (store : Store) (units : List Seat) (journal : Logged) (seats : Vec Seat Global)
       → slice_get s.seats.items n ≡ Some x → AreUnitsAt s.code s.store s.seats.items n units → ComesToAt s.code s.store x (deed.Untold act) store y → Noted s n act journal
       → seats.items ≡ slice_set s.seats.items n y ++ units
       → IsSound (run_untold journal store seats) × FindsNoMemory (run_of s) n (run_of (run_untold journal store seats))

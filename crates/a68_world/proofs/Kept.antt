@@ -9,7 +9,7 @@ use Rattle.a68_exec.specs.Runs.{World, acted}
 use Rattle.a68_values.specs.declared.act.Act.{Act}
 use Rattle.a68_values.specs.declared.kept.End.{End}
 use Rattle.a68_values.specs.declared.kept.End.TheVariants as ends
-use Rattle.a68_world.specs.Run.{Run, IsRun, AllHome, IsNumber, EndsWithoutTurn, world}
+use Rattle.a68_world.specs.Run.{Run, IsSoundRun, AllHome, IsNumber, EndsWithoutTurn, world}
 use Rattle.a68_world.specs.Turns.{GoesOn, Acts, EndsAt, IsSpentBy, IsOf, noted}
 use Rattle.a68_world.specs.Worlds.{world_of, IsJournal}
 use Rattle.a68_world.specs.declared.status.StrandState.TheVariants.{Spent}
@@ -18,7 +18,7 @@ use Rattle.a68_world.proofs.Journals.{world_more, journal_more}
 use Rattle.a68_world.proofs.Showing.{is_end}
 
 -- no strand is spent in a run that goes on
-pub all_home : (run : Run) → IsRun run → GoesOn run → AllHome run.status
+pub all_home : (run : Run) → IsSoundRun run → GoesOn run → AllHome run.status
 all_home run r goes k there = true≢false (sym (r.spent k there) ∙ goes.kept)
 
 -- ---- the world behind an act
@@ -38,7 +38,7 @@ length_noted old new n act e = ap (λ es. length es) e ∙ length-append old.ent
 
 -- what stays of a run with one entry more
 record Grown (old new : Run) (n : ℕ) : Type 0 where
-  pub run : IsRun old
+  pub run : IsSoundRun old
   pub same : IsOf old new
   pub fuel : length old.entries < old.fuel
   pub act : Act
@@ -48,7 +48,7 @@ record Grown (old new : Run) (n : ℕ) : Type 0 where
   pub many : length new.status ≡ length (world new).strands
 
 grown : (old new : Run) (n : ℕ) → Grown old new n → IfSome new.end (RunEndsWith new.code new.fuel new.entries (world new)) → (new.end ≡ None → AllHome new.status → EndsWithoutTurn new.code (world new) None)
-    → (new.lost ≡ true → new.end ≡ None) → ((k : ℕ) → IsNumber new k Spent → new.lost ≡ true) → IsRun new
+    → (new.lost ≡ true → new.end ≡ None) → ((k : ℕ) → IsNumber new k Spent → new.lost ≡ true) → IsSoundRun new
 grown old new n g ended goes lost gone =
     let run = g.run in
     record {
@@ -67,7 +67,7 @@ grown old new n g ended goes lost gone =
 
 -- ---- an act
 
-pub acts_keep : (old new : Run) (n : ℕ) → IsRun old → Acts old n new → IsRun new
+pub acts_keep : (old new : Run) (n : ℕ) → IsSoundRun old → Acts old n new → IsSoundRun new
 acts_keep old new n run a =
     grown old new n (record { run = run; same = a.same; fuel = a.fuel; act = a.act; behind = a.behind; next = a.next; entries = a.entries; many = a.seated.many })
     (ended new.end refl) (λ none home. subst (λ o. EndsWithoutTurn new.code (world new) o) none (a.ends.whole home)) (λ lost. let k = a.lost lost in a.ends.parted k.0 k.1) a.spent
@@ -79,12 +79,12 @@ acts_keep old new n run a =
     ended None is = rw is tt
     ended (Some e) is = is_end new.code new.fuel new.entries (world new) new.end (a.ends.whole (home e is))
 
-pub spent_keep : (old new : Run) (n : ℕ) → IsRun old → GoesOn old → IsOf old new → (new.lost ≡ true) × (new.end ≡ None) → IsSpentBy old n new → IsRun new
+pub spent_keep : (old new : Run) (n : ℕ) → IsSoundRun old → GoesOn old → IsOf old new → (new.lost ≡ true) × (new.end ≡ None) → IsSpentBy old n new → IsSoundRun new
 spent_keep old new n run goes same lost s =
     grown old new n (record { run = run; same = same; fuel = s.due.fuel; act = s.act; behind = s.behind; next = s.next; entries = s.entries; many = s.many })
     (rw lost.1 tt) (λ none home. absurd (home n s.spent)) (λ e. lost.1) (λ k e. lost.0)
 
-pub lost_keep : (run : Run) → IsRun run → run.end ≡ None → IsRun (record run { lost = true })
+pub lost_keep : (run : Run) → IsSoundRun run → run.end ≡ None → IsSoundRun (record run { lost = true })
 lost_keep run r none = record {
   valid = r.valid;
   short = r.short;
@@ -102,7 +102,7 @@ lost_keep run r none = record {
 -- ---- an end that is set
 
 -- a strand that can act or stands before a fault has not ended; nor has that of the program in a run that goes on
-open_ : (run : Run) → IsRun run → GoesOn run → HasEnded (world run) 0 → ⊥
+open_ : (run : Run) → IsSoundRun run → GoesOn run → HasEnded (world run) 0 → ⊥
 open_ run r goes = (r.goes_on goes.unended (all_home run r goes)).0
 
 place-at : (run : Run) (n place : ℕ) (o : Option State) → slice_get (world run).strands n ≡ o → option_map (λ (st : State). place_at run.code.list st.at) o ≡ Some place
@@ -110,7 +110,7 @@ place-at : (run : Run) (n place : ℕ) (o : Option State) → slice_get (world r
 place-at run n place None e p = absurd (cc)
 place-at run n place (Some st) e p = (st, e, cc)
 
-ends_with : (run : Run) (n : ℕ) (e : End) → IsRun run → GoesOn run → EndsAt run n e → RunEndsWith run.code run.fuel run.entries (world run) e
+ends_with : (run : Run) (n : ℕ) (e : End) → IsSoundRun run → GoesOn run → EndsAt run n e → RunEndsWith run.code run.fuel run.entries (world run) e
 ends_with run n ends.Done r goes h = absurd h
 ends_with run n ends.AllHalted r goes h = absurd h
 ends_with run n ends.Spent r goes h = spent n (open_ run r goes) h.0 h.1
@@ -118,7 +118,7 @@ ends_with run n (ends.Fault why place strand) r goes h =
     let st = place-at run n place (slice_get (world run).strands n) refl h.2 in
     rw h.0 (fault {strand = n} {place = place} {kind = why} {st = st.0} (open_ run r goes) h.1 st.1 st.2)
 
-pub ended_keep : (run : Run) (n : ℕ) (e : End) → IsRun run → GoesOn run → EndsAt run n e → IsRun (record run { end = Some e })
+pub ended_keep : (run : Run) (n : ℕ) (e : End) → IsSoundRun run → GoesOn run → EndsAt run n e → IsSoundRun (record run { end = Some e })
 ended_keep run n e r goes at = record {
   valid = r.valid;
   short = r.short;

@@ -22,14 +22,14 @@ use Rattle.a68_strand.specs.Strands.{standing, HasSettled, TellsNot}
 use Rattle.a68_instructions.specs.declared.ask.Stance.{Stance}
 use Rattle.a68_instructions.specs.declared.ask.Stance.TheVariants.{Idle, Asking, Failed, Waits, Closed}
 use Rattle.a68_strand.specs.declared.strand.Strand.{Strand}
+use Rattle.a68_values.specs.Logs.{Logged}
 use Rattle.a68_values.specs.declared.act.Act.{Act}
-use Rattle.a68_values.specs.declared.act.Entry.{Entry}
 use Rattle.a68_values.specs.declared.kept.End.{End}
 use Rattle.a68_world.specs.Ending.{EndShown}
 use Rattle.a68_world.specs.Inside.{run_of, IsSound}
 use Rattle.a68_world.specs.Run.{AllHome, IsNumber, EndsWithoutTurn, world}
 use Rattle.a68_world.specs.Seats.{Sits, SitsAt, SitsHere, AreSeated, AllSit, status_of, closed_in, closed_at, due_at, may_wake}
-use Rattle.a68_world.specs.Stepping.{IsUnit}
+use Rattle.a68_world.specs.Stepping.{IsNewSeat}
 use Rattle.a68_world.specs.Turns.{IsDue, Acts, GoesOnIn, IsSpentBy, FindsNoMemory, TakesBehind}
 use Rattle.a68_world.specs.Waking.{IsReleased, StaysBelow, WaitBelow, Wakes, WakesBehind}
 use Rattle.a68_world.specs.declared.seat.Seat.{Seat}
@@ -158,7 +158,7 @@ module _ (s : Inside) (n : ℕ) (act : Act) (store : Store) (units : List Seat) 
         → Wakes s.code (b.all s n act store units m) seats lost
     told_wakes seats below lost stays w = w (b.all s n act store units m) told_sit told-long (b.rest s n act store units m) (told-waits below stays) told-none
 
-    module _ (journal : Vec Entry Global) (seats : Vec Seat Global) (below : ℕ) (lost : Bool) (end : Option End) (noted : Noted s n act journal) (stays : StaysBelow s.waits_below told_seats n below)
+    module _ (journal : Logged) (seats : Vec Seat Global) (below : ℕ) (lost : Bool) (end : Option End) (noted : Noted s n act journal) (stays : StaysBelow s.waits_below told_seats n below)
         (w : Wakes s.code (b.all s n act store units m) seats.items lost) (ends : MatchBool lost (end ≡ None) (EndShown seats.items store end)) where
       abbrev pub told_run : Inside
       told_run = record s { journal = journal; store = store; seats = seats; waits_below = below; lost = lost; end = end }
@@ -290,7 +290,7 @@ module _ (s : Inside) (n : ℕ) (act : Act) (store : Store) (units : List Seat) 
   -- ---- there was no memory to tell the strand
 
   module _ (live : is_passive (settle s.code (replied s.code (standing m.strand) m.act_done.reply)).stance ≡ false)
-      (untold : TellsNot s.code m.strand.body m.strand.about.waiting m.act_done.reply) (journal : Vec Entry Global) (seats : Vec Seat Global)
+      (untold : TellsNot s.code m.strand.body m.strand.about.waiting m.act_done.reply) (journal : Logged) (seats : Vec Seat Global)
       (noted : Noted s n act journal) (are : seats.items ≡ slice_set s.seats.items n seat.Spent ++ units) where
     abbrev pub untold_run : Inside
     untold_run = record s { journal = journal; store = store; seats = seats; lost = true }
@@ -326,7 +326,7 @@ module _ (s : Inside) (n : ℕ) (act : Act) (store : Store) (units : List Seat) 
           length_map status_of seats.items ∙ ap (λ l. length l) are ∙ b.long s n act store units m seat.Spent ∙ sym (ap (λ l. length l) untold-strands);
     }
       where
-        of_unit : (i : ℕ) (x : StrandState) (y : Seat) → IsUnit s.code (b.new s n act store units m) (length s.seats.items) i y → status_of y ≡ x → x ≡ status.Home
+        of_unit : (i : ℕ) (x : StrandState) (y : Seat) → IsNewSeat s.code (b.new s n act store units m) (length s.seats.items) i y → status_of y ≡ x → x ≡ status.Home
         of_unit i x (seat.Home u) p e = sym e
         of_unit i x seat.Spent p e = absurd p
 

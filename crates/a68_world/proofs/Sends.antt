@@ -33,11 +33,11 @@ use Rattle.a68_stack.specs.contracts.packed.Packed as kept
 use Rattle.a68_stack.specs.contracts.stack.Stack as stack
 use Rattle.a68_strand.specs.contracts.strand.Strand as strand
 use Rattle.a68_world.specs.contracts.seat.Seat as seat
-use Rattle.a68_values.proofs.act.Entry.TheSendSync as entry
 use Rattle.a68_values.proofs.chain.Chain.TheSendSync as chain
 use Rattle.a68_values.proofs.chain.Entrances.TheSendSync as entrances
 use Rattle.a68_values.proofs.held.Held.TheSendSync as held
 use Rattle.a68_values.proofs.kept.End.TheSendSync as end
+use Rattle.a68_values.proofs.log.Log.TheSendSync as log
 use Rattle.a68_values.proofs.plain.Layout.TheSendSync as layout
 use Rattle.a68_values.proofs.plain.Plain.TheSendSync as plain
 use Rattle.a68_values.proofs.value.Bounds.TheSendSync as bounds
@@ -151,7 +151,7 @@ seat_send : IsSend (seat.the_field).row
 seat_send = search (sendable, crosses, strand_send) depth 20
 
 pub world_send : IsSend world.the_row
-world_send = search (sendable, crosses, code_send, store_send, seat_send, entry.the_send, end.the_send) depth 20
+world_send = search (sendable, crosses, code_send, store_send, seat_send, log.the_send, end.the_send) depth 20
 
 -- the same, as what holds a run has it
 pub world_field_send : IsSend (world.the_field).row

@@ -3,7 +3,6 @@ use Rattle.std.proofs.Common.{◌≡◌, ◌∙◌, ℕ, zero, suc, ◌+◌, ◌
 use Rattle.std.proofs.lemmas.Bool.{false≢true}
 use Rattle.std.specs.Prelude.{None, Some, IfSome, IsNone, slice_get, nat_lt, if◌then◌else◌}
 use Rattle.std.specs.Option.{is_some, option_map, option_map_or}
-use Rattle.std.specs.Vec.{vec_capacity}
 use Rattle.std.specs.declared.alloc.Global.{Global}
 use Rattle.std.specs.declared.option.Option.{Option}
 use Rattle.std.specs.declared.vec.Vec.{Vec}
@@ -29,6 +28,7 @@ use Rattle.a68_instructions.specs.declared.ask.Stance.{Stance}
 use Rattle.a68_instructions.specs.declared.ask.Stance.TheVariants.{Idle, Asking, Failed, Waits, Closed}
 use Rattle.a68_instructions.specs.declared.ask.Waiting.{Waiting}
 use Rattle.a68_strand.specs.declared.strand.Strand.{Strand}
+use Rattle.a68_values.specs.Logs.{Logged}
 use Rattle.a68_values.specs.declared.act.Act.{Act}
 use Rattle.a68_values.specs.declared.act.Entry.{Entry}
 use Rattle.a68_values.specs.declared.act.Act.TheVariants as act
@@ -38,15 +38,15 @@ use Rattle.a68_values.specs.declared.kept.End.TheVariants as ends
 use Rattle.a68_values.specs.declared.kept.Kept.{Kept}
 use Rattle.a68_world.specs.Ending.{EndShown, HasTurnAt, end_asked, end_at}
 use Rattle.a68_world.specs.Inside.{run_of, IsSound}
-use Rattle.a68_world.specs.Run.{Begins, EndsWithoutTurn, most_fuel, world}
+use Rattle.a68_world.specs.Run.{RunBegins, EndsWithoutTurn, most_fuel, world}
 use Rattle.a68_world.specs.Scopes.{WantBelow, StanceBelow}
 use Rattle.a68_world.specs.Stepping.{AsksOther, IsAsking, IsAskingAt, BringsRoom, FewUnitsAt, units_asked}
-use Rattle.a68_world.specs.Turns.{GoesOn, IsReady, IsDue, IsOtherDue, EndsAt, StandsAt, IsAble, Finishes}
+use Rattle.a68_world.specs.Turns.{GoesOn, IsReady, IsDue, IsOtherDue, EndsAt, StandsAt, IsAble, FinishesRun}
 use Rattle.a68_world.specs.declared.seat.Seat.{Seat}
 use Rattle.a68_world.specs.declared.seat.Seat.TheVariants as seat
 use Rattle.a68_world.specs.declared.status.StrandState.TheVariants as status
 use Rattle.a68_world.specs.declared.world.World.TheInside.{Inside}
-use Rattle.a68_world.specs.Seats.{Sits, SitsAt, SitsHere, AreSeated, AllSit, IsFirst, status_of, turn_at, turn_shown}
+use Rattle.a68_world.specs.Seats.{Sits, SitsAt, SitsHere, AreSeated, AllSit, AreFirstSeats, status_of, turn_at, turn_shown}
 use Rattle.a68_world.proofs.Behind.{now, many_seats}
 use Rattle.a68_world.proofs.Entering.{RoomAfter, RoomBehind, does-room}
 use Rattle.a68_world.proofs.Outcomes.{number_of}
@@ -67,14 +67,14 @@ forks-go store entrances e = by (nat_lt most_strands (store.strands + length ent
 -- ---- the beginning
 
 -- what the code makes at the start
-pub record Made (code : Code) (fuel : ℕ) (journal : Vec Entry Global) (store : Store) (seats : Vec Seat Global) (end : Option End) : Type 0 where
+pub record Made (code : Code) (fuel : ℕ) (journal : Logged) (store : Store) (seats : Vec Seat Global) (end : Option End) : Type 0 where
   pub items : journal.items ≡ []
-  pub room : vec_capacity journal ≡ fuel
+  pub room : journal.room ≡ fuel
   pub store_is : store ≡ opening_store
-  pub first : IsFirst code seats.items
+  pub first : AreFirstSeats code seats.items
   pub end_is : EndShown seats.items store end
 
-module _ (code : Code) (fuel : ℕ) (journal : Vec Entry Global) (store : Store) (seats : Vec Seat Global) (end : Option End) (m : Made code fuel journal store seats end) where
+module _ (code : Code) (fuel : ℕ) (journal : Logged) (store : Store) (seats : Vec Seat Global) (end : Option End) (m : Made code fuel journal store seats end) where
   abbrev pub made_run : Inside
   made_run = record { code = code; fuel = fuel; journal = journal; store = store; seats = seats; waits_below = 0; lost = false; end = end }
 
@@ -106,7 +106,7 @@ module _ (code : Code) (fuel : ℕ) (journal : Vec Entry Global) (store : Store)
   made-end : EndsWithoutTurn code (opening code) end
   made-end = end_seen code (opening code) seats.items end made-seated made-sit (ap (λ l. length l) m.first.1) (rw m.store_is at m.end_is)
 
-  pub made_is : Begins code fuel (run_of made_run)
+  pub made_is : RunBegins code fuel (run_of made_run)
   made_is = record {
     is =
         ap (λ (es : List Entry). record { code = code; fuel = fuel; entries = es; status = map status_of seats.items; lost = false; end = end }) m.items
@@ -345,7 +345,7 @@ ends_seat s n seat.Spent full found sound ready goes there by e =
 -- ---- the end
 
 pub finish_is : (s : Inside) (e : End) (kept : Kept) → IsSound s → s.end ≡ Some e → kept.end ≡ e → kept.journal.entries ≡ s.journal.items → kept.journal.text ≡ s.store.text
-    → kept.cells ≡ s.store.cells → kept.outer ≡ outer_slots s.store → Finishes (run_of s) s.code kept
+    → kept.cells ≡ s.store.cells → kept.outer ≡ outer_slots s.store → FinishesRun (run_of s) s.code kept
 finish_is s e kept sound ended end entries text cells outer =
     let ends : RunEndsWith s.code s.fuel s.journal.items (now s) e = subst (λ (o : Option End). IfSome o (RunEndsWith s.code s.fuel s.journal.items (now s))) ended sound.run.ended in
     record {

@@ -27,7 +27,7 @@ use Rattle.a68_values.specs.declared.act.FaultKind.{FaultKind}
 use Rattle.a68_values.specs.declared.act.FaultKind.TheVariants as fault
 use Rattle.a68_values.specs.declared.act.Entry.{Entry}
 use Rattle.a68_values.specs.declared.held.Held.{Held}
-use Rattle.a68_world.specs.Run.{Run, IsRun, world}
+use Rattle.a68_world.specs.Run.{Run, IsSoundRun, world}
 use Rattle.a68_world.specs.Scopes.{FramesBelow, WantBelow, StanceBelow, StateBelow}
 use Rattle.a68_world.proofs.Entering.{RoomAfter, RoomBehind, does-room}
 use Rattle.a68_world.proofs.Places.{get_mapped, length_map, parted, set_parted}
@@ -279,7 +279,7 @@ steady-goes code count w v (e ∷ es) s runs =
     subst (λ (k : ℕ). Steady code k v) (omega arith)
     (steady-next code count w v e.strand e.act es (acted code w e.strand) refl s (λ b t r. steady-goes code (suc count) b v es t r) runs)
 
-pub steady_run : (run : Run) → IsRun run → Steady run.code (length run.entries) (world run)
+pub steady_run : (run : Run) → IsSoundRun run → Steady run.code (length run.entries) (world run)
 steady_run run r =
     subst (λ (k : ℕ). Steady run.code k (world run)) (omega arith) (steady-goes run.code 0 (opening run.code) (world run) run.entries (steady_opening run.code) r.runs)
 

@@ -1,5 +1,5 @@
 -- A strand of a run that is told a reply and finds no memory.
-use Rattle.std.proofs.Common.{◌≡◌, ◌∙◌, ◌⊎◌, inl, inr, ℕ, suc, ◌+◌, arith, Bool, true, false, length, refl, ap, sym, subst, true≢false}
+use Rattle.std.proofs.Common.{◌≡◌, ◌⊎◌, inl, inr, ℕ, suc, ◌+◌, arith, Bool, true, false, length, refl, ap, sym, subst, true≢false}
 use Rattle.std.proofs.lemmas.Option.{get_or_from_slice_get, slice_get_within}
 use Rattle.a68_acts.specs.declared.want.Reply.{Reply}
 use Rattle.a68_acts.specs.declared.want.Want.{Want}
@@ -19,7 +19,7 @@ use Rattle.a68_instructions.specs.declared.ask.Waiting.TheVariants as waiting
 use Rattle.a68_strand.proofs.Rooms.{told_idle}
 use Rattle.a68_strand.specs.Strands.{TellsNot, standing}
 use Rattle.a68_strand.specs.declared.strand.Strand.{Strand}
-use Rattle.a68_world.specs.Run.{IsRun, Run, world}
+use Rattle.a68_world.specs.Run.{IsSoundRun, Run, world}
 use Rattle.a68_world.specs.Seats.{Sits}
 
 -- a strand that is told plainly enters no routine
@@ -27,7 +27,7 @@ makes_none : (wait : Waiting) (r : Reply) (least room : ℕ) → told_plainly wa
 makes_none (waiting.Entered text ps) r least room e = absurd (true≢false (sym e))
 makes_none _ r least room e = tt
 
-module _ (run : Run) (sound : IsRun run) (n : ℕ) (strand : Strand) (sits : Sits run.code (world run).strands n strand) where
+module _ (run : Run) (sound : IsSoundRun run) (n : ℕ) (strand : Strand) (sits : Sits run.code (world run).strands n strand) where
   -- the strand has as many items as a way through the code comes to its place with
   fits : Fits run.code (standing strand)
   fits =

@@ -1,8 +1,7 @@
 -- Inner: the headline does not rest on this file.
 -- The run as the code keeps it.
 use Rattle.std.specs.Prelude.{◌≡◌, ◌≤◌, map}
-use Rattle.std.specs.Vec.{vec_capacity}
-use Rattle.a68_world.specs.Run.{Run, IsRun, world}
+use Rattle.a68_world.specs.Run.{Run, IsSoundRun, world}
 use Rattle.a68_world.specs.Seats.{AreSeated, status_of}
 use Rattle.a68_world.specs.Waking.{WaitBelow}
 use Rattle.a68_world.specs.declared.world.World.TheInside.{Inside}
@@ -11,9 +10,9 @@ abbrev pub run_of : Inside → Run
 run_of s = record { code = s.code; fuel = s.fuel; entries = s.journal.items; status = map status_of s.seats.items; lost = s.lost; end = s.end }
 
 pub record IsSound (s : Inside) : Type 0 where
-  pub run : IsRun (run_of s)
+  pub run : IsSoundRun (run_of s)
   -- there is room for as many entries as there is fuel
-  pub room : s.fuel ≤ vec_capacity s.journal
+  pub room : s.fuel ≤ s.journal.room
   pub store : s.store ≡ (world (run_of s)).store
   -- each strand that is not spent stands as the machine has it
   pub seats : AreSeated s.code (world (run_of s)).strands s.seats.items

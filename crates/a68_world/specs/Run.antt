@@ -51,7 +51,7 @@ EndsWithoutTurn code w None = (HasEnded w 0 → ⊥) × ((n : ℕ) × HasTurn co
 EndsWithoutTurn code w _ = ⊥
 
 -- what is known of every run
-pub record IsRun (run : Run) : Type 0 where
+pub record IsSoundRun (run : Run) : Type 0 where
   pub valid : IsValid run.code
   pub short : length run.code.list < 2 ^ 32
   pub some_fuel : 1 ≤ run.fuel
@@ -68,6 +68,6 @@ pub record IsRun (run : Run) : Type 0 where
   pub spent : (k : ℕ) → IsNumber run k Spent → run.lost ≡ true
 
 -- a run that is yet to begin, where no event is needed with its end
-pub record Begins (code : Code) (fuel : ℕ) (run : Run) : Type 0 where
+pub record RunBegins (code : Code) (fuel : ℕ) (run : Run) : Type 0 where
   pub is : run ≡ record { code = code; fuel = fuel; entries = []; status = Home ∷ []; lost = false; end = run.end }
   pub ends : EndsWithoutTurn code (opening code) run.end

@@ -47,8 +47,8 @@ abbrev pub AllSit : Code → List State → List Seat → Type 0
 AllSit code strands seats = (k : ℕ) (x : Seat) → slice_get seats k ≡ Some x → SitsHere code strands k x
 
 -- the seats of a run that is yet to begin
-abbrev pub IsFirst : Code → List Seat → Type 0
-IsFirst code seats =
+abbrev pub AreFirstSeats : Code → List Seat → Type 0
+AreFirstSeats code seats =
     (strand : Strand) × (seats ≡ seat.Home strand ∷ []) × HasSettled code (beginning 0 (record { frame = 0; scope = 0 } ∷ [])) strand × (strand.number ≡ 0) × IsRoomy code strand.body
 
 -- the place of the construct at whose instruction the strand stands

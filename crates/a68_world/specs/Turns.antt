@@ -174,7 +174,7 @@ abbrev pub last_strand : List Entry → ℕ
 last_strand entries = option_map_or (λ e. e.strand) (slice_get entries (length entries - 1)) 0
 
 -- what is kept of a run that has ended is a run of its code, with its journal and its end
-pub record Finishes (run : Run) (handed : Code) (kept : Kept) : Type 0 where
+pub record FinishesRun (run : Run) (handed : Code) (kept : Kept) : Type 0 where
   pub code : handed ≡ run.code
   pub entries : kept.journal.entries ≡ run.entries
   pub end : run.end ≡ Some kept.end

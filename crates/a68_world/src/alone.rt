@@ -1,8 +1,7 @@
 //! Turns of a strand that is alone, one after the other.
 ghost use Rattle.std.specs.Prelude.{◌≡◌, ◌<◌, ◌≤◌, ◌^◌, length, IfOk, MatchBool, OnErr, OnOk};
-ghost use Rattle.std.specs.Vec.{vec_capacity};
 ghost use Rattle.a68_world.specs.Alone.{GoneAlone, IsLonger, IsLostBehind, NothingAhead};
-ghost use Rattle.a68_world.specs.AloneAt.{GoesAt, NoneAheadAt, RestsAt, StopsAt};
+ghost use Rattle.a68_world.specs.AloneAt.{GoesAt, NoneAheadAt, RestsAt, SeatStopsAt};
 
 use crate::World;
 use crate::seat::{Seat, spend};
@@ -11,7 +10,7 @@ use a68_alone::go_alone;
 use a68_base::NoMemory;
 use a68_code::Code;
 use a68_store::Store;
-use a68_values::Entry;
+use a68_values::Log;
 use std::alloc::Global;
 
 // The strand at this seat, which is the only one, goes on. Tells whether it did; where it finds no memory it is spent.
@@ -20,20 +19,20 @@ fn go_at(
     code: &Code,
     fuel: u32,
     store: &mut Store,
-    journal: &mut Vec<Entry>,
+    journal: &mut Log,
     seat: &mut Seat,
 ) -> Result<bool, NoMemory>
     requires few { length code.now.list < 2 ^ 32 }
     requires rests { RestsAt code.now seat.old }
-    requires room { fuel ≤ vec_capacity journal.old }
+    requires room { fuel ≤ journal.old.room }
     requires within { length journal.old.items ≤ fuel }
-    ensures room { fuel ≤ vec_capacity journal.new }
+    ensures room { fuel ≤ journal.new.room }
     ensures within { length journal.new.items ≤ fuel }
     ensures went { IfOk result (λ any. MatchBool any
         (GoesAt code.now store.old seat.old journal.old.items journal.new.items store.new seat.new)
         ((seat.new ≡ seat.old) × (store.new ≡ store.old) × (journal.new.items ≡ journal.old.items))) }
     ensures ahead { OnOk result (NoneAheadAt fuel (length journal.new.items) store.new seat.new) }
-    ensures stops { OnErr result (StopsAt code.now store.old seat.old journal.old.items journal.new.items store.new seat.new) }
+    ensures stops { OnErr result (SeatStopsAt code.now store.old seat.old journal.old.items journal.new.items store.new seat.new) }
     ensures more { OnErr result (length journal.old.items < length journal.new.items) }
 {
     let Seat::Home(strand) = seat else {

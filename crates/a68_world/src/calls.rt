@@ -1,6 +1,5 @@
 //! The calls of a world.
 ghost use Rattle.std.specs.Prelude.{◌≡◌, [], ◌∷◌, ◌++◌, ◌<◌, ◌≤◌, ◌^◌, ◌↔◌, ℕ, length, Some, None, IfOk, IfSome, IsNone, MatchBool, MatchOption, MatchResult};
-ghost use Rattle.std.specs.Vec.{vec_len, vec_capacity};
 ghost use Rattle.a68_acts.specs.Store.{opening_store};
 ghost use Rattle.a68_code.specs.Valid.{IsValid};
 ghost use Rattle.a68_heights.specs.Room.{IsRoomy};
@@ -8,9 +7,9 @@ ghost use Rattle.a68_strand.specs.Cyclic.{IsFirstBehind};
 ghost use Rattle.a68_instructions.specs.Machine.{beginning};
 ghost use Rattle.a68_strand.specs.Strands.{HasSettled};
 ghost use Rattle.a68_world.specs.Ending.{EndShown};
-ghost use Rattle.a68_world.specs.Run.{IsRun, Begins, most_fuel};
-ghost use Rattle.a68_world.specs.Seats.{IsFirst, place_at};
-ghost use Rattle.a68_world.specs.Turns.{GoesOn, IsReady, EndsAt, IsDue, IsOtherDue, TurnOf, IsAble, Finishes, last_strand};
+ghost use Rattle.a68_world.specs.Run.{IsSoundRun, RunBegins, most_fuel};
+ghost use Rattle.a68_world.specs.Seats.{AreFirstSeats, place_at};
+ghost use Rattle.a68_world.specs.Turns.{GoesOn, IsReady, EndsAt, IsDue, IsOtherDue, TurnOf, IsAble, FinishesRun, last_strand};
 
 use crate::deed::Deed;
 use crate::seat::Seat;
@@ -23,7 +22,7 @@ use a68_base::NoMemory;
 use a68_code::Code;
 use a68_store::Store;
 use a68_strand::Strand;
-use a68_values::{Act, Chain, End, Entries, Entry, Environ, Journal, Kept};
+use a68_values::{Act, Chain, End, Entries, Entry, Environ, Journal, Kept, Log};
 use std::alloc::Global;
 
 // The frame of the standard environ.
@@ -36,9 +35,7 @@ fn first_strand(alloc: Global, code: &Code) -> Result<Strand, NoMemory>
     ensures number { IfOk result (λ strand. strand.number ≡ 0) }
     ensures room { IfOk result (λ strand. IsRoomy code.now strand.body) }
 {
-    let chain = Chain {
-        items: vec![in alloc; STANDARD]?,
-    };
+    let chain = Chain::of_one(alloc, STANDARD)?;
     let strand = Strand::begin(alloc, code, 0, 0, chain)?;
     Ok(strand)
 }
@@ -46,7 +43,7 @@ fn first_strand(alloc: Global, code: &Code) -> Result<Strand, NoMemory>
 // The seats of a run that is yet to begin.
 fn first_seats(alloc: Global, code: &Code) -> Result<Vec<Seat>, NoMemory>
     requires short { length code.now.list < 2 ^ 32 }
-    ensures { IfOk result (λ seats. IsFirst code.now seats.items) }
+    ensures { IfOk result (λ seats. AreFirstSeats code.now seats.items) }
 {
     let strand = first_strand(alloc, code)?;
     let mut seats = Vec::new(alloc);
@@ -55,31 +52,35 @@ fn first_seats(alloc: Global, code: &Code) -> Result<Vec<Seat>, NoMemory>
 }
 
 // The journal, the store and the seats of a run that is yet to begin.
-fn parts(alloc: Global, code: &Code, fuel: u32) -> Result<(Vec<Entry>, Store, Vec<Seat>), NoMemory>
+fn parts(alloc: Global, code: &Code, fuel: u32) -> Result<(Log, Store, Vec<Seat>), NoMemory>
     requires short { length code.now.list < 2 ^ 32 }
     ensures empty { IfOk result (λ parts. parts.0.items ≡ []) }
-    ensures room { IfOk result (λ parts. vec_capacity parts.0 ≡ fuel) }
+    ensures room { IfOk result (λ parts. parts.0.room ≡ fuel) }
     ensures store { IfOk result (λ parts. parts.1 ≡ opening_store) }
-    ensures seats { IfOk result (λ parts. IsFirst code.now parts.2.items) }
+    ensures seats { IfOk result (λ parts. AreFirstSeats code.now parts.2.items) }
 {
-    let journal = Vec::with_capacity(alloc, fuel as usize)?;
+    let journal = Log::with_room(alloc, fuel)?;
     let store = Store::new(alloc)?;
     let seats = first_seats(alloc, code)?;
     Ok((journal, store, seats))
 }
 
 // An entry of a strand in the journal, which has room for it.
-fn note(journal: &mut Vec<Entry>, strand: u32, act: Act)
-    requires { vec_len journal.old < vec_capacity journal.old }
+fn note(journal: &mut Log, strand: u32, act: Act)
+    requires { length journal.old.items < journal.old.room }
     ensures items { journal.new.items ≡ journal.old.items ++ record { strand = strand; act = act } ∷ [] }
-    ensures room { vec_capacity journal.old ≤ vec_capacity journal.new }
+    ensures room { journal.old.room ≤ journal.new.room }
 {
-    let _ = journal.push(Entry { strand, act });
+    if strand == 0 {
+        journal.note(act);
+    } else {
+        journal.note_apart(Entry { strand, act });
+    }
 }
 
 // Has the journal as many entries as there is fuel?
 #[inline(always)]
-fn is_full(journal: &Vec<Entry>, fuel: u32) -> bool
+fn is_full(journal: &Log, fuel: u32) -> bool
     ensures { MatchBool result (fuel ≤ length journal.now.items) (length journal.now.items < fuel) }
 {
     journal.len() >= fuel as usize
@@ -113,7 +114,7 @@ impl World {
         requires short { length code.list < 2 ^ 32 }
         requires some_fuel { 1 ≤ fuel }
         requires little_fuel { fuel ≤ most_fuel }
-        ensures { IfOk result (Begins code fuel) }
+        ensures { IfOk result (RunBegins code fuel) }
     {
         match parts(alloc, &code, fuel) {
             Ok((journal, store, seats)) => {
@@ -266,7 +267,7 @@ impl World {
     pub fn last(&self) -> u32
         ensures { result ≡ last_strand self.now.entries }
     {
-        match self.journal.last() {
+        match self.journal.get(self.journal.len().saturating_sub(1)) {
             None => 0,
             Some(entry) => entry.strand,
         }
@@ -289,7 +290,7 @@ impl World {
     /// The code of the run, and what is known of every run.
     pub fn code(&self) -> &Code
         ensures code { result.now ≡ self.now.code }
-        ensures known { IsRun self.now }
+        ensures known { IsSoundRun self.now }
     {
         &self.code
     }
@@ -303,7 +304,7 @@ impl World {
 
     /// The code, and what is kept of the run, where it has ended; else the run as it is. It takes no memory.
     pub fn finish(self) -> Result<(Code, Kept), World>
-        ensures { MatchResult result (λ done. Finishes self done.0 done.1) (λ world. (self.end ≡ None) × (world ≡ self)) }
+        ensures { MatchResult result (λ done. FinishesRun self done.0 done.1) (λ world. (self.end ≡ None) × (world ≡ self)) }
     {
         let Some(end) = self.end else {
             return Err(self);
@@ -318,7 +319,7 @@ impl World {
         drop(seats);
         let (cells, outer, text) = store.into_kept();
         let journal = Journal {
-            entries: Entries { items: journal },
+            entries: Entries::of(journal),
             text,
         };
         let kept = Kept {

@@ -3,7 +3,7 @@ ghost use Rattle.std.specs.Prelude.{◌≡◌, ◌<◌, ◌≤◌, ◌+◌, ◌+
 ghost use Rattle.std.specs.Option.{option_map_or};
 ghost use Rattle.std.specs.Vec.{vec_len, vec_capacity};
 ghost use Rattle.a68_stack.specs.Room.{has_room};
-ghost use Rattle.a68_world.specs.Stepping.{IsUnit, AreUnits, AreUnitsAt, AsksOther, AsksOtherAt, FewUnitsAt, units_asked, units_at, units_begun};
+ghost use Rattle.a68_world.specs.Stepping.{IsNewSeat, AreUnits, AreUnitsAt, AsksOther, AsksOtherAt, FewUnitsAt, units_asked, units_at, units_begun};
 
 use crate::seat::Seat;
 use a68_acts::Want;
@@ -32,15 +32,6 @@ fn units_asked<'a>(ask: &'a Ask, store: &Store) -> Option<&'a Entrances>
     }
 }
 
-// An equal chain.
-fn copy(alloc: Global, chain: &Chain) -> Result<Chain, NoMemory>
-    ensures { IfOk result (λ copy. copy ≡ chain.now) }
-{
-    let mut items = Vec::new(alloc);
-    items.extend_from_slice(&chain.items)?;
-    Ok(Chain { items })
-}
-
 // A unit begins at its entrance.
 fn begin_unit(
     alloc: Global,
@@ -51,9 +42,9 @@ fn begin_unit(
 ) -> Result<Seat, NoMemory>
     requires few { length code.now.list < 2 ^ 32 }
     requires room { IsTrue (has_room chain.now) }
-    ensures { IfOk result (IsUnit code.now (units_at code.now chain.now (entrance ∷ [])) number 0) }
+    ensures { IfOk result (IsNewSeat code.now (units_at code.now chain.now (entrance ∷ [])) number 0) }
 {
-    let chain = copy(alloc, chain)?;
+    let chain = chain.copy(alloc)?;
     let strand = Strand::begin(alloc, code, number, entrance, chain)?;
     Ok(Seat::Home(strand))
 }

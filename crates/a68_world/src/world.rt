@@ -2,7 +2,7 @@
 use crate::seat::Seat;
 use a68_code::Code;
 use a68_store::Store;
-use a68_values::{End, Entry};
+use a68_values::{End, Log};
 use std::marker::Model;
 
 /// A run: its code and its fuel, the journal of what was done, the store and the strands, and the end where the run has
@@ -12,7 +12,7 @@ pub struct World {
     pub(crate) code: Code,
     // The most entries that the journal may have.
     pub(crate) fuel: u32,
-    pub(crate) journal: Vec<Entry>,
+    pub(crate) journal: Log,
     pub(crate) store: Store,
     pub(crate) seats: Vec<Seat>,
     // The strands that wait for units have smaller numbers.

@@ -20,7 +20,7 @@ use Rattle.a68_modes.specs.declared.coercion.Sort.TheVariants as by
 use Rattle.a68_modes.specs.declared.shape.Shape.{Shape}
 use Rattle.a68_ranges.specs.Nodes.{kind_at, name_at, parts_at}
 use Rattle.a68_tree.specs.Trees.{Built}
-use Rattle.a68_yields.specs.Below.{IsFindingBelow, IsSoughtBelow, IsWantBelow}
+use Rattle.a68_yields.specs.Below.{IsFindingBelow, IsSoughtBelow, IsExpectationBelow}
 use Rattle.a68_yields.specs.Found.{IsFound, IsModeFound, IsNameFound, IsOperatorFound, for_nothing, for_operand, for_operands, for_part, for_sides, for_unknown_operand, for_unknown_operands, for_unknown_part, for_unknown_sides}
 use Rattle.a68_yields.specs.Leaves.{AllHaveLeaves, HasLeaves, HasNoLeaves, and_more, chosen, handed, is_open, left_out, no_more, one, several, yield_at}
 use Rattle.a68_yields.specs.declared.sought.Sought.{Sought}
@@ -181,7 +181,7 @@ module _ (nodes : List Shape) where
 -- ---- what is found is there
 
 module _ (tree : Built) (nodes : List Shape) (of : ByNode) (ys : List Yielding) (n : ℕ) (many : 13 ≤ length nodes) where
-  mode_there : (s : Sort) (w : Expectation) (leaves : List Leaf) (found : Option ℕ) → IsWantBelow (length nodes) w → IsModeFound nodes s w leaves found → IsFindingBelow (length nodes) (finding.Mode found)
+  mode_there : (s : Sort) (w : Expectation) (leaves : List Leaf) (found : Option ℕ) → IsExpectationBelow (length nodes) w → IsModeFound nodes s w leaves found → IsFindingBelow (length nodes) (finding.Mode found)
   mode_there s w leaves None below is = tt
   mode_there s (want.Mode m) leaves (Some x) below is = subst (λ i. i < length nodes) (sym is.0) below
   mode_there s (want.ModeForm f) leaves (Some x) below is = is.2.there

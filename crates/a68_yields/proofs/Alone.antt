@@ -21,9 +21,9 @@ use Rattle.a68_yields.proofs.Tabling.{tables_begun, tables_more}
 use Rattle.a68_yields.proofs.Telling.{told_below}
 use Rattle.a68_yields.specs.Below.{AreTablesBelow, IsFindingBelow, IsSoughtBelow, IsToldBelow, IsYieldingBelow}
 use Rattle.a68_yields.specs.Found.{IsFound}
-use Rattle.a68_yields.specs.Parts.{IsNamedPart, IsPart, IsRowPart}
+use Rattle.a68_yields.specs.Parts.{IsNamedPart, IsModeOfPart, IsRowPart}
 use Rattle.a68_yields.specs.Sought.{sought_at}
-use Rattle.a68_yields.specs.Yields.{AreYieldsFrom, IsYield, Known, none_yet, one_more, told}
+use Rattle.a68_yields.specs.Yields.{AreYieldsFrom, IsToldYield, Known, none_yet, one_more, told}
 use Rattle.a68_yields.specs.declared.parts.Part.{Part}
 use Rattle.a68_yields.specs.declared.told.Told.{Told}
 use Rattle.a68_yields.specs.declared.told.Told.TheVariants as tell
@@ -41,7 +41,7 @@ named_longer : (nodes after : List Shape) (named : Truth) (of m : ℕ) → IsNam
 named_longer nodes after false of m p = same_longer nodes after p.0
 named_longer nodes after true of m p = let k = shape_keeps nodes after (Ref of) m p in record { long = k.longer; kept = k.kept }
 
-part_longer : (nodes after : List Shape) (part : Part) (m : ℕ) → IsPart nodes part after m → AreLonger nodes after
+part_longer : (nodes after : List Shape) (part : Part) (m : ℕ) → IsModeOfPart nodes part after m → AreLonger nodes after
 part_longer nodes after part m p =
     longer_on nodes p.between after (row_longer nodes p.between part.dims (part.flex && not part.named) part.of p.row p.row_is) (named_longer p.between after part.named p.row m p.is)
 
@@ -69,16 +69,16 @@ named_sound nodes after false of m sound few h p = subst AreSound (sym p.0) soun
 named_sound nodes after true of m sound few h p = name_sound nodes after of m sound few h p
 
 module _ (nodes : List Shape) (sound : AreSound nodes) (part : Part) (there : part.of < length nodes) (small : part.dims < 2 ^ 32) where
-  between_sound : (after : List Shape) (m : ℕ) → length after ≤ MOST_MODES → (p : IsPart nodes part after m) → AreSound p.between
+  between_sound : (after : List Shape) (m : ℕ) → length after ≤ MOST_MODES → (p : IsModeOfPart nodes part after m) → AreSound p.between
   between_sound after m few p =
       let l = (named_longer p.between after part.named p.row m p.is).long in
       row_part_sound nodes p.between part.dims (part.flex && not part.named) part.of p.row sound (omega arith) small there p.row_is
 
-  part_sound : (after : List Shape) (m : ℕ) → length after ≤ MOST_MODES → IsPart nodes part after m → AreSound after
+  part_sound : (after : List Shape) (m : ℕ) → length after ≤ MOST_MODES → IsModeOfPart nodes part after m → AreSound after
   part_sound after m few p =
       named_sound p.between after part.named p.row m (between_sound after m few p) few (row_there nodes p.between part.dims (part.flex && not part.named) part.of p.row there p.row_is) p.is
 
-  part_one : (after other : List Shape) (m next : ℕ) → length after ≤ MOST_MODES → IsPart nodes part after m → IsPart nodes part other next → (after ≡ other) × (m ≡ next)
+  part_one : (after other : List Shape) (m next : ℕ) → length after ≤ MOST_MODES → IsModeOfPart nodes part after m → IsModeOfPart nodes part other next → (after ≡ other) × (m ≡ next)
   part_one after other m next few p q =
       let same = row_part_one nodes q.between p.between part.dims (part.flex && not part.named) part.of q.row p.row sound there q.row_is p.row_is in
       named_one p.between after other part.named p.row m next (between_sound after m few p) p.is
@@ -86,16 +86,16 @@ module _ (nodes : List Shape) (sound : AreSound nodes) (part : Part) (there : pa
 
 -- ---- a yield
 
-yield_longer : (nodes after : List Shape) (t : Told) (y : Yielding) → IsYield nodes t after y → AreLonger nodes after
+yield_longer : (nodes after : List Shape) (t : Told) (y : Yielding) → IsToldYield nodes t after y → AreLonger nodes after
 yield_longer nodes after (tell.Yields x) y p = same_longer nodes after p.0
 yield_longer nodes after (tell.PartOf part) y p = part_longer nodes after part p.0 p.1
 
-yield_sound : (nodes after : List Shape) (t : Told) (y : Yielding) → AreSound nodes → length after ≤ MOST_MODES → IsPartTold (length nodes) t → IsYield nodes t after y → AreSound after
+yield_sound : (nodes after : List Shape) (t : Told) (y : Yielding) → AreSound nodes → length after ≤ MOST_MODES → IsPartTold (length nodes) t → IsToldYield nodes t after y → AreSound after
 yield_sound nodes after (tell.Yields x) y sound few there p = subst AreSound (sym p.0) sound
 yield_sound nodes after (tell.PartOf part) y sound few there p = part_sound nodes sound part there.0 there.1 after p.0 few p.1
 
-yield_one : (nodes after other : List Shape) (t : Told) (y z : Yielding) → AreSound nodes → length after ≤ MOST_MODES → IsPartTold (length nodes) t → IsYield nodes t after y
-    → IsYield nodes t other z → (after ≡ other) × (y ≡ z)
+yield_one : (nodes after other : List Shape) (t : Told) (y z : Yielding) → AreSound nodes → length after ≤ MOST_MODES → IsPartTold (length nodes) t → IsToldYield nodes t after y
+    → IsToldYield nodes t other z → (after ≡ other) × (y ≡ z)
 yield_one nodes after other (tell.Yields x) y z sound few there p q = (p.0 ∙ sym q.0, p.1 ∙ sym q.1)
 yield_one nodes after other (tell.PartOf part) y z sound few there p q =
     let same = part_one nodes sound part there.0 there.1 after other p.0 q.0 few p.1 q.1 in
@@ -137,19 +137,19 @@ module _ (k : Known) (start : List Shape) where
     -- one node more, behind the same
     one_step : (n : ℕ) (before nodes others : List Shape) (those : List Yielding) (found next : Finding) (y z : Yielding) (noted : List Finding) (ys zs : List Yielding) (fs gs : List Finding)
         → AreSound before → length nodes ≤ MOST_MODES
-        → IsFound k.tree before k.of those n (sought_at k.tree k.tags n) found → IsYield before (told k before those n found (kind_at k.tree n)) nodes y → ys ≡ slice_set those n y → fs ≡ slice_set noted n found
-        → IsFound k.tree before k.of those n (sought_at k.tree k.tags n) next → IsYield before (told k before those n next (kind_at k.tree n)) others z → zs ≡ slice_set those n z → gs ≡ slice_set noted n next
+        → IsFound k.tree before k.of those n (sought_at k.tree k.tags n) found → IsToldYield before (told k before those n found (kind_at k.tree n)) nodes y → ys ≡ slice_set those n y → fs ≡ slice_set noted n found
+        → IsFound k.tree before k.of those n (sought_at k.tree k.tags n) next → IsToldYield before (told k before those n next (kind_at k.tree n)) others z → zs ≡ slice_set those n z → gs ≡ slice_set noted n next
         → AreSame nodes others ys zs fs gs
     one_step n before nodes others those found next y z noted ys zs fs gs good few is yield e f at given g h =
         let same : next ≡ found = found_one before good k.tree k.of n those at is refl in
         let one = yield_one before nodes others (told k before those n found (kind_at k.tree n)) y z good few (told_there n before those found good is) yield
-        (subst (λ x. IsYield before (told k before those n x (kind_at k.tree n)) others z) same given) in
+        (subst (λ x. IsToldYield before (told k before those n x (kind_at k.tree n)) others z) same given) in
         record { modes = one.0; yields_are = e ∙ ap (λ x. slice_set those n x) one.1 ∙ sym g; findings = f ∙ ap (λ x. slice_set noted n x) (sym same) ∙ sym h }
 
     moved_on : (n at : ℕ) (before other nodes : List Shape) (those ones : List Yielding) (noted marked gs : List Finding) (next : Finding) (z : Yielding) (zs : List Yielding) → n ≡ at
         → AreSame before other those ones noted marked
-        → IsFound k.tree other k.of ones at (sought_at k.tree k.tags at) next → IsYield other (told k other ones at next (kind_at k.tree at)) nodes z → zs ≡ slice_set ones at z → gs ≡ slice_set marked at next
-        → IsFound k.tree before k.of those n (sought_at k.tree k.tags n) next × IsYield before (told k before those n next (kind_at k.tree n)) nodes z × (zs ≡ slice_set those n z) × (gs ≡ slice_set noted n next)
+        → IsFound k.tree other k.of ones at (sought_at k.tree k.tags at) next → IsToldYield other (told k other ones at next (kind_at k.tree at)) nodes z → zs ≡ slice_set ones at z → gs ≡ slice_set marked at next
+        → IsFound k.tree before k.of those n (sought_at k.tree k.tags n) next × IsToldYield before (told k before those n next (kind_at k.tree n)) nodes z × (zs ≡ slice_set those n z) × (gs ≡ slice_set noted n next)
     moved_on n at before other nodes those ones noted marked gs next z zs e same is yield f g = rw (e, same.modes, same.yields_are, same.findings) (is, yield, f, g)
 
     pub one_run : {from at : ℕ} {nodes others : List Shape} {ys zs : List Yielding} {fs gs : List Finding} → AreYieldsFrom k start from nodes ys fs → AreYieldsFrom k start at others zs gs
@@ -172,11 +172,11 @@ named_there : (nodes after : List Shape) (named : Truth) (of m : ℕ) → of < l
 named_there nodes after false of m h p = rw (p.0, p.1) h
 named_there nodes after true of m h p = (shape_keeps nodes after (Ref of) m p).there
 
-part_there : (nodes after : List Shape) (part : Part) (m : ℕ) → part.of < length nodes → IsPart nodes part after m → m < length after
+part_there : (nodes after : List Shape) (part : Part) (m : ℕ) → part.of < length nodes → IsModeOfPart nodes part after m → m < length after
 part_there nodes after part m h p =
     named_there p.between after part.named p.row m (row_there nodes p.between part.dims (part.flex && not part.named) part.of p.row h p.row_is) p.is
 
-yield_below : (nodes after : List Shape) (count n : ℕ) (t : Told) (y : Yielding) → IsToldBelow (length nodes) count n t → IsYield nodes t after y → IsYieldingBelow (length after) count n y
+yield_below : (nodes after : List Shape) (count n : ℕ) (t : Told) (y : Yielding) → IsToldBelow (length nodes) count n t → IsToldYield nodes t after y → IsYieldingBelow (length after) count n y
 yield_below nodes after count n (tell.Yields x) y below p = rw (p.0, p.1) below
 yield_below nodes after count n (tell.PartOf part) y below p = rw p.2 (part_there nodes after part p.0 below p.1)
 
@@ -208,7 +208,7 @@ named_keeps : (nodes after : List Shape) (named : Truth) (of m : ℕ) → AreSou
 named_keeps nodes after false of m sound h p = same_keeps nodes after p.0
 named_keeps nodes after true of m sound h p = name_keeps_node nodes after of m sound h p
 
-part_keeps : (nodes after : List Shape) (part : Part) (m : ℕ) → AreSound nodes → length after ≤ MOST_MODES → part.of < length nodes → part.dims < 2 ^ 32 → IsPart nodes part after m
+part_keeps : (nodes after : List Shape) (part : Part) (m : ℕ) → AreSound nodes → length after ≤ MOST_MODES → part.of < length nodes → part.dims < 2 ^ 32 → IsModeOfPart nodes part after m
     → KeepNodes nodes after
 part_keeps nodes after part m sound few there small p =
     let l = (named_longer p.between after part.named p.row m p.is).long in
@@ -217,7 +217,7 @@ part_keeps nodes after part m sound few there small p =
     (named_keeps p.between after part.named p.row m (between_sound nodes sound part there small after m few p)
     (row_there nodes p.between part.dims (part.flex && not part.named) part.of p.row there p.row_is) p.is)
 
-yield_keeps : (nodes after : List Shape) (t : Told) (y : Yielding) → AreSound nodes → length after ≤ MOST_MODES → IsPartTold (length nodes) t → IsYield nodes t after y → KeepNodes nodes after
+yield_keeps : (nodes after : List Shape) (t : Told) (y : Yielding) → AreSound nodes → length after ≤ MOST_MODES → IsPartTold (length nodes) t → IsToldYield nodes t after y → KeepNodes nodes after
 yield_keeps nodes after (tell.Yields x) y sound few there p = same_keeps nodes after p.0
 yield_keeps nodes after (tell.PartOf part) y sound few there p = part_keeps nodes after part p.0 sound few there.0 there.1 p.1
 

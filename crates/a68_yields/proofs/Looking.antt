@@ -5,7 +5,7 @@ use Rattle.a68_modes.specs.declared.coercion.Sort.TheVariants as by
 use Rattle.a68_tree.specs.Trees.{Built}
 use Rattle.a68_tree.specs.declared.kind.NodeKind.{NodeKind}
 use Rattle.a68_tree.specs.declared.kind.NodeKind.TheVariants as kind
-use Rattle.a68_yields.specs.Below.{IsSoughtBelow, IsWantBelow}
+use Rattle.a68_yields.specs.Below.{IsSoughtBelow, IsExpectationBelow}
 use Rattle.a68_yields.specs.Sought.{asks_by, is_subscript, of_call, of_first, operands, sides, sought_by}
 use Rattle.a68_yields.specs.declared.sought.Expectation.{Expectation}
 use Rattle.a68_yields.specs.declared.sought.Expectation.TheVariants as want
@@ -13,7 +13,7 @@ use Rattle.a68_yields.specs.declared.sought.Expectation.TheVariants as want
 module _ (n : ℕ) (some : 2 < n) where
   AskedBelow : Option (Sort × Expectation) → Type 0
   AskedBelow None = Unit {0}
-  AskedBelow (Some asked) = IsWantBelow n asked.1
+  AskedBelow (Some asked) = IsExpectationBelow n asked.1
 
   asks_below : (k : NodeKind) → AskedBelow (asks_by k)
   unfolding AskedBelow

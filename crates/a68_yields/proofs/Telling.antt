@@ -4,7 +4,7 @@ use Rattle.std.specs.Prelude.{IfSome, slice_index_or}
 use Rattle.a68_definitions.specs.Defined.{AllBelow, part_from_end, part_number}
 use Rattle.a68_definitions.specs.Tags.{called_by}
 use Rattle.a68_identify.specs.declared.identified.Identified.TheVariants.{Declared, Standard}
-use Rattle.a68_modes.specs.Nodes.{HoldsNodes, IsWithin, shape_at}
+use Rattle.a68_modes.specs.Nodes.{HoldsNodes, ShapeIsWithin, shape_at}
 use Rattle.a68_modes.specs.declared.shape.Shape.{Shape}
 use Rattle.a68_modes.specs.declared.shape.Shape.TheVariants.{Ref, Rows, Struct, Proc}
 use Rattle.a68_ranges.specs.Nodes.{name_at, parts_at, spelling_at}
@@ -74,7 +74,7 @@ module _ (nodes : List Shape) (holds : HoldsNodes nodes) (many : 13 ≤ length n
   unit_fine None below = tt
   unit_fine (Some m) below = below
 
-  result_there : (s : Shape) → IsWithin (length nodes) s → IfSome (routine_result s) (λ x. x < length nodes)
+  result_there : (s : Shape) → ShapeIsWithin (length nodes) s → IfSome (routine_result s) (λ x. x < length nodes)
   result_there (Proc params m) within = last_within (length nodes) m params within
   result_there _ within = tt
 
@@ -104,11 +104,11 @@ module _ (nodes : List Shape) (holds : HoldsNodes nodes) (many : 13 ≤ length n
 
   -- ---- parts of rows and structures
 
-  row_there : (named : Bool) (s : Shape) → IsWithin (length nodes) s → IfSome (row_of named s) (λ r. r.of < length nodes)
+  row_there : (named : Bool) (s : Shape) → ShapeIsWithin (length nodes) s → IfSome (row_of named s) (λ r. r.of < length nodes)
   row_there named (Rows dims flex of) within = within 0 0 (omega arith)
   row_there named _ within = tt
 
-  rowed_there : (s : Shape) → IsWithin (length nodes) s → IfSome (rowed_by nodes s) (λ r. r.of < length nodes)
+  rowed_there : (s : Shape) → ShapeIsWithin (length nodes) s → IfSome (rowed_by nodes s) (λ r. r.of < length nodes)
   rowed_there (Ref a) within = row_there true (shape_at nodes a) (holds.within a (within 0 0 (omega arith)))
   rowed_there (Rows dims flex of) within = row_there false (Rows dims flex of) within
   rowed_there _ within = tt
@@ -133,7 +133,7 @@ module _ (nodes : List Shape) (holds : HoldsNodes nodes) (many : 13 ≤ length n
       by true rest = all 0 (omega arith)
       by false rest = rest
 
-  fields_there : (name : ℕ) (s : Shape) → IsWithin (length nodes) s → IfSome (field_mode name (fields_of s)) (λ m. m < length nodes)
+  fields_there : (name : ℕ) (s : Shape) → ShapeIsWithin (length nodes) s → IfSome (field_mode name (fields_of s)) (λ m. m < length nodes)
   fields_there name (Struct fields) within = field_there name fields (λ k h. field_within (length nodes) k fields within h)
   fields_there name _ within = tt
 
@@ -141,12 +141,12 @@ module _ (nodes : List Shape) (holds : HoldsNodes nodes) (many : 13 ≤ length n
   structure_there named dims flex m (Struct fields) there = there
   structure_there named dims flex m _ there = tt
 
-  within_there : (named : Bool) (m : ℕ) (s : Shape) → m < length nodes → IsWithin (length nodes) s → IfSome (structure_within nodes named m s) (λ x. x.node < length nodes)
+  within_there : (named : Bool) (m : ℕ) (s : Shape) → m < length nodes → ShapeIsWithin (length nodes) s → IfSome (structure_within nodes named m s) (λ x. x.node < length nodes)
   within_there named m (Rows dims flex of) there within = structure_there named dims flex of (shape_at nodes of) (within 0 0 (omega arith))
   within_there named m (Struct fields) there within = there
   within_there named m _ there within = tt
 
-  structured_there : (m : ℕ) (s : Shape) → m < length nodes → IsWithin (length nodes) s → IfSome (structured_by nodes m s) (λ x. x.node < length nodes)
+  structured_there : (m : ℕ) (s : Shape) → m < length nodes → ShapeIsWithin (length nodes) s → IfSome (structured_by nodes m s) (λ x. x.node < length nodes)
   structured_there m (Ref a) there within = let below : a < length nodes = within 0 0 (omega arith) in within_there true a (shape_at nodes a) below (holds.within a below)
   structured_there m (Rows dims flex of) there within = within_there false m (Rows dims flex of) there within
   structured_there m (Struct fields) there within = there

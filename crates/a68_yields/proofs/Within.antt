@@ -14,11 +14,11 @@ use Rattle.a68_tree.specs.Trees.{Built}
 use Rattle.a68_ranges.specs.Nodes.{name_at}
 use Rattle.a68_yields.specs.Below.{IsOperatorBelow}
 use Rattle.a68_yields.specs.Found.{IsOperatorFound}
-use Rattle.a68_modes.specs.Nodes.{HoldsNodes, IsWithin, shape_at}
+use Rattle.a68_modes.specs.Nodes.{HoldsNodes, ShapeIsWithin, shape_at}
 use Rattle.a68_modes.specs.declared.shape.Shape.{Shape}
 
-pub shape_within : (nodes : List Shape) → HoldsNodes nodes → (m : ℕ) (s : Shape) → m < length nodes → shape_at nodes m ≡ s → IsWithin (length nodes) s
-shape_within nodes holds m s h is = subst (IsWithin (length nodes)) is (holds.within m h)
+pub shape_within : (nodes : List Shape) → HoldsNodes nodes → (m : ℕ) (s : Shape) → m < length nodes → shape_at nodes m ≡ s → ShapeIsWithin (length nodes) s
+shape_within nodes holds m s h is = subst (ShapeIsWithin (length nodes)) is (holds.within m h)
 
 pub last_within : (n m : ℕ) (params : List ℕ) → All (λ x. x < n) (params ++ m ∷ []) → m < n
 last_within n m params all =

@@ -53,12 +53,12 @@ AreCollected tree ys ns old new true = (leaves : List Leaf) × AllHaveLeaves tre
 AreCollected tree ys ns old new false = (leaves : List Leaf) → AllHaveLeaves tree ys ns leaves → ⊥
 
 -- what is looked for is among the first n modes
-abbrev pub IsWantBelow : ℕ → Expectation → Type 0
-IsWantBelow n (want.Mode m) = m < n
-IsWantBelow n (want.ModeForm f) = Unit {0}
+abbrev pub IsExpectationBelow : ℕ → Expectation → Type 0
+IsExpectationBelow n (want.Mode m) = m < n
+IsExpectationBelow n (want.ModeForm f) = Unit {0}
 
 abbrev pub IsSoughtBelow : ℕ → Sought → Type 0
-IsSoughtBelow n (sought.Part by w p) = IsWantBelow n w
+IsSoughtBelow n (sought.Part by w p) = IsExpectationBelow n w
 IsSoughtBelow n s = Unit {0}
 
 -- so it is with what is told

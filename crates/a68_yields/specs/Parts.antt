@@ -65,7 +65,7 @@ IsNamedPart false nodes of after m = (after ≡ nodes) × (m ≡ of)
 IsNamedPart true nodes of after m = IsInterned nodes (Ref of) after m
 
 -- the mode of a part, among modes that may grow by it
-pub record IsPart (nodes : List Shape) (part : Part) (after : List Shape) (m : ℕ) : Type 0 where
+pub record IsModeOfPart (nodes : List Shape) (part : Part) (after : List Shape) (m : ℕ) : Type 0 where
   pub between : List Shape
   pub row : ℕ
   pub row_is : IsRowPart nodes part.dims (part.flex && not part.named) part.of between row

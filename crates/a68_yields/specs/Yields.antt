@@ -15,7 +15,7 @@ use Rattle.a68_tree.specs.declared.kind.NodeKind.{NodeKind}
 use Rattle.a68_tree.specs.declared.kind.NodeKind.TheVariants as kind
 use Rattle.a68_yields.specs.Found.{IsFound}
 use Rattle.a68_yields.specs.Leaves.{chosen, yield_at}
-use Rattle.a68_yields.specs.Parts.{IsPart, field_mode, fields_of, routine_result, rowed, structured}
+use Rattle.a68_yields.specs.Parts.{IsModeOfPart, field_mode, fields_of, routine_result, rowed, structured}
 use Rattle.a68_yields.specs.Sought.{is_subscript, sought_at}
 use Rattle.a68_yields.specs.declared.yielding.Finding.{Finding}
 use Rattle.a68_yields.specs.declared.yielding.Finding.TheVariants as finding
@@ -188,9 +188,9 @@ told k nodes ys n found kind.Dyadic = formula nodes k.defined found
 told k nodes ys n found _ = unknown
 
 -- the yield, among modes that may grow by it
-abbrev pub IsYield : List Shape → Told → List Shape → Yielding → Type 0
-IsYield nodes (tell.Yields y) after yielding = (after ≡ nodes) × (yielding ≡ y)
-IsYield nodes (tell.PartOf part) after yielding = (m : ℕ) × IsPart nodes part after m × (yielding ≡ yields.Unit (leaf.Mode m))
+abbrev pub IsToldYield : List Shape → Told → List Shape → Yielding → Type 0
+IsToldYield nodes (tell.Yields y) after yielding = (after ≡ nodes) × (yielding ≡ y)
+IsToldYield nodes (tell.PartOf part) after yielding = (m : ℕ) × IsModeOfPart nodes part after m × (yielding ≡ yields.Unit (leaf.Mode m))
 
 -- The yields of the nodes from one on, what is found at them, and all modes once these are known, which began as `start`. Nodes are looked at
 -- from the last to the first, so that a node's parts come before it.
@@ -199,7 +199,7 @@ pub data AreYieldsFrom (k : Known) (start : List Shape) : (from : ℕ) → (node
       → ys ≡ replicate (length k.tree.nodes) yields.Unknown → fs ≡ replicate (length k.tree.nodes) finding.Nothing → AreYieldsFrom k start from nodes ys fs
   one_more : {from : ℕ} {nodes : List Shape} {ys : List Yielding} {fs : List Finding} (before : List Shape) (those : List Yielding) (others : List Finding)
       (found : Finding) (y : Yielding) → AreYieldsFrom k start (suc from) before those others
-      → IsFound k.tree before k.of those from (sought_at k.tree k.tags from) found → IsYield before (told k before those from found (kind_at k.tree from)) nodes y
+      → IsFound k.tree before k.of those from (sought_at k.tree k.tags from) found → IsToldYield before (told k before those from found (kind_at k.tree from)) nodes y
       → ys ≡ slice_set those from y → fs ≡ slice_set others from found → AreYieldsFrom k start from nodes ys fs
 
 -- those of all nodes

@@ -2,9 +2,9 @@
 ghost use Rattle.std.specs.Prelude.{◌≡◌, ◌<◌, ◌^◌, IfOk, IfSome, length, map};
 ghost use Rattle.std.specs.List.{All};
 ghost use Rattle.a68_coerce.specs.Below.{IsLeafBelow};
-ghost use Rattle.a68_identify.specs.Operators.{AreThere};
+ghost use Rattle.a68_identify.specs.Operators.{NumbersAreThere};
 ghost use Rattle.a68_ranges.specs.Tables.{AreRanges};
-ghost use Rattle.a68_yields.specs.Below.{AreAhead, AreUnitsBelow, IsFindingBelow, IsOperatorBelow, IsSoughtBelow, IsWantBelow};
+ghost use Rattle.a68_yields.specs.Below.{AreAhead, AreUnitsBelow, IsFindingBelow, IsOperatorBelow, IsSoughtBelow, IsExpectationBelow};
 ghost use Rattle.a68_yields.specs.Found.{IsFound, IsModeFound, IsNameFound, IsOperatorFound};
 
 use crate::leaves::leaves_of;
@@ -71,7 +71,7 @@ fn wanted(
 ) -> Result<Option<ModeId>, NoMemory>
     requires leaves { All (IsLeafBelow (length modes.now)) leaves.now }
     requires few { length leaves.now < 2 ^ 32 }
-    requires want { IsWantBelow (length modes.now) want }
+    requires want { IsExpectationBelow (length modes.now) want }
     ensures found { IfOk result (IsModeFound modes.now sort want leaves.now) }
     ensures there { IfOk result (λ found. IfSome found (λ m. m < length modes.now)) }
 {
@@ -96,7 +96,7 @@ pub fn part_found(
     requires ahead { AreAhead (length tree.now.nodes) yields.now }
     requires long { length yields.now ≡ length tree.now.nodes }
     requires units { AreUnitsBelow (length modes.now) yields.now }
-    requires want { IsWantBelow (length modes.now) want }
+    requires want { IsExpectationBelow (length modes.now) want }
     ensures found { IfOk result (IsFound tree.now modes.now of.now yields.now node (Sought.Part sort want part)) }
     ensures there { IfOk result (IsFindingBelow (length modes.now)) }
 {
@@ -173,7 +173,7 @@ fn operator_found(
 ) -> Result<Option<Identified>, NoMemory>
     requires node { node < length tree.now.nodes }
     requires ranges { AreRanges tree.now ranges.now }
-    requires of { AreThere tree.now modes.now of.now }
+    requires of { NumbersAreThere tree.now modes.now of.now }
     requires leaves { All (λ o. All (IsLeafBelow (length modes.now)) o.now) operands.now }
     requires few { All (λ o. length o.now < 2 ^ 32) operands.now }
     requires count { length operands.now < 2 ^ 32 }
@@ -207,7 +207,7 @@ fn monadic_found(
 ) -> Result<Finding, NoMemory>
     requires node { node < length tree.now.nodes }
     requires ranges { AreRanges tree.now ranges.now }
-    requires of { AreThere tree.now modes.now of.now }
+    requires of { NumbersAreThere tree.now modes.now of.now }
     requires ahead { AreAhead (length tree.now.nodes) yields.now }
     requires long { length yields.now ≡ length tree.now.nodes }
     requires units { AreUnitsBelow (length modes.now) yields.now }
@@ -235,7 +235,7 @@ fn dyadic_found(
 ) -> Result<Finding, NoMemory>
     requires node { node < length tree.now.nodes }
     requires ranges { AreRanges tree.now ranges.now }
-    requires of { AreThere tree.now modes.now of.now }
+    requires of { NumbersAreThere tree.now modes.now of.now }
     requires ahead { AreAhead (length tree.now.nodes) yields.now }
     requires long { length yields.now ≡ length tree.now.nodes }
     requires units { AreUnitsBelow (length modes.now) yields.now }
@@ -265,7 +265,7 @@ pub fn found_at(
 ) -> Result<Finding, NoMemory>
     requires node { node < length tree.now.nodes }
     requires ranges { AreRanges tree.now ranges.now }
-    requires of { AreThere tree.now modes.now of.now }
+    requires of { NumbersAreThere tree.now modes.now of.now }
     requires ahead { AreAhead (length tree.now.nodes) yields.now }
     requires long { length yields.now ≡ length tree.now.nodes }
     requires units { AreUnitsBelow (length modes.now) yields.now }

@@ -1,9 +1,9 @@
 //! Rows, structures and routines as slices, selections and calls see them.
 ghost use Rattle.std.specs.Prelude.{◌≡◌, ◌<◌, ◌&&◌, not, ℕ, IfOk, IfSome, length, map};
 ghost use Rattle.std.specs.List.{All};
-ghost use Rattle.a68_modes.specs.Nodes.{IsWithin, shape_at};
+ghost use Rattle.a68_modes.specs.Nodes.{ShapeIsWithin, shape_at};
 ghost use Rattle.a68_yields.specs.Parts as specs;
-ghost use Rattle.a68_yields.specs.Parts.{IsNamedPart, IsPart, IsRowPart};
+ghost use Rattle.a68_yields.specs.Parts.{IsNamedPart, IsModeOfPart, IsRowPart};
 
 use a68_base::NoMemory;
 use a68_mode_table::ModeTable;
@@ -39,7 +39,7 @@ pub struct Part {
 
 fn row_of(named: bool, shape: &Shape) -> Option<Rowed>
     ensures row { result ≡ specs.row_of named shape.now }
-    ensures within { (n : ℕ) → IsWithin n shape.now → IfSome result (λ r. r.of < n) }
+    ensures within { (n : ℕ) → ShapeIsWithin n shape.now → IfSome result (λ r. r.of < n) }
 {
     match shape {
         Shape::Rows { dims, flex, of } => Some(Rowed {
@@ -183,7 +183,7 @@ fn named_part(
 /// Gives the mode of a part, which joins the others where it is not among them.
 pub fn part_mode(alloc: Global, modes: &mut ModeTable, part: Part) -> Result<ModeId, NoMemory>
     requires { part.of < length modes.old }
-    ensures { IfOk result (IsPart modes.old part modes.new) }
+    ensures { IfOk result (IsModeOfPart modes.old part modes.new) }
 {
     let row = row_part(alloc, modes, part.dims, part.flex && !part.named, part.of)?;
     named_part(alloc, modes, part.named, row)

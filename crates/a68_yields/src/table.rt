@@ -1,11 +1,11 @@
 //! The yields of all nodes, and what is found at them.
 ghost use Rattle.std.specs.Prelude.{◌≡◌, ◌≤◌, ◌<◌, ◌+◌, List, IfOk, OnOk, length, replicate, slice_set};
 ghost use Rattle.a68_definitions.specs.Defined.{AllBelow};
-ghost use Rattle.a68_identify.specs.Operators.{AreThere};
+ghost use Rattle.a68_identify.specs.Operators.{NumbersAreThere};
 ghost use Rattle.a68_modes.specs.declared.shape.Shape.{Shape};
 ghost use Rattle.a68_ranges.specs.Tables.{AreRanges};
 ghost use Rattle.a68_yields.specs.Below.{AreTablesBelow, IsToldBelow, IsYieldingBelow};
-ghost use Rattle.a68_yields.specs.Yields.{AreYields, AreYieldsFrom, IsYield};
+ghost use Rattle.a68_yields.specs.Yields.{AreYields, AreYieldsFrom, IsToldYield};
 
 use crate::found::found_at;
 use crate::parts::part_mode;
@@ -31,7 +31,7 @@ fn granted(
     told: Told,
 ) -> Result<Yielding, NoMemory>
     requires { IsToldBelow (length modes.old) nodes node told }
-    ensures is { IfOk result (IsYield modes.old told modes.new) }
+    ensures is { IfOk result (IsToldYield modes.old told modes.new) }
     ensures below { IfOk result (IsYieldingBelow (length modes.new) nodes node) }
     ensures longer { OnOk result (length modes.old ≤ length modes.new) }
 {
@@ -80,12 +80,12 @@ fn look_at(
 ) -> Result<(), NoMemory>
     requires there { node < length tree.now.nodes }
     requires ranges { AreRanges tree.now ranges.now }
-    requires of { AreThere tree.now modes.old of.now }
+    requires of { NumbersAreThere tree.now modes.old of.now }
     requires defined { AllBelow (length modes.old) defined.now }
     requires tables { AreTablesBelow (length modes.old) (length tree.now.nodes) yields.old findings.old }
     ensures yields { OnOk result ((start : List Shape) → AreYieldsFrom (record { tree = tree.now; tags = tags.now; of = of.now; defined = defined.now }) start (node + 1) modes.old yields.old findings.old
         → AreYieldsFrom (record { tree = tree.now; tags = tags.now; of = of.now; defined = defined.now }) start node modes.new yields.new findings.new) }
-    ensures of { OnOk result (AreThere tree.now modes.new of.now) }
+    ensures of { OnOk result (NumbersAreThere tree.now modes.new of.now) }
     ensures defined { OnOk result (AllBelow (length modes.new) defined.now) }
     ensures tables { OnOk result (AreTablesBelow (length modes.new) (length tree.now.nodes) yields.new findings.new) }
 {
@@ -113,12 +113,12 @@ fn look_at_all(
     findings: &mut [Finding],
 ) -> Result<(), NoMemory>
     requires ranges { AreRanges tree.now ranges.now }
-    requires of { AreThere tree.now modes.old of.now }
+    requires of { NumbersAreThere tree.now modes.old of.now }
     requires defined { AllBelow (length modes.old) defined.now }
     requires no_yields { yields.old ≡ replicate (length tree.now.nodes) Yielding.Unknown }
     requires no_findings { findings.old ≡ replicate (length tree.now.nodes) Finding.Nothing }
     ensures yields { OnOk result (AreYields (record { tree = tree.now; tags = tags.now; of = of.now; defined = defined.now }) modes.old modes.new yields.new findings.new) }
-    ensures of { OnOk result (AreThere tree.now modes.new of.now) }
+    ensures of { OnOk result (NumbersAreThere tree.now modes.new of.now) }
     ensures defined { OnOk result (AllBelow (length modes.new) defined.now) }
     ensures tables { OnOk result (AreTablesBelow (length modes.new) (length tree.now.nodes) yields.new findings.new) }
 {
@@ -151,10 +151,10 @@ pub fn find_yields(
     modes: &mut ModeTable,
 ) -> Result<Yields, NoMemory>
     requires ranges { AreRanges tree.now ranges.now }
-    requires of { AreThere tree.now modes.old of.now }
+    requires of { NumbersAreThere tree.now modes.old of.now }
     requires defined { AllBelow (length modes.old) defined.now }
     ensures yields { IfOk result (λ found. AreYields (record { tree = tree.now; tags = tags.now; of = of.now; defined = defined.now }) modes.old modes.new found.yields.items found.findings.items) }
-    ensures of { OnOk result (AreThere tree.now modes.new of.now) }
+    ensures of { OnOk result (NumbersAreThere tree.now modes.new of.now) }
     ensures defined { OnOk result (AllBelow (length modes.new) defined.now) }
     ensures tables { IfOk result (λ found. AreTablesBelow (length modes.new) (length tree.now.nodes) found.yields.items found.findings.items) }
 {

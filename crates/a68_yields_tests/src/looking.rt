@@ -1,7 +1,7 @@
 //! What is found of a text.
 ghost use Rattle.std.specs.Prelude.{length};
 ghost use Rattle.a68_definitions.specs.Defined.{AllBelow, AreBelow};
-ghost use Rattle.a68_identify.specs.Operators.{AreThere};
+ghost use Rattle.a68_identify.specs.Operators.{NumbersAreThere};
 ghost use Rattle.a68_ranges.specs.Tables.{AreRanges};
 ghost use Rattle.a68_yields.specs.Below.{AreTablesBelow};
 
@@ -54,7 +54,7 @@ pub fn tree_of(rt: &impl Abort, alloc: Global, text: &str) -> Result<Tree, Stop>
 
 /// The modes of a tree whose ranges declare no word twice.
 pub fn modes_of(rt: &impl Abort, alloc: Global, tree: &Tree, case: &str) -> Built
-    ensures there { AreThere tree.now result.modes result.of }
+    ensures there { NumbersAreThere tree.now result.modes result.of }
     ensures below { AreBelow (length result.modes) result.of }
 {
     let ranges = ranges(alloc, tree).expect(rt, case);
@@ -82,9 +82,9 @@ fn defined(
     of: &NodeModes,
     modes: &mut ModeTable,
 ) -> Vec<ModeId>
-    requires there { AreThere tree.now modes.old of.now }
+    requires there { NumbersAreThere tree.now modes.old of.now }
     requires below { AreBelow (length modes.old) of.now }
-    ensures there { AreThere tree.now modes.new of.now }
+    ensures there { NumbersAreThere tree.now modes.new of.now }
     ensures defined { AllBelow (length modes.new) result.items }
 {
     definitions_keep_shapes();
@@ -102,7 +102,7 @@ fn found(
     made: &mut Built,
 ) -> Yields
     requires ranges { AreRanges tree.now ranges.now }
-    requires there { AreThere tree.now made.old.modes made.old.of }
+    requires there { NumbersAreThere tree.now made.old.modes made.old.of }
     requires below { AreBelow (length made.old.modes) made.old.of }
     ensures { AreTablesBelow (length made.new.modes) (length tree.now.nodes) result.yields.items result.findings.items }
 {
@@ -123,7 +123,7 @@ fn found(
 
 /// What the nodes of a tree may yield, and what is found at them.
 pub fn looked(rt: &impl Abort, alloc: Global, tree: &Tree, made: &mut Built, case: &str) -> Yields
-    requires there { AreThere tree.now made.old.modes made.old.of }
+    requires there { NumbersAreThere tree.now made.old.modes made.old.of }
     requires below { AreBelow (length made.old.modes) made.old.of }
     ensures { AreTablesBelow (length made.new.modes) (length tree.now.nodes) result.yields.items result.findings.items }
 {

@@ -4,7 +4,7 @@ use Rattle.a68_base.specs.declared.refusal.Stop.{Stop}
 use Rattle.a68_code.specs.declared.code.Instr.{Instr}
 use Rattle.a68_elab.specs.Made.{bound_trees, index_units, specs_of, trees_at}
 use Rattle.a68_elab.specs.Programs.{behind}
-use Rattle.a68_emit.specs.Chains.{IsOpen, IsWhole, IsWithin, link_tree}
+use Rattle.a68_emit.specs.Chains.{IsOpen, TreeIsWritten, LinkIsWithin, link_tree}
 use Rattle.a68_emit.specs.Listing.{stretches}
 use Rattle.a68_emit.specs.Views.{bound_of, extra, tree_of}
 use Rattle.a68_emit.specs.Writing.{Writes}
@@ -167,8 +167,8 @@ invariant-rows::all-loop-part l = (s : Option Stop) (end : List Instr) → Write
 -- the links before this one are written
 abbrev pub invariant-choices::write_links-links : goal.invariant-choices::write_links-links
 invariant-choices::write_links-links l =
-    IsWithin l.program.of.now l.link × (l.fn.first.id ≤ l.link.id)
-    × IsOpen (IsWhole (link_tree l.program.of.now (tree_of l.program) l.fn.first) l.initial.out.stop l.initial.out.list) l.opens.items (link_tree l.program.of.now (tree_of l.program) l.link)
+    LinkIsWithin l.program.of.now l.link × (l.fn.first.id ≤ l.link.id)
+    × IsOpen (TreeIsWritten (link_tree l.program.of.now (tree_of l.program) l.fn.first) l.initial.out.stop l.initial.out.list) l.opens.items (link_tree l.program.of.now (tree_of l.program) l.link)
     l.out.stop l.out.list
 
 abbrev pub decreases-choices::write_links-links : goal.decreases-choices::write_links-links

@@ -13,7 +13,7 @@ use Rattle.a68_code.specs.declared.code.Instr.{Instr}
 use Rattle.a68_emit.specs.Writing.{aim_all, ran_out, Writes}
 use Rattle.a68_emit.specs.Numbers.{put_all}
 use Rattle.a68_emit.specs.Views.{tree_of}
-use Rattle.a68_emit.specs.Chains.{enquiry_tree, Finishes, IsOpen, IsWhole, link_tree, other_tree, shuts}
+use Rattle.a68_emit.specs.Chains.{enquiry_tree, Finishes, IsOpen, TreeIsWritten, link_tree, other_tree, shuts}
 use Rattle.a68_emit.specs.declared.ends.Opened.{Opened}
 use Rattle.a68_emit.proofs.Chaining.{open_more}
 use Rattle.a68_constructs.proofs.Constructs.{rest_parts, count_trees}
@@ -68,7 +68,7 @@ choices::write_links-links-init t c =
     let w0 = c.args.out.now in (
       c.requires.within,
       omega arith,
-      λ s l w. subst (λ (os : List Opened). Finishes os (IsWhole whole w0.stop w0.list) s l) (sym c.requires.empty) w,
+      λ s l w. subst (λ (os : List Opened). Finishes os (TreeIsWritten whole w0.stop w0.list) s l) (sym c.requires.empty) w,
     )
 
 pub choices::write_links-links-preserved : goal.choices::write_links-links-preserved
@@ -77,7 +77,7 @@ choices::write_links-links-preserved t c =
     let a = v.of.now in
     let f = tree_of v in
     let link = c.links.link in
-    let wanted = IsWhole (link_tree a f c.args.first) c.args.out.now.stop c.args.out.now.list in
+    let wanted = TreeIsWritten (link_tree a f c.args.first) c.args.out.now.stop c.args.out.now.list in
     let w1 = c.links.out in
     let w2 = c.write_link-jump.new.out in
     let w3 = c.keep_open.new.out in
@@ -99,7 +99,7 @@ choices::write_links-returns-in-None-clause-chain t c =
     let a = v.of.now in
     let f = tree_of v in
     let link = c.links.link in
-    let wanted = IsWhole (link_tree a f c.args.first) c.args.out.now.stop c.args.out.now.list in
+    let wanted = TreeIsWritten (link_tree a f c.args.first) c.args.out.now.stop c.args.out.now.list in
     let w1 = c.links.out in
     let w2 = c.write_link-jump.new.out in
     let w3 = c.keep_open.new.out in
@@ -120,7 +120,7 @@ choices::chain-returns t c =
     let w3 = c.otherwise.new.out in
     let last = c.write_links-last.ensures.chain w3.stop w3.list c.otherwise.ensures in
     c.close_all.ensures whole w0.stop w0.list
-    (subst (λ (os : List Opened). Finishes os (IsWhole whole w0.stop w0.list) w3.stop w3.list) (sym c.deref.ensures.value) last)
+    (subst (λ (os : List Opened). Finishes os (TreeIsWritten whole w0.stop w0.list) w3.stop w3.list) (sym c.deref.ensures.value) last)
 
 pub choices::conditional-chain-requires : goal.choices::conditional-chain-requires
 choices::conditional-chain-requires t c = let same = c.in-Some.ensures.node in (omega arith, c.in-Some.ensures.within)

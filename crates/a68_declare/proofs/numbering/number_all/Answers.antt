@@ -1,6 +1,6 @@
 use Rattle.std.proofs.Common.{◌≡◌, ◌∙◌, length, arith, subst, ap}
 use Rattle.a68_declare.proofs.Classing.{numbered_on, all_numbered}
-use Rattle.a68_declare.specs.Numbering.{class_at, at_class, IsNumberOf, AreNumbered}
+use Rattle.a68_declare.specs.Numbering.{class_at, at_class, IsNumberOf, NodesAreNumbered}
 use Rattle.a68_equiv.specs.Classes.{class_of}
 use Rattle.a68_declare.proofs.numbering.number_all.Goals as goal
 
@@ -22,4 +22,4 @@ returns c =
     let nodes = c.args.modes.now in
     let all : c.loop-id.id ≡ length nodes = omega arith in
     all_numbered nodes c.args.classes.now.of c.len-id-end.ensures.nodes c.requires.exact c.loop-id.table.entries c.loop-id.to.items c.loop-id.firsts.items
-    (subst (λ k. AreNumbered nodes c.args.classes.now.of k c.loop-id.table.entries c.loop-id.to.items c.loop-id.firsts.items) all c.loop-id.invariant)
+    (subst (λ k. NodesAreNumbered nodes c.args.classes.now.of k c.loop-id.table.entries c.loop-id.to.items c.loop-id.firsts.items) all c.loop-id.invariant)

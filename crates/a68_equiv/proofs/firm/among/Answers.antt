@@ -1,7 +1,7 @@
 use Rattle.std.proofs.Common.{◌≡◌, ◌∙◌, ℕ, List, length, sym, ap, true, false, subst}
 use Rattle.std.specs.List.{Contains}
 use Rattle.std.specs.Prelude.{◌↔◌}
-use Rattle.a68_modes.specs.Nodes.{shape_at, IsWithin}
+use Rattle.a68_modes.specs.Nodes.{shape_at, ShapeIsWithin}
 use Rattle.a68_equiv.specs.declared.steps.Inward.TheVariants.{WithinUnions}
 use Rattle.a68_equiv.specs.Ways.{steps_of}
 use Rattle.a68_equiv.specs.Spread.{IsSpread}
@@ -14,7 +14,7 @@ use Rattle.a68_equiv.proofs.firm.among.Goals as goal
 pub spread-requires : goal.spread-requires
 spread-requires c =
     let nodes = c.args.modes.now in
-    let within : IsWithin (length nodes) c.shape-then-is_union.result.now = rw c.shape-then-is_union.ensures.shape (c.shape.ensures.nodes.within c.args.mode c.requires) in
+    let within : ShapeIsWithin (length nodes) c.shape-then-is_union.result.now = rw c.shape-then-is_union.ensures.shape (c.shape.ensures.nodes.within c.args.mode c.requires) in
     rw (c.deref.ensures.value, c.start.view_is, c.in_ok-start.ensures) (steps_within WithinUnions (length nodes) c.shape-then-is_union.result.now within)
 
 pub returns-then-is_union-clause-among : goal.returns-then-is_union-clause-among

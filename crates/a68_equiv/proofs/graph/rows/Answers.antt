@@ -1,5 +1,5 @@
 use Rattle.std.proofs.Common.{◌≡◌, ◌<◌, ◌*◌, ◌∙◌, arith, length, ℕ, ap, subst}
-use Rattle.a68_modes.specs.Nodes.{shape_at, IsWithin}
+use Rattle.a68_modes.specs.Nodes.{shape_at, ShapeIsWithin}
 use Rattle.a68_equiv.specs.declared.steps.Inward.TheVariants.{WithinUnions}
 use Rattle.a68_equiv.specs.Ways.{steps_of}
 use Rattle.a68_equiv.specs.Unfolding.{unfolded}
@@ -26,7 +26,7 @@ both_rows-requires-clause-start c =
     let nodes = c.args.modes.now in
     let lt : c.loop-id.id < length nodes = omega arith in
     let head = head_below nodes c.args.behind.now c.len-id-end.ensures.nodes c.requires c.loop-id.id lt in
-    let within : IsWithin (length nodes) c.shape-shape.result.now = rw c.shape-shape.ensures.shape (c.len-id-end.ensures.nodes.within _ head) in
+    let within : ShapeIsWithin (length nodes) c.shape-shape.result.now = rw c.shape-shape.ensures.shape (c.len-id-end.ensures.nodes.within _ head) in
     rw (c.deref.ensures.value, c.start.view_is, c.in_ok-start.ensures) (steps_within WithinUnions (length nodes) c.shape-shape.result.now within)
 
 pub both_rows-requires-clause-within : goal.both_rows-requires-clause-within

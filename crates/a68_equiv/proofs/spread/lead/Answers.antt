@@ -3,7 +3,7 @@ use Rattle.std.specs.Prelude.{map}
 use Rattle.std.proofs.lemmas.List.{length-map, get_or_default}
 use Rattle.std.proofs.lemmas.List.Elements.{All-from_get_or, Contains-get_or}
 use Rattle.a68_modes.specs.Nodes.{shape_at}
-use Rattle.a68_equiv.specs.Spread.{Notes}
+use Rattle.a68_equiv.specs.Spread.{NotesModes}
 use Rattle.a68_equiv.specs.declared.steps.Inward.TheVariants.{WithinUnions}
 use Rattle.a68_equiv.specs.Ways.{steps_of, row}
 use Rattle.a68_equiv.proofs.Spreading.{walk_begun, walk_on, walk_whole, few}
@@ -12,7 +12,7 @@ use Rattle.a68_equiv.proofs.spread.lead.Goals as goal
 
 pub loop-i-init : goal.loop-i-init
 loop-i-init c = record {
-  walked = walk_begun c.args.modes.now c.args.start.now c.note.new.found.items c.requires.start c.in_ok-note.ensures.known.distinct (subst (λ (xs : List ℕ). Notes c.args.start.now xs c.note.new.found.items) c.requires.empty c.in_ok-note.ensures.notes);
+  walked = walk_begun c.args.modes.now c.args.start.now c.note.new.found.items c.requires.start c.in_ok-note.ensures.known.distinct (subst (λ (xs : List ℕ). NotesModes c.args.start.now xs c.note.new.found.items) c.requires.empty c.in_ok-note.ensures.notes);
   known = c.in_ok-note.ensures.known;
   within = omega arith;
 }
@@ -39,7 +39,7 @@ loop-i-preserved c =
     let there : get_or c.loop-i.found.items c.loop-i.i 0 < length nodes = c.loop-i.invariant.walked.below (get_or c.loop-i.found.items c.loop-i.i 0) (Contains-get_or c.loop-i.found.items c.loop-i.i 0 lt) in
     let steps : c.in_ok-steps.steps ≡ row (map (steps_of WithinUnions) nodes) (get_or c.loop-i.found.items c.loop-i.i 0) =
     c.in_ok-steps.ensures ∙ ap (steps_of WithinUnions) (c.shape.ensures.shape ∙ ap (shape_at nodes) (sym at)) ∙ sym (row_of_map (steps_of WithinUnions) nodes (get_or c.loop-i.found.items c.loop-i.i 0) there) in
-    let noted = subst (λ (xs : List ℕ). Notes xs c.loop-i.found.items c.note-in-loop-i.new.found.items) (c.deref.ensures.value ∙ c.steps.view_is) c.in_ok-note-2.ensures.notes in
+    let noted = subst (λ (xs : List ℕ). NotesModes xs c.loop-i.found.items c.note-in-loop-i.new.found.items) (c.deref.ensures.value ∙ c.steps.view_is) c.in_ok-note-2.ensures.notes in
     let n = noted.longer in
     record {
       walked = walk_on nodes c.args.start.now c.loop-i.found.items c.note-in-loop-i.new.found.items c.in_ok-steps.steps c.loop-i.i (closed WithinUnions nodes c.shape.ensures.nodes) (length-map nodes (steps_of WithinUnions)) lt steps c.loop-i.invariant.walked c.in_ok-note-2.ensures.known.distinct noted;

@@ -4,7 +4,7 @@ use Rattle.std.proofs.lemmas.List.{take_more, map-append}
 use Rattle.a68_modes.specs.declared.shape.Shape.TheVariants.{Blank}
 use Rattle.std.proofs.Math.Seq.{take-length}
 use Rattle.a68_modes.specs.declared.shape.Shape.{Shape}
-use Rattle.a68_equiv.specs.Ways.{IsClosed, steps_of}
+use Rattle.a68_equiv.specs.Ways.{StepsStayInside, steps_of}
 use Rattle.a68_equiv.proofs.Stepping.{closed}
 use Rattle.a68_equiv.proofs.steps.graph.Goals as goal
 
@@ -13,7 +13,7 @@ returns-clause-closed c =
     let nodes = c.args.modes.now in
     let all : c.loop-id.id ≡ length nodes = omega arith in
     let is : c.loop-id.graph.items ≡ map (steps_of c.args.which) nodes = c.loop-id.invariant ∙ ap (λ (n : ℕ). map (steps_of c.args.which) (take n nodes)) all ∙ ap (λ (xs : List Shape). map (steps_of c.args.which) xs) (take-length nodes) in
-    subst IsClosed (sym is) (closed c.args.which nodes c.len-id-end.ensures.nodes)
+    subst StepsStayInside (sym is) (closed c.args.which nodes c.len-id-end.ensures.nodes)
 
 pub returns-clause-rows : goal.returns-clause-rows
 returns-clause-rows c =

@@ -1,11 +1,11 @@
 use Rattle.std.proofs.Common.{◌-◌, suc, length}
 use Rattle.a68_frames.specs.Tables.{Extends, StayChained}
-use Rattle.a68_ranges.specs.Links.{AreLinked}
+use Rattle.a68_ranges.specs.Links.{LayersAreLinked}
 use Rattle.a68_frames.proofs.chain.grow.Given as goal
 
 abbrev pub invariant-layers : goal.invariant-layers
 invariant-layers l = record {
-  linked : AreLinked l.growing.by_layer.items l.growing.frames.items;
+  linked : LayersAreLinked l.growing.by_layer.items l.growing.frames.items;
   extends : Extends l.initial.growing.frames.items l.growing.frames.items;
   chained : StayChained l.ranges.nests.layers l.makes l.initial.growing.by_layer.items l.initial.growing.frames.items l.growing.by_layer.items l.growing.frames.items;
 }

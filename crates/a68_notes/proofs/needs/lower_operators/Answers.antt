@@ -1,6 +1,6 @@
 use Rattle.std.proofs.Common.{◌≡◌, length, refl, subst, arith}
 use Rattle.a68_notes.proofs.Needing.{needs_all, needs_before, needs_on}
-use Rattle.a68_notes.specs.Needs.{AreNeeds, UsesBefore}
+use Rattle.a68_notes.specs.Needs.{AreNeeds, TextUsesBefore}
 use Rattle.a68_notes.specs.Notes.{asked_of}
 use Rattle.a68_notes.proofs.needs.lower_operators.Goals as goal
 
@@ -18,4 +18,4 @@ returns c =
     let a = asked_of c.args.tree.now c.args.meaning.now in
     let test = c.loop-at-test.false in
     let all : c.loop-at.at ≡ length c.args.tree.now.nodes = (let w = c.len-at-end.ensures in omega arith) in
-    needs_all a c.loop-at.needs (subst (λ n. AreNeeds c.args.tree.now (UsesBefore a n) (length c.args.tree.now.nodes) c.loop-at.needs) all c.loop-at.invariant)
+    needs_all a c.loop-at.needs (subst (λ n. AreNeeds c.args.tree.now (TextUsesBefore a n) (length c.args.tree.now.nodes) c.loop-at.needs) all c.loop-at.invariant)

@@ -1,5 +1,5 @@
-use Rattle.a68_op_ident.specs.Inner.{IsLeast, IsLateToken}
+use Rattle.a68_op_ident.specs.Inner.{IsLeastNumber, IsLateToken}
 use Rattle.a68_op_ident.proofs.lacking.first_late.Given as goal
 
 abbrev pub invariant-loop-k : goal.invariant-loop-k
-invariant-loop-k l = IsLeast (IsLateToken l.tokens l.k) l.late
+invariant-loop-k l = IsLeastNumber (IsLateToken l.tokens l.k) l.late

@@ -4,7 +4,7 @@ use Rattle.a68_op_ident.proofs.Going.{pass, pass_late, left, left_late, lacking,
 use Rattle.a68_op_ident.proofs.Parts.{alternates, ends}
 use Rattle.a68_op_ident.proofs.Late.{ranked}
 use Rattle.a68_op_ident.specs.Formulas.{is_formula, Placed}
-use Rattle.a68_op_ident.specs.Inner.{Going, IsLeast, IsLatePlace}
+use Rattle.a68_op_ident.specs.Inner.{Going, IsLeastNumber, IsLatePlace}
 use Rattle.std.specs.Prelude.{None}
 use Rattle.a68_tree.specs.declared.node.Node.{Node}
 use Rattle.a68_op_ident.proofs.trees.shape_at.Goals as goal
@@ -138,7 +138,7 @@ returns-clause-late c =
     let next = rw c.deref-in-None.ensures.value at c.in_ok-placed-in-None.ensures.next in
     let same = rw c.deref-in-None.ensures.value at c.in_ok-placed-in-None.ensures.same in
     let put = subst (λ (z : ℕ). Placed c.place.new.nodes.items ts c.args.id z c.in_ok-placed-in-None.placed.top) next placed in
-    λ flat are going. subst (λ (z : ℕ). IsLeast (IsLatePlace flat c.args.id (z + 1)) None) (sym next)
+    λ flat are going. subst (λ (z : ℕ). IsLeastNumber (IsLatePlace flat c.args.id (z + 1)) None) (sym next)
     (shaped_late flat nodes c.args.id n going there ts kind reads (priorities flat are) c.place.new.nodes.items c.in_ok-placed-in-None.placed.top all put same)
 
 pub returns-clause-onward : goal.returns-clause-onward

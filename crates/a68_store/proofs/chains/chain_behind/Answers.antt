@@ -40,6 +40,6 @@ returns c =
     let frames = links_of c.args.frames.now in
     let frame = c.frame_at-frame.result in
     let is = c.frame_at-frame.ensures in
-    c.in_ok-push-2.ensures.items
+    c.outwards.ensures ∙ c.in_ok-push-2.ensures.items
     ∙ outermost c.loop-items.items.items frames c.loop-items.at (frame_of [] frame) c.requires.linked is c.if-at-eq0.true
     ∙ c.loop-items.invariant.whole

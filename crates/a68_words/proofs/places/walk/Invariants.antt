@@ -2,7 +2,7 @@ use Rattle.std.proofs.Common.{◌≡◌, ◌+◌, map}
 use Rattle.a68_words.specs.declared.class.Class.TheVariants.{ModeWord, OperatorWord}
 use Rattle.a68_words.specs.Definitions.{Defines}
 use Rattle.a68_words.specs.Levels.{IsTooDeep, levels_before}
-use Rattle.a68_words.specs.Steps.{AreFlags, IsFirst, plain}
+use Rattle.a68_words.specs.Steps.{AreFlags, IsFirstSymbol, plain}
 use Rattle.a68_words.proofs.Telling.{AreTold}
 use Rattle.a68_words.proofs.places.walk.Given as goal
 
@@ -12,5 +12,5 @@ invariant-loop-i l = record {
   levels : map plain l.levels ≡ levels_before l.roles l.i;
   modes : AreFlags (λ k. Defines l.roles k ModeWord) l.i l.modes.items;
   operators : AreFlags (λ k. Defines l.roles k OperatorWord) l.i l.operators.items;
-  deep : IsFirst (IsTooDeep l.roles) l.i l.too_deep;
+  deep : IsFirstSymbol (IsTooDeep l.roles) l.i l.too_deep;
 }

@@ -7,7 +7,7 @@ use Rattle.a68_yields.proofs.Tabling.{tables_more}
 use Rattle.a68_yields.proofs.Telling.{told_below}
 use Rattle.a68_yields.specs.Found.{IsFound}
 use Rattle.a68_yields.specs.Sought.{sought_at}
-use Rattle.a68_yields.specs.Yields.{IsYield, Known, one_more, told}
+use Rattle.a68_yields.specs.Yields.{IsToldYield, Known, one_more, told}
 use Rattle.a68_yields.proofs.table.look_at.Goals as goal
 
 pub found_at-requires-clause-sought : goal.found_at-requires-clause-sought
@@ -32,7 +32,7 @@ returns-clause-yields c start before =
     rw (← c.sought_at-sought.ensures) c.in_ok-found.ensures.found in
     let is : c.yields_of-told.result ≡ told k c.args.modes.now c.args.yields.now c.args.node c.in_ok-found.found (kind_at c.args.tree.now c.args.node) =
     rw c.modes.ensures.is at (c.yields_of-told.ensures c.args.of.now) in
-    let y : IsYield c.args.modes.now (told k c.args.modes.now c.args.yields.now c.args.node c.in_ok-found.found (kind_at c.args.tree.now c.args.node)) c.granted.new.modes c.in_ok-yielding.yielding =
+    let y : IsToldYield c.args.modes.now (told k c.args.modes.now c.args.yields.now c.args.node c.in_ok-found.found (kind_at c.args.tree.now c.args.node)) c.granted.new.modes c.in_ok-yielding.yielding =
     rw (← is) c.in_ok-yielding.ensures.is in
     one_more c.args.modes.now c.args.yields.now c.args.findings.now c.in_ok-found.found c.in_ok-yielding.yielding (rw (sym (add-one c.args.node)) before) found y c.note_yield.ensures c.note_finding.ensures
 

@@ -1,7 +1,7 @@
 use Rattle.a68_base.specs.declared.refusal.Rule.TheVariants.{S4}
-use Rattle.a68_words.specs.Classes.{Breaks}
-use Rattle.a68_words.specs.Steps.{IsFirst}
+use Rattle.a68_words.specs.Classes.{BreaksAt}
+use Rattle.a68_words.specs.Steps.{IsFirstSymbol}
 use Rattle.a68_words.proofs.definitions.Definitions.differs.Given as goal
 
 abbrev pub invariant-loop-i : goal.invariant-loop-i
-invariant-loop-i l = IsFirst (λ i. Breaks l.self.roles l.self.names i S4) l.i l.found
+invariant-loop-i l = IsFirstSymbol (λ i. BreaksAt l.self.roles l.self.names i S4) l.i l.found

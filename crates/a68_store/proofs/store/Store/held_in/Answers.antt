@@ -1,6 +1,6 @@
 use Rattle.std.proofs.Common.{arith}
 use Rattle.std.proofs.lemmas.Grind.{elements}
-use Rattle.a68_store.proofs.store.Store.plain_in.Goals as goal
+use Rattle.a68_store.proofs.store.Store.held_in.Goals as goal
 
 pub returns-in_err-get : goal.returns-in_err-get
 returns-in_err-get c = grind (arith, elements)
