@@ -1,5 +1,5 @@
 //! Slots as the store keeps them.
-ghost use Rattle.std.specs.Prelude.{◌≡◌, ◌-◌, ◌^◌, None, Some, min, is_some, IfOk, OnErr};
+ghost use Rattle.std.specs.Prelude.{◌≡◌, ◌-◌, ◌^◌, None, Some, true, min, is_some, IfOk, MatchBool, OnErr};
 ghost use Rattle.std.specs.Option.{option_copied};
 ghost use Rattle.a68_acts.specs.Store.{slot_weight};
 ghost use Rattle.a68_store.specs.Bound.{bound_of};
@@ -141,6 +141,18 @@ impl Slot {
             SlotNode::Unbound => None,
             SlotNode::Plain(held) => Some(held),
             SlotNode::Other(value) => plain_of(value),
+        }
+    }
+
+    /// Is it bound to a value in a box? No other slot holds memory.
+    #[inline(always)]
+    pub fn is_boxed(&self) -> bool
+        ensures { MatchBool result (is_some self.now ≡ true) (Unit {0}) }
+    {
+        match &self.node {
+            SlotNode::Unbound => false,
+            SlotNode::Plain(_) => false,
+            SlotNode::Other(_) => true,
         }
     }
 

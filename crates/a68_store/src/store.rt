@@ -75,8 +75,13 @@ impl Model for Store {
 fn set_slot(slot: &mut Slot, bound: Slot)
     ensures { slot.new ≡ bound }
 {
-    let old = mem::replace(slot, bound);
-    drop(old);
+    if slot.is_boxed() {
+        let old = mem::replace(slot, bound);
+        drop(old);
+        return;
+    }
+    // What is in no box holds no memory, and to forget it spares the look at what it is.
+    mem::forget(mem::replace(slot, bound));
 }
 
 // Binds a slot to an equal plain value. Each kind is moved by itself, since a move of all that a plain value may be stalls the
