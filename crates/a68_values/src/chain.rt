@@ -81,6 +81,11 @@ impl Chain {
         ensures ok { OnOk result (self.new ≡ environ ∷ self.old) }
         ensures err { OnErr result (self.new ≡ self.old) }
     {
+        // Mostly there is room, and then nothing is called.
+        if self.items.len() < self.items.capacity() {
+            self.items.push_reserved(environ);
+            return Ok(());
+        }
         self.items.push(environ)?;
         Ok(())
     }
