@@ -66,7 +66,7 @@ pub fn row_in(
     let items = new_dims(alloc, width_of(width, bounds), bounds)?;
     Ok(Descriptor {
         base,
-        dims: Dims { items },
+        dims: Dims::of(alloc, items)?,
     })
 }
 

@@ -61,13 +61,18 @@ pub fn view(
     ensures fault { (kind : FaultKind) → IsErrOf result (LayoutStop.Fault kind) → Err kind ≡ views.view descriptor.now trims.now }
 {
     let mut items = Vec::new(alloc);
-    let base = seen(&descriptor.dims.items, trims, descriptor.base, &mut items)?;
+    let base = seen(
+        descriptor.dims.as_slice(),
+        trims,
+        descriptor.base,
+        &mut items,
+    )?;
     if base > MOST_COUNTED {
         return Err(LayoutStop::Fault(FaultKind::Cells));
     }
     Ok(Descriptor {
         base,
-        dims: Dims { items },
+        dims: Dims::of(alloc, items)?,
     })
 }
 
@@ -98,7 +103,7 @@ fn found(dims: &[Dim], at: &[i64], cell: u32) -> Result<u32, FaultKind>
 pub fn element(descriptor: &Descriptor, at: &[i64]) -> Result<u32, FaultKind>
     ensures { result ≡ views.element descriptor.now at.now }
 {
-    found(&descriptor.dims.items, at, descriptor.base)
+    found(descriptor.dims.as_slice(), at, descriptor.base)
 }
 
 // Tests whether the cells of the elements are none that there may be.
@@ -106,14 +111,14 @@ fn is_beyond(descriptor: &Descriptor, width: u32) -> bool
     ensures { result ≡ views.is_beyond descriptor.now width }
 {
     let most = MOST_COUNTED as u64;
-    let count = elements_seen(&descriptor.dims.items, most + 1);
+    let count = elements_seen(descriptor.dims.as_slice(), most + 1);
     if count > most {
         return true;
     }
     if count == 0 {
         return false;
     }
-    let last = last_behind(descriptor.base, &descriptor.dims.items);
+    let last = last_behind(descriptor.base, descriptor.dims.as_slice());
     last as u64 + width as u64 > most
 }
 
@@ -146,7 +151,7 @@ pub fn cells_seen(
     if is_beyond(descriptor, width) {
         return Err(LayoutStop::Fault(FaultKind::Cells));
     }
-    let cells = all_cells(alloc, &descriptor.dims.items, descriptor.base)?;
+    let cells = all_cells(alloc, descriptor.dims.as_slice(), descriptor.base)?;
     Ok(cells)
 }
 
@@ -163,7 +168,7 @@ fn picked(
     let seen = view(alloc, row, trims)?;
     let cells = cells_seen(alloc, &seen, 1)?;
     let picked = parts_at(alloc, &parts.items, &cells)?;
-    let part = part_seen(alloc, &seen.dims.items, picked)?;
+    let part = part_seen(alloc, seen.dims.as_slice(), picked)?;
     Ok(part)
 }
 

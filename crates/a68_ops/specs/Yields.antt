@@ -1,5 +1,6 @@
 -- What an operator yields, or the fault that it meets.
-use Rattle.std.specs.Prelude.{◌≡◌, ℕ, ℤ, pos, negsuc, ◌+◌, ◌^◌, Bool, true, false, ◌||◌, List, [], ◌∷◌, length, map, Ok, Err, IfOk, IfErr, IsTrue, nat_lt, if◌then◌else◌}
+use Rattle.std.specs.Prelude.{◌≡◌, ℕ, ℤ, pos, negsuc, ◌+◌, ◌^◌, Bool, true, false, ◌||◌, List, [], ◌∷◌, length, map, None, Some, Ok, Err, IfOk, IfErr, IsTrue, nat_lt, if◌then◌else◌}
+use Rattle.std.specs.declared.option.Option.{Option}
 use Rattle.std.specs.declared.result.Result.{Result}
 use Rattle.a68_values.specs.Content.{Content, Contents, plain, structure, row, united, no_parts, ◌and_part◌, contents_of}
 pub use Rattle.a68_values.specs.Content.{is_row}
@@ -49,6 +50,11 @@ is_int (negsuc n) = nat_lt (n + 1) (2 ^ 63)
 -- an integer, where it is an INT
 abbrev pub int : ℤ → PlainYield
 int z = if is_int z then Ok (value.Int z) else Err fault.Overflow
+
+-- an INT as a value, or the fault where there is none
+abbrev pub int_or_overflow : Option ℤ → PlainYield
+int_or_overflow None = Err fault.Overflow
+int_or_overflow (Some z) = Ok (value.Int z)
 
 abbrev pub truth : Bool → PlainYield
 truth b = Ok (value.Bool b)

@@ -1,12 +1,13 @@
 //! What the operators that yield at once yield, by their rows in the table.
-ghost use Rattle.std.specs.Prelude.{◌≡◌, IfSome};
+ghost use Rattle.std.specs.Prelude.{◌≡◌, Ok, IfSome};
 ghost use Rattle.a68_ops.specs.Applied as spec;
 ghost use Rattle.a68_ops.specs.Yields.{IsAsTold, is_row, yield_of};
 ghost use Rattle.a68_values.specs.Content.{plain, void};
+ghost use Rattle.a68_values.specs.declared.plain.Plain.{Plain};
 
 use crate::OpStop;
 use crate::bits::{on_bits, on_place, shifted};
-use crate::integers::{on_int, on_ints, on_truths};
+use crate::integers::{difference, on_int, on_ints, on_truths, product, sum};
 use crate::operator::{Dyadic, Monadic, dyadic_of, monadic_of, truth};
 use crate::texts::{items_of, on_texts, text_times};
 use crate::unset::{is_unset, is_unset_plain};
@@ -195,6 +196,21 @@ pub fn apply_plain(row: u32, left: Plain, right: Plain) -> Option<Result<Plain, 
     match dyadic_of(row) {
         Some(operator) => between_plain(operator, left, right),
         None => Some(Err(FaultKind::Kind)),
+    }
+}
+
+/// The INT that `+`, `-` or `*` yields between two INT, by its row (15 to 17); none for another row, and where the result is no
+/// INT.
+#[inline(always)]
+#[tactic(auto, unfolding(crate::specs::Applied::applied))]
+pub fn apply_to_ints(row: u32, left: i64, right: i64) -> Option<i64>
+    ensures { IfSome result (λ number. spec.applied row (plain (Plain.Int left)) (plain (Plain.Int right)) ≡ Ok (plain (Plain.Int number))) }
+{
+    match row {
+        15 => sum(left, right),
+        16 => difference(left, right),
+        17 => product(left, right),
+        _ => None,
     }
 }
 

@@ -20,36 +20,58 @@ fn int(value: i64) -> Result<Plain, FaultKind>
     Ok(Plain::Int(value))
 }
 
-// Adds.
+// Finds out whether a number is an INT; none where it is not.
 #[inline(always)]
-fn sum(left: i64, right: i64) -> Result<Plain, FaultKind>
-    ensures { result ≡ yields.int (left +ℤ right) }
+fn in_range(value: i64) -> Option<i64>
+    ensures { yields.int_or_overflow result ≡ yields.int value }
+{
+    if value == i64::MIN {
+        return None;
+    }
+    Some(value)
+}
+
+// Takes an INT as a value. Where there is none, the number was too large.
+#[inline(always)]
+fn int_or_overflow(number: Option<i64>) -> Result<Plain, FaultKind>
+    ensures { result ≡ yields.int_or_overflow number }
+{
+    match number {
+        Some(number) => Ok(Plain::Int(number)),
+        None => Err(FaultKind::Overflow),
+    }
+}
+
+/// Adds; none where the sum is no INT.
+#[inline(always)]
+pub fn sum(left: i64, right: i64) -> Option<i64>
+    ensures { yields.int_or_overflow result ≡ yields.int (left +ℤ right) }
 {
     match left.checked_add(right) {
-        Some(value) => int(value),
-        None => Err(FaultKind::Overflow),
+        Some(value) => in_range(value),
+        None => None,
     }
 }
 
-// Subtracts.
+/// Subtracts; none where the difference is no INT.
 #[inline(always)]
-fn difference(left: i64, right: i64) -> Result<Plain, FaultKind>
-    ensures { result ≡ yields.int (left -ℤ right) }
+pub fn difference(left: i64, right: i64) -> Option<i64>
+    ensures { yields.int_or_overflow result ≡ yields.int (left -ℤ right) }
 {
     match left.checked_sub(right) {
-        Some(value) => int(value),
-        None => Err(FaultKind::Overflow),
+        Some(value) => in_range(value),
+        None => None,
     }
 }
 
-// Multiplies.
+/// Multiplies; none where the product is no INT.
 #[inline(always)]
-fn product(left: i64, right: i64) -> Result<Plain, FaultKind>
-    ensures { result ≡ yields.int (left *ℤ right) }
+pub fn product(left: i64, right: i64) -> Option<i64>
+    ensures { yields.int_or_overflow result ≡ yields.int (left *ℤ right) }
 {
     match left.checked_mul(right) {
-        Some(value) => int(value),
-        None => Err(FaultKind::Overflow),
+        Some(value) => in_range(value),
+        None => None,
     }
 }
 
@@ -135,9 +157,9 @@ pub fn on_ints(operator: Dyadic, left: i64, right: i64) -> Result<Plain, FaultKi
     ensures { result ≡ integers.on_ints operator left right }
 {
     match operator {
-        Dyadic::Plus => sum(left, right),
-        Dyadic::Minus => difference(left, right),
-        Dyadic::Times => product(left, right),
+        Dyadic::Plus => int_or_overflow(sum(left, right)),
+        Dyadic::Minus => int_or_overflow(difference(left, right)),
+        Dyadic::Times => int_or_overflow(product(left, right)),
         Dyadic::Over => quotient(left, right),
         Dyadic::Mod => modulo(left, right),
         Dyadic::Power => power(left, right),

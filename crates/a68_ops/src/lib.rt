@@ -12,7 +12,7 @@ mod stop;
 mod texts;
 mod unset;
 
-pub use applied::{apply, apply_monadic, apply_plain, updated};
+pub use applied::{apply, apply_monadic, apply_plain, apply_to_ints, updated};
 pub use laws::{at_most_is_told_by_places, mod_gives_a_rest, operators_fit_their_modes};
 pub use printing::{item_text, whole};
 pub use stop::OpStop;

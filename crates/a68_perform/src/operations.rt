@@ -1,5 +1,5 @@
 //! Operations on the values of their parts.
-ghost use Rattle.std.specs.Prelude.{◌≡◌, ◌<◌, [], ◌∷◌, ℕ, true, false, length, reverse, List, IfOk, MatchResult, Ok, OnErr};
+ghost use Rattle.std.specs.Prelude.{◌≡◌, IfSome, ◌<◌, [], ◌∷◌, ℕ, true, false, length, reverse, List, IfOk, MatchResult, Ok, OnErr};
 ghost use Rattle.a68_acts.specs.Fetching as fetching;
 ghost use Rattle.a68_acts.specs.Operations as operations;
 ghost use Rattle.a68_acts.specs.Rowing.{ints_of};
@@ -431,7 +431,7 @@ fn resumed_by(alloc: Global, modes: &Modes, next: Next, row: Descriptor) -> Resu
             Ok(doing)
         }
         Next::Bound { upper, dimension } => {
-            let doing = bound_of(alloc, upper, &row.dims.items, dimension)?;
+            let doing = bound_of(alloc, upper, row.dims.as_slice(), dimension)?;
             Ok(doing)
         }
         next => {
@@ -602,7 +602,8 @@ pub fn has_turn(counter: &Counter) -> bool
 /// The counter of the next turn; none where it is no INT.
 #[tactic(auto, unfolding(a68_acts::specs::Operations::advanced))]
 pub fn advanced(counter: Counter) -> Option<Counter>
-    ensures { result ≡ operations.advanced counter }
+    ensures advanced { result ≡ operations.advanced counter }
+    ensures kept { IfSome result (λ next. next ≡ record counter { at = next.at }) }
 {
     match counter.at.checked_add(counter.by) {
         Some(at) if at != i64::MIN => Some(Counter { at, ..counter }),

@@ -61,14 +61,15 @@ fn dims_behind(alloc: Global, dims: &[Dim]) -> Result<Dims, NoMemory>
     let mut items = Vec::with_capacity(alloc, 1)?;
     items.push(one_dimension())?;
     items.extend_from_slice(dims)?;
-    Ok(Dims { items })
+    let dims = Dims::of(alloc, items)?;
+    Ok(dims)
 }
 
 /// The name of a row with a dimension 1:1 in front of those of this one.
 pub fn with_dimension(alloc: Global, scope: u32, descriptor: &Descriptor) -> Result<Doing, NoMemory>
     ensures { IfOk result (λ doing. doing ≡ rowing.names_row scope (rowing.with_dimension descriptor.now)) }
 {
-    let dims = dims_behind(alloc, &descriptor.dims.items)?;
+    let dims = dims_behind(alloc, descriptor.dims.as_slice())?;
     let base = descriptor.base;
     let doing = names_row(alloc, scope, Descriptor { base, dims })?;
     Ok(doing)

@@ -165,7 +165,7 @@ pub fn sliced(alloc: Global, forms: &TrimForms, values: &[Value]) -> Result<Doin
 fn names_seen(alloc: Global, scope: u32, part: Descriptor) -> Result<Doing, NoMemory>
     ensures { IfOk result (λ doing. doing ≡ rowing.names_part scope (Ok part)) }
 {
-    if part.dims.items.len() == 0 {
+    if part.dims.as_slice().len() == 0 {
         let cell = part.base;
         drop(part);
         return Ok(Doing::Yields(Value::of(Plain::Name(Name { cell, scope }))));

@@ -70,7 +70,7 @@ fn extended(
     requires room { All (λ cell. cell + width ≤ most_cells) cells.now }
     ensures { IfOk result (λ doing. doing ≡ rowing.extended modes.now row name operand (views.bounds_of descriptor.now.dims) (Ok cells.now)) }
 {
-    let bounds = bounds_of(alloc, &descriptor.dims.items)?;
+    let bounds = bounds_of(alloc, descriptor.dims.as_slice())?;
     let mut steps = Steps::new(alloc);
     steps.push(Step::Update { row, name, operand })?;
     steps.push(Step::Row {

@@ -34,7 +34,7 @@ pub fn row(rt: &impl Abort, alloc: Global, base: u32, upper: i64) -> Descriptor 
     let items = vec![in alloc; dim].expect(rt, "memory");
     Descriptor {
         base,
-        dims: Dims { items },
+        dims: Dims::of(alloc, items).expect(rt, "memory"),
     }
 }
 

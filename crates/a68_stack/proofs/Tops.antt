@@ -1,5 +1,5 @@
 -- What stands on top of a stack, whose items stand with the topmost one last.
-use Rattle.std.proofs.Common.{◌≡◌, ℕ, ◌+◌, ◌-◌, ◌∙◌, Bool, true, false, List, [], ◌∷◌, ◌++◌, length, take, get_or, set, ap, sym, refl, arith}
+use Rattle.std.proofs.Common.{◌≡◌, ℕ, ℤ, ◌+◌, ◌-◌, ◌∙◌, Bool, true, false, List, [], ◌∷◌, ◌++◌, length, take, get_or, set, ap, sym, refl, arith}
 use Rattle.std.specs.Prelude.{None, Some, reverse, MatchBool, MatchOption}
 use Rattle.std.specs.Option.{is_some}
 use Rattle.std.specs.declared.option.Option.{Option}
@@ -50,29 +50,29 @@ pub plain_set_callers : (is_set : Bool) (held : Plain) (old new : Stacked) → P
 plain_set_callers true held old new (p, rest, was, now) = ap (λ (l : Stacked). callers l.items) now ∙ sym (ap (λ l. callers l) was)
 plain_set_callers false held old new (none, same) = ap (λ (l : Stacked). callers l.items) same
 
--- Whether a counter took the place of the one on top.
-abbrev pub CounterIsSet : Bool → Counter → (old new : Stacked) → Type 0
-CounterIsSet is_set counter old new =
-    MatchBool is_set ((c : Counter) × (rest : List Item) × (old.items ≡ item.Counter c ∷ rest) × (new ≡ record old { items = item.Counter counter ∷ rest })) ((top_counter old.items ≡ None) × (new ≡ old))
+-- Whether a number took the place of that of the counter on top.
+abbrev pub NumberIsSet : Bool → ℤ → (old new : Stacked) → Type 0
+NumberIsSet is_set number old new =
+    MatchBool is_set ((c : Counter) × (rest : List Item) × (old.items ≡ item.Counter c ∷ rest) × (new ≡ record old { items = item.Counter (record c { at = number }) ∷ rest })) ((top_counter old.items ≡ None) × (new ≡ old))
 
 no_counter : (i : Item) (rest : List Item) → counter_in i ≡ None → top_counter (i ∷ rest) ≡ None
 no_counter (item.Value v) rest e = refl
 no_counter (item.Counter c) rest e = e
 no_counter (item.Caller c) rest e = refl
 
-pub counter_is_set : (items : List Item) (n : ℕ) (is_set : Bool) (counter : Counter) (before after : Item) → length items ≡ n + 1 → before ≡ get_or items n before
-    → MatchBool is_set ((c : Counter) × (before ≡ item.Counter c) × (after ≡ item.Counter counter)) ((counter_in before ≡ None) × (after ≡ before))
-    → (room : ℕ) → CounterIsSet is_set counter (stacked room (reverse items)) (stacked room (reverse (set items n after)))
-counter_is_set items n true counter before after all is (c, was, now) room =
+pub number_is_set : (items : List Item) (n : ℕ) (is_set : Bool) (number : ℤ) (before after : Item) → length items ≡ n + 1 → before ≡ get_or items n before
+    → MatchBool is_set ((c : Counter) × (before ≡ item.Counter c) × (after ≡ item.Counter (record c { at = number }))) ((counter_in before ≡ None) × (after ≡ before))
+    → (room : ℕ) → NumberIsSet is_set number (stacked room (reverse items)) (stacked room (reverse (set items n after)))
+number_is_set items n true number before after all is (c, was, now) room =
     let top = on_top items n before after all is in
     (c, top.0, top.1 ∙ ap (λ (i : Item). i ∷ top.0) was, ap (stacked room) (top.2 ∙ ap (λ (i : Item). i ∷ top.0) now))
-counter_is_set items n false counter before after all is (none, same) room =
+number_is_set items n false number before after all is (none, same) room =
     let top = on_top items n before after all is in
     (ap (λ l. top_counter l) top.1 ∙ no_counter before top.0 none, ap (stacked room) (top.2 ∙ ap (λ (i : Item). i ∷ top.0) same ∙ sym top.1))
 
-pub counter_set_callers : (is_set : Bool) (counter : Counter) (old new : Stacked) → CounterIsSet is_set counter old new → callers new.items ≡ callers old.items
-counter_set_callers true counter old new (c, rest, was, now) = ap (λ (l : Stacked). callers l.items) now ∙ sym (ap (λ l. callers l) was)
-counter_set_callers false counter old new (none, same) = ap (λ (l : Stacked). callers l.items) same
+pub number_set_callers : (is_set : Bool) (number : ℤ) (old new : Stacked) → NumberIsSet is_set number old new → callers new.items ≡ callers old.items
+number_set_callers true number old new (c, rest, was, now) = ap (λ (l : Stacked). callers l.items) now ∙ sym (ap (λ l. callers l) was)
+number_set_callers false number old new (none, same) = ap (λ (l : Stacked). callers l.items) same
 
 -- the two plain values that were looked for and found
 pub found_two : (found : Option (Plain × Plain)) (items : List Item) → is_some found ≡ true

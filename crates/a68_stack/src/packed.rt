@@ -268,22 +268,21 @@ impl Packed {
     pub fn counter(&self) -> Option<Counter>
         ensures { result ≡ counter_in self.now }
     {
-        match &self.form {
-            Form::Bounded { at, by, to } => Some(Counter {
+        if let Form::Bounded { at, by, to } = &self.form {
+            return Some(Counter {
                 at: *at,
                 by: *by,
                 to: Some(*to),
-            }),
-            Form::Endless { at, by } => Some(Counter {
+            });
+        }
+        if let Form::Endless { at, by } = &self.form {
+            return Some(Counter {
                 at: *at,
                 by: *by,
                 to: None,
-            }),
-            Form::Plain(_) => None,
-            Form::Value(_) => None,
-            Form::Void => None,
-            Form::Caller { to: _, chain: _ } => None,
+            });
         }
+        None
     }
 
     /// Is it a value?
@@ -379,16 +378,24 @@ impl Packed {
         self.set_plain(*held)
     }
 
-    /// Puts a counter in the place of the one that it is; another item stays.
+    /// Puts a number in the place of that of the counter that it is; another item stays.
     #[inline(always)]
-    pub fn set_counter(&mut self, counter: Counter) -> bool
-        ensures { MatchBool result ((c : Counter) × (self.old ≡ Item.Counter c) × (self.new ≡ Item.Counter counter)) ((counter_in self.old ≡ None) × (self.new ≡ self.old)) }
+    pub fn set_number(&mut self, number: i64) -> bool
+        ensures { MatchBool result ((c : Counter) × (self.old ≡ Item.Counter c) × (self.new ≡ Item.Counter (record c { at = number }))) ((counter_in self.old ≡ None) × (self.new ≡ self.old)) }
     {
-        if self.counter().is_none() {
-            return false;
+        match &mut self.form {
+            Form::Bounded { at, by: _, to: _ } => {
+                *at = number;
+                true
+            }
+            Form::Endless { at, by: _ } => {
+                *at = number;
+                true
+            }
+            Form::Plain(_) => false,
+            Form::Value(_) => false,
+            Form::Void => false,
+            Form::Caller { to: _, chain: _ } => false,
         }
-        // A counter holds no memory.
-        mem::forget(mem::replace(&mut self.form, Form::of_counter(counter)));
-        true
     }
 }

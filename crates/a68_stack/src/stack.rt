@@ -546,15 +546,15 @@ impl Stack {
         }
     }
 
-    /// Puts a counter in the place of the topmost item where that is a counter; elsewhere the stack stays.
+    /// Puts a number in the place of that of the counter on top; elsewhere the stack stays.
     #[inline(always)]
-    pub fn set_counter(&mut self, counter: Counter) -> bool
-        ensures { MatchBool result ((c : Counter) × (rest : List Item) × (self.old.items ≡ Item.Counter c ∷ rest) × (self.new ≡ record self.old { items = Item.Counter counter ∷ rest })) ((top_counter self.old.items ≡ None) × (self.new ≡ self.old)) }
+    pub fn set_number(&mut self, number: i64) -> bool
+        ensures { MatchBool result ((c : Counter) × (rest : List Item) × (self.old.items ≡ Item.Counter c ∷ rest) × (self.new ≡ record self.old { items = Item.Counter (record c { at = number }) ∷ rest })) ((top_counter self.old.items ≡ None) × (self.new ≡ self.old)) }
     {
         let Some(kept) = self.items.last_mut() else {
             return false;
         };
-        kept.set_counter(counter)
+        kept.set_number(number)
     }
 
     /// The scope of the value on top; none where there is none.

@@ -49,7 +49,7 @@ pub fn fetches_row(
     let width = cells_of(modes, of)?;
     match cells_seen(alloc, descriptor, width) {
         Ok(cells) => {
-            let bounds = bounds_of(alloc, &descriptor.dims.items)?;
+            let bounds = bounds_of(alloc, descriptor.dims.as_slice())?;
             steps.push(Step::Row {
                 bounds,
                 count: cells.len(),
@@ -98,7 +98,7 @@ fn assigns_row(
     ensures { (left : List Content) → IfOk result (λ why. then_goes why modes.now steps.new left
         ≡ spec.assigns_row modes.now of descriptor.now bounds.now parts steps.old left) }
 {
-    let own = bounds_of(alloc, &descriptor.dims.items)?;
+    let own = bounds_of(alloc, descriptor.dims.as_slice())?;
     if !same_bounds(&own.items, &bounds.items) {
         drop(parts);
         return Ok(Some(FaultKind::Bounds));

@@ -10,5 +10,6 @@ mod stop;
 mod store;
 mod weight;
 
+pub use slot::Slot;
 pub use stop::StoreStop;
 pub use store::Store;

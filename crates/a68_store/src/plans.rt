@@ -1,5 +1,5 @@
 //! The cells of plans.
-ghost use Rattle.std.specs.Prelude.{◌≡◌, ◌<◌, ◌+◌, ◌^◌, [], true, length, map, IfOk, OnOk};
+ghost use Rattle.std.specs.Prelude.{◌≡◌, ◌<◌, ◌+◌, ◌++◌, ◌^◌, true, length, map, take, IfOk, OnErr, OnOk};
 ghost use Rattle.std.specs.List.{list_all};
 ghost use Rattle.a68_acts.specs.Does as acts;
 
@@ -8,13 +8,13 @@ use a68_layout::Plan;
 use a68_values::{Descriptor, Dims, Held};
 use std::alloc::Global;
 
-// Equal held values put where there are none.
-fn add_copies(alloc: Global, copies: &mut Vec<Held>, cells: &[Held]) -> Result<(), NoMemory>
-    requires { copies.old.items ≡ [] }
-    ensures { OnOk result (copies.new.items ≡ cells.now) }
+// Adds equal held values. Where there is no memory, some of them are added.
+fn add_copies(alloc: Global, cells: &mut Vec<Held>, new: &[Held]) -> Result<(), NoMemory>
+    ensures ok { OnOk result (cells.new.items ≡ cells.old.items ++ new.now) }
+    ensures err { OnErr result (take (length cells.old.items) cells.new.items ≡ cells.old.items) }
 {
-    for held in cells {
-        copies.push(held.copy(alloc)?)?;
+    for held in new {
+        cells.push(held.copy(alloc)?)?;
     }
     Ok(())
 }
@@ -55,10 +55,10 @@ fn counted_from(alloc: Global, base: u32, count: usize, held: &Held) -> Result<H
     match held {
         Held::Plain(plain) => Ok(Held::Plain(*plain)),
         Held::Rows(descriptor) => {
-            let items = Vec::from_slice(alloc, &descriptor.dims.items)?;
+            let items = Vec::from_slice(alloc, descriptor.dims.as_slice())?;
             Ok(Held::Rows(Descriptor {
                 base: base + descriptor.base,
-                dims: Dims { items },
+                dims: Dims::of(alloc, items)?,
             }))
         }
         Held::Member { mode, base: first } => Ok(Held::Member {
@@ -68,44 +68,55 @@ fn counted_from(alloc: Global, base: u32, count: usize, held: &Held) -> Result<H
     }
 }
 
-// Equal held values, where the cells that they name are counted from this one, put where there are none.
+// Adds equal held values, where the cells that they name are counted from this one. Where there is no memory, some of them are
+// added.
 fn add_counted(
     alloc: Global,
-    copies: &mut Vec<Held>,
+    cells: &mut Vec<Held>,
     base: u32,
-    cells: &[Held],
+    new: &[Held],
 ) -> Result<(), NoMemory>
-    requires none { copies.old.items ≡ [] }
-    requires within { list_all (acts.names_within (length cells.now)) cells.now ≡ true }
-    requires room { base + length cells.now < 2 ^ 32 }
-    ensures { OnOk result (copies.new.items ≡ map (acts.counted_from base) cells.now) }
+    requires within { list_all (acts.names_within (length new.now)) new.now ≡ true }
+    requires room { base + length new.now < 2 ^ 32 }
+    ensures ok { OnOk result (cells.new.items ≡ cells.old.items ++ map (acts.counted_from base) new.now) }
+    ensures err { OnErr result (take (length cells.old.items) cells.new.items ≡ cells.old.items) }
 {
-    for held in cells {
-        copies.push(counted_from(alloc, base, cells.len(), held)?)?;
+    for held in new {
+        cells.push(counted_from(alloc, base, new.len(), held)?)?;
     }
     Ok(())
 }
 
-/// The cells of a plan where the first one is this.
-pub fn cells_from(alloc: Global, base: u32, plan: &Plan) -> Result<Vec<Held>, NoMemory>
+// Adds the cells of a plan where the first one is this. Where there is no memory, some of them are added.
+fn add_planned(alloc: Global, cells: &mut Vec<Held>, base: u32, plan: &Plan) -> Result<(), NoMemory>
     requires closed { acts.is_closed plan.now ≡ true }
     requires room { base + length plan.now.cells < 2 ^ 32 }
-    ensures { IfOk result (λ cells. cells.items ≡ acts.cells_from base plan.now) }
+    ensures ok { OnOk result (cells.new.items ≡ cells.old.items ++ acts.cells_from base plan.now) }
+    ensures err { OnErr result (take (length cells.old.items) cells.new.items ≡ cells.old.items) }
 {
-    if !plan.shifted {
-        let cells = copies(alloc, &plan.cells.items)?;
-        return Ok(cells);
+    cells.reserve(plan.cells.items.len())?;
+    if plan.shifted {
+        return add_counted(alloc, cells, base, &plan.cells.items);
     }
-    let mut cells = Vec::with_capacity(alloc, plan.cells.items.len())?;
-    add_counted(alloc, &mut cells, base, &plan.cells.items)?;
-    Ok(cells)
+    add_copies(alloc, cells, &plan.cells.items)
 }
 
-// Equal held values.
-fn copies(alloc: Global, cells: &[Held]) -> Result<Vec<Held>, NoMemory>
-    ensures { IfOk result (λ copies. copies.items ≡ cells.now) }
+/// Adds the cells of a plan where the first one is this. Where there is no memory, the list stays as it was.
+pub fn add_cells(
+    alloc: Global,
+    cells: &mut Vec<Held>,
+    base: u32,
+    plan: &Plan,
+) -> Result<(), NoMemory>
+    requires closed { acts.is_closed plan.now ≡ true }
+    requires room { base + length plan.now.cells < 2 ^ 32 }
+    ensures ok { OnOk result (cells.new.items ≡ cells.old.items ++ acts.cells_from base plan.now) }
+    ensures err { OnErr result (cells.new.items ≡ cells.old.items) }
 {
-    let mut copies = Vec::with_capacity(alloc, cells.len())?;
-    add_copies(alloc, &mut copies, cells)?;
-    Ok(copies)
+    let count = cells.len();
+    if let Err(error) = add_planned(alloc, cells, base, plan) {
+        cells.truncate(count);
+        return Err(error);
+    }
+    Ok(())
 }

@@ -10,9 +10,9 @@ ghost use Rattle.a68_values.specs.Content.{as_plain, plain};
 
 use crate::chains::chain_behind;
 use crate::frame::{Frame, place};
-use crate::plans::{cells_from, is_closed};
+use crate::plans::{add_cells, is_closed};
 use crate::room::{add_unbound, keep, make_room, push_frame};
-use crate::slot::{Slot, SlotNode};
+use crate::slot::Slot;
 use crate::stop::StoreStop;
 use crate::weight::weight;
 use a68_acts::{Reply, Want};
@@ -91,15 +91,15 @@ fn bind_to(slot: &mut Slot, held: &Plain)
     ensures { slot.new ≡ Some (plain held.now) }
 {
     if let Plain::Int(number) = held {
-        return set_slot(slot, Slot::plain(Plain::Int(*number)));
+        return set_slot(slot, Slot::of_plain(Plain::Int(*number)));
     }
     if let Plain::Name(name) = held {
-        return set_slot(slot, Slot::plain(Plain::Name(*name)));
+        return set_slot(slot, Slot::of_plain(Plain::Name(*name)));
     }
     if let Plain::Bool(holds) = held {
-        return set_slot(slot, Slot::plain(Plain::Bool(*holds)));
+        return set_slot(slot, Slot::of_plain(Plain::Bool(*holds)));
     }
-    set_slot(slot, Slot::plain(*held));
+    set_slot(slot, Slot::of_plain(*held));
 }
 
 // Gives a place an equal plain value, kind by kind.
@@ -395,16 +395,12 @@ impl Store {
             (does (Want.Look frame slot) self.now) self.now self.now }
         ensures memory { IsErrOf result StoreStop.NoMemory → plain_bound (slot_in self.now frame slot) ≡ None }
     {
-        if let Some(held) = self.plain_at(frame, slot) {
-            return Ok(Value::of(held));
-        }
         let Some(slot) = self.slot(frame, slot) else {
             return Err(StoreStop::Fault(FaultKind::Kind));
         };
-        match &slot.node {
-            SlotNode::Unbound => Err(StoreStop::Fault(FaultKind::Unset)),
-            SlotNode::Plain(held) => Ok(Value::of(*held)),
-            SlotNode::Other(value) => Ok(value.copy(alloc)?),
+        match slot.value(alloc)? {
+            Some(value) => Ok(value),
+            None => Err(StoreStop::Fault(FaultKind::Unset)),
         }
     }
 
@@ -413,16 +409,7 @@ impl Store {
     pub fn plain_at(&self, frame: u32, slot: u32) -> Option<Plain>
         ensures { result ≡ plain_bound (slot_in self.now frame slot) }
     {
-        self.held_at(frame, slot).copied()
-    }
-
-    /// The plain value that a slot is bound to, where it stands; none where it is bound to none, or is not there. It takes no
-    /// memory.
-    #[inline(always)]
-    pub fn held_at(&self, frame: u32, slot: u32) -> Option<&Plain>
-        ensures { option_copied result ≡ plain_bound (slot_in self.now frame slot) }
-    {
-        self.slot(frame, slot)?.held()
+        self.slot(frame, slot)?.plain()
     }
 
     /// How many cells there are. It takes no memory.
@@ -445,8 +432,7 @@ impl Store {
         if count > (MOST_COUNTED - self.counted) as usize {
             return Err(StoreStop::Fault(FaultKind::Cells));
         }
-        let mut fresh = cells_from(alloc, base, plan)?;
-        self.cells.append(&mut fresh)?;
+        add_cells(alloc, &mut self.cells, base, plan)?;
         self.counted += count as u32;
         Ok(base)
     }
@@ -598,9 +584,9 @@ impl Store {
         Ok(first)
     }
 
-    // The slot of a frame, where they are there.
+    /// The slot of a frame, where they are there.
     #[inline(always)]
-    fn slot(&self, frame: u32, slot: u32) -> Option<&Slot>
+    pub fn slot(&self, frame: u32, slot: u32) -> Option<&Slot>
         ensures { option_copied result ≡ slot_in self.now frame slot }
     {
         let place = place(&self.frames, frame, slot)?;

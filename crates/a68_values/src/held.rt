@@ -17,7 +17,8 @@ pub struct Dim {
 /// The dimensions of a row, from the first subscript to the last.
 #[derive(Drop)]
 pub struct Dims {
-    pub items: Vec<Dim>,
+    // In a box, so that a cell takes few bytes.
+    items: Box<Vec<Dim>>,
 }
 
 impl Model for Dims {
@@ -26,7 +27,25 @@ impl Model for Dims {
 
     ghost Value = { List Dim };
 
-    ghost view = { λ dims. dims.items.items };
+    ghost view = { λ dims. dims.items.value.items };
+}
+
+impl Dims {
+    /// These dimensions, from the first subscript to the last.
+    pub fn of(alloc: Global, items: Vec<Dim>) -> Result<Dims, NoMemory>
+        ensures { IfOk result (λ dims. dims ≡ items.items) }
+    {
+        let items = Box::new(alloc, items)?;
+        Ok(Dims { items })
+    }
+
+    /// The dimensions.
+    #[inline(always)]
+    pub fn as_slice(&self) -> &[Dim]
+        ensures { result.now ≡ self.now }
+    {
+        self.items.as_slice()
+    }
 }
 
 /// A row in the store: the cell of its first element, and its dimensions (Report, 2.1.3.4).
@@ -104,10 +123,10 @@ impl Held {
         match self {
             Held::Plain(plain) => Ok(Held::Plain(*plain)),
             Held::Rows(descriptor) => {
-                let items = Vec::from_slice(alloc, &descriptor.dims.items)?;
+                let items = Vec::from_slice(alloc, descriptor.dims.as_slice())?;
                 Ok(Held::Rows(Descriptor {
                     base: descriptor.base,
-                    dims: Dims { items },
+                    dims: Dims::of(alloc, items)?,
                 }))
             }
             Held::Member { mode, base } => Ok(Held::Member {

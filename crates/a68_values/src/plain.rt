@@ -49,8 +49,9 @@ impl Plain {
     ghost use Rattle.a68_values.specs.Content.{plain_scope};
 
     /// The scope of the value: that of a name or a routine, and 0 of every other value (Report, 2.1.1.3).
-    pub fn scope(self) -> u32
-        ensures { result ≡ plain_scope self }
+    #[inline(always)]
+    pub fn scope(&self) -> u32
+        ensures { result ≡ plain_scope self.now }
     {
         match self {
             Plain::Name(name) => name.scope,

@@ -19,7 +19,7 @@ pub fn plain_in(held: &Held) -> Option<Plain> {
 pub fn tell_row(text: &mut String, row: &Descriptor) -> Option<()> {
     let base = row.base;
     write!(text, "at {base}").ok()?;
-    for dim in &row.dims.items {
+    for dim in row.dims.as_slice() {
         let Dim {
             lower,
             upper,

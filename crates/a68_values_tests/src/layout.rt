@@ -313,7 +313,7 @@ fn row_in_store(rt: &impl Abort, alloc: Global, base: u32, dims: &[Dim]) -> Desc
     let items = Vec::from_slice(alloc, dims).expect(rt, "memory");
     Descriptor {
         base,
-        dims: Dims { items },
+        dims: Dims::of(alloc, items).expect(rt, "memory"),
     }
 }
 

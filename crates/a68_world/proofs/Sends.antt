@@ -39,7 +39,9 @@ use Rattle.a68_values.proofs.held.Held.TheSendSync as held
 use Rattle.a68_values.proofs.kept.End.TheSendSync as end
 use Rattle.a68_values.proofs.log.Log.TheSendSync as log
 use Rattle.a68_values.proofs.plain.Layout.TheSendSync as layout
+use Rattle.a68_values.proofs.plain.Name.TheSendSync as name
 use Rattle.a68_values.proofs.plain.Plain.TheSendSync as plain
+use Rattle.a68_values.proofs.plain.Routine.TheSendSync as routine
 use Rattle.a68_values.proofs.value.Bounds.TheSendSync as bounds
 use Rattle.a68_values.specs.contracts.value.Value.TheKnot as knot
 use Rattle.a68_values.specs.contracts.value.Values as parts
@@ -93,7 +95,7 @@ frame_send : IsSend frame.the_row
 frame_send = search (sendable, crosses) depth 20
 
 slot_send : IsSend slot.the_row
-slot_send = search (sendable, crosses, value_send, plain.the_field_send) depth 30
+slot_send = search (sendable, crosses, value_send, name.the_field_send, routine.the_field_send) depth 60
 
 store_send : IsSend store.the_row
 store_send = search (sendable, crosses, frame_send, slot_send, value_send, held.the_send) depth 20
