@@ -3,7 +3,7 @@ _a68() {
     local word=${COMP_WORDS[COMP_CWORD]} before=${COMP_WORDS[COMP_CWORD - 1]} verb=${COMP_WORDS[1]}
     local here names
     if [ "$COMP_CWORD" -eq 1 ]; then
-        COMPREPLY=($(compgen -W "run check code make lint explain prove help --version" -- "$word"))
+        COMPREPLY=($(compgen -W "run check code make races list lint explain prove help --version" -- "$word"))
         return
     fi
     case $verb:$before in
@@ -17,6 +17,7 @@ _a68() {
     esac
     case $verb:$word in
     run:-*) COMPREPLY=($(compgen -W "--fuel --workers --names" -- "$word")) ;;
+    races:-*) COMPREPLY=($(compgen -W "--fuel --workers" -- "$word")) ;;
     make:-*) COMPREPLY=($(compgen -W "--workers" -- "$word")) ;;
     *) COMPREPLY=($(compgen -f -X '!*.a68' -- "$word") $(compgen -d -- "$word")) ;;
     esac

@@ -15,8 +15,9 @@ pub struct Span {
 /// A rule or limit that a text can break. Its name stands in the line of the refusal.
 ///
 /// S are the rules of symbols and of their order, N those of names, M of modes, O of operators, C of coercions and
-/// counts, P of the places of some clauses, and L are the limits. The sections are those of the Revised Report; what
-/// is marked *own* is a rule of this compiler.
+/// counts, P of the places of some clauses, and L are the limits. Q are the rules of what stands beside a text: a
+/// schedule, a journal, an input. The sections are those of the Revised Report; what is marked *own* is a rule of this
+/// compiler.
 #[derive(Clone, Copy, Debug, PartialEq, Eq)]
 pub enum Rule {
     /// A string denotation, a comment or a pragmat has no end, or a string meets the end of its line (8.3, 9.2).
@@ -72,6 +73,16 @@ pub enum Rule {
     L4,
     /// More instructions than a program may have (own).
     L7,
+    /// The bytes of a schedule are no schedule (own).
+    Q1,
+    /// A schedule names a strand that cannot act, or goes on where the run has ended (own).
+    Q2,
+    /// A schedule ends and its run has not (own).
+    Q3,
+    /// A journal has a strand numbered above those that `races` looks at (own).
+    Q4,
+    /// More bytes or lines than an input may have (own).
+    Q5,
 }
 
 impl Rule {
@@ -106,6 +117,11 @@ impl Rule {
             Rule::L3 => "L3",
             Rule::L4 => "L4",
             Rule::L7 => "L7",
+            Rule::Q1 => "Q1",
+            Rule::Q2 => "Q2",
+            Rule::Q3 => "Q3",
+            Rule::Q4 => "Q4",
+            Rule::Q5 => "Q5",
         }
     }
 }

@@ -1,3 +1,4 @@
+pub mod Awaiting
 pub mod Conforming
 pub mod Constructs
 pub mod Jumping

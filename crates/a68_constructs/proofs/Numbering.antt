@@ -26,12 +26,12 @@ pub last_behind : (ps : List ℕ) (x : ℕ) → ps ++ x ∷ [] ≡ with_last ps 
 last_behind [] x = refl
 last_behind (p ∷ ps) x = ap (λ (l : List ℕ). p ∷ l) (last_behind ps x)
 
-count_places : (ts : Trees) (at : ℕ) → length (arm_places ts at) ≡ count ts
+pub count_places : (ts : Trees) (at : ℕ) → length (arm_places ts at) ≡ count ts
 count_places no_trees at = refl
 count_places (t and_tree ts) at = ap (λ n. suc n) (count_places ts (at + size t + 1))
 
 -- the places of the text do not depend on the jumps
-places_arms : (place e e' : ℕ) (ts : Trees) (at : ℕ) → places (arm_stretches place e ts at) ≡ places (arm_stretches place e' ts at)
+pub places_arms : (place e e' : ℕ) (ts : Trees) (at : ℕ) → places (arm_stretches place e ts at) ≡ places (arm_stretches place e' ts at)
 places_arms place e e' no_trees at = refl
 places_arms place e e' (t and_tree ts) at =
     let q = stretch t at in
@@ -41,7 +41,7 @@ places_arms place e e' (t and_tree ts) at =
 
 -- ---- the jumps to the end
 
-aim_arms : (place end : ℕ) (ts : Trees) (front rest : List Instr) (at : ℕ) → at ≡ length front
+pub aim_arms : (place end : ℕ) (ts : Trees) (front rest : List Instr) (at : ℕ) → at ≡ length front
     → aim_all (front ++ (arm_stretches place 0 ts at ++ rest)) (arm_jumps ts at) end ≡ front ++ (arm_stretches place end ts at ++ rest)
 aim_arms place end no_trees front rest at e = refl
 aim_arms place end (t and_tree ts) front rest at e =
@@ -68,7 +68,7 @@ pub record NamesAll (c : List ℕ → Does) : Type 0 where
   pub many : (l : List ℕ) → names (c l) ≡ length l
   pub put : (l : List ℕ) (k p : ℕ) → aimed (c l) k p ≡ c (slice_set l k p)
 
-case_names : NamesAll (λ l. does.Case l)
+pub case_names : NamesAll (λ l. does.Case l)
 case_names = record { many = λ l. refl; put = λ l k p. refl }
 
 module _ (c : List ℕ → Does) (all : NamesAll c) where

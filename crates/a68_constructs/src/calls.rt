@@ -1,18 +1,18 @@
 //! Formulas and calls.
 ghost use Rattle.a68_acts.specs.Operations as operations;
-ghost use Rattle.std.specs.Prelude.{◌<◌, not, length};
+ghost use Rattle.std.specs.Prelude.{◌<◌, ◌∷◌, ◌++◌, [], not, length};
 ghost use Rattle.a68_elab.specs.Made as made;
 ghost use Rattle.a68_elab.specs.Made.{trees_at};
 ghost use Rattle.a68_elab.specs.Programs.{behind};
 ghost use Rattle.a68_elab.specs.Trees as trees;
 ghost use Rattle.a68_elab.specs.Trees.{◌and_tree◌};
-ghost use Rattle.a68_emit.specs.Listing.{stretch};
+ghost use Rattle.a68_emit.specs.Listing.{instr, stretch, stretches};
 ghost use Rattle.a68_emit.specs.Views.{note_of, tree_of};
 ghost use Rattle.a68_emit.specs.Writers.{Wrote};
 ghost use Rattle.a68_modes.specs.Nodes.{shape_at, is_void};
 ghost use Rattle.a68_tree.specs.Trees.{AllBetween};
 
-use crate::rows::operation;
+use crate::rows::{all, operation};
 use a68_annot::Note;
 use a68_code::Does;
 use a68_emit::{View, Writer, hops, meaningless};
@@ -54,6 +54,7 @@ fn applied(
 
 // A formula whose operator the text defines.
 #[cycle(units)]
+#[inline(never)]
 fn declared_formula(
     alloc: Global,
     program: &View,
@@ -73,8 +74,36 @@ fn declared_formula(
     }
 }
 
+// Apply.
+#[inline(never)]
+fn apply(place: u32, row: u32, out: &mut Writer)
+    ensures { Wrote out.old out.new (instr place (Does.Apply row) ∷ []) }
+{
+    out.emit(place, Does::Apply(row));
+}
+
+// [operands] Apply.
+#[cycle(units)]
+#[inline(never)]
+fn standard_formula(
+    alloc: Global,
+    program: &View,
+    id: NodeId,
+    parts: &[NodeId],
+    place: u32,
+    row: u32,
+    out: &mut Writer,
+)
+    requires { AllBetween id (length program.now.of.now.tree.nodes) parts.now }
+    ensures { Wrote out.old out.new (stretches (trees_at (behind id (tree_of program.now)) parts.now) (length out.old.list) ++ instr place (Does.Apply row) ∷ []) }
+{
+    all(alloc, program, id, parts, out);
+    apply(place, row, out);
+}
+
 /// [operands] Apply, or a call of the operator.
 #[cycle(units)]
+#[inline(never)]
 pub fn formula(
     alloc: Global,
     program: &View,
@@ -89,7 +118,7 @@ pub fn formula(
         (trees_at (behind id (tree_of program.now)) parts.now)) (length out.old.list)) }
 {
     match note.op {
-        Some(row) => operation(alloc, program, id, parts, place, Does::Apply(row), out),
+        Some(row) => standard_formula(alloc, program, id, parts, place, row, out),
         None => declared_formula(alloc, program, id, parts, place, note, out),
     }
 }
@@ -134,6 +163,7 @@ fn routine(
 
 /// [items] Print; [number] [width] Whole; or a call of a routine. What is called of the standard environ leaves nothing.
 #[cycle(units)]
+#[inline(never)]
 pub fn call(
     alloc: Global,
     program: &View,

@@ -1,27 +1,29 @@
 //! Choices, by a truth value or by a number.
 ghost use Rattle.std.specs.Option.{option_map_or};
-ghost use Rattle.std.specs.Prelude.{◌≡◌, ◌<◌, ◌≤◌, ◌+◌, ◌∷◌, ◌++◌, [], not, length, IfSome};
+ghost use Rattle.std.specs.Prelude.{◌≡◌, ◌<◌, ◌≤◌, ◌+◌, ◌∷◌, ◌++◌, [], not, length, IfSome, IsTrue};
 ghost use Rattle.a68_elab.specs.Made as made;
 ghost use Rattle.a68_elab.specs.Made.{trees_at};
 ghost use Rattle.a68_elab.specs.Programs.{behind};
 ghost use Rattle.a68_emit.specs.Chains.{IsOpen, TreeIsWritten, LinkIsWithin, enquiry_tree, jump_of, link_list, link_tree, other_tree};
 ghost use Rattle.a68_emit.specs.Listing.{arm_places, arm_stretches, instr, size, stretch};
-ghost use Rattle.a68_emit.specs.Numbers.{arm_jumps, case_list};
+ghost use Rattle.a68_emit.specs.Numbers.{arm_jumps};
+ghost use Rattle.a68_constructs.specs.Endings.{GoesOn, IsBareCase, IsFront, TailIsWithin, case_front, case_tree, out_tree, tail_behind};
 ghost use Rattle.a68_emit.specs.Views.{tree_of};
 ghost use Rattle.a68_emit.specs.Writers.{Wrote};
 ghost use Rattle.a68_modes.specs.Nodes.{shape_at, is_void};
 ghost use Rattle.a68_tree.specs.Trees.{AllBetween};
 
+use crate::endings::{Ending, end_all, keep_ending};
 use crate::rows::{unit, write_part};
 use crate::turns::enquire;
+use a68_annot::Note;
 use a68_code::{Does, Places};
 use a68_emit::{
-    Link, Opened, View, Writer, close_all, keep, keep_open, link_of, meaningless, next_link, shut,
-    zeros,
+    Link, Opened, View, Writer, close_all, keep, keep_open, link_of, meaningless, next_link, zeros,
 };
 use a68_modes::ModeId;
 use a68_parts::{before_out, out_of};
-use a68_tree::NodeId;
+use a68_tree::{Node, NodeId, NodeKind};
 use std::alloc::Global;
 
 /// The part that is chosen where the enquiry is false: [part], or Skip.
@@ -118,6 +120,7 @@ fn chain(alloc: Global, program: &View, first: Link, out: &mut Writer)
 
 /// A choice of two parts, or of one.
 #[cycle(units)]
+#[inline(never)]
 pub fn conditional(
     alloc: Global,
     program: &View,
@@ -189,22 +192,31 @@ fn write_arms(
     keep(starts, other, out);
 }
 
-// Case and its places, the [part] of each number and Jump e, the other [part], e:
+/// What is yet to be written of a choice by a number: the other part, if there is one, behind the node of the choice; the
+/// byte at which that begins, and the mode that is asked of it.
+#[derive(Clone, Copy)]
+pub struct Tail {
+    pub id: NodeId,
+    pub other: Option<NodeId>,
+    pub place: u32,
+    pub goal: ModeId,
+}
+
+// Case and its places, the [part] of each number and Jump 0: and keeps the numbers of the jumps.
 #[cycle(units)]
 fn choose(
     alloc: Global,
     program: &View,
     id: NodeId,
     parts: &[NodeId],
-    other: Option<NodeId>,
     place: u32,
-    goal: ModeId,
+    jumps: &mut Vec<u32>,
     out: &mut Writer,
 )
     requires between { AllBetween id (length program.now.of.now.tree.nodes) parts.now }
-    requires other { IfSome other (λ p. (id < p) × (p < length program.now.of.now.tree.nodes)) }
-    ensures { Wrote out.old out.new (case_list place (trees_at (behind id (tree_of program.now)) parts.now) (option_map_or (tree_of program.now) other (made.left_out place goal))
-        (length out.old.list)) }
+    requires no_jumps { jumps.old.items ≡ [] }
+    ensures writes { Wrote out.old out.new (case_front place (trees_at (behind id (tree_of program.now)) parts.now) (length out.old.list)) }
+    ensures jumps { out.new.stop ≡ None → jumps.new.items ≡ arm_jumps (trees_at (behind id (tree_of program.now)) parts.now) (length out.old.list + 1) }
 {
     let Ok(items) = zeros(alloc, parts.len() + 1) else {
         out.run_out();
@@ -213,25 +225,209 @@ fn choose(
     let case = out.len();
     out.emit(place, Does::Case(Places { items }));
     let mut starts = Vec::new(alloc);
-    let mut jumps = Vec::new(alloc);
-    write_arms(
-        alloc,
-        program,
-        id,
-        parts,
-        place,
-        &mut starts,
-        &mut jumps,
-        out,
-    );
-    otherwise(alloc, program, id, other, place, goal, out);
-    let end = out.len();
-    out.patch_all(&jumps, end);
+    write_arms(alloc, program, id, parts, place, &mut starts, jumps, out);
     out.patch_each(case, &starts);
+}
+
+// [enquiry] Case .. up to where the other part begins, and tells what is to be done at the end. With slots Enter stands
+// before it.
+#[cycle(units)]
+fn write_front(
+    alloc: Global,
+    program: &View,
+    id: NodeId,
+    parts: &[NodeId],
+    place: u32,
+    goal: ModeId,
+    out: &mut Writer,
+) -> Ending
+    requires some { 0 < length parts.now }
+    requires between { AllBetween id (length program.now.of.now.tree.nodes) parts.now }
+    ensures { IsFront (case_tree program.now.of.now (tree_of program.now) id place goal parts.now)
+        (out_tree (tree_of program.now) (tail_behind program.now.of.now id place goal parts.now)) result out.old.stop out.old.list out.new.stop out.new.list }
+{
+    let enquiry = parts[0];
+    let begin = program.of.node(enquiry).span.from;
+    let slots = program.of.note(enquiry).slots;
+    let phrases = program.of.parts(enquiry);
+    enquire(alloc, program, enquiry, phrases, begin, slots, out);
+    let units = before_out(program.of.annotated(), id, &parts[1..]);
+    let mut jumps = Vec::new(alloc);
+    choose(alloc, program, id, units, place, &mut jumps, out);
+    Ending {
+        jumps,
+        place,
+        slots,
+        yields: !program.of.is_void(goal),
+    }
+}
+
+// What is left of a choice with these parts behind its front.
+fn tail_of(program: &View, id: NodeId, parts: &[NodeId], place: u32, goal: ModeId) -> Tail
+    requires some { 0 < length parts.now }
+    requires between { AllBetween id (length program.now.of.now.tree.nodes) parts.now }
+    ensures is { result ≡ tail_behind program.now.of.now id place goal parts.now }
+    ensures within { TailIsWithin program.now.of.now result }
+{
+    Tail {
+        id,
+        other: out_of(program.of.annotated(), id, &parts[1..]),
+        place,
+        goal,
+    }
+}
+
+// Is a node the other part of a choice, without coercions?
+fn is_bare_out(node: &Node, note: &Note) -> bool
+    ensures kind { IsTrue result → node.now.kind ≡ NodeKind.Out }
+    ensures path { IsTrue result → note.now.path ≡ [] }
+{
+    matches!(node.kind, NodeKind::Out) && note.path.items.is_empty()
+}
+
+// Is it a choice by a number, without coercions?
+fn is_bare_case(node: &Node, note: &Note) -> bool
+    ensures kind { IsTrue result → node.now.kind ≡ NodeKind.Case }
+    ensures path { IsTrue result → note.now.path ≡ [] }
+{
+    matches!(node.kind, NodeKind::Case) && note.path.items.is_empty()
+}
+
+// What an other part consists of, where it is a unit that is written as it stands.
+fn unit_within(program: &View, id: NodeId) -> Option<NodeId>
+    requires { id < length program.now.of.now.tree.nodes }
+    ensures tree { IfSome result (λ unit. tree_of program.now id ≡ tree_of program.now unit) }
+    ensures within { IfSome result (λ unit. (id < unit) × (unit < length program.now.of.now.tree.nodes)) }
+{
+    let node = program.of.node(id);
+    let note = program.of.note(id);
+    if !is_bare_out(node, note) {
+        return None;
+    }
+    if !program.of.runs(id) {
+        return None;
+    }
+    let parts = program.of.parts(id);
+    if parts.len() != 1 {
+        return None;
+    }
+    Some(parts[0])
+}
+
+// Is a node a choice by a number that is written as it stands?
+fn is_case(program: &View, id: NodeId) -> bool
+    requires { id < length program.now.of.now.tree.nodes }
+    ensures { IsTrue result → IsBareCase program.now.of.now id }
+{
+    let node = program.of.node(id);
+    let note = program.of.note(id);
+    if !is_bare_case(node, note) {
+        return false;
+    }
+    if !program.of.runs(id) {
+        return false;
+    }
+    if program.of.parts(id).len() == 0 {
+        return false;
+    }
+    true
+}
+
+// The node of the next choice of a chain, where there is one.
+fn next_case(program: &View, tail: &Tail) -> Option<NodeId>
+    requires { TailIsWithin program.now.of.now tail.now }
+    ensures tree { IfSome result (λ next. out_tree (tree_of program.now) tail.now ≡ tree_of program.now next) }
+    ensures case { IfSome result (IsBareCase program.now.of.now) }
+    ensures within { IfSome result (λ next. (tail.now.id < next) × (next < length program.now.of.now.tree.nodes)) }
+{
+    let Some(other) = tail.other else {
+        return None;
+    };
+    let Some(unit) = unit_within(program, other) else {
+        return None;
+    };
+    if !is_case(program, unit) {
+        return None;
+    }
+    Some(unit)
+}
+
+// Writes a choice of a chain up to where its other part begins, and keeps what is to be done at its end.
+#[cycle(units)]
+fn write_case(
+    alloc: Global,
+    program: &View,
+    id: NodeId,
+    endings: &mut Vec<Ending>,
+    out: &mut Writer,
+) -> Tail
+    requires there { id < length program.now.of.now.tree.nodes }
+    requires case { IsBareCase program.now.of.now id }
+    ensures within { TailIsWithin program.now.of.now result }
+    ensures node { result.id ≡ id }
+    ensures on { GoesOn (tree_of program.now id) (out_tree (tree_of program.now) result) endings.old.items out.old.stop out.old.list endings.new.items out.new.stop out.new.list }
+{
+    let node = program.of.node(id);
+    let note = program.of.note(id);
+    let parts = program.of.parts(id);
+    let ending = write_front(alloc, program, id, parts, node.span.from, note.goal, out);
+    keep_ending(endings, ending, out);
+    tail_of(program, id, parts, node.span.from, note.goal)
+}
+
+// Writes the choices of a chain one behind the other, whose ends are yet to come, and tells what is left of the last one.
+#[cycle(units)]
+fn write_cases(
+    alloc: Global,
+    program: &View,
+    first: Tail,
+    endings: &mut Vec<Ending>,
+    out: &mut Writer,
+) -> Tail
+    requires { TailIsWithin program.now.of.now first }
+    ensures within { TailIsWithin program.now.of.now result }
+    ensures behind { first.id ≤ result.id }
+    ensures on { GoesOn (out_tree (tree_of program.now) first) (out_tree (tree_of program.now) result) endings.old.items out.old.stop out.old.list
+        endings.new.items out.new.stop out.new.list }
+{
+    let mut tail = first;
+    'tails: loop {
+        match next_case(program, &tail) {
+            Some(next) => tail = write_case(alloc, program, next, endings, out),
+            None => return tail,
+        }
+    }
+}
+
+// A chain of choices by a number: no more of the stack is needed however long it is.
+#[cycle(units)]
+fn case_chain(
+    alloc: Global,
+    program: &View,
+    id: NodeId,
+    parts: &[NodeId],
+    place: u32,
+    goal: ModeId,
+    out: &mut Writer,
+)
+    requires some { 0 < length parts.now }
+    requires between { AllBetween id (length program.now.of.now.tree.nodes) parts.now }
+    ensures { Wrote out.old out.new (stretch (case_tree program.now.of.now (tree_of program.now) id place goal parts.now) (length out.old.list)) }
+{
+    let mut endings = Vec::new(alloc);
+    let ending = write_front(alloc, program, id, parts, place, goal, out);
+    keep_ending(&mut endings, ending, out);
+    let first = tail_of(program, id, parts, place, goal);
+    let last = write_cases(alloc, program, first, &mut endings, out);
+    otherwise(
+        alloc, program, last.id, last.other, last.place, last.goal, out,
+    );
+    end_all(&endings, out);
 }
 
 /// [enquiry] Case .., with slots Enter before it and Leave behind it.
 #[cycle(units)]
+#[inline(never)]
 pub fn case(
     alloc: Global,
     program: &View,
@@ -249,14 +445,5 @@ pub fn case(
         meaningless(out);
         return;
     }
-    let enquiry = parts[0];
-    let rest = &parts[1..];
-    let begin = program.of.node(enquiry).span.from;
-    let slots = program.of.note(enquiry).slots;
-    let phrases = program.of.parts(enquiry);
-    enquire(alloc, program, enquiry, phrases, begin, slots, out);
-    let units = before_out(program.of.annotated(), id, rest);
-    let other = out_of(program.of.annotated(), id, rest);
-    choose(alloc, program, id, units, other, place, goal, out);
-    shut(place, slots, !program.of.is_void(goal), out);
+    case_chain(alloc, program, id, parts, place, goal, out);
 }

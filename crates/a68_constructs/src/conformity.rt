@@ -167,6 +167,7 @@ fn conform(
 
 /// [enquiry] Member .., with slots Enter before it and Leave behind it.
 #[cycle(units)]
+#[inline(never)]
 pub fn conformity(
     alloc: Global,
     program: &View,

@@ -4,6 +4,7 @@
 mod calls;
 mod choices;
 mod conformity;
+mod endings;
 mod names;
 mod parts;
 mod rows;

@@ -153,6 +153,7 @@ fn new_name(
 
 /// A generator: [bounds] Make, or Heap where it says so.
 #[cycle(units)]
+#[inline(never)]
 pub fn generator(
     alloc: Global,
     program: &View,
@@ -287,6 +288,7 @@ fn variable_of(
 
 /// A variable.
 #[cycle(units)]
+#[inline(never)]
 pub fn variable(
     alloc: Global,
     program: &View,

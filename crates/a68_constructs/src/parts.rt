@@ -72,6 +72,7 @@ fn row(
 
 /// A collateral clause: of VOID [parts], of a structure [parts] Compose, of a row [parts] Display.
 #[cycle(units)]
+#[inline(never)]
 pub fn collateral(
     alloc: Global,
     program: &View,
@@ -95,6 +96,7 @@ pub fn collateral(
 
 /// [structure] Select: a field, or the name of one. There is no memory for more fields than an instruction can tell.
 #[cycle(units)]
+#[inline(never)]
 pub fn selection(
     alloc: Global,
     program: &View,
@@ -140,6 +142,7 @@ fn write_indexes(alloc: Global, program: &View, id: NodeId, indexes: &[NodeId], 
 
 /// [primary] [units] Slice: an element or a part of a row.
 #[cycle(units)]
+#[inline(never)]
 pub fn slice(
     alloc: Global,
     program: &View,

@@ -6,6 +6,7 @@ ghost use Rattle.a68_elab.specs.Made.{trees_at};
 ghost use Rattle.a68_elab.specs.Programs.{behind};
 ghost use Rattle.a68_elab.specs.Trees as trees;
 ghost use Rattle.a68_emit.specs.Listing.{instr, stretch, stretches};
+ghost use Rattle.a68_emit.specs.Stretches.{does_of};
 ghost use Rattle.a68_emit.specs.Views.{bound_of, note_of, tree_of};
 ghost use Rattle.a68_emit.specs.Writers.{Wrote};
 ghost use Rattle.a68_modes.specs.Nodes.{shape_at, is_void};
@@ -23,6 +24,7 @@ use a68_emit::{
     View, Writer, are_built, coerce, denotation, leave, meaningless, misfit, nothing, parallel,
     same, store, tag,
 };
+use a68_modes::ModeId;
 use a68_tree::{Node, NodeId, NodeKind};
 use std::alloc::Global;
 
@@ -44,6 +46,100 @@ pub fn unit(alloc: Global, program: &View, id: NodeId, out: &mut Writer)
     }
     construct(alloc, program, id, node, note, out);
     coerce(program.of.modes(), node.span.from, note, out);
+}
+
+// The instructions of units without parts stand in functions of their own, so that a unit within many others needs little
+// of the stack.
+
+// Skip.
+#[inline(never)]
+fn skip(place: u32, goal: ModeId, out: &mut Writer)
+    ensures { Wrote out.old out.new (instr place (Does.Skip goal) ∷ []) }
+{
+    out.emit(place, Does::Skip(goal));
+}
+
+// Nil.
+#[inline(never)]
+fn nil(place: u32, out: &mut Writer)
+    ensures { Wrote out.old out.new (instr place Does.Nil ∷ []) }
+{
+    out.emit(place, Does::Nil);
+}
+
+// Vacuum.
+#[inline(never)]
+fn vacuum(place: u32, goal: ModeId, out: &mut Writer)
+    ensures { Wrote out.old out.new (instr place (Does.Vacuum goal) ∷ []) }
+{
+    out.emit(place, Does::Vacuum(goal));
+}
+
+// Routine.
+#[inline(never)]
+fn routine_text(program: &View, place: u32, note: &Note, out: &mut Writer)
+    requires { place < made.behind_all program.now.of.now.tree.nodes }
+    ensures { Wrote out.old out.new (instr place (Does.Routine (made.text_number program.now.of.now place) note.now.need) ∷ []) }
+{
+    let text = program.of.text_number(place);
+    out.emit(
+        place,
+        Does::Routine {
+            text,
+            distance: note.need,
+        },
+    );
+}
+
+// Tag, or Push the value of the standard environ.
+#[inline(never)]
+fn applied_tag(program: &View, node: &Node, note: &Note, out: &mut Writer)
+    requires { node.now.name < length program.now.of.now.tree.spellings }
+    ensures { Wrote out.old out.new (instr node.now.span.from (does_of (made.tag_of (made.standard_of note.now.definition (made.spelling_of program.now.of.now node.now))
+        (made.hops_seen program.now.of.now program.now.sight note.now) note.now.step.slot) 0) ∷ []) }
+{
+    out.emit(node.span.from, tag(program, node, note));
+}
+
+// [destination] [source] Store.
+#[cycle(units)]
+#[inline(never)]
+fn assignation(
+    alloc: Global,
+    program: &View,
+    id: NodeId,
+    parts: &[NodeId],
+    place: u32,
+    note: &Note,
+    out: &mut Writer,
+)
+    requires { AllBetween id (length program.now.of.now.tree.nodes) parts.now }
+    ensures { Wrote out.old out.new (stretches (trees_at (behind id (tree_of program.now)) parts.now) (length out.old.list)
+        ++ instr place (Does.Store (made.behind_ref (shape_at program.now.of.now.modes note.now.mode))) ∷ []) }
+{
+    let does = store(program, note);
+    operation(alloc, program, id, parts, place, does, out);
+}
+
+// [one] [other] Same.
+#[cycle(units)]
+#[inline(never)]
+fn identity(
+    alloc: Global,
+    program: &View,
+    id: NodeId,
+    parts: &[NodeId],
+    place: u32,
+    node: &Node,
+    out: &mut Writer,
+)
+    requires between { AllBetween id (length program.now.of.now.tree.nodes) parts.now }
+    requires named { node.now.name < length program.now.of.now.tree.spellings }
+    ensures { Wrote out.old out.new (stretches (trees_at (behind id (tree_of program.now)) parts.now) (length out.old.list)
+        ++ instr place (Does.Same (made.negated (made.is_one_of made.isnt (made.spelling_of program.now.of.now node.now)))) ∷ []) }
+{
+    let does = same(program, node);
+    operation(alloc, program, id, parts, place, does, out);
 }
 
 /// One of the parts of a node.
@@ -68,30 +164,15 @@ fn construct(alloc: Global, program: &View, id: NodeId, node: &Node, note: &Note
     let parts = &node.parts.items;
     match node.kind {
         NodeKind::Denotation => denotation(alloc, program, node, out),
-        NodeKind::Skip => out.emit(place, Does::Skip(note.goal)),
-        NodeKind::Nil => out.emit(place, Does::Nil),
-        NodeKind::RoutineText => {
-            let text = program.of.text_number(place);
-            out.emit(
-                place,
-                Does::Routine {
-                    text,
-                    distance: note.need,
-                },
-            )
-        }
-        NodeKind::Tag => out.emit(place, tag(program, node, note)),
+        NodeKind::Skip => skip(place, note.goal, out),
+        NodeKind::Nil => nil(place, out),
+        NodeKind::RoutineText => routine_text(program, place, note, out),
+        NodeKind::Tag => applied_tag(program, node, note, out),
         NodeKind::Monadic | NodeKind::Dyadic => {
             formula(alloc, program, id, parts, place, note, out)
         }
-        NodeKind::Assignation => {
-            let does = store(program, note);
-            operation(alloc, program, id, parts, place, does, out)
-        }
-        NodeKind::Identity => {
-            let does = same(program, node);
-            operation(alloc, program, id, parts, place, does, out)
-        }
+        NodeKind::Assignation => assignation(alloc, program, id, parts, place, note, out),
+        NodeKind::Identity => identity(alloc, program, id, parts, place, node, out),
         NodeKind::Generator => generator(alloc, program, id, node, note, out),
         NodeKind::OpDefinition | NodeKind::IdentityDefinition => {
             definition(alloc, program, id, parts, place, note, out)
@@ -100,7 +181,7 @@ fn construct(alloc: Global, program: &View, id: NodeId, node: &Node, note: &Note
         NodeKind::ModeDefinition | NodeKind::Priority => nothing(out),
         NodeKind::Joined => all(alloc, program, id, parts, out),
         NodeKind::Collateral => collateral(alloc, program, id, parts, place, note, out),
-        NodeKind::Vacuum => out.emit(place, Does::Vacuum(note.goal)),
+        NodeKind::Vacuum => vacuum(place, note.goal, out),
         NodeKind::Slice => slice(alloc, program, id, parts, place, out),
         NodeKind::Selection => selection(alloc, program, id, parts, place, node.name, out),
         NodeKind::Call => call(alloc, program, id, parts, place, note, out),
@@ -126,6 +207,7 @@ fn construct(alloc: Global, program: &View, id: NodeId, node: &Node, note: &Note
 
 /// [parts], one behind the other.
 #[cycle(units)]
+#[inline(never)]
 pub fn all(alloc: Global, program: &View, id: NodeId, parts: &[NodeId], out: &mut Writer)
     requires { AllBetween id (length program.now.of.now.tree.nodes) parts.now }
     ensures { Wrote out.old out.new (stretches (trees_at (behind id (tree_of program.now)) parts.now) (length out.old.list)) }
@@ -137,6 +219,7 @@ pub fn all(alloc: Global, program: &View, id: NodeId, parts: &[NodeId], out: &mu
 
 /// [parts], and the instruction that takes their values.
 #[cycle(units)]
+#[inline(never)]
 pub fn operation(
     alloc: Global,
     program: &View,
@@ -155,6 +238,7 @@ pub fn operation(
 
 /// The last part: [part].
 #[cycle(units)]
+#[inline(never)]
 pub fn last(alloc: Global, program: &View, id: NodeId, parts: &[NodeId], out: &mut Writer)
     requires { AllBetween id (length program.now.of.now.tree.nodes) parts.now }
     ensures { Wrote out.old out.new (stretch (made.last_tree (trees_at (behind id (tree_of program.now)) parts.now)) (length out.old.list)) }
@@ -168,6 +252,7 @@ pub fn last(alloc: Global, program: &View, id: NodeId, parts: &[NodeId], out: &m
 
 // [source] Bind.
 #[cycle(units)]
+#[inline(never)]
 fn definition(
     alloc: Global,
     program: &View,
@@ -187,6 +272,7 @@ fn definition(
 
 // [phrases]; with slots Enter [phrases] Leave.
 #[cycle(units)]
+#[inline(never)]
 fn serial(
     alloc: Global,
     program: &View,
@@ -215,6 +301,7 @@ fn serial(
 
 // [part], the only one.
 #[cycle(units)]
+#[inline(never)]
 fn only(alloc: Global, program: &View, id: NodeId, parts: &[NodeId], out: &mut Writer)
     requires { AllBetween id (length program.now.of.now.tree.nodes) parts.now }
     ensures { Wrote out.old out.new (stretch (made.only_of (trees_at (behind id (tree_of program.now)) parts.now)) (length out.old.list)) }

@@ -125,6 +125,7 @@ fn body(alloc: Global, program: &View, id: NodeId, part: Option<NodeId>, out: &m
 /// [FROM] [BY] [TO] Counter t: Step e Turn [test] Unless f [body] Advance t Jump e f: e: Forget. FOR and WHILE make
 /// frames: a Leave for each stands before Advance and before e.
 #[cycle(units)]
+#[inline(never)]
 pub fn repeat(
     alloc: Global,
     program: &View,

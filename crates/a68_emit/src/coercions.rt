@@ -21,6 +21,7 @@ fn is_built(modes: &Modes, goal: ModeId, coercion: Coercion, path: &[Coercion]) 
 }
 
 /// Are all coercions of a unit built?
+#[inline(never)]
 pub fn are_built(modes: &Modes, note: &Note) -> bool
     ensures { result ≡ coercing.are_built modes.now note.now.goal note.now.path }
 {
@@ -111,6 +112,7 @@ fn coerce_along(
 }
 
 /// Writes the coercions of a unit that begins at a place.
+#[inline(never)]
 pub fn coerce(modes: &Modes, place: u32, note: &Note, out: &mut Writer)
     ensures { Wrote out.old out.new (coercions modes.now place note.now.goal note.now.mode note.now.path) }
 {

@@ -32,6 +32,7 @@ pub fn meaningless(_out: &mut Writer)
 {}
 
 /// Writes what meets the fault Kind, and leaves a value or none as is asked: Nil Widen; with Drop where it is none.
+#[inline(never)]
 pub fn misfit(place: u32, wanted: bool, out: &mut Writer)
     ensures { Wrote out.old out.new (stretch (programs.misfit place wanted) (length out.old.list)) }
 {

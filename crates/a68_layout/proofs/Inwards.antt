@@ -3,7 +3,7 @@ use Rattle.std.proofs.Common.{◌≡◌, ℕ, zero, suc, ◌+◌, ◌*◌, ◌-�
 use Rattle.std.proofs.lemmas.Bool.{cases_lt}
 use Rattle.std.proofs.lemmas.Nat.{mul-le}
 use Rattle.std.proofs.lemmas.List.{nil_from_length, length-append, length-drop, drop_all, drop_more, drop-drop, drop_min, take_min, take_rest}
-use Rattle.a68_layout.specs.Rooms.{Room, Rooms, cell, row, no_rooms, ◌and_room◌, copies, inwards, all_inwards, room_by, room_within, row_room, rooms_of, needs_within, room_for_by, room_for_within, row_for, structure_for, elements_for, parts_for}
+use Rattle.a68_layout.specs.Rooms.{Room, Rooms, cell, several, row, no_rooms, ◌and_room◌, copies, inwards, all_inwards, room_by, room_within, row_room, rooms_of, needs_within, room_for_by, room_for_within, row_for, structure_for, elements_for, parts_for}
 use Rattle.a68_layout.specs.Stretches.{capped}
 use Rattle.a68_layout.specs.Widths.{most_cells, cells_of, elements_of}
 use Rattle.a68_layout.proofs.Leaves.{IsLeaf}
@@ -29,6 +29,19 @@ pub room-row : (n : ℕ) (modes : List Shape) (m dims : ℕ) (flex : Bool) (k : 
     → room_within n modes m bs ≡ row_room (room_within (n - 1) modes k) (cells_of modes k) (take dims bs) (drop dims bs)
 room-row zero modes m dims flex k bs some e = absurd (some refl)
 room-row (suc n) modes m dims flex k bs some e =
+    let one : suc n - 1 ≡ n = omega arith in
+    rw (one, ← e) refl
+
+pub room-structure : (n : ℕ) (modes : List Shape) (m : ℕ) (fields : List (ℕ × ℕ)) (bs : List (ℤ × ℤ)) → (n ≡ 0 → ⊥) → Struct fields ≡ shape_at modes m
+    → room_within n modes m bs ≡ several (rooms_of (room_within (n - 1) modes) (needs_within (n - 1) modes) fields bs)
+room-structure zero modes m fields bs some e = absurd (some refl)
+room-structure (suc n) modes m fields bs some e =
+    let one : suc n - 1 ≡ n = omega arith in
+    rw (one, ← e) refl
+
+pub room-same : (n : ℕ) (modes : List Shape) (m k : ℕ) (bs : List (ℤ × ℤ)) → (n ≡ 0 → ⊥) → Same k ≡ shape_at modes m → room_within n modes m bs ≡ room_within (n - 1) modes k bs
+room-same zero modes m k bs some e = absurd (some refl)
+room-same (suc n) modes m k bs some e =
     let one : suc n - 1 ≡ n = omega arith in
     rw (one, ← e) refl
 

@@ -1,14 +1,15 @@
 -- Levels of cells.
-use Rattle.std.proofs.Common.{◌≡◌, ℕ, zero, suc, ◌+◌, ◌-◌, ◌<◌, ◌≤◌, Bool, true, false, ◌||◌, nat_lt, List, [], ◌∷◌, ◌++◌, length, Ok, Err, refl, ap, sym, ◌∙◌, ⊎_elim, add-one, arith}
-use Rattle.std.proofs.lemmas.Bool.{cases_lt, le-ltb, lt-ltb, or_from, or_left}
-use Rattle.std.proofs.lemmas.List.{append_assoc, length-append, nil_from_length}
+use Rattle.std.proofs.Common.{◌≡◌, ℕ, zero, suc, ◌+◌, ◌-◌, ◌<◌, ◌≤◌, Bool, true, false, ◌||◌, nat_lt, List, [], ◌∷◌, ◌++◌, length, Ok, Err, refl, ap, sym, ◌∙◌, inl, inr, add-one, arith}
+use Rattle.std.proofs.lemmas.Bool.{le-ltb, lt-ltb, or_from, or_left}
+use Rattle.std.proofs.lemmas.List.{append-nil, append_assoc, length-append, nil_from_length}
 use Rattle.a68_layout.specs.Making.{Makes}
-use Rattle.a68_layout.specs.Rooms.{Room, Rooms, cell, row, several, no_rooms, ◌and_room◌, inwards, all_inwards, own_cells, reach, levels, is_far}
-use Rattle.a68_layout.specs.Stretches.{capped}
+use Rattle.a68_layout.specs.Rooms.{Room, Rooms, cell, row, several, no_rooms, ◌and_room◌, inwards, all_inwards, own_cells, reach, levels, is_far, cells_in}
+use Rattle.a68_layout.specs.Wanting.{IsMade, IsTooMany}
 use Rattle.a68_layout.specs.Widths.{most_cells}
 use Rattle.a68_layout.specs.declared.types.LayoutStop.{LayoutStop}
 use Rattle.a68_layout.specs.declared.types.LayoutStop.TheVariants.{Fault}
 use Rattle.a68_layout.proofs.Made.{length-own_cells}
+use Rattle.a68_modes.specs.declared.shape.Shape.{Shape}
 use Rattle.a68_values.specs.declared.act.FaultKind.{FaultKind}
 use Rattle.a68_values.specs.declared.act.FaultKind.TheVariants as fault
 use Rattle.a68_values.specs.declared.held.Held.{Held}
@@ -38,7 +39,7 @@ none-both xs ys e f = rw (e, f) refl
 
 -- where nothing stands so many rows inwards, nothing stands further inwards
 mutual
-  none-inwards : (n : ℕ) (r : Room) → inwards n r ≡ [] → inwards (suc n) r ≡ []
+  pub none-inwards : (n : ℕ) (r : Room) → inwards n r ≡ [] → inwards (suc n) r ≡ []
   none-inwards n (several parts) e = none-all n parts e
   none-inwards zero cell e = refl
   none-inwards zero (row b w es) e = absurd (cc)
@@ -80,30 +81,6 @@ far-level k n at rs lt =
     let more : k - n ≡ suc (k - (n + 1)) = omega arith in
     rw (more, add-one) refl
 
--- ---- counting
-
-pub count-begin : (k : ℕ) (rs : Rooms) → capped (0 + sum_levels (k - 0) 0 rs) ≡ capped (sum_levels k 0 rs)
-count-begin k rs = let same : k - 0 ≡ k = omega arith in rw same (omega arith)
-
-pub count-more : (k n counted more total : ℕ) (rs : Rooms) → n < k → more ≡ capped (counted + length (all_inwards n rs)) → capped (counted + sum_levels (k - n) n rs) ≡ capped total
-    → capped (more + sum_levels (k - (n + 1)) (n + 1) rs) ≡ capped total
-count-more k n counted more total rs lt e f = omega (arith, e, f, sum-level k n rs lt)
-
-pub count-end : (k n counted more total : ℕ) (rs : Rooms) → counted ≤ most_cells + 1 → more ≡ capped (counted + length (all_inwards n rs)) → more ≡ counted
-    → capped (counted + sum_levels k n rs) ≡ capped total → counted ≡ capped total
-count-end k n counted more total rs fits e same f =
-    ⊎_elim (λ (big : most_cells < counted). let all : counted ≡ capped total = omega arith in all)
-    (λ (few : counted ≤ most_cells).
-    let none : all_inwards n rs ≡ [] = nil_from_length (all_inwards n rs) (omega arith) in
-    let all : counted ≡ capped total = omega (arith, sum-none k n rs none) in all)
-    (cases_lt most_cells counted)
-
-pub count-all : (k n counted total : ℕ) (rs : Rooms) → counted ≤ most_cells + 1 → k ≤ n → capped (counted + sum_levels (k - n) n rs) ≡ capped total → counted ≡ capped total
-count-all k n counted total rs fits past f =
-    let none : k - n ≡ 0 = omega arith in
-    let all : capped (counted + 0) ≡ capped total = rw none at f in
-    omega arith
-
 -- ---- making
 
 pub make-begin : (k : ℕ) (rs : Rooms) (cells : List Held) → cells ≡ [] → cells ++ levels (k - 0) 0 (length cells) rs ≡ levels k 0 0 rs
@@ -111,22 +88,6 @@ make-begin k rs cells e = let same : k - 0 ≡ k = omega arith in rw (e, same) r
 
 pub far-begin : (k : ℕ) (rs : Rooms) (cells : List Held) → cells ≡ [] → is_far (k - 0) 0 (length cells) rs ≡ is_far k 0 0 rs
 far-begin k rs cells e = let same : k - 0 ≡ k = omega arith in rw (e, same) refl
-
--- all are there
-far-end-by : (k n at : ℕ) (rs : Rooms) → sum_levels k n rs ≡ 0 → at ≤ most_cells → is_far k n at rs ≡ false
-far-end-by zero n at rs e few = refl
-far-end-by (suc k) n at rs e few = far-none (suc k) n at rs (nil_from_length (all_inwards n rs) (omega arith)) few
-
-pub far-end : (k n : ℕ) (rs : Rooms) (cells all : List Held) → cells ++ levels k n (length cells) rs ≡ all → length all ≡ length cells → length cells ≤ most_cells
-    → is_far k n (length cells) rs ≡ false
-far-end k n rs cells all e same few =
-    far-end-by k n (length cells) rs
-    (omega (arith, ap length e, length-append cells (levels k n (length cells) rs), length-levels k n (length cells) rs)) few
-
-pub level-few : (k n : ℕ) (rs : Rooms) (cells all : List Held) → n < k → cells ++ levels (k - n) n (length cells) rs ≡ all → length all ≤ most_cells
-    → length cells + length (all_inwards n rs) ≤ most_cells
-level-few k n rs cells all lt e few =
-    omega (arith, ap length e, length-append cells (levels (k - n) n (length cells) rs), length-levels (k - n) n (length cells) rs, sum-level k n rs lt)
 
 pub far-now : (k n at next : ℕ) (rs : Rooms) → n < k → next ≡ at + length (all_inwards n rs) → most_cells < reach next (all_inwards n rs) → is_far (k - n) n at rs ≡ true
 far-now k n at next rs lt e far =
@@ -156,3 +117,59 @@ far-more k n next next' rs cells cells' far lt e m few f =
 pub fault-met : (stop : LayoutStop) (k : FaultKind) (cells cells' : List Held) (next next' : ℕ) (xs : List Room) → stop ≡ Fault k → Makes (Err stop) cells next cells' next' xs
     → (k ≡ fault.Cells) × (most_cells < reach next xs)
 fault-met stop k cells cells' next next' xs e m = rw e at m
+
+-- ---- a level more
+
+-- the levels that are made, with one more
+pub made-more : (modes : List Shape) (n next next' : ℕ) (rs : Rooms) (cells cells' : List Held) → n < suc (length modes) → next ≡ length cells + length (all_inwards n rs) → next ≤ most_cells
+    → Makes (Ok tt) cells next cells' next' (all_inwards n rs) → IsMade modes n rs cells → IsMade modes (n + 1) rs cells'
+made-more modes n next next' rs cells cells' lt e few m is =
+    record {
+      there = make-more (suc (length modes)) n next rs cells cells' _ lt e m.0 is.there;
+      far = far-more (suc (length modes)) n next next' rs cells cells' _ lt e m few is.far;
+      few = omega (arith, few, e, ap length m.0, length-append cells (own_cells next (all_inwards n rs)), length-own_cells next (all_inwards n rs));
+    }
+
+pub made-begin : (modes : List Shape) (rs : Rooms) (cells : List Held) → cells ≡ [] → IsMade modes 0 rs cells
+made-begin modes rs cells e =
+    record {
+      there = make-begin (suc (length modes)) rs cells e;
+      far = far-begin (suc (length modes)) rs cells e;
+      few = omega (arith, ap length e);
+    }
+
+levels-none : (k n at : ℕ) (rs : Rooms) → all_inwards n rs ≡ [] → levels k n at rs ≡ []
+levels-none k n at rs e = nil_from_length (levels k n at rs) (omega (arith, length-levels k n at rs, sum-none k n rs e))
+
+-- nothing stands further inwards
+pub made-none : (modes : List Shape) (n : ℕ) (rs : Rooms) (cells : List Held) → length (all_inwards n rs) ≡ 0 → IsMade modes n rs cells
+    → (cells ≡ cells_in modes rs) × (is_far (suc (length modes)) 0 0 rs ≡ false)
+made-none modes n rs cells none is =
+    let no : all_inwards n rs ≡ [] = nil_from_length (all_inwards n rs) none in (
+      sym (append-nil cells) ∙ ap (λ xs. cells ++ xs) (sym (levels-none (suc (length modes) - n) n (length cells) rs no)) ∙ is.there,
+      sym is.far ∙ far-none (suc (length modes) - n) n (length cells) rs no is.few,
+    )
+
+-- all levels are made
+pub made-all : (modes : List Shape) (n : ℕ) (rs : Rooms) (cells : List Held) → suc (length modes) ≤ n → IsMade modes n rs cells → (cells ≡ cells_in modes rs) × (is_far (suc (length modes)) 0 0 rs ≡ false)
+made-all modes n rs cells past is =
+    let none : suc (length modes) - n ≡ 0 = omega arith in (
+      sym (append-nil cells) ∙ ap (λ k. cells ++ levels k n (length cells) rs) (sym none) ∙ is.there,
+      sym is.far ∙ ap (λ k. is_far k n (length cells) rs) none,
+    )
+
+-- a level has too many cells
+pub made-many : (modes : List Shape) (n : ℕ) (rs : Rooms) (cells : List Held) → n < suc (length modes) → most_cells < length cells + length (all_inwards n rs) → IsMade modes n rs cells
+    → IsTooMany modes rs fault.Cells
+made-many modes n rs cells lt many is =
+    let k = suc (length modes) in
+    let long : most_cells < length (cells_in modes rs) =
+    omega (arith, many, ap length is.there, length-append cells (levels (k - n) n (length cells) rs), length-levels (k - n) n (length cells) rs, sum-level k n rs lt) in
+    (refl, inr long)
+
+-- elements of rows of a level would lie too far
+pub made-far : (modes : List Shape) (n next : ℕ) (rs : Rooms) (cells cells' : List Held) (next' : ℕ) (stop : LayoutStop) (kind : FaultKind) → n < suc (length modes)
+    → next ≡ length cells + length (all_inwards n rs) → stop ≡ Fault kind → Makes (Err stop) cells next cells' next' (all_inwards n rs) → IsMade modes n rs cells → IsTooMany modes rs kind
+made-far modes n next rs cells cells' next' stop kind lt e same m is =
+    let met = fault-met stop kind cells cells' next next' (all_inwards n rs) same m in
+    (met.0, inl (sym is.far ∙ far-now (suc (length modes)) n (length cells) next rs lt e met.1))

@@ -1,8 +1,10 @@
+pub mod Founds
 pub mod Integers
 pub mod Inwards
 pub mod Leaves
 pub mod Levels
 pub mod Made
+pub mod Measures
 pub mod Pairing
 pub mod Picks
 pub mod Products

@@ -1,15 +1,12 @@
 -- The cells of the elements of a row are cells that there may be.
-use Rattle.std.proofs.Common.{◌≡◌, ℕ, zero, suc, ◌+◌, ◌<◌, ◌≤◌, Bool, true, false, List, refl, sym, arith}
+use Rattle.std.proofs.Common.{◌≡◌, ℕ, zero, suc, ◌+◌, ◌<◌, ◌≤◌, Bool, true, false, refl, sym, arith}
 use Rattle.std.proofs.lemmas.Bool.{lt-ltb, ltb-false}
 use Rattle.std.proofs.lemmas.List.Elements.{All-nil, All-weaker}
 use Rattle.std.specs.List.{All}
-use Rattle.std.specs.Prelude.{Ok, Err, nat_lt, ◌||◌, ◌&&◌, if◌then◌else◌}
-use Rattle.std.specs.declared.result.Result.{Result}
+use Rattle.std.specs.Prelude.{◌||◌, ◌&&◌}
 use Rattle.a68_layout.proofs.Spreads.{element_cells-few, none_there}
-use Rattle.a68_layout.specs.Views.{bounds_of, element_cells, last_offset, is_beyond, cells_seen}
+use Rattle.a68_layout.specs.Views.{bounds_of, element_cells, last_offset, is_beyond}
 use Rattle.a68_layout.specs.Widths.{most_cells, elements_of}
-use Rattle.a68_values.specs.declared.act.FaultKind.{FaultKind}
-use Rattle.a68_values.specs.declared.act.FaultKind.TheVariants as fault
 use Rattle.a68_values.specs.declared.held.Descriptor.{Descriptor}
 
 last_of : (far some beyond : Bool) → some ≡ true → (far || (some && beyond)) ≡ false → beyond ≡ false

@@ -1,4 +1,5 @@
 pub mod Making
+pub mod Measuring
 pub mod Rooms
 pub mod Stretches
 pub mod Views

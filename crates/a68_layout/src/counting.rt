@@ -5,9 +5,10 @@ ghost use Rattle.a68_layout.specs.Stretches.{capped};
 ghost use Rattle.a68_layout.specs.Widths.{most_cells, cells_of};
 
 use crate::extents::{BEYOND, elements};
+use crate::measured::Measured;
 use crate::needs::needs;
 use a68_base::MOST_COUNTED;
-use a68_modes::{ModeId, Modes, Shape};
+use a68_modes::{ModeId, Shape};
 
 // Counts on by a value that takes one cell.
 pub fn count_cell(rows: u32, counted: u32) -> u32
@@ -21,7 +22,7 @@ pub fn count_cell(rows: u32, counted: u32) -> u32
 // Rows and structures lie at most so deep in it.
 #[cycle(count)]
 pub fn count_room(
-    modes: &Modes,
+    modes: &Measured,
     depth: u32,
     mode: ModeId,
     bounds: &[(i64, i64)],
@@ -54,8 +55,8 @@ pub fn count_room(
 
 // Counts on by the cells so many rows inwards in a row of so many dimensions, whose elements are of the mode.
 #[cycle(count)]
-fn count_row(
-    modes: &Modes,
+pub fn count_row(
+    modes: &Measured,
     depth: u32,
     mode: ModeId,
     dims: u32,
@@ -82,7 +83,7 @@ fn count_row(
 // Counts on by those in a structure.
 #[cycle(count)]
 fn count_fields(
-    modes: &Modes,
+    modes: &Measured,
     depth: u32,
     fields: &[(u32, ModeId)],
     bounds: &[(i64, i64)],

@@ -34,7 +34,7 @@ pub fn count_value(
         return count_cell(rows, counted);
     }
     match modes.shape(mode) {
-        Shape::Rows { of, .. } => count_row(modes, depth - 1, *of, value, rows, counted),
+        Shape::Rows { of, .. } => count_filled(modes, depth - 1, *of, value, rows, counted),
         Shape::Struct(fields) => {
             count_structure(modes, depth - 1, &fields.items, value, rows, counted)
         }
@@ -45,7 +45,14 @@ pub fn count_value(
 
 // Counts on by those in a row whose elements are of the mode. A value that is no row takes one cell.
 #[cycle(count)]
-fn count_row(modes: &Modes, depth: u32, mode: ModeId, value: &Value, rows: u32, counted: u32) -> u32
+pub fn count_filled(
+    modes: &Modes,
+    depth: u32,
+    mode: ModeId,
+    value: &Value,
+    rows: u32,
+    counted: u32,
+) -> u32
     requires { counted ≤ most_cells }
     ensures { result ≡ capped (counted + length (inwards rows (row_for (room_for_within depth modes.now mode) (cells_of modes.now mode) value.now))) }
 {

@@ -5,8 +5,10 @@ mod cells;
 mod counting;
 mod counting_values;
 mod extents;
+mod finding;
 mod making;
 mod making_values;
+mod measured;
 mod needs;
 mod picking;
 mod plans;
@@ -18,6 +20,7 @@ mod views;
 mod wanted;
 
 pub use cells::{cells_of, end_of, fields_width};
+pub use measured::Measured;
 pub use needs::takes_bounds;
 pub use plans::{plan, plan_elements, plan_for};
 pub use rows::new_row;

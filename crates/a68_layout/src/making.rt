@@ -7,6 +7,7 @@ ghost use Rattle.a68_layout.specs.Widths.{most_cells, cells_of, elements_of};
 use crate::LayoutStop;
 use crate::cells::width;
 use crate::extents::{BEYOND, elements};
+use crate::measured::Measured;
 use crate::needs::needs;
 use crate::rows::{behind_row, row_in};
 use a68_modes::{ModeId, Modes, Shape};
@@ -62,7 +63,7 @@ pub fn make_row_cell(
 #[cycle(make)]
 pub fn make_room(
     alloc: Global,
-    modes: &Modes,
+    modes: &Measured,
     depth: u32,
     mode: ModeId,
     bounds: &[(i64, i64)],
@@ -92,9 +93,9 @@ pub fn make_room(
 
 // Adds what stands so many rows inwards in a row of so many dimensions, whose elements are of the mode.
 #[cycle(make)]
-fn make_row(
+pub fn make_row(
     alloc: Global,
-    modes: &Modes,
+    modes: &Measured,
     depth: u32,
     mode: ModeId,
     dims: u32,
@@ -108,7 +109,7 @@ fn make_row(
 {
     let dims = (dims as usize).min(bounds.len());
     if rows == 0 {
-        return make_row_cell(alloc, modes, mode, &bounds[..dims], made);
+        return make_row_cell(alloc, modes.modes(), mode, &bounds[..dims], made);
     }
     let count = elements(&bounds[..dims], BEYOND as u64) as u32;
     make_copies(
@@ -127,7 +128,7 @@ fn make_row(
 #[cycle(make)]
 fn make_copies(
     alloc: Global,
-    modes: &Modes,
+    modes: &Measured,
     depth: u32,
     mode: ModeId,
     bounds: &[(i64, i64)],
@@ -154,7 +155,7 @@ fn make_copies(
 #[cycle(make)]
 fn make_fields(
     alloc: Global,
-    modes: &Modes,
+    modes: &Measured,
     depth: u32,
     fields: &[(u32, ModeId)],
     bounds: &[(i64, i64)],

@@ -31,7 +31,7 @@ pub fn make_value(
         return make_cell(rows, made);
     }
     match modes.shape(mode) {
-        Shape::Rows { of, .. } => make_row(alloc, modes, depth - 1, *of, value, rows, made),
+        Shape::Rows { of, .. } => make_filled(alloc, modes, depth - 1, *of, value, rows, made),
         Shape::Struct(fields) => {
             make_structure(alloc, modes, depth - 1, &fields.items, value, rows, made)
         }
@@ -42,7 +42,7 @@ pub fn make_value(
 
 // Adds that of a row whose elements are of the mode. A value that is no row takes one cell.
 #[cycle(make)]
-fn make_row(
+pub fn make_filled(
     alloc: Global,
     modes: &Modes,
     depth: u32,

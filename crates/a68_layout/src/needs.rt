@@ -1,16 +1,20 @@
 //! How many bounds a name has.
-ghost use Rattle.std.specs.Prelude.{◌≡◌, ◌<◌, ◌-◌, min, nat_eq, length, slice_index_or};
+ghost use Rattle.std.specs.Prelude.{◌≡◌, min, nat_eq};
 ghost use Rattle.a68_layout.specs.Rooms as rooms;
 ghost use Rattle.a68_layout.specs.Rooms.{needs_within, needs_of_fields};
 
-use a68_modes::{ModeId, Modes, Shape};
+use crate::measured::Measured;
+use a68_modes::{ModeId, Shape};
 
 // Counts the dimensions of the rows of a name of the mode, and tells `most` where they are more. Rows and structures lie
 // at most so deep in it.
 #[cycle(needs)]
-pub fn needs(modes: &Modes, depth: u32, mode: ModeId, most: usize) -> usize
+pub fn needs(modes: &Measured, depth: u32, mode: ModeId, most: usize) -> usize
     ensures { result ≡ min most (needs_within depth modes.now mode) }
 {
+    if let Some(needs) = modes.told(depth, mode) {
+        return most.min(needs);
+    }
     if depth == 0 {
         return 0;
     }
@@ -28,37 +32,14 @@ pub fn needs(modes: &Modes, depth: u32, mode: ModeId, most: usize) -> usize
     }
 }
 
-// Counts the same for a field. One of the mode of the field before it is not looked at again, so that structures of two
-// of a mode within one another are quick.
-#[cycle(needs)]
-fn field_needs(
-    modes: &Modes,
-    depth: u32,
-    fields: &[(u32, ModeId)],
-    field: usize,
-    before: usize,
-    most: usize,
-) -> usize
-    requires there { field < length fields.now }
-    requires before { 0 < field → before ≡ min most (needs_within depth modes.now (slice_index_or fields.now (field - 1) (0, 0)).1) }
-    ensures { result ≡ min most (needs_within depth modes.now (slice_index_or fields.now field (0, 0)).1) }
-{
-    let mode = fields[field].1;
-    if field > 0 && fields[field - 1].1 == mode {
-        return before;
-    }
-    needs(modes, depth, mode, most)
-}
-
 // Counts the same for all fields.
 #[cycle(needs)]
-fn fields_need(modes: &Modes, depth: u32, fields: &[(u32, ModeId)], most: usize) -> usize
+fn fields_need(modes: &Measured, depth: u32, fields: &[(u32, ModeId)], most: usize) -> usize
     ensures { result ≡ min most (needs_of_fields (needs_within depth modes.now) fields.now) }
 {
     let mut all = 0;
-    let mut one = 0;
-    for i in 0..fields.len() {
-        one = field_needs(modes, depth, fields, i, one, most);
+    for field in fields {
+        let one = needs(modes, depth, field.1, most);
         all = most.min(one.saturating_add(all));
     }
     all
@@ -66,7 +47,7 @@ fn fields_need(modes: &Modes, depth: u32, fields: &[(u32, ModeId)], most: usize)
 
 /// Has a name of the mode so many bounds? It takes no memory.
 #[tactic(auto, unfolding(crate::specs::Rooms::bounds_needed))]
-pub fn takes_bounds(modes: &Modes, mode: ModeId, count: usize) -> bool
+pub fn takes_bounds(modes: &Measured, mode: ModeId, count: usize) -> bool
     ensures { result ≡ nat_eq count (rooms.bounds_needed modes.now mode) }
 {
     let half = count / 2;

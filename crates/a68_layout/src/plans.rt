@@ -4,6 +4,7 @@ ghost use Rattle.a68_values.specs.Content.{contents_of};
 ghost use Rattle.a68_values.specs.declared.act.FaultKind.{FaultKind};
 ghost use Rattle.a68_layout.specs.Rooms as rooms;
 
+use crate::measured::Measured;
 use crate::wanted::{Wanted, plan_wanted};
 use crate::{LayoutStop, Plan, takes_bounds};
 use a68_base::NoMemory;
@@ -31,7 +32,8 @@ pub fn plan(alloc: Global, modes: &Modes, mode: ModeId, bounds: &[i64]) -> Resul
     ensures cells { IfOk result (λ plan. Ok plan ≡ rooms.planned modes.now mode bounds.now) }
     ensures fault { (kind : FaultKind) → IsErrOf result (LayoutStop.Fault kind) → Err kind ≡ rooms.planned modes.now mode bounds.now }
 {
-    if !takes_bounds(modes, mode, bounds.len()) {
+    let modes = Measured::new(alloc, modes, mode)?;
+    if !takes_bounds(&modes, mode, bounds.len()) {
         return Err(LayoutStop::Fault(FaultKind::Kind));
     }
     let pairs = pairs(alloc, bounds)?;
@@ -39,7 +41,7 @@ pub fn plan(alloc: Global, modes: &Modes, mode: ModeId, bounds: &[i64]) -> Resul
         mode,
         bounds: &pairs,
     };
-    let plan = plan_wanted(alloc, modes, &wanted)?;
+    let plan = plan_wanted(alloc, &modes, &wanted)?;
     Ok(plan)
 }
 
@@ -56,7 +58,8 @@ pub fn plan_for(
     ensures fault { (kind : FaultKind) → IsErrOf result (LayoutStop.Fault kind) → Err kind ≡ rooms.planned_for modes.now mode value.now }
 {
     let wanted = Wanted::One { mode, value };
-    let plan = plan_wanted(alloc, modes, &wanted)?;
+    let modes = Measured::bare(alloc, modes);
+    let plan = plan_wanted(alloc, &modes, &wanted)?;
     Ok(plan)
 }
 
@@ -76,6 +79,7 @@ pub fn plan_elements(
         mode,
         values: &values.items,
     };
-    let plan = plan_wanted(alloc, modes, &wanted)?;
+    let modes = Measured::bare(alloc, modes);
+    let plan = plan_wanted(alloc, &modes, &wanted)?;
     Ok(plan)
 }

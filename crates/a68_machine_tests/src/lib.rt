@@ -2,6 +2,8 @@
 #![tactic(auto)]
 
 #[cfg(test)]
+mod leases;
+#[cfg(test)]
 mod parallel;
 #[cfg(test)]
 mod stack;
@@ -11,5 +13,7 @@ mod store;
 mod strand;
 #[cfg(test)]
 mod table;
+#[cfg(test)]
+mod workers;
 #[cfg(test)]
 mod world;

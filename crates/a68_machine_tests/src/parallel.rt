@@ -9,7 +9,7 @@ use std::process::Abort;
 use std::string::String;
 
 /// BEGIN SEMA s = LEVEL 0; PAR ( DOWN s, UP s ) END
-const PASSED: &str =
+pub const PASSED: &str =
     "Enter 1, Push 0, Apply 34, Bind 0, Fork 7 10, Leave 0, End, Tag 0 0, Apply 36, Close, Tag 0 0, Apply 35, Close";
 
 /// Its journal. The strands take turns: strand 1 has to wait until strand 2 has raised the semaphore, and strand 0 until
@@ -29,11 +29,11 @@ const PASSED_IN_TURN: &str = "\
 ";
 
 /// BEGIN SEMA s = LEVEL 0; PAR ( DOWN s, DOWN s ) END
-const LOCKED: &str =
+pub const LOCKED: &str =
     "Enter 1, Push 0, Apply 34, Bind 0, Fork 7 10, Leave 0, End, Tag 0 0, Apply 36, Close, Tag 0 0, Apply 36, Close";
 
 /// PAR ( PAR ( print(1), print(2) ), print(3) )
-const WITHIN: &str =
+pub const WITHIN: &str =
     "Fork 2 10, End, Fork 4 7, Close, Push 1, Print 1, Close, Push 2, Print 1, Close, Push 3, Print 1, Close";
 
 const UNSET_IN_UNIT: End = End::Fault {

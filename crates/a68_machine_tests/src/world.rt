@@ -1,6 +1,7 @@
 //! Runs of small codes, with journals and ends found by hand.
 ghost use Rattle.std.specs.Prelude.{◌<◌, ◌^◌, length};
 ghost use Rattle.a68_code.specs.Valid.{IsValid};
+ghost use Rattle.a68_workers.specs.Runs.{IsAtRest};
 
 use crate::table::{agrees, holds};
 use a68_code::Code;
@@ -29,7 +30,7 @@ Print { from: 0, to: 20 }
 ";
 
 /// BEGIN INT x; print(x) END
-const UNSET: &str = "Enter 1, Make 1 0, Bind 0, Tag 0 0, Deref 1, Print 1, Leave 0, End";
+pub const UNSET: &str = "Enter 1, Make 1 0, Bind 0, Tag 0 0, Deref 1, Print 1, Leave 0, End";
 
 /// ( DO SKIP OD )
 const ENDLESS: &str =
@@ -39,7 +40,7 @@ const ENDLESS: &str =
 const COUNTING: &str =
     "Push 1, Push 1, Push 2, Counter, Step 14, Turn, Enter 1, Index, Bind 0, Tag 0 0, Print 1, Leave 0, Advance 4, Jump 14, Forget, End";
 
-const UNSET_AT_5: End = End::Fault {
+pub const UNSET_AT_5: End = End::Fault {
     kind: FaultKind::Unset,
     place: 5,
     strand: 0,
@@ -96,7 +97,7 @@ const RAISED_BEYOND: &str =
     "Push 2, Push 62, Apply 21, Push 1, Apply 16, Push 2, Push 62, Apply 21, Apply 15, Apply 34, Apply 35, End";
 
 /// DOWN LEVEL 0
-const HALTED: &str = "Push 0, Apply 34, Apply 36, End";
+pub const HALTED: &str = "Push 0, Apply 34, Apply 36, End";
 
 const OVERFLOW_AT_10: End = End::Fault {
     kind: FaultKind::Overflow,
@@ -244,7 +245,10 @@ pub fn valid_code(rt: &impl Abort, alloc: Global, ops: &str) -> Code
     code
 }
 
-fn world(rt: &impl Abort, alloc: Global, ops: &str, fuel: u32) -> World {
+/// A run of this code that is yet to begin.
+pub fn world(rt: &impl Abort, alloc: Global, ops: &str, fuel: u32) -> World
+    ensures { IsAtRest result }
+{
     holds(rt, 1 <= fuel, "some fuel");
     holds(rt, fuel <= 100, "little fuel");
     let code = valid_code(rt, alloc, ops);

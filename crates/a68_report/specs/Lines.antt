@@ -2,6 +2,7 @@
 use Rattle.std.specs.Prelude.{ℕ, List, [], ◌∷◌, ◌++◌, codes}
 use Rattle.std.specs.Fmt.{decimal}
 use Rattle.a68_base.specs.declared.refusal.Rule.{Rule}
+use Rattle.a68_base.specs.declared.refusal.Rule.TheVariants.{Q2, Q3, Q4}
 use Rattle.a68_base.specs.Rule.{rule_name}
 use Rattle.a68_values.specs.declared.act.FaultKind.{FaultKind}
 use Rattle.a68_values.specs.declared.act.FaultKind.TheVariants.{Unset, Kind, Nil, Scope, Bounds, Overflow, Divisor, Domain, Cells, Text, Strands}
@@ -13,13 +14,20 @@ abbrev pub line : List ℕ → List ℕ
 line text = text ++ 10 ∷ []
 
 abbrev pub usage_line : List ℕ
-usage_line = line (codes "usage: a68 run FILE [--workers N] [--fuel N] [--names] | check FILE | code FILE | make N [--workers N]")
+usage_line = line (codes "usage: a68 run FILE [--workers N] [--fuel N] [--names] | check FILE | code FILE | make N [--workers N] | races FILE [--workers N] [--fuel N] | list FILE")
 
 abbrev pub read_fault_line : List ℕ
 read_fault_line = line (codes "a68: read fault")
 
+-- what the place of a refusal counts: the numbers of a schedule, the entries of a journal, or the bytes of a text
+abbrev pub place_name : Rule → List ℕ
+place_name Q2 = codes "index"
+place_name Q3 = codes "index"
+place_name Q4 = codes "index"
+place_name rule = codes "byte"
+
 abbrev pub refusal_line : Rule → ℕ → List ℕ
-refusal_line rule place = line (codes "a68: refused " ++ rule_name rule ++ codes " at byte " ++ decimal place)
+refusal_line rule place = line (codes "a68: refused " ++ rule_name rule ++ codes " at " ++ place_name rule ++ codes " " ++ decimal place)
 
 -- how many units a made program had, and how many events its run
 abbrev pub units_line : (units events : ℕ) → List ℕ

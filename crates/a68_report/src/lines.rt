@@ -1,14 +1,14 @@
 //! The lines on notes.
 ghost use Rattle.std.specs.Prelude.{◌≡◌, IfOk};
-ghost use Rattle.a68_report.specs.Lines.{refusal_line, units_line, fault_line, fault_name, end_line};
+ghost use Rattle.a68_report.specs.Lines.{place_name, refusal_line, units_line, fault_line, fault_name, end_line};
 
-use a68_base::{NoMemory, Refusal, Text};
+use a68_base::{NoMemory, Refusal, Rule, Text};
 use a68_values::{End, FaultKind};
 use std::alloc::Global;
 
 /// The line of words that are no command.
 pub const USAGE: &str =
-    "usage: a68 run FILE [--workers N] [--fuel N] [--names] | check FILE | code FILE | make N [--workers N]\n";
+    "usage: a68 run FILE [--workers N] [--fuel N] [--names] | check FILE | code FILE | make N [--workers N] | races FILE [--workers N] [--fuel N] | list FILE\n";
 
 /// The line of a read that failed.
 pub const READ_FAULT: &str = "a68: read fault\n";
@@ -19,13 +19,24 @@ const ALL_HALTED: &str = "a68: all halted\n";
 /// The line of a run that used up its fuel.
 const FUEL_SPENT: &str = "a68: fuel spent\n";
 
+// What the place of a refusal counts.
+fn place_name(rule: Rule) -> &'static str
+    ensures { result.now ≡ place_name rule }
+{
+    match rule {
+        Rule::Q2 | Rule::Q3 | Rule::Q4 => "index",
+        _ => "byte",
+    }
+}
+
 /// The line of a refusal.
 pub fn refusal_line(alloc: Global, refusal: Refusal) -> Result<Text, NoMemory>
     ensures { IfOk result (λ text. text ≡ refusal_line refusal.rule refusal.place) }
 {
     let rule = refusal.rule.name();
+    let counted = place_name(refusal.rule);
     let place = refusal.place;
-    let line = format!(in alloc; "a68: refused {rule} at byte {place}\n")?;
+    let line = format!(in alloc; "a68: refused {rule} at {counted} {place}\n")?;
     Ok(Text {
         items: line.into_bytes(),
     })

@@ -13,7 +13,7 @@ use crate::outcomes::leaves;
 use a68_annot::Annotated;
 use a68_base::{MOST_INSTRUCTIONS, NoMemory};
 use a68_elab::Bound;
-use a68_layout::takes_bounds;
+use a68_layout::{Measured, takes_bounds};
 use a68_modes::ModeId;
 use a68_parts::{behind_ref, is_one_of, kind_at, last_id, mode_at, parts_at};
 use a68_tree::{NodeId, NodeKind};
@@ -103,10 +103,11 @@ fn is_string(program: &Annotated, id: NodeId) -> bool
 }
 
 // Has the mode of a declarer no rows?
-fn has_no_rows(program: &Annotated, id: NodeId) -> bool
+fn has_no_rows(program: &Annotated, modes: &Measured, id: NodeId) -> bool
+    requires { modes.now ≡ program.now.modes }
     ensures { result ≡ nat_eq 0 (bounds_needed program.now.modes (made.mode_of program.now id)) }
 {
-    takes_bounds(&program.modes, mode_at(program, id), 0)
+    takes_bounds(modes, mode_at(program, id), 0)
 }
 
 // Adds bounds that are written.
@@ -156,17 +157,19 @@ fn add_string(bounds: &mut Vec<Bound>) -> Result<(), NoMemory>
 #[cycle(bounds)]
 fn add_rows(
     program: &Annotated,
+    modes: &Measured,
     depth: u32,
     frames: Option<u32>,
     parts: &[NodeId],
     bounds: &mut Vec<Bound>,
 ) -> Result<(), NoMemory>
+    requires { modes.now ≡ program.now.modes }
     ensures { OnOk result (bounds_so_far.AreAdded frames bounds.old.items bounds.new.items
         (made.row_bounds program.now (made.bounds_within depth program.now) parts.now)) }
 {
     for part in parts {
         if !is_bound(program, *part) {
-            add_bounds(program, depth, frames, *part, bounds)?;
+            add_bounds(program, modes, depth, frames, *part, bounds)?;
             return Ok(());
         }
         add_dimension(program, frames, *part, bounds)?;
@@ -178,16 +181,18 @@ fn add_rows(
 #[cycle(bounds)]
 fn add_last(
     program: &Annotated,
+    modes: &Measured,
     depth: u32,
     frames: Option<u32>,
     last: Option<NodeId>,
     bounds: &mut Vec<Bound>,
 ) -> Result<(), NoMemory>
+    requires { modes.now ≡ program.now.modes }
     ensures { OnOk result (bounds_so_far.AreAdded frames bounds.old.items bounds.new.items
         (option_map_or (made.bounds_within depth program.now) last [])) }
 {
     if let Some(declarer) = last {
-        add_bounds(program, depth, frames, declarer, bounds)?;
+        add_bounds(program, modes, depth, frames, declarer, bounds)?;
     }
     Ok(())
 }
@@ -196,11 +201,13 @@ fn add_last(
 #[cycle(bounds)]
 fn add_fields(
     program: &Annotated,
+    modes: &Measured,
     depth: u32,
     frames: Option<u32>,
     parts: &[NodeId],
     bounds: &mut Vec<Bound>,
 ) -> Result<(), NoMemory>
+    requires { modes.now ≡ program.now.modes }
     ensures { OnOk result (bounds_so_far.AreAdded frames bounds.old.items bounds.new.items
         (made.field_bounds program.now (made.bounds_within depth program.now) [] parts.now)) }
 {
@@ -210,7 +217,7 @@ fn add_fields(
             last = Some(*part);
             continue;
         }
-        add_last(program, depth, frames, last, bounds)?;
+        add_last(program, modes, depth, frames, last, bounds)?;
     }
     Ok(())
 }
@@ -219,13 +226,15 @@ fn add_fields(
 #[cycle(bounds)]
 fn add_word(
     program: &Annotated,
+    modes: &Measured,
     depth: u32,
     frames: Option<u32>,
     id: NodeId,
     parts: &[NodeId],
     bounds: &mut Vec<Bound>,
 ) -> Result<(), NoMemory>
-    requires { id < length program.now.tree.nodes }
+    requires there { id < length program.now.tree.nodes }
+    requires modes { modes.now ≡ program.now.modes }
     ensures { OnOk result (bounds_so_far.AreAdded frames bounds.old.items bounds.new.items
         (made.word_bounds program.now (made.bounds_within depth program.now) (slice_get program.now.notes id) parts.now)) }
 {
@@ -234,10 +243,10 @@ fn add_word(
         Some(definition) => {
             let declarer = last_id(parts_at(program, definition));
             let out = outwards(frames, note.step.hops);
-            add_bounds(program, depth, Some(out), declarer, bounds)?;
+            add_bounds(program, modes, depth, Some(out), declarer, bounds)?;
             Ok(())
         }
-        None => add_fields(program, depth, frames, parts, bounds),
+        None => add_fields(program, modes, depth, frames, parts, bounds),
     }
 }
 
@@ -246,11 +255,13 @@ fn add_word(
 #[cycle(bounds)]
 fn add_bounds(
     program: &Annotated,
+    modes: &Measured,
     depth: u32,
     frames: Option<u32>,
     id: NodeId,
     bounds: &mut Vec<Bound>,
 ) -> Result<(), NoMemory>
+    requires { modes.now ≡ program.now.modes }
     ensures { OnOk result (bounds_so_far.AreAdded frames bounds.old.items bounds.new.items (made.bounds_within depth program.now id)) }
 {
     if depth == 0 {
@@ -262,27 +273,33 @@ fn add_bounds(
     if bounds.len() >= MOST_BOUNDS {
         return Ok(());
     }
-    if has_no_rows(program, id) {
+    if has_no_rows(program, modes, id) {
         return Ok(());
     }
     let parts = parts_at(program, id);
     if is_string(program, id) {
         add_string(bounds)?;
     } else if begins_with_bound(program, parts) {
-        add_rows(program, depth - 1, frames, parts, bounds)?;
+        add_rows(program, modes, depth - 1, frames, parts, bounds)?;
     } else {
-        add_word(program, depth - 1, frames, id, parts, bounds)?;
+        add_word(program, modes, depth - 1, frames, id, parts, bounds)?;
     }
     Ok(())
 }
 
 // Adds the bounds of the first of these nodes, where it is a declarer, to none.
-fn add_first(program: &Annotated, parts: &[NodeId], bounds: &mut Vec<Bound>) -> Result<(), NoMemory>
+fn add_first(
+    alloc: Global,
+    program: &Annotated,
+    parts: &[NodeId],
+    bounds: &mut Vec<Bound>,
+) -> Result<(), NoMemory>
     requires { bounds.old.items ≡ [] }
     ensures { OnOk result (take made.most_bounds bounds.new.items ≡ made.first_bounds program.now parts.now) }
 {
     if parts.len() > 0 && is_declarer(program, parts[0]) {
-        add_bounds(program, program.tree.len(), None, parts[0], bounds)?;
+        let modes = Measured::new(alloc, &program.modes, mode_at(program, parts[0]))?;
+        add_bounds(program, &modes, program.tree.len(), None, parts[0], bounds)?;
     }
     Ok(())
 }
@@ -297,7 +314,7 @@ pub fn bounds_of(
     ensures { IfOk result (λ bounds. bounds.items ≡ made.first_bounds program.now parts.now) }
 {
     let mut bounds = Vec::new(alloc);
-    add_first(program, parts, &mut bounds)?;
+    add_first(alloc, program, parts, &mut bounds)?;
     bounds.truncate(MOST_BOUNDS);
     Ok(bounds)
 }
@@ -321,13 +338,14 @@ fn are_bounding(program: &Annotated, bounds: &[Bound]) -> bool
 }
 
 // Do the bounds leave values, as many as a name of a mode has? More than there may be instructions are not counted.
-fn bounds_run(program: &Annotated, mode: ModeId, bounds: &[Bound]) -> bool
+fn bounds_run(program: &Annotated, modes: &Measured, mode: ModeId, bounds: &[Bound]) -> bool
+    requires { modes.now ≡ program.now.modes }
     ensures { result ≡ runs.bounds_run program.now mode bounds.now }
 {
     if !are_bounding(program, bounds) {
         return false;
     }
-    MOST_INSTRUCTIONS < bounds.len() || takes_bounds(&program.modes, mode, bounds.len())
+    MOST_INSTRUCTIONS < bounds.len() || takes_bounds(modes, mode, bounds.len())
 }
 
 /// Does a new name run of what a name of this mode refers to, with the bounds of the first of these nodes?
@@ -344,6 +362,7 @@ pub fn new_runs(
         return Ok(false);
     }
     let bounds = bounds_of(alloc, program, parts)?;
-    let is_run = bounds_run(program, to, &bounds);
+    let modes = Measured::new(alloc, &program.modes, to)?;
+    let is_run = bounds_run(program, &modes, to, &bounds);
     Ok(is_run)
 }

@@ -1,10 +1,7 @@
 -- From one entry to whole journals, and to their ends.
-use Rattle.std.proofs.Common.{◌≡◌, ◌≢◌, ℕ, zero, suc, arith, List, [], ◌∷◌, length, None, Some, refl, sym, ap, ◌∙◌, subst, true≢false, false, ⊎_elim}
-use Rattle.std.proofs.lemmas.Bool.{cases_eq}
+use Rattle.std.proofs.Common.{◌≡◌, ℕ, zero, suc, arith, List, [], ◌∷◌, length, None, Some, refl, sym, ap, ◌∙◌, subst, true≢false, false}
 use Rattle.std.proofs.lemmas.Option.{same_Some}
-use Rattle.std.specs.Option.{option_and_then}
 use Rattle.std.specs.Prelude.{slice_get}
-use Rattle.std.specs.declared.option.Option.{Option}
 use Rattle.a68_acts.specs.Store.{Store}
 use Rattle.a68_code.specs.declared.code.Code.{Code}
 use Rattle.a68_elab.specs.Elaborations.{Elaborates, stays, silently, by_act}
@@ -13,21 +10,19 @@ use Rattle.a68_elab.specs.Terms.{Term, todo}
 use Rattle.a68_elab.specs.Trees.{Program}
 use Rattle.a68_emit.specs.Stretches.{Translates}
 use Rattle.a68_sim.proofs.Ending.{ends_too}
-use Rattle.a68_sim.proofs.Family.{QuietIn, in_elaborates, quiet_at, how_many, Kin, single, parent, number, times, Lives}
+use Rattle.a68_sim.proofs.Family.{QuietIn, in_elaborates, quiet_at, single, times}
 use Rattle.a68_sim.proofs.Finishing.{Finish, program_end, EndsAt}
-use Rattle.a68_sim.proofs.Lists.{same_most, same_other, same_self}
+use Rattle.a68_sim.proofs.Lists.{same_most, same_self}
 use Rattle.a68_sim.proofs.Routines.{TextsStand, texts_stand}
 use Rattle.a68_sim.proofs.Settling.{Comes, settles}
 use Rattle.a68_sim.proofs.Worlds.{next_acts, Joint, steps}
 use Rattle.a68_exec.proofs.Alive.{active}
 use Rattle.a68_exec.proofs.Settled.{settle_rests}
 use Rattle.a68_strand.proofs.Waking.{IsCalm}
-use Rattle.a68_strand.specs.Ends.{HasEnded, CanActNow}
 use Rattle.a68_instructions.specs.Machine.{State, beginning, settle, next_state}
 use Rattle.a68_strand.specs.RunOf.{RunOf}
-use Rattle.a68_exec.specs.Runs.{World, Machine, opening, acted, acts_in, all_closed, is_passive}
-use Rattle.a68_instructions.specs.declared.ask.Stance.{Stance}
-use Rattle.a68_instructions.specs.declared.ask.Stance.TheVariants.{Idle, Waits, Closed}
+use Rattle.a68_exec.specs.Runs.{World, Machine, opening, all_closed, is_passive}
+use Rattle.a68_instructions.specs.declared.ask.Stance.TheVariants.{Waits, Closed}
 use Rattle.a68_values.specs.declared.act.Entry.{Entry}
 use Rattle.a68_values.specs.declared.chain.Environ.{Environ}
 use Rattle.a68_values.specs.declared.kept.Kept.{Kept}
@@ -70,32 +65,6 @@ only_one : (code : Code) (home : List Environ) (s : ℕ) (st : State) → slice_
 only_one code home zero st e z = let q = same_self 0 in absurd (omega arith)
 only_one code home (suc s) st e z = absurd (cc)
 
-module _ (program : Program) (code : Code) (same_modes : code.modes ≡ program.modes) (texts : TextsStand program code) (b : ℕ) (home : List Environ) (end : EndsAt code (program_end b home)) where
-  -- where the program's strand has come to its end, there is no other part
-  no_part : (w : World) (t : Term) (kin : Kin) → Lives program code w.strands kin (program_end b home) t → number kin ≡ 0 → HasEnded w 0 → (s : ℕ) → s ≢ 0 → times s kin ≡ 0
-  no_part w t (single own) l root h s other = same_other s own (λ e. other (e ∙ root))
-  no_part w t (parent own units) l root h s other =
-      let there : slice_get w.strands own ≡ Some h.st = ap (slice_get w.strands) root ∙ h.there in
-      let q : Idle ≡ Waits l.0 (how_many units) = sym h.idle ∙ ap (λ (x : State). x.stance) (same_Some h.st l.3.st (sym there ∙ l.3.there)) ∙ l.3.waits in absurd (cc)
-
-  rests_so : (w : World) (n : ℕ) (st : State) → slice_get w.strands n ≡ Some st → (s : Stance) → st.stance ≡ s → acts_in s code w n st ≡ None → acted code w n ≡ None
-  rests_so w n st there s e none =
-      ap (option_and_then (λ (x : State). acts_in x.stance code w n x)) there ∙ ap (λ (x : Stance). acts_in x code w n st) e ∙ none
-
-  -- then no strand can act
-  still_behind : (w : World) (t : Term) → Joint program code same_modes texts (program_end b home) end t w → HasEnded w 0 → (n : ℕ) → acted code w n ≡ None
-  still_behind w t j h n = ⊎_elim first other (cases_eq n 0)
-    where
-      first : n ≡ 0 → acted code w n ≡ None
-      first e = rests_so w n h.st (ap (slice_get w.strands) e ∙ h.there) Idle h.idle refl
-
-      closed : (o : Option State) → slice_get w.strands n ≡ o → n ≢ 0 → acted code w n ≡ None
-      closed None there ne = ap (option_and_then (λ (x : State). acts_in x.stance code w n x)) there
-      closed (Some st) there ne = rests_so w n st there Closed (j.gone n st there (no_part w t j.kin j.lives j.root h n ne)) refl
-
-      other : n ≢ 0 → acted code w n ≡ None
-      other ne = closed (slice_get w.strands n) refl ne
-
 -- ---- a program and its code
 
 module _ (program : Program) (code : Code) (tr : Translates program code) where
@@ -125,11 +94,6 @@ module _ (program : Program) (code : Code) (tr : Translates program code) where
     counted = refl;
     calm = first_calm code home;
   }
-
-  pub none_acts : (es : List Entry) (w : World) → Machine code (opening code) es w → HasEnded w 0 → (n : ℕ) → CanActNow code w n → ⊥
-  none_acts es w m h n can =
-      let all = follow_run program code tr.modes texts_of_code how_ends end_is es begins_so.0 (opening code) w begun m in
-      can (still_behind program code tr.modes texts_of_code tr.end home end_is w all.0 all.2 h n)
 
   pub law_so : (fuel : ℕ) (kept : Kept) → RunOf code fuel kept → Permitted program fuel kept
   law_so fuel kept r =

@@ -1,16 +1,13 @@
 //! The law that ties the machine to the rules of the language.
 #![tactic(auto)]
 
-ghost use Rattle.std.specs.Prelude.{◌≡◌, ◌≤◌, ℕ, List};
+ghost use Rattle.std.specs.Prelude.{◌≡◌, ◌≤◌, ℕ};
 ghost use Rattle.a68_code.specs.declared.code.Code.{Code};
 ghost use Rattle.a68_elab.specs.Permitted.{Permitted};
 ghost use Rattle.a68_elab.specs.Places.{ProgramBeginsBy};
 ghost use Rattle.a68_elab.specs.Trees.{Program};
 ghost use Rattle.a68_emit.specs.Stretches.{Translates};
-ghost use Rattle.a68_strand.specs.Ends.{CanActNow, HasEnded};
 ghost use Rattle.a68_strand.specs.RunOf.{RunOf};
-ghost use Rattle.a68_exec.specs.Runs.{Machine, World, opening};
-ghost use Rattle.a68_values.specs.declared.act.Entry.{Entry};
 ghost use Rattle.a68_values.specs.declared.act.FaultKind.{FaultKind};
 ghost use Rattle.a68_values.specs.declared.kept.End.TheVariants.{Fault};
 ghost use Rattle.a68_values.specs.declared.kept.Kept.{Kept};
@@ -23,13 +20,6 @@ ghost use Rattle.a68_values.specs.declared.kept.Kept.{Kept};
 /// needs this one: it is there for its contract.
 pub fn permitted_law()
     ensures { (program : Program) (code : Code) (fuel : ℕ) (kept : Kept) → Translates program code → RunOf code fuel kept → Permitted program fuel kept }
-{}
-
-/// A law: where the first strand of a program has come to its end, no strand can act. So a run that is done goes on in no
-/// other one.
-pub fn ended_programs_do_no_more()
-    ensures { (program : Program) (code : Code) → Translates program code → (entries : List Entry) (world : World) → Machine code (opening code) entries world
-        → HasEnded world 0 → (strand : ℕ) → CanActNow code world strand → ⊥ }
 {}
 
 /// A law: where each construct of a program begins at a byte or before it, a fault of a run does too. The fault of a

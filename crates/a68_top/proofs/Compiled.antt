@@ -1,5 +1,5 @@
 -- A text that is compiled is not refused, and is compiled in one way.
-use Rattle.std.proofs.Common.{◌≡◌, ℕ, ◌≤◌, List, length, sym, ap, subst, ◌∙◌}
+use Rattle.std.proofs.Common.{◌≡◌, ℕ, ◌≤◌, List, length, ap, subst, ◌∙◌}
 use Rattle.a68_annot.specs.declared.annotated.Annotated.{Annotated}
 use Rattle.a68_base.specs.declared.refusal.Refusal.{Refusal}
 use Rattle.a68_code.specs.declared.code.Code.{Code}

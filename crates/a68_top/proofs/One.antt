@@ -1,17 +1,17 @@
 -- A text has one answer.
-use Rattle.std.proofs.Common.{◌≡◌, ℕ, ◌<◌, ◌⊎◌, inl, inr, List, [], length, map, sym, ap, subst, ◌∙◌, arith, slice_get}
-use Rattle.std.proofs.lemmas.List.{length-map}
-use Rattle.std.proofs.lemmas.Option.{slice_get_within}
+use Rattle.std.proofs.Common.{◌≡◌, ℕ, ◌⊎◌, inl, inr, List, map, sym, ap, subst, ◌∙◌}
 use Rattle.a68_annot.specs.declared.annotated.Annotated.{Annotated}
 use Rattle.a68_base.specs.declared.refusal.Refusal.{Refusal}
 use Rattle.a68_base.specs.declared.refusal.Rule.{Rule}
 use Rattle.a68_base.specs.declared.refusal.Rule.TheVariants.{S6}
 use Rattle.a68_check.specs.Annotates.{Annotates, Refuses}
 use Rattle.a68_gen.specs.Refusals.{IsNotGenerated}
+use Rattle.a68_lister.specs.Layout.{listed, spellings_in}
 use Rattle.a68_parse.specs.Parses.{IsTree}
 use Rattle.a68_symbols.specs.Names.{Named, AreNamed}
-use Rattle.a68_symbols.specs.Symbols.{SymbolsAre, RefusalIs, Piece, piece_of}
-use Rattle.a68_top.specs.Compiles.{IsTreeOf, IsProgramOf, RefusedAs, unlike_symbols, unclassed, no_tree, no_meaning, not_generated}
+use Rattle.a68_symbols.specs.Symbols.{SymbolsAre, RefusalIs, piece_of}
+use Rattle.a68_top.specs.Answer.{IsListingOf}
+use Rattle.a68_top.specs.Compiles.{IsTreeOf, IsProgramOf, RefusedAs, untreed, unlike_symbols, unclassed, no_tree, no_meaning, not_generated}
 use Rattle.a68_tree.specs.Trees.{Built}
 use Rattle.a68_tree.specs.declared.node.Node.{Node}
 use Rattle.a68_parse.specs.Drafted.{SpellsAlike, AreStarts}
@@ -36,6 +36,10 @@ AreOne r s = (r.rule ≡ s.rule) × ((r.rule ≡ S6) ⊎ (r.place ≡ s.place))
 module _ (laws : Laws) (text : List ℕ) where
   same_found : (a b : Named) → SymbolsAre text (map piece_of a.symbols) → AreNamed text a → SymbolsAre text (map piece_of b.symbols) → AreNamed text b → a ≡ b
   same_found a b p n q m = laws.named text b a (q.only (map piece_of a.symbols) p.has) m n
+
+  pub one_listing : (a b : List ℕ) → IsListingOf text a → IsListingOf text b → a ≡ b
+  one_listing a b p q =
+      p.laid_out ∙ ap (λ (f : Named). listed (spellings_in f)) (same_found p.is.found q.is.found p.is.symbols p.is.named q.is.symbols q.is.named) ∙ sym q.laid_out
 
   pub same_tree : (a b : Built) → IsTreeOf text a → IsTreeOf text b → a ≡ b
   same_tree a b p q =
@@ -82,9 +86,9 @@ module _ (laws : Laws) (text : List ℕ) where
     late_code : (program : Annotated) → IsProgramOf text program → IsNotGenerated program r → Late r
 
   late : (tree : Built) (r : Refusal) → IsTreeOf text tree → RefusedAs text r → Late r
-  late tree r is (unlike_symbols u) = absurd (tree_symbols tree r.rule r.place is u)
-  late tree r is (unclassed found s n u) = absurd (tree_classed tree found r.rule r.place is s n u)
-  late tree r is (no_tree found classes s n c u) = absurd (tree_parsed tree found classes is s n c u.2)
+  late tree r is (untreed (unlike_symbols u)) = absurd (tree_symbols tree r.rule r.place is u)
+  late tree r is (untreed (unclassed found s n u)) = absurd (tree_classed tree found r.rule r.place is s n u)
+  late tree r is (untreed (no_tree found classes s n c u)) = absurd (tree_parsed tree found classes is s n c u.2)
   late tree r is (no_meaning t i u) = late_meaning t i u
   late tree r is (not_generated p i u) = late_code p i u
 
@@ -106,28 +110,28 @@ module _ (laws : Laws) (text : List ℕ) where
 
   -- two refusals of a text are one
   pub one_refusal : (r s : Refusal) → RefusedAs text r → RefusedAs text s → AreOne r s
-  one_refusal r s (unlike_symbols u) (unlike_symbols v) = let e = v.only r.rule r.place u.refused in (e.0, inr e.1)
-  one_refusal r s (unlike_symbols u) (unclassed f symbols n v) = absurd (u.none (map piece_of f.symbols) symbols.has)
-  one_refusal r s (unlike_symbols u) (no_tree f c symbols n cl v) = absurd (u.none (map piece_of f.symbols) symbols.has)
-  one_refusal r s (unlike_symbols u) (no_meaning t i v) = absurd (tree_symbols t r.rule r.place i u)
-  one_refusal r s (unlike_symbols u) (not_generated p i v) = absurd (tree_symbols i.tree r.rule r.place i.is u)
-  one_refusal r s (unclassed f symbols n u) (unlike_symbols v) = absurd (v.none (map piece_of f.symbols) symbols.has)
-  one_refusal r s (unclassed f symbols n u) (unclassed g also m v) =
+  one_refusal r s (untreed (unlike_symbols u)) (untreed (unlike_symbols v)) = let e = v.only r.rule r.place u.refused in (e.0, inr e.1)
+  one_refusal r s (untreed (unlike_symbols u)) (untreed (unclassed f symbols n v)) = absurd (u.none (map piece_of f.symbols) symbols.has)
+  one_refusal r s (untreed (unlike_symbols u)) (untreed (no_tree f c symbols n cl v)) = absurd (u.none (map piece_of f.symbols) symbols.has)
+  one_refusal r s (untreed (unlike_symbols u)) (no_meaning t i v) = absurd (tree_symbols t r.rule r.place i u)
+  one_refusal r s (untreed (unlike_symbols u)) (not_generated p i v) = absurd (tree_symbols i.tree r.rule r.place i.is u)
+  one_refusal r s (untreed (unclassed f symbols n u)) (untreed (unlike_symbols v)) = absurd (v.none (map piece_of f.symbols) symbols.has)
+  one_refusal r s (untreed (unclassed f symbols n u)) (untreed (unclassed g also m v)) =
       let same : f ≡ g = same_found f g symbols n also m in
       let e = laws.unclassed g s.rule r.rule s.place r.place v (subst (λ x. IsRefusedAt x r.rule r.place) same u) in
       (e.0, inr e.1)
-  one_refusal r s (unclassed f symbols n u) (no_tree g c also m cl v) =
+  one_refusal r s (untreed (unclassed f symbols n u)) (untreed (no_tree g c also m cl v)) =
       let same : f ≡ g = same_found f g symbols n also m in
       absurd (laws.apart g r.rule r.place c (subst (λ x. IsRefusedAt x r.rule r.place) same u) cl)
-  one_refusal r s (unclassed f symbols n u) (no_meaning t i v) = absurd (tree_classed t f r.rule r.place i symbols n u)
-  one_refusal r s (unclassed f symbols n u) (not_generated p i v) = absurd (tree_classed i.tree f r.rule r.place i.is symbols n u)
-  one_refusal r s (no_tree f c symbols n cl u) (unlike_symbols v) = absurd (v.none (map piece_of f.symbols) symbols.has)
-  one_refusal r s (no_tree f c symbols n cl u) (unclassed g also m v) =
+  one_refusal r s (untreed (unclassed f symbols n u)) (no_meaning t i v) = absurd (tree_classed t f r.rule r.place i symbols n u)
+  one_refusal r s (untreed (unclassed f symbols n u)) (not_generated p i v) = absurd (tree_classed i.tree f r.rule r.place i.is symbols n u)
+  one_refusal r s (untreed (no_tree f c symbols n cl u)) (untreed (unlike_symbols v)) = absurd (v.none (map piece_of f.symbols) symbols.has)
+  one_refusal r s (untreed (no_tree f c symbols n cl u)) (untreed (unclassed g also m v)) =
       let same : g ≡ f = same_found g f also m symbols n in
       absurd (laws.apart f s.rule s.place c (subst (λ x. IsRefusedAt x s.rule s.place) same v) cl)
-  one_refusal r s (no_tree f c symbols n cl u) (no_tree g d also m dl v) = (u.0 ∙ sym v.0, inl u.0)
-  one_refusal r s (no_tree f c symbols n cl u) (no_meaning t i v) = absurd (tree_parsed t f c i symbols n cl u.2)
-  one_refusal r s (no_tree f c symbols n cl u) (not_generated p i v) = absurd (tree_parsed i.tree f c i.is symbols n cl u.2)
+  one_refusal r s (untreed (no_tree f c symbols n cl u)) (untreed (no_tree g d also m dl v)) = (u.0 ∙ sym v.0, inl u.0)
+  one_refusal r s (untreed (no_tree f c symbols n cl u)) (no_meaning t i v) = absurd (tree_parsed t f c i symbols n cl u.2)
+  one_refusal r s (untreed (no_tree f c symbols n cl u)) (not_generated p i v) = absurd (tree_parsed i.tree f c i.is symbols n cl u.2)
   one_refusal r s (no_meaning t i u) q = elim (late t s i q) [
     | late_meaning w j v ↦ broken_once t w r s i j u v
     | late_code p j v ↦ absurd (not_both t p r i j u)

@@ -7,7 +7,7 @@ use Rattle.a68_base.proofs.Slices.{take_past}
 use Rattle.a68_maker.specs.Making.{make_text}
 use Rattle.a68_top.specs.Answer.{read_of, text_for}
 use Rattle.a68_top.specs.Outcome.{IsTextFor}
-use Rattle.a68_top.specs.Words.{Task, run, check, show_code, make_units, file_of}
+use Rattle.a68_command.specs.Words.{Task, run, check, show_code, make_units, show_races, lay_out, file_of}
 
 -- what the shelf tells, and what was read where it tells nothing
 abbrev pub whole : Option (List ℕ) → List ℕ → List ℕ
@@ -27,6 +27,8 @@ one_text (run f workers fuel names) file text e = refl
 one_text (check f) file text e = refl
 one_text (show_code f) file text e = refl
 one_text (make_units units workers) file text e = absurd (cc)
+one_text (show_races f workers fuel) file text e = refl
+one_text (lay_out f) file text e = refl
 
 is_text_for : (task : Task) (under : List ℕ → Option (List ℕ)) (file text : List ℕ) → file_of task ≡ Some file → IfSome (under file) (λ all. text ≡ read_of all) → length text ≤ 1048577 → IsTextFor task under text
 is_text_for task under file text e read fits =

@@ -12,7 +12,7 @@ use Rattle.a68_parse.specs.Parses.{IsTree}
 use Rattle.a68_symbols.specs.Names.{Named}
 use Rattle.a68_symbols.specs.Symbols.{SymbolsAre, piece_of, IsRefused as IsBroken}
 use Rattle.a68_symbols.specs.declared.symbol.Symbol.{Symbol}
-use Rattle.a68_top.specs.Compiles.{IsTreeOf, RefusedAs, unlike_symbols, unclassed, no_tree, no_meaning, not_generated}
+use Rattle.a68_top.specs.Compiles.{IsTreeOf, RefusedAs, untreed, unlike_symbols, unclassed, no_tree, no_meaning, not_generated}
 use Rattle.a68_tree.specs.Trees.{Built}
 use Rattle.a68_tree.specs.declared.node.Node.{Node}
 use Rattle.a68_parse.specs.Places.{IsPlace}
@@ -54,9 +54,9 @@ module _ (laws : Bounds) (text : List ℕ) where
       start_of is.found.symbols i s (length text) (laws.symbols text is.found is.symbols) (sym (ap (λ l. slice_get l i) is.begun) ∙ at)
 
   pub place_within : (r : Refusal) → RefusedAs text r → r.place ≤ length text
-  place_within r (unlike_symbols v) = laws.broken text r.rule r.place v.refused
-  place_within r (unclassed found symbols named v) = let e = v.here in let w = laws.symbols text found symbols v.at v.symbol v.is in omega arith
-  place_within r (no_tree found classes symbols named classed v) = at_place found.symbols (length text) r.place (laws.symbols text found symbols) v.1
+  place_within r (untreed (unlike_symbols v)) = laws.broken text r.rule r.place v.refused
+  place_within r (untreed (unclassed found symbols named v)) = let e = v.here in let w = laws.symbols text found symbols v.at v.symbol v.is in omega arith
+  place_within r (untreed (no_tree found classes symbols named classed v)) = at_place found.symbols (length text) r.place (laws.symbols text found symbols) v.1
   place_within r (no_meaning tree is v) = laws.refused tree (length text) r (tree_within tree is) (starts_within tree is) v
   place_within r (not_generated program is v) =
       laws.ungenerated program (length text) r (laws.annotated is.tree (length text) program (tree_within is.tree is.is) is.annotates) v

@@ -7,7 +7,7 @@ use Rattle.std.specs.Io.KnownBytes.{append_known}
 use Rattle.a68_base.specs.declared.status.Status.{Status}
 use Rattle.a68_base.specs.declared.status.Status.TheVariants.{Done, Refused, Usage, Fault, AllHalted, Spent, ReadFault, WriteFault, NoMemory}
 use Rattle.a68_top.specs.declared.finish.Finish.{Finish}
-use Rattle.a68_top.specs.Words.{Task}
+use Rattle.a68_command.specs.Words.{Task}
 use Rattle.a68_top.specs.Outcome.{IsAnswer, Answered, Broke, FinishIs, Owes, Sunk, Whole}
 use Rattle.a68_outside.specs.Cause.{Rose, HasCause}
 use Rattle.a68_outside.specs.Known.{ReceivesFront}

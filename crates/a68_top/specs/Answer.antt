@@ -4,23 +4,29 @@ use Rattle.std.specs.declared.option.Option.{Option}
 use Rattle.a68_annot.specs.declared.annotated.Annotated.{Annotated}
 use Rattle.a68_base.specs.declared.limits.TheConstants.{MOST_READ, USUAL_FUEL}
 use Rattle.a68_base.specs.declared.refusal.Refusal.{Refusal}
+use Rattle.a68_base.specs.declared.refusal.Rule.TheVariants.{Q4}
 use Rattle.a68_base.specs.declared.status.Status.{Status}
 use Rattle.a68_base.specs.declared.status.Status.TheVariants.{Done, Refused, Usage, Fault, AllHalted, Spent}
 use Rattle.a68_code.specs.declared.code.Code.{Code}
 use Rattle.a68_elab.specs.Programs.{program_of}
 use Rattle.a68_elab.specs.Permitted.{Permitted}
+use Rattle.a68_lister.specs.Layout.{listed, spellings_in}
 use Rattle.a68_maker.specs.Making.{make_text}
+use Rattle.a68_races.specs.Lines.{race_text}
+use Rattle.a68_races.specs.Races.{FirstBeyond, NoneBeyond, RacesAre}
+use Rattle.a68_races.specs.Shown.{Shown}
 use Rattle.a68_report.specs.Lines.{usage_line, refusal_line, end_line, units_line}
 use Rattle.a68_report.specs.Listing.{code_text}
 use Rattle.a68_report.specs.Variables.{names_text}
 use Rattle.a68_strand.specs.Cyclic.{Cyclic}
 use Rattle.a68_strand.specs.RunOf.{RunOf}
-use Rattle.a68_top.specs.Compiles.{Compiles, RefusedAs}
+use Rattle.a68_top.specs.Compiles.{Compiles, IsTreeOf, RefusedAs, RefusedBefore}
 use Rattle.a68_top.specs.declared.finish.Finish.{Finish}
 use Rattle.a68_top.specs.declared.finish.Made.{Made}
 use Rattle.a68_top.specs.declared.finish.Telling.{Telling}
 use Rattle.a68_top.specs.declared.finish.Telling.TheVariants.{EndAlone, Variables, Units}
-use Rattle.a68_top.specs.Words.{Task, run, check, show_code, make_units}
+use Rattle.a68_command.specs.Words.{Task, run, check, show_code, make_units, show_races, lay_out}
+use Rattle.a68_tree.specs.Trees.{Built}
 use Rattle.a68_values.specs.declared.kept.End.{End}
 use Rattle.a68_values.specs.declared.kept.End.TheVariants as ends
 use Rattle.a68_values.specs.declared.kept.Kept.{Kept}
@@ -65,19 +71,49 @@ run_lines EndAlone program kept = end_line kept.end
 run_lines Variables program kept = end_line kept.end ++ names_text program kept
 run_lines (Units units) program kept = end_line kept.end ++ size_line kept.end units (length kept.journal.entries)
 
--- The program has run so, and one worker has taken its strands in a circle; the text that the run printed is on out, and its lines
+-- the text that a run printed
+abbrev pub IsPrinted : Kept → List ℕ → Type 0
+IsPrinted kept out = out ≡ kept.journal.text
+
+-- the text of the races of a run, none of whose strands is numbered above those that are told apart
+pub record AreRaces (kept : Kept) (out : List ℕ) : Type 0 where
+  pub within : NoneBeyond kept.journal.entries
+  pub shown : Shown
+  pub races : RacesAre kept.journal.entries shown
+  pub text : out ≡ race_text shown
+
+-- The program has run so, and one worker has taken its strands in a circle; what is written of the run is on out, and its lines
 -- are on notes.
-pub record HasRun (made : Made) (workers fuel : ℕ) (telling : Telling) (finish : Finish) (out notes : List ℕ) : Type 0 where
+pub record HasRun (made : Made) (workers fuel : ℕ) (IsWritten : Kept → List ℕ → Type 0) (telling : Telling) (finish : Finish) (out notes : List ℕ) : Type 0 where
   pub kept : Kept
   pub machine : RunOf made.code fuel kept
   pub cyclic : workers ≡ 1 → Cyclic made.code kept
-  pub says : Says finish out notes (record { status = status_of kept.end; refusal = None; made = Some made; ran = Some kept }) kept.journal.text (run_lines telling made.program kept)
+  pub finish_is : finish ≡ record { status = status_of kept.end; refusal = None; made = Some made; ran = Some kept }
+  pub out_is : IsWritten kept out
+  pub notes_are : notes ≡ run_lines telling made.program kept
 
 -- A run of a text: the text is refused, or its program has run, as the rules of the language permit.
 pub data IsRunOf (text : List ℕ) (workers fuel : ℕ) (telling : Telling) (finish : Finish) (out notes : List ℕ) : Type 0 where
   refused : (refusal : Refusal) → RefusedAs text refusal → IsRefusal refusal finish out notes → IsRunOf text workers fuel telling finish out notes
-  ran : (made : Made) → Compiles text made → (has : HasRun made workers fuel telling finish out notes) → Permitted (program_of made.program) fuel has.kept
+  ran : (made : Made) → Compiles text made → (has : HasRun made workers fuel IsPrinted telling finish out notes) → Permitted (program_of made.program) fuel has.kept
       → IsRunOf text workers fuel telling finish out notes
+
+-- The program has run, one worker has taken its strands in a circle, and the entry at this place is the first that is of, or
+-- numbers, a strand above those that are told apart.
+pub record RunsBeyond (made : Made) (workers fuel place : ℕ) : Type 0 where
+  pub kept : Kept
+  pub machine : RunOf made.code fuel kept
+  pub cyclic : workers ≡ 1 → Cyclic made.code kept
+  pub beyond : FirstBeyond kept.journal.entries place
+
+-- The races of a text: the text is refused; or its program has run, as the rules of the language permit, and its run has too many
+-- strands, or its races are told.
+pub data IsRacedOf (text : List ℕ) (workers fuel : ℕ) (finish : Finish) (out notes : List ℕ) : Type 0 where
+  unraced : (refusal : Refusal) → RefusedAs text refusal → IsRefusal refusal finish out notes → IsRacedOf text workers fuel finish out notes
+  crowded : (made : Made) (place : ℕ) → Compiles text made → (run_is : RunsBeyond made workers fuel place) → Permitted (program_of made.program) fuel run_is.kept
+      → IsRefusal (record { rule = Q4; place = place }) finish out notes → IsRacedOf text workers fuel finish out notes
+  raced : (made : Made) → Compiles text made → (has : HasRun made workers fuel AreRaces EndAlone finish out notes) → Permitted (program_of made.program) fuel has.kept
+      → IsRacedOf text workers fuel finish out notes
 
 -- The program is kept and not run, and this is on out.
 abbrev pub ProgramIsKept : Made → List ℕ → Finish → List ℕ → List ℕ → Type 0
@@ -92,12 +128,25 @@ pub data IsMadeOf (text : List ℕ) (shown : Code → List ℕ) (finish : Finish
 abbrev pub nothing : Code → List ℕ
 nothing code = []
 
+-- these bytes are the symbols of the text, which has a tree, laid out anew
+pub record IsListingOf (text out : List ℕ) : Type 0 where
+  pub tree : Built
+  pub is : IsTreeOf text tree
+  pub laid_out : out ≡ listed (spellings_in is.found)
+
+-- The text is refused before it has a tree, or it is laid out anew.
+pub data IsListOf (text : List ℕ) (finish : Finish) (out notes : List ℕ) : Type 0 where
+  unlisted : (refusal : Refusal) → RefusedBefore text refusal → IsRefusal refusal finish out notes → IsListOf text finish out notes
+  anew : (shown : List ℕ) → IsListingOf text shown → Says finish out notes (bare Done) shown [] → IsListOf text finish out notes
+
 -- what a task owes for its text
 abbrev pub AnswersText : Task → List ℕ → Finish → List ℕ → List ℕ → Type 0
 AnswersText (run file workers fuel names) text finish out notes = IsRunOf text workers fuel (telling_of names) finish out notes
 AnswersText (check file) text finish out notes = IsMadeOf text nothing finish out notes
 AnswersText (show_code file) text finish out notes = IsMadeOf text code_text finish out notes
 AnswersText (make_units units workers) text finish out notes = IsRunOf text workers USUAL_FUEL (Units units) finish out notes
+AnswersText (show_races file workers fuel) text finish out notes = IsRacedOf text workers fuel finish out notes
+AnswersText (lay_out file) text finish out notes = IsListOf text finish out notes
 
 -- as much of a program's text as is read: one byte above the limit
 abbrev pub read_of : List ℕ → List ℕ

@@ -1,5 +1,5 @@
 -- What a text is made into, and why another one is refused.
-use Rattle.std.specs.Prelude.{◌≡◌, ◌≤◌, ℕ, List, [], length, map, Err}
+use Rattle.std.specs.Prelude.{◌≡◌, ◌≤◌, ℕ, List, length, map, Err}
 use Rattle.a68_annot.specs.declared.annotated.Annotated.{Annotated}
 use Rattle.a68_base.specs.declared.refusal.Refusal.{Refusal}
 use Rattle.a68_base.specs.declared.refusal.Stop.TheVariants.{Refused}
@@ -31,6 +31,11 @@ pub record IsTreeOf (text : List ℕ) (tree : Built) : Type 0 where
   pub spelled : SpellsAlike found tree.spellings
   pub begun : AreStarts found tree.starts
 
+-- these are the symbols of the text, and this is its tree
+pub record IsReadAs (text : List ℕ) (found : Named) (tree : Built) : Type 0 where
+  pub is : IsTreeOf text tree
+  pub same : is.found ≡ found
+
 -- The tree of the text with its formulas shaped by the priorities of their signs, and what is known of each node.
 pub record IsProgramOf (text : List ℕ) (program : Annotated) : Type 0 where
   pub tree : Built
@@ -43,11 +48,14 @@ pub record Compiles (text : List ℕ) (made : Made) : Type 0 where
   pub translated : Translates (program_of made.program) made.code
   pub short : length made.code.list ≤ most
 
--- The rule that the text breaks: of symbols; of words and nesting; of the grammar; of the meaning; or, once it is
--- annotated, the limit of code.
+-- The rule that a text breaks before it has a tree: of symbols; of words and nesting; of the grammar.
+pub data RefusedBefore (text : List ℕ) (refusal : Refusal) : Type 0 where
+  unlike_symbols : RefusalIs text refusal.rule refusal.place → RefusedBefore text refusal
+  unclassed : (found : Named) → SymbolsAre text (map piece_of found.symbols) → AreNamed text found → IsRefusedAt found refusal.rule refusal.place → RefusedBefore text refusal
+  no_tree : (found : Named) (classes : List (Option Class)) → SymbolsAre text (map piece_of found.symbols) → AreNamed text found → IsClassed found classes → Parses found classes (length text) (Err (Refused refusal)) → RefusedBefore text refusal
+
+-- The rule that a text breaks: one on the way to its tree; of the meaning; or, once it is annotated, the limit of code.
 pub data RefusedAs (text : List ℕ) (refusal : Refusal) : Type 0 where
-  unlike_symbols : RefusalIs text refusal.rule refusal.place → RefusedAs text refusal
-  unclassed : (found : Named) → SymbolsAre text (map piece_of found.symbols) → AreNamed text found → IsRefusedAt found refusal.rule refusal.place → RefusedAs text refusal
-  no_tree : (found : Named) (classes : List (Option Class)) → SymbolsAre text (map piece_of found.symbols) → AreNamed text found → IsClassed found classes → Parses found classes (length text) (Err (Refused refusal)) → RefusedAs text refusal
+  untreed : RefusedBefore text refusal → RefusedAs text refusal
   no_meaning : (tree : Built) → IsTreeOf text tree → Refuses tree refusal → RefusedAs text refusal
   not_generated : (program : Annotated) → IsProgramOf text program → IsNotGenerated program refusal → RefusedAs text refusal

@@ -7,7 +7,7 @@ use Rattle.a68_base.specs.declared.status.Status.TheVariants.{ReadFault, WriteFa
 use Rattle.a68_outside.specs.Cause.{Rose}
 use Rattle.a68_outside.specs.Known.{ReceivesFront}
 use Rattle.a68_top.specs.declared.finish.Finish.{Finish}
-use Rattle.a68_top.specs.Words.{Task, files_of}
+use Rattle.a68_command.specs.Words.{Task, files_of}
 use Rattle.a68_top.specs.Answer.{Answer, bare, text_for}
 use Rattle.a68_report.specs.Lines.{read_fault_line}
 

@@ -1,25 +1,34 @@
 //! What holds of every text, whatever is done with it.
-ghost use Rattle.std.specs.Prelude.{◌≡◌, ◌≤◌, ◌⊎◌, ℕ, List, length};
+ghost use Rattle.std.specs.Prelude.{◌≡◌, ◌<◌, ◌≤◌, ◌⊎◌, ℕ, List, length};
 ghost use Rattle.a68_annot.specs.declared.annotated.Annotated.{Annotated};
 ghost use Rattle.a68_base.specs.declared.refusal.Refusal.{Refusal};
 ghost use Rattle.a68_base.specs.declared.refusal.Rule.TheVariants.{S6};
+ghost use Rattle.a68_lister.specs.Relists.{Relists};
+ghost use Rattle.a68_races.specs.Races.{FirstBeyond, NoneBeyond, RacesAre};
+ghost use Rattle.a68_races.specs.Shown.{Shown};
 ghost use Rattle.a68_strand.specs.Cyclic.{Cyclic};
 ghost use Rattle.a68_strand.specs.RunOf.{RunOf};
+ghost use Rattle.a68_symbols.specs.Limits.{most_bytes};
+ghost use Rattle.a68_top.specs.Answer.{IsListingOf};
 ghost use Rattle.a68_top.specs.Compiles.{IsProgramOf, Compiles, RefusedAs};
 ghost use Rattle.a68_top.specs.declared.finish.Made.{Made};
+ghost use Rattle.a68_values.specs.declared.act.Entry.{Entry};
 ghost use Rattle.a68_values.specs.declared.kept.Kept.{Kept};
 
 use a68_check::{annotations_are_one, annotations_begin_by};
 use a68_gen::translations_are_listings;
+use a68_lister::listings_keep_the_symbols;
 use a68_parse::{symbols_are_bounded, trees_lie_in_texts};
-use a68_sim::ended_programs_do_no_more;
+use a68_races::races_are_one;
 use a68_symbols::symbols_are_one;
 use a68_words::classes_are_one;
 use a68_workers::one_worker_has_one_run;
 
 /// A law: a text has one answer. It is compiled or refused and never both; what it is compiled into is one program with
 /// one code; it is refused by one rule, and but for S6 at one place; and this place is a byte of the text, or its end. With
-/// this fuel it has one run by one worker.
+/// this fuel it has one run by one worker. And a run has its races in one way, or one first entry, which is one of its entries, of
+/// a strand that is not told apart. And a text is laid out in one way, which has its symbols, and which laid out once more stays as it
+/// is, where it is no longer than a text may be.
 pub fn answers_are_one()
     ensures refusals { (text : List ℕ) (r s : Refusal) → RefusedAs text r → RefusedAs text s
         → (r.rule ≡ s.rule) × ((r.rule ≡ S6) ⊎ (r.place ≡ s.place)) }
@@ -29,6 +38,12 @@ pub fn answers_are_one()
     ensures compiled { (text : List ℕ) (a b : Made) → Compiles text a → Compiles text b → a ≡ b }
     ensures runs { (text : List ℕ) (made : Made) (fuel : ℕ) (a b : Kept) → Compiles text made → RunOf made.code fuel a → Cyclic made.code a
         → RunOf made.code fuel b → Cyclic made.code b → a ≡ b }
+    ensures races { (entries : List Entry) (a b : Shown) → RacesAre entries a → RacesAre entries b → a ≡ b }
+    ensures beyond { (entries : List Entry) (i j : ℕ) → FirstBeyond entries i → FirstBeyond entries j → i ≡ j }
+    ensures raced { (entries : List Entry) (i : ℕ) → FirstBeyond entries i → NoneBeyond entries → ⊥ }
+    ensures listings { (text a b : List ℕ) → IsListingOf text a → IsListingOf text b → a ≡ b }
+    ensures laid_out { (text out : List ℕ) (is : IsListingOf text out) → length out ≤ most_bytes → Relists is.is.found }
+    ensures among { (entries : List Entry) (i : ℕ) → FirstBeyond entries i → i < length entries }
 {
     symbols_are_one();
     classes_are_one();
@@ -36,7 +51,8 @@ pub fn answers_are_one()
     trees_lie_in_texts();
     annotations_are_one();
     annotations_begin_by();
-    ended_programs_do_no_more();
     one_worker_has_one_run();
     translations_are_listings();
+    races_are_one();
+    listings_keep_the_symbols();
 }

@@ -1,15 +1,17 @@
 //! All that a call does before its first byte is written.
 ghost use Rattle.std.specs.Prelude.{◌≡◌, ◌≤◌, ◌<◌, ◌^◌, ◌++◌, [], length, map, take, string_bytes, IfOk, OnOk, IfSome, IsErrOf, Some};
 ghost use Rattle.a68_outside.specs.Cause.{Rose};
-ghost use Rattle.a68_top.specs.Words.{MayAskFor, task_in, files_of};
+ghost use Rattle.a68_command.specs.Commands.{task_of, HasRange};
+ghost use Rattle.a68_command.specs.Words.{MayAskFor, task_in, files_of};
+ghost use Rattle.a68_command.specs.declared.words.TheConstants.{MOST_TRACED_FUEL};
 ghost use Rattle.a68_code.specs.Valid.{IsValid};
 ghost use Rattle.a68_maker.specs.Making.{make_text};
 ghost use Rattle.a68_strand.specs.Cyclic.{Cyclic};
 ghost use Rattle.a68_strand.specs.RunOf.{RunOf};
-ghost use Rattle.a68_top.specs.Commands.{task_of, AnswersMade, HasRange};
+ghost use Rattle.a68_top.specs.Commands.{AnswersMade, HasRaced, IsMade};
 ghost use Rattle.a68_report.specs.Variables.{names_text};
 ghost use Rattle.a68_report.specs.Listing.{code_text as listing};
-ghost use Rattle.a68_top.specs.Answer.{AnswersText, ProgramIsKept, IsRefusal, HasRun, IsUsage, read_of, run_lines, size_line, telling_of};
+ghost use Rattle.a68_top.specs.Answer.{AnswersText, bare, IsListOf, ProgramIsKept, Says, IsPrinted, IsRefusal, HasRun, IsUsage, read_of, run_lines, size_line, telling_of};
 ghost use Rattle.a68_report.specs.Lines.{end_line};
 ghost use Rattle.a68_top.specs.Outcome.{IsAnswer, IsTextFor, Owes};
 ghost use Rattle.a68_workers.specs.Workers.{most_workers};
@@ -18,16 +20,18 @@ ghost use Rattle.a68_top.specs.declared.prepare.Early.TheVariants as early;
 
 use crate::compile::compile;
 use crate::finish::{Finish, Made, Owed, Telling, bare, status_of};
-use crate::words::{Command, command_of};
+use crate::racing::{Found, found_in};
+use crate::reading::laid_out;
 use a68_annot::Annotated;
-use a68_base::{MOST_READ, NoMemory, Refusal, Status, Stop, Text, USUAL_FUEL};
+use a68_base::{MOST_READ, NoMemory, Refusal, Rule, Status, Stop, Text, USUAL_FUEL};
 use a68_code::Code;
+use a68_command::{Command, command_of};
+use a68_lease::run;
 use a68_maker::{FEWEST_UNITS, MOST_UNITS, make_text};
 use a68_outside::{Gate, ReadStop, Shelf, read_at_most};
 use a68_report::{USAGE, code_text, end_line, names_text, refusal_line, units_line};
 use a68_sim::permitted_law;
 use a68_values::{End, Kept};
-use a68_workers::run;
 use std::alloc::Global;
 use std::marker::Sync;
 use std::sync::Wait;
@@ -232,7 +236,7 @@ fn ran<R: Threads + Wait + Sync, G: Gate>(
     requires fuel { (1 ≤ asked.fuel) × (asked.fuel ≤ most_fuel) }
     requires workers { (1 ≤ asked.workers) × (asked.workers ≤ most_workers) }
     ensures status { IfOk result (λ due. IsAnswer due.finish.status) }
-    ensures answer { IfOk result (λ due. HasRun made asked.workers asked.fuel asked.telling due.finish due.out due.notes) }
+    ensures answer { IfOk result (λ due. HasRun made asked.workers asked.fuel IsPrinted asked.telling due.finish due.out due.notes) }
 {
     let Made { program, code } = made;
     match finished(rt, alloc, &program, code, asked, gate) {
@@ -246,6 +250,71 @@ fn ran<R: Threads + Wait + Sync, G: Gate>(
             out,
             notes,
         }),
+        Err(error) => {
+            drop(program);
+            Err(error)
+        }
+    }
+}
+
+// What the races of a run owe, or the refusal where it has too many strands.
+fn raced<R: Threads + Wait + Sync, G: Gate>(
+    rt: &R,
+    alloc: Global,
+    made: Made,
+    workers: u32,
+    fuel: u32,
+    gate: &G,
+) -> Result<Owed, NoMemory>
+    requires valid { IsValid made.code }
+    requires short { length made.code.list < 2 ^ 32 }
+    requires fuel { (1 ≤ fuel) × (fuel ≤ MOST_TRACED_FUEL) }
+    requires workers { (1 ≤ workers) × (workers ≤ most_workers) }
+    ensures status { IfOk result (λ due. IsAnswer due.finish.status) }
+    ensures answer { IfOk result (λ due. HasRaced made workers fuel due.finish due.out due.notes) }
+{
+    let Made { program, code } = made;
+    let asked = Asked {
+        workers,
+        fuel,
+        telling: Telling::EndAlone,
+    };
+    match finished(rt, alloc, &program, code, asked, gate) {
+        Ok((code, kept, (printed, notes))) => {
+            drop(printed);
+            match found_in(alloc, &kept) {
+                Ok(Found::Told(out)) => Ok(Owed {
+                    finish: Finish {
+                        status: status_of(kept.end),
+                        refusal: None,
+                        made: Some(Made { program, code }),
+                        ran: Some(kept),
+                    },
+                    out,
+                    notes,
+                }),
+                Ok(Found::Beyond(place)) => {
+                    drop(notes);
+                    drop(kept);
+                    drop(code);
+                    drop(program);
+                    refused(
+                        alloc,
+                        Refusal {
+                            rule: Rule::Q4,
+                            place,
+                        },
+                    )
+                }
+                Err(error) => {
+                    drop(notes);
+                    drop(kept);
+                    drop(code);
+                    drop(program);
+                    Err(error)
+                }
+            }
+        }
         Err(error) => {
             drop(program);
             Err(error)
@@ -308,6 +377,7 @@ fn due_made<R: Threads + Wait + Sync, G: Gate>(
     requires valid { IsValid made.code }
     requires short { length made.code.list < 2 ^ 32 }
     requires range { HasRange command.now }
+    requires made { IsMade (task_of command.now) }
     ensures status { IfOk result (λ due. IsAnswer due.finish.status) }
     ensures answer { IfOk result (λ due. AnswersMade (task_of command.now) made due.finish due.out due.notes) }
 {
@@ -340,6 +410,58 @@ fn due_made<R: Threads + Wait + Sync, G: Gate>(
             Ok(keep(alloc, made, out))
         }
         Command::Code { .. } => listed(alloc, made),
+        Command::Races { workers, fuel, .. } => raced(rt, alloc, made, *workers, *fuel, gate),
+        // No program is made of such a text.
+        Command::LayOut { .. } => unreachable!(),
+    }
+}
+
+// What a command owes for its text, of which a program is made.
+fn due_program<R: Threads + Wait + Sync, G: Gate>(
+    rt: &R,
+    alloc: Global,
+    command: &Command,
+    text: &[u8],
+    gate: &G,
+) -> Result<Owed, NoMemory>
+    requires length { length text.now < 2 ^ 32 }
+    requires range { HasRange command.now }
+    requires made { IsMade (task_of command.now) }
+    ensures status { IfOk result (λ due. IsAnswer due.finish.status) }
+    ensures answer { IfOk result (λ due. AnswersText (task_of command.now) text.now due.finish due.out due.notes) }
+{
+    permitted_law();
+    match compile(alloc, text) {
+        Err(Stop::NoMemory) => Err(NoMemory),
+        Err(Stop::Refused(refusal)) => refused(alloc, refusal),
+        Ok(made) => due_made(rt, alloc, command, made, gate),
+    }
+}
+
+// What is owed where this is written to out, and nothing is kept.
+fn shown(alloc: Global, out: Text) -> Owed
+    ensures status { IsAnswer result.finish.status }
+    ensures says { Says result.finish result.out result.notes (bare Status.Done) out [] }
+{
+    Owed {
+        finish: bare(Status::Done),
+        out,
+        notes: Text {
+            items: Vec::new(alloc),
+        },
+    }
+}
+
+// What is owed for a text that is laid out anew.
+fn due_listing(alloc: Global, text: &[u8]) -> Result<Owed, NoMemory>
+    requires { length text.now < 2 ^ 32 }
+    ensures status { IfOk result (λ due. IsAnswer due.finish.status) }
+    ensures answer { IfOk result (λ due. IsListOf text.now due.finish due.out due.notes) }
+{
+    match laid_out(alloc, text) {
+        Err(Stop::NoMemory) => Err(NoMemory),
+        Err(Stop::Refused(refusal)) => refused(alloc, refusal),
+        Ok(out) => Ok(shown(alloc, out)),
     }
 }
 
@@ -356,11 +478,9 @@ fn due_for<R: Threads + Wait + Sync, G: Gate>(
     ensures status { IfOk result (λ due. IsAnswer due.finish.status) }
     ensures answer { IfOk result (λ due. AnswersText (task_of command.now) text.now due.finish due.out due.notes) }
 {
-    permitted_law();
-    match compile(alloc, text) {
-        Err(Stop::NoMemory) => Err(NoMemory),
-        Err(Stop::Refused(refusal)) => refused(alloc, refusal),
-        Ok(made) => due_made(rt, alloc, command, made, gate),
+    match command {
+        Command::LayOut { .. } => due_listing(alloc, text),
+        _ => due_program(rt, alloc, command, text, gate),
     }
 }
 
@@ -401,6 +521,8 @@ fn text_for<F: Shelf>(alloc: Global, command: &Command, shelf: &mut F) -> Result
         Command::Run { file, .. } => fetch(alloc, file.as_str(), shelf),
         Command::Check { file } => fetch(alloc, file.as_str(), shelf),
         Command::Code { file } => fetch(alloc, file.as_str(), shelf),
+        Command::Races { file, .. } => fetch(alloc, file.as_str(), shelf),
+        Command::LayOut { file } => fetch(alloc, file.as_str(), shelf),
     }
 }
 

@@ -1,6 +1,6 @@
 //! The top call.
 ghost use Rattle.std.specs.Prelude.{◌≡◌, ◌≢◌, ◌<◌, ◌⊎◌, map, string_bytes, []};
-ghost use Rattle.a68_top.specs.Words.{MayAskFor, task_in, files_of};
+ghost use Rattle.a68_command.specs.Words.{MayAskFor, task_in, files_of};
 ghost use Rattle.a68_top.specs.Outcome.{FinishIs, sunk};
 
 use crate::deliver::deliver;

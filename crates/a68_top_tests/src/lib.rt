@@ -4,7 +4,13 @@
 #[cfg(test)]
 mod calls;
 #[cfg(test)]
+mod hostile;
+#[cfg(test)]
+mod listings;
+#[cfg(test)]
 mod parallel;
+#[cfg(test)]
+mod races;
 #[cfg(test)]
 mod table;
 #[cfg(test)]

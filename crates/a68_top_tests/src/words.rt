@@ -1,6 +1,6 @@
 //! Words of the command line, and the commands that they are, by hand.
 use crate::table::{holds, strings};
-use a68_top::{Command, command_of};
+use a68_command::{Command, command_of};
 use std::alloc::Global;
 use std::panic::Expect;
 use std::process::Abort;
@@ -22,6 +22,8 @@ fn parts(command: &Command) -> (&'static str, &str, u32) {
         Command::Check { file } => ("check", file.as_str(), 0),
         Command::Code { file } => ("code", file.as_str(), 0),
         Command::Make { units, .. } => ("make", "", *units),
+        Command::Races { file, fuel, .. } => ("races", file.as_str(), *fuel),
+        Command::LayOut { file } => ("list", file.as_str(), 0),
     }
 }
 
@@ -157,6 +159,56 @@ fn words_make_texts(rt: HostRuntime) {
     }
 }
 
+/// Words that ask for races, the file, and the fuel.
+const RACED: &[(&[&str], &str, u32)] = &[
+    (&["races", "f"], "f", 1_000_000),
+    (&["races", "-"], "-", 1_000_000),
+    (&["races", "--", "-f"], "-f", 1_000_000),
+    (&["races", "races"], "races", 1_000_000),
+    (&["races", "f", "--fuel", "7"], "f", 7),
+    (&["races", "--fuel=1000000", "f"], "f", 1_000_000),
+    (&["races", "--workers", "64", "f", "--fuel=01"], "f", 1),
+];
+
+#[test]
+fn words_ask_for_races(rt: HostRuntime) {
+    for (words, file, fuel) in RACED {
+        are_command(&rt, rt.alloc(), words, ("races", file, *fuel));
+    }
+}
+
+#[test]
+fn words_are_listings(rt: HostRuntime) {
+    are_command(&rt, rt.alloc(), &["list", "f"], ("list", "f", 0));
+    are_command(&rt, rt.alloc(), &["list", "-"], ("list", "-", 0));
+    are_command(&rt, rt.alloc(), &["list", "--", "-f"], ("list", "-f", 0));
+}
+
+/// Words that look like options of help, or like a verb, and name files.
+const NAMING: &[(&[&str], (&str, &str, u32))] = &[
+    (&["run", "--", "-x"], ("run", "-x", 4_000_000)),
+    (&["run", "help"], ("run", "help", 4_000_000)),
+    (
+        &["run", "--names", "--", "--help"],
+        ("run with names", "--help", 4_000_000),
+    ),
+    (
+        &["run", "f", "--fuel", "1", "--workers", "1", "--names"],
+        ("run with names", "f", 1),
+    ),
+    (&["check", "--", "-h"], ("check", "-h", 0)),
+    (&["check", "help"], ("check", "help", 0)),
+    (&["code", "--", "--version"], ("code", "--version", 0)),
+    (&["make", "03"], ("make", "", 3)),
+];
+
+#[test]
+fn words_name_files_like_options(rt: HostRuntime) {
+    for (words, due) in NAMING {
+        are_command(&rt, rt.alloc(), words, *due);
+    }
+}
+
 /// Words that no command has, or too many files, or none.
 const MISSHAPEN: &[&[&str]] = &[
     &[],
@@ -277,9 +329,81 @@ const UNSUITED: &[&[&str]] = &[
     &["try", "f"],
 ];
 
+/// Words of help and of versions, which are words like others, and words without a verb.
+const HELPLESS: &[&[&str]] = &[
+    &["-h"],
+    &["--help"],
+    &["--version"],
+    &["help"],
+    &["help", "run"],
+    &["run", "-h", "f"],
+    &["run", "--help", "f"],
+    &["check", "-h"],
+    &["check", "--help"],
+    &["code", "--version"],
+    &["make", "-h"],
+    &["make", "--help"],
+    &["--", "run"],
+    &["-", "f"],
+    &["-"],
+    &["", "f"],
+    &["check", "", ""],
+];
+
+/// Options that are cut short, doubled, without a value, or of no verb.
+const MISFITTING: &[&[&str]] = &[
+    &["run", "--work", "2", "f"],
+    &["run", "f", "--work=2"],
+    &["run", "--names=1", "f"],
+    &["run", "--fuel=", "f"],
+    &["run", "--fuel", "-1", "f"],
+    &["run", "--fuel", "f"],
+    &["run", "--workers", "--", "2", "f"],
+    &["run", "--fuel", "1", "f", "--fuel", "2"],
+    &["run", "--fuel=1", "--fuel=2", "f"],
+    &["run", "--workers", "1", "f", "--workers", "2"],
+    &["run", "--names", "f", "--names"],
+    &["run", "f", "--=x"],
+    &["run", "f", "---"],
+    &["run", "f", "--input", "g"],
+    &["run", "f", "--input=g"],
+    &["run", "f", "--second", "g"],
+    &["run", "--operand", "f"],
+    &["make", "+3"],
+    &["make", "-", "3"],
+    &["make", "3", "--workers", "1", "--workers", "1"],
+];
+
+/// Words that ask for no races.
+const UNRACED: &[&[&str]] = &[
+    &["races"],
+    &["Races", "f"],
+    &["races", "f", "g"],
+    &["races", "f", "--names"],
+    &["races", "f", "--fuel", "0"],
+    &["races", "f", "--fuel", "1000001"],
+    &["races", "f", "--fuel=16000000"],
+    &["races", "f", "--workers", "65"],
+    &["races", "f", "--input", "g"],
+    &["list"],
+    &["list", "f", "g"],
+    &["list", "f", "--fuel", "1"],
+    &["list", "f", "--workers", "2"],
+    &["list", "f", "--names"],
+];
+
 #[test]
 fn other_words_are_no_command(rt: HostRuntime) {
     for table in [MISSHAPEN, MISCOUNTED, MISMANNED, MISNAMED, UNSUITED] {
+        for words in table {
+            are_none(&rt, rt.alloc(), words);
+        }
+    }
+}
+
+#[test]
+fn words_like_options_are_no_command(rt: HostRuntime) {
+    for table in [HELPLESS, MISFITTING, UNRACED] {
         for words in table {
             are_none(&rt, rt.alloc(), words);
         }

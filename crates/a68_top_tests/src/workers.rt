@@ -1,4 +1,5 @@
 //! Runs by several workers.
+use crate::calls::{answers, of_words};
 use crate::table::{holds, strings};
 use a68_outside::{FreeGate, Gate, MemoryShelf, MemorySink};
 use a68_top::a68;
@@ -78,6 +79,29 @@ fn workers_run_made_texts(rt: HostRuntime) {
     }
 }
 
+/// A semaphore by which one unit waits for the other.
+const FIRST_AND_THEN: &str =
+    "( SEMA s = LEVEL 0; PAR ( (DOWN s; print(\"b\")), (print(\"a\"); UP s) ) )";
+
+// What is told, and how many events there are, is the same with any number of workers.
+#[test]
+fn workers_tell_what_one_tells(rt: HostRuntime) {
+    for workers in ["1", "4", "64"] {
+        let run = ["run", "f", "--workers", workers];
+        let words = of_words(&run, FIRST_AND_THEN);
+        let events = answers(&rt, rt.alloc(), words, 0, ("ab", ""));
+        holds(&rt, events == 13, "events of two units");
+        let words = of_words(&run, "( print(max int + 1) )");
+        let notes = "a68: fault Overflow at byte 8\n";
+        let events = answers(&rt, rt.alloc(), words, 3, ("", notes));
+        holds(&rt, events == 0, "events before a fault");
+        let make = ["make", "3", "--workers", workers];
+        let told = ("                  +6", "units 3 events 38\n");
+        let events = answers(&rt, rt.alloc(), of_words(&make, ""), 0, told);
+        holds(&rt, events == 38, "events of a made text");
+    }
+}
+
 // A gate that holds the first passes of strands 1 and 2 until both have begun.
 #[derive(Drop)]
 struct Meeting {
@@ -85,6 +109,14 @@ struct Meeting {
     second: AtomicU64,
     // How many of the two have met the other.
     met: AtomicU64,
+}
+
+fn no_meeting() -> Meeting {
+    Meeting {
+        first: AtomicU64::new(0),
+        second: AtomicU64::new(0),
+        met: AtomicU64::new(0),
+    }
 }
 
 // As often as one looks for the other.
@@ -113,20 +145,73 @@ impl Gate for Meeting {
     }
 }
 
+/// Two units that print.
+const TWO_UNITS: &str = "( PAR ( (print(\"a\"); print(\"c\")), print(\"b\") ) )";
+
 #[test]
 fn two_strands_meet(rt: HostRuntime) {
-    let gate = Meeting {
-        first: AtomicU64::new(0),
-        second: AtomicU64::new(0),
-        met: AtomicU64::new(0),
-    };
-    let text = "( PAR ( (print(\"a\"); print(\"c\")), print(\"b\") ) )";
+    let gate = no_meeting();
     let words = ["run", "f", "--workers", "2"];
     let due = ["abc", "acb", "bac"];
-    runs(&rt, rt.alloc(), &words, text, &gate, 0, &due);
+    runs(&rt, rt.alloc(), &words, TWO_UNITS, &gate, 0, &due);
     holds(
         &rt,
         gate.met.load(Ordering::SeqCst) == 2,
         "the two strands met",
     );
+}
+
+// A gate that keeps the places at which strands 1 and 2 first stand outside, and holds each of the two there until both
+// have come. A strand stands outside while its act is done, the turn is given on, and it is not yet told the reply.
+#[derive(Drop)]
+struct Outside {
+    meeting: Meeting,
+    first_place: AtomicU64,
+    second_place: AtomicU64,
+}
+
+// Keeps the place, where it is the first one of the strand.
+fn keep_first(place: &AtomicU64, seen: &AtomicU64, found: u32) {
+    if seen.load(Ordering::SeqCst) == 0 {
+        place.store(u64::from(found), Ordering::SeqCst);
+    }
+}
+
+impl Gate for Outside {
+    fn pass(&self, _worker: u32, _strand: u32, _events: u64) {}
+
+    fn out(&self, _worker: u32, strand: u32, place: u32) {
+        let Meeting { first, second, met } = &self.meeting;
+        match strand {
+            1 => {
+                keep_first(&self.first_place, first, place);
+                meet(first, second, met);
+            }
+            2 => {
+                keep_first(&self.second_place, second, place);
+                meet(second, first, met);
+            }
+            _ => {}
+        }
+    }
+}
+
+#[test]
+fn strands_are_out(rt: HostRuntime) {
+    let gate = Outside {
+        meeting: no_meeting(),
+        first_place: AtomicU64::new(0),
+        second_place: AtomicU64::new(0),
+    };
+    let words = ["run", "f", "--workers", "2"];
+    let due = ["abc", "acb", "bac"];
+    runs(&rt, rt.alloc(), &words, TWO_UNITS, &gate, 0, &due);
+    let met = gate.meeting.met.load(Ordering::SeqCst);
+    holds(&rt, met == 2, "the two strands were out at once");
+    // Those of print("a") and of print("b").
+    let places = (
+        gate.first_place.load(Ordering::SeqCst),
+        gate.second_place.load(Ordering::SeqCst),
+    );
+    holds(&rt, places == (9, 34), "where they stood");
 }

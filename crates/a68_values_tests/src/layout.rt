@@ -5,8 +5,8 @@ use crate::modes::{
 };
 use crate::table::{agrees, holds};
 use a68_layout::{
-    LayoutStop, Plan, Trim, cells_of, cells_seen, element, new_row, part_of, plan, plan_elements,
-    plan_for, takes_bounds, view,
+    LayoutStop, Measured, Plan, Trim, cells_of, cells_seen, element, new_row, part_of, plan,
+    plan_elements, plan_for, takes_bounds, view,
 };
 use a68_modes::{ModeId, Modes, Shape};
 use a68_values::{Bounds, Descriptor, Dim, Dims, FaultKind, Held, Plain, Value, ValueNode, Values};
@@ -171,14 +171,128 @@ fn plans(rt: HostRuntime) {
     drop(modes);
 }
 
+// Has a name of the mode so many bounds?
+fn has_bounds(rt: &impl Abort, alloc: Global, modes: &Modes, mode: ModeId, count: usize) -> bool {
+    let measured = Measured::new(alloc, modes, mode).expect(rt, "memory");
+    let has = takes_bounds(&measured, mode, count);
+    drop(measured);
+    has
+}
+
 #[test]
 fn deep_structures(rt: HostRuntime) {
-    let modes = modes(rt.alloc()).expect(&rt, "modes");
-    holds(&rt, takes_bounds(&modes, DEEP, 0), "no bounds");
-    holds(&rt, takes_bounds(&modes, NAMED, 2), "the bounds of a row");
-    holds(&rt, !takes_bounds(&modes, NAMED, 3), "another number");
-    let planned = plan(rt.alloc(), &modes, DEEP, &[]);
-    is_planned(&rt, rt.alloc(), planned, "Cells");
+    let alloc = rt.alloc();
+    let modes = modes(alloc).expect(&rt, "modes");
+    holds(&rt, has_bounds(&rt, alloc, &modes, DEEP, 0), "no bounds");
+    holds(
+        &rt,
+        has_bounds(&rt, alloc, &modes, NAMED, 2),
+        "the bounds of a row",
+    );
+    holds(
+        &rt,
+        !has_bounds(&rt, alloc, &modes, NAMED, 3),
+        "another number",
+    );
+    let planned = plan(alloc, &modes, DEEP, &[]);
+    is_planned(&rt, alloc, planned, "Cells");
+    drop(modes);
+}
+
+// So many structures within one another, each of two of the one before it with an INT between, about a row of CHAR or about
+// an INT; the mode of the last.
+fn doubled(alloc: Global, modes: &mut Modes, first: ModeId, count: u32) -> Option<ModeId> {
+    let mut mode = first;
+    for _ in 0..count {
+        let next = modes.len();
+        add_structure(alloc, modes, &[mode, INT, mode])?;
+        mode = next;
+    }
+    Some(mode)
+}
+
+/// Modes that are doubled, how often, and the bounds of a name: two for each row that is in it, of which each structure
+/// has twice as many.
+const DOUBLED: &[(ModeId, u32, usize)] = &[(INT, 300, 0), (7, 12, 8_192), (7, 3, 16)];
+
+#[test]
+fn structures_that_double(rt: HostRuntime) {
+    let alloc = rt.alloc();
+    for (first, count, bounds) in DOUBLED {
+        let mut modes = Modes::new(alloc).expect(&rt, "modes");
+        let mode = doubled(alloc, &mut modes, *first, *count).expect(&rt, "modes");
+        holds(
+            &rt,
+            has_bounds(&rt, alloc, &modes, mode, *bounds),
+            "all bounds",
+        );
+        holds(
+            &rt,
+            !has_bounds(&rt, alloc, &modes, mode, *bounds + 2),
+            "another number",
+        );
+        drop(modes);
+    }
+}
+
+// A row of one row of one row and so on, so many of them, about an INT.
+fn nested(alloc: Global, count: u32) -> Option<Value> {
+    let mut value = Value::of(Plain::Int(1));
+    for _ in 0..count {
+        let mut items = Vec::new(alloc);
+        items.push(value).ok()?;
+        let mut bounds = Vec::new(alloc);
+        bounds.push((1, 1)).ok()?;
+        value = Value {
+            node: ValueNode::Row {
+                bounds: Bounds { items: bounds },
+                parts: Values { items },
+            },
+        };
+    }
+    Some(value)
+}
+
+// Each row has its cell, and its one element the next one.
+fn is_in_line(cells: &[Held]) -> bool {
+    for (i, held) in cells.iter().enumerate() {
+        let fits = match held {
+            Held::Rows(row) => row.base as usize == i + 1,
+            _ => i + 1 == cells.len(),
+        };
+        if !fits {
+            return false;
+        }
+    }
+    true
+}
+
+#[test]
+fn rows_in_rows(rt: HostRuntime) {
+    let alloc = rt.alloc();
+    let mut modes = Modes::new(alloc).expect(&rt, "modes");
+    let mut mode = INT;
+    for _ in 0..500 {
+        let next = modes.len();
+        add_rows(alloc, &mut modes, 1, mode).expect(&rt, "modes");
+        mode = next;
+    }
+    let value = nested(alloc, 500).expect(&rt, "memory");
+    let Ok(plan) = plan_for(alloc, &modes, mode, &value) else {
+        rt.panic("a plan")
+    };
+    holds(
+        &rt,
+        plan.cells.items.len() == 501,
+        "a cell for each row, and one for the INT",
+    );
+    holds(
+        &rt,
+        is_in_line(&plan.cells.items),
+        "each row in front of its element",
+    );
+    drop(plan);
+    drop(value);
     drop(modes);
 }
 

@@ -4,8 +4,16 @@ use Rattle.a68_values.specs.declared.act.Entry.{Entry}
 use Rattle.a68_values.specs.declared.kept.End.{End}
 use Rattle.a68_workers.specs.Runs.{GoesFrom}
 use Rattle.a68_workers.proofs.Turning.{goes_none, goes_longer}
+use Rattle.a68_acts.specs.declared.want.Reply.{Reply}
+use Rattle.a68_strand.specs.declared.strand.Strand.{Strand}
+use Rattle.std.proofs.Common.{Bool, true}
+use Rattle.std.specs.Prelude.{Ok, Err, slice_set}
+use Rattle.std.specs.declared.option.Option.{Option}
+use Rattle.std.specs.declared.result.Result.{Result}
+use Rattle.a68_world.specs.Leases.{ActOf, BackOf, ErrOf, LendOf}
 use Rattle.a68_world.specs.Run.{Run}
-use Rattle.a68_world.specs.Turns.{EndsHere, HadEnded, FindsNoMemory, IsLeftUndone, IsSpentBy, TurnOf}
+use Rattle.a68_world.specs.declared.status.StrandState.TheVariants.{Lent}
+use Rattle.a68_world.specs.Turns.{IsOf, EndsHere, HadEnded, FindsNoMemory, IsLeftUndone, IsSpentBy, TurnOf}
 use Rattle.a68_world.specs.declared.turned.Turned.{Turned}
 use Rattle.a68_world.specs.declared.turned.Turned.TheVariants as turned
 
@@ -44,3 +52,27 @@ goes_through first old new p q = record {
   fuel = q.fuel ∙ p.fuel;
   begins = begins_through first.entries old.entries new.entries p.begins q.begins;
 }
+
+-- ---- strands that are lent
+
+-- a journal of as many entries
+pub goes_still : (old new : Run) → IsOf old new → new.entries ≡ old.entries → GoesFrom old new
+goes_still old new same entries = record { code = same.0; fuel = same.1; begins = ap (take (length old.entries)) entries ∙ (goes_none old).begins }
+
+pub lend_goes : (old new : Run) (k : ℕ) (found : Option Strand) → LendOf old k found new → GoesFrom old new
+lend_goes old new k None l = subst (λ r. GoesFrom old r) (sym l.after) (goes_none old)
+lend_goes old new k (Some strand) l = subst (λ r. GoesFrom old r) (sym l.after) (goes_still old (record old { status = slice_set old.status k Lent }) (refl, refl) refl)
+
+err-goes : (old new : Run) (strand : Strand) (why : Turned) → ErrOf old strand why new → GoesFrom old new
+err-goes old new strand turned.Acted e = absurd e
+err-goes old new strand (turned.Over x) (inl h) = subst (λ r. GoesFrom old r) (sym h.after) (goes_none old)
+err-goes old new strand (turned.Over x) (inr h) = subst (λ r. GoesFrom old r) (sym h.after) (goes_still old (record old { end = Some x }) (refl, refl) refl)
+err-goes old new strand turned.NotReady e = subst (λ r. GoesFrom old r) (sym e.after) (goes_none old)
+err-goes old new strand turned.NoMemory e = subst (λ r. GoesFrom old r) (sym e.1.after) (goes_still old (record old { lost = true }) (refl, refl) refl)
+
+pub act_goes : (old new : Run) (strand : Strand) (done : Result Reply Turned) → ActOf old strand done new → GoesFrom old new
+act_goes old new strand (Ok told) a = goes_longer old old new (record { strand = strand.number; act = a.0.act } ∷ []) (goes_none old) a.0.same.0 a.0.same.1 a.0.entries
+act_goes old new strand (Err why) e = err-goes old new strand why e
+
+pub back_goes : (old new : Run) (strand : Strand) (spent : Bool) → BackOf old strand spent new → GoesFrom old new
+back_goes old new strand spent b = goes_still old new b.same b.entries

@@ -1,4 +1,5 @@
 pub mod Going
+pub mod NoneLent
 pub mod Sending
 pub mod Sole
 pub mod Turning

@@ -1,5 +1,5 @@
 -- A code has one run in which the strands take turns.
-use Rattle.std.proofs.Common.{◌≡◌, ◌≢◌, ◌≤◌, ◌+◌, ◌++◌, ℕ, List, [], ◌∷◌, length, None, Some, refl, sym, ◌∙◌, ap, subst, arith, slice_get}
+use Rattle.std.proofs.Common.{◌≡◌, ◌≢◌, ◌≤◌, ◌+◌, ◌++◌, inl, ℕ, List, [], ◌∷◌, length, None, Some, refl, sym, ◌∙◌, ap, subst, arith, slice_get}
 use Rattle.std.proofs.lemmas.Option.{same_Some}
 use Rattle.std.specs.declared.option.Option.{Option}
 use Rattle.a68_acts.specs.Keeping.{outer_slots}
@@ -17,6 +17,8 @@ use Rattle.a68_values.specs.declared.held.Held.{Held}
 use Rattle.a68_values.specs.declared.kept.End.{End}
 use Rattle.a68_values.specs.declared.kept.End.TheVariants as ends
 use Rattle.a68_values.specs.declared.kept.Kept.{Kept}
+use Rattle.a68_world.proofs.Kin.{ended_still}
+use Rattle.a68_world.proofs.Steady.{steady_goes, steady_opening}
 use Rattle.a68_workers.proofs.Turning.{machine_more, no_fault, one_turn_of}
 
 -- what comes next comes of something that can be done
@@ -24,11 +26,15 @@ can_next : (o : Option (Act × World)) (a : Act) (P : World → Type 0) → IfNe
 can_next None a P p = absurd p
 can_next (Some m) a P p = λ e. absurd (cc)
 
-module _ (code : Code) (fuel : ℕ) (still : (es : List Entry) (w : World) → Machine code (opening code) es w → HasEnded w 0 → (n : ℕ) → CanActNow code w n → ⊥) where
+-- where the first strand has come to its end, no strand can act
+pub still : (code : Code) (es : List Entry) (w : World) → Machine code (opening code) es w → HasEnded w 0 → (n : ℕ) → CanActNow code w n → ⊥
+still code es w runs ended n can = ended_still code w (steady_goes code 0 (opening code) w es (steady_opening code) runs).kin ended n (inl can)
+
+module _ (code : Code) (fuel : ℕ) where
   -- where the run has an end, the strand whose turn it is does no act
   no_more : (count : ℕ) (before : Option ℕ) (v : World) (past all : List Entry) (end : End) (n : ℕ) → Machine code (opening code) past v → RunEndsWith code fuel all v end → EndsInTurn code v before end
       → length all ≡ count → count + 1 ≤ fuel → IsTurnOf code v before n → CanActNow code v n → ⊥
-  no_more count before v past all ends.Done n runs (done h) t long room turn can = still past v runs h n can
+  no_more count before v past all ends.Done n runs (done h) t long room turn can = still code past v runs h n can
   no_more count before v past all (ends.Fault k p s) n runs (fault un f there at) t long room turn can =
       let same : s ≡ n = one_turn_of code v before s n t turn in
       let both : Some k ≡ None = sym f ∙ ap (fault_of v) same ∙ no_fault code v n can in absurd (cc)

@@ -20,8 +20,8 @@ use Rattle.a68_values.specs.declared.act.Entry.{Entry}
 use Rattle.a68_values.specs.declared.kept.End.{End}
 use Rattle.a68_values.specs.declared.kept.End.TheVariants as ends
 use Rattle.a68_values.specs.declared.kept.Kept.{Kept}
-use Rattle.a68_workers.specs.Runs.{GoesFrom, TookTurns}
-use Rattle.a68_world.specs.Run.{Run, AllHome, EndsWithoutTurn, RunBegins, IsNumber, IsSoundRun, world}
+use Rattle.a68_workers.specs.Runs.{GoesFrom, IsAtRest, TookTurns}
+use Rattle.a68_world.specs.Run.{Run, EndsWithoutTurn, RunBegins, IsNumber, IsSoundRun, world}
 use Rattle.a68_world.specs.Turns.{Acts, SetsEnd, EndsAt, EndsHere, HadEnded, IsReady, IsAble, last_strand, FinishesRun}
 use Rattle.a68_world.specs.Worlds.{behind, goes, world_of}
 use Rattle.a68_world.specs.declared.status.StrandState.{StrandState}
@@ -110,25 +110,23 @@ within xs n there = by (cases_lt n (length xs)) where
   by (inl p) = p
   by (inr p) = absurd (there (none_past xs n p))
 
--- where none is spent each strand that has a turn stands in the world
-module _ (run : Run) (known : IsSoundRun run) (kept : run.lost ≡ false) where
-  pub all_home : AllHome run.status
-  all_home k spent = let lost = known.spent k spent in absurd (cc)
+-- in a run that goes on, and of which no strand is lent, each strand that has a turn stands in the world
+module _ (run : Run) (known : IsSoundRun run) (rest : IsAtRest run) (kept : run.lost ≡ false) where
+  home_in : (k : ℕ) (s : StrandState) → run.end ≡ None → slice_get run.status k ≡ Some s → IsNumber run k status.Home
+  home_in k status.Home unended e = e
+  home_in k status.Lent unended e = absurd (rest k e)
+  home_in k status.Spent unended e = let lost = known.spent k e unended in absurd (cc)
 
-  home_in : (k : ℕ) (s : StrandState) → slice_get run.status k ≡ Some s → IsNumber run k status.Home
-  home_in k status.Home e = e
-  home_in k status.Spent e = absurd (all_home k e)
-
-  ready : (k : ℕ) → HasTurn run.code (world run) k → IsReady run k
-  ready k turn =
+  ready : (k : ℕ) → run.end ≡ None → HasTurn run.code (world run) k → IsReady run k
+  ready k unended turn =
       let inside = within (world run).strands k (turn_is_there run.code (world run) k turn) in
       let found = some_below run.status k (omega (arith, known.all, inside)) in
-      record { home = home_in k found.0 found.1; turn = turn }
+      record { home = home_in k found.0 unended found.1; turn = turn }
 
   able_first : (behind m : ℕ) → IsFirstBehind (IsAble run) behind m → IsFirstBehind (HasTurn run.code (world run)) behind m
   able_first behind m f = record {
     such = f.such.ready.turn;
-    first = λ other turn sooner. f.first other (record { unended = f.such.unended; ready = ready other turn }) sooner;
+    first = λ other turn sooner. f.first other (record { unended = f.such.unended; ready = ready other f.such.unended turn }) sooner;
   }
 
 -- at the beginning there is strand 0 alone
@@ -136,17 +134,17 @@ only_first : (code : Code) (n : ℕ) → HasTurn code (opening code) n → n ≡
 only_first code zero turn = refl
 only_first code (suc n) turn = absurd (turn_is_there code (opening code) (suc n) turn refl)
 
-by_last : (run : Run) (es : List Entry) → run.entries ≡ es → HasLast es → IsSoundRun run → run.lost ≡ false → (n : ℕ) → IsFirstBehind (IsAble run) (last_strand es) n
+by_last : (run : Run) (es : List Entry) → run.entries ≡ es → HasLast es → IsSoundRun run → IsAtRest run → run.lost ≡ false → (n : ℕ) → IsFirstBehind (IsAble run) (last_strand es) n
     → IsTurnOf run.code (world run) (last_of None es) n
-by_last run _ same no_entry known kept n f =
+by_last run _ same no_entry known rest kept n f =
     only_first run.code n (subst (λ (x : List Entry). HasTurn run.code (world_of run.code x) n) same f.such.ready.turn)
-by_last run _ same (ends_by es e) known kept n f =
+by_last run _ same (ends_by es e) known rest kept n f =
     subst (λ b. IsTurnOf run.code (world run) b n) (sym (last_behind None es (e ∷ [])))
-    (subst (λ b. IsFirstBehind (HasTurn run.code (world run)) b n) (last_strand_more es e) (able_first run known kept (last_strand (es ++ e ∷ [])) n f))
+    (subst (λ b. IsFirstBehind (HasTurn run.code (world run)) b n) (last_strand_more es e) (able_first run known rest kept (last_strand (es ++ e ∷ [])) n f))
 
 -- the first strand that can be turned is the one whose turn it is
-pub first_has_turn : (run : Run) (n : ℕ) → IsSoundRun run → run.lost ≡ false → IsFirstBehind (IsAble run) (last_strand run.entries) n → IsTurnOf run.code (world run) (last_of None run.entries) n
-first_has_turn run n known kept f = by_last run run.entries refl (has_last run.entries) known kept n f
+pub first_has_turn : (run : Run) (n : ℕ) → IsSoundRun run → IsAtRest run → run.lost ≡ false → IsFirstBehind (IsAble run) (last_strand run.entries) n → IsTurnOf run.code (world run) (last_of None run.entries) n
+first_has_turn run n known rest kept f = by_last run run.entries refl (has_last run.entries) known rest kept n f
 
 -- ---- turns
 
@@ -168,16 +166,19 @@ silent_end code w before ends.AllHalted p = tt
 silent_end code w before (ends.Fault why place strand) p = absurd p
 silent_end code w before ends.Spent p = absurd p
 
+home_by : (new : Run) (e : End) → SetsEnd new → new.end ≡ Some e → (k : ℕ) (there : StrandState) → IsNumber new k there → there ≡ status.Home
+home_by new e h is k status.Home at = refl
+home_by new e h is k status.Lent at = let none = h.parted k status.Lent at (λ s. cc) in absurd (cc)
+home_by new e h is k status.Spent at = let none = h.parted k status.Spent at (λ s. cc) in absurd (cc)
+
 end_without : (new : Run) (before : Option ℕ) (e : End) → SetsEnd new → new.end ≡ Some e → EndsInTurn new.code (world new) before e
-end_without new before e h is =
-    let home : AllHome new.status = λ k spent. let none = h.parted k spent in absurd (cc) in
-    silent_end new.code (world new) before e (subst (λ o. EndsWithoutTurn new.code (world new) o) is (h.whole home))
+end_without new before e h is = silent_end new.code (world new) before e (subst (λ o. EndsWithoutTurn new.code (world new) o) is (h.whole (home_by new e h is)))
 
 -- an act in turn
-pub took_more : (old now new : Run) (n : ℕ) → GoesFrom old now → TookTurns old now → IsSoundRun now → IsFirstBehind (IsAble now) (last_strand now.entries) n → Acts now n new → TookTurns old new
-took_more old now new n from took known first a =
+pub took_more : (old now new : Run) (n : ℕ) → GoesFrom old now → TookTurns old now → IsSoundRun now → IsAtRest now → IsFirstBehind (IsAble now) (last_strand now.entries) n → Acts now n new → TookTurns old new
+took_more old now new n from took known rest first a =
     let e : Entry = record { strand = n; act = a.act } in
-    let turn = first_has_turn now n known a.goes_on.kept first in
+    let turn = first_has_turn now n known rest a.goes_on.kept first in
     let before : last_of None now.entries ≡ last_of (last_of None old.entries) took.more = ap (λ es. last_of None es) took.entries ∙ last_behind None old.entries took.more in
     let turn_of : IsTurnOf old.code (world now) (last_of (last_of None old.entries) took.more) n = subst (λ b. IsTurnOf old.code (world now) b n) before (subst (λ c. IsTurnOf c (world now) (last_of None now.entries) n) from.code turn) in
     let next : acted old.code (world now) n ≡ Some (a.act, a.behind) = subst (λ c. acted c (world now) n ≡ Some (a.act, a.behind)) from.code a.next in
@@ -265,9 +266,9 @@ turn_end run n before (ends.Fault why place strand) turn p = subst (λ k. IsTurn
 turn_end run n before ends.Spent turn p =
     λ k other. subst (λ x. fault_of (world run) x ≡ None) (one_turn_of run.code (world run) before n k turn other) (no_fault run.code (world run) n p.1)
 
-ends_here : (old now new : Run) (n : ℕ) (e : End) → GoesFrom old now → TookTurns old now → IsSoundRun now → IsFirstBehind (IsAble now) (last_strand now.entries) n → EndsHere now n e new → TookTurns old new
-ends_here old now new n e from took known first h =
-    let turn = first_has_turn now n known h.goes_on.kept first in
+ends_here : (old now new : Run) (n : ℕ) (e : End) → GoesFrom old now → TookTurns old now → IsSoundRun now → IsAtRest now → IsFirstBehind (IsAble now) (last_strand now.entries) n → EndsHere now n e new → TookTurns old new
+ends_here old now new n e from took known rest first h =
+    let turn = first_has_turn now n known rest h.goes_on.kept first in
     let in_turn = turn_end now n (last_of None now.entries) e turn h.ends in
     subst (λ r. TookTurns old r) (sym h.after) (record {
       more = took.more;
@@ -281,10 +282,10 @@ ends_here old now new n e from took known first h =
     ended_no : (x : End) → old.end ≡ Some x → now ≡ old → now.end ≡ None → ⊥
     ended_no x is same none = let e : old.end ≡ None = subst (λ (r : Run). r.end ≡ None) same none in absurd (cc)
 
-pub took_ended : (old now new : Run) (n : ℕ) (e : End) → GoesFrom old now → TookTurns old now → IsSoundRun now → IsFirstBehind (IsAble now) (last_strand now.entries) n
+pub took_ended : (old now new : Run) (n : ℕ) (e : End) → GoesFrom old now → TookTurns old now → IsSoundRun now → IsAtRest now → IsFirstBehind (IsAble now) (last_strand now.entries) n
     → HadEnded now e new ⊎ EndsHere now n e new → TookTurns old new
-took_ended old now new n e from took known first (inl h) = subst (λ r. TookTurns old r) (sym h.after) took
-took_ended old now new n e from took known first (inr h) = ends_here old now new n e from took known first h
+took_ended old now new n e from took known rest first (inl h) = subst (λ r. TookTurns old r) (sym h.after) took
+took_ended old now new n e from took known rest first (inr h) = ends_here old now new n e from took known rest first h
 
 -- ---- a journal that goes on
 

@@ -1,3 +1,4 @@
+-- Inner: the headline does not rest on this file.
 -- How many workers a run may have.
 use Rattle.std.specs.Prelude.{ℕ}
 

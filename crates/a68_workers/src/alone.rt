@@ -1,7 +1,7 @@
 //! Runs by one worker.
 ghost use Rattle.std.specs.Prelude.{◌≡◌, ◌≢◌, ◌<◌, ◌≤◌, ◌+◌, length, true, None, IfOk, IfSome, IsNone, MatchBool, OnOk};
 ghost use Rattle.a68_strand.specs.Cyclic.{IsFirstBehind};
-ghost use Rattle.a68_workers.specs.Runs.{GoesFrom, TookTurns};
+ghost use Rattle.a68_workers.specs.Runs.{GoesFrom, IsAtRest, TookTurns};
 ghost use Rattle.a68_world.specs.Run.{Run};
 ghost use Rattle.a68_world.specs.Turns.{IsAble, last_strand};
 
@@ -12,9 +12,11 @@ use std::alloc::Global;
 
 // A turn of the first strand that can be turned. Tells whether the run goes on.
 fn turn_first(alloc: Global, world: &mut World, strand: u32) -> Result<bool, NoMemory>
-    requires { IsFirstBehind (IsAble world.old) (last_strand world.old.entries) strand }
+    requires first { IsFirstBehind (IsAble world.old) (last_strand world.old.entries) strand }
+    requires rest { IsAtRest world.old }
     ensures goes_on { GoesFrom world.old world.new }
     ensures took { OnOk result ((first : Run) → GoesFrom first world.old → TookTurns first world.old → TookTurns first world.new) }
+    ensures rest { OnOk result (IsAtRest world.new) }
     ensures acted { IfOk result (λ acted. MatchBool acted ((length world.old.entries < world.old.fuel) × (length world.new.entries ≡ length world.old.entries + 1)) (world.new.end ≢ None)) }
 {
     let _known = world.code();
@@ -29,8 +31,10 @@ fn turn_first(alloc: Global, world: &mut World, strand: u32) -> Result<bool, NoM
 
 // The strand, where it is alone, takes its turns one after the other.
 fn go_alone(alloc: Global, world: &mut World) -> Result<(), NoMemory>
+    requires { IsAtRest world.old }
     ensures goes_on { GoesFrom world.old world.new }
     ensures took { OnOk result ((first : Run) → GoesFrom first world.old → TookTurns first world.old → TookTurns first world.new) }
+    ensures rest { OnOk result (IsAtRest world.new) }
     ensures longer { length world.old.entries ≤ length world.new.entries }
 {
     let done = world.go_alone(alloc);
@@ -41,9 +45,11 @@ fn go_alone(alloc: Global, world: &mut World) -> Result<(), NoMemory>
 /// gate is called behind each, and not behind those that a strand takes alone. NoMemory where a turn finds no memory; the
 /// world is then as that turn left it.
 pub fn turn_rest<G: Gate>(alloc: Global, world: &mut World, gate: &G) -> Result<(), NoMemory>
+    requires { IsAtRest world.old }
     ensures goes_on { GoesFrom world.old world.new }
     ensures took { OnOk result (TookTurns world.old world.new) }
     ensures ended { OnOk result (world.new.end ≢ None) }
+    ensures rest { OnOk result (IsAtRest world.new) }
 {
     let mut events: u64 = 0;
     while let Some(strand) = world.next(world.last()) {

@@ -1,13 +1,18 @@
 //! A world of the run that was handed in.
-ghost use Rattle.std.specs.Prelude.{◌≡◌, ℕ, List, [], ◌∷◌, length, take};
+ghost use Rattle.std.specs.Prelude.{◌≡◌, ℕ, List, [], ◌∷◌, length, take, false};
 ghost use Rattle.std.specs.Coded.{Coded-set, coded_list};
 ghost use Rattle.a68_code.specs.contracts.code.Code as code;
+ghost use Rattle.a68_strand.specs.Strands.{is_spent};
 ghost use Rattle.a68_values.specs.contracts.act.Entry as entry;
 ghost use Rattle.a68_code.specs.declared.code.Code.{Code};
 ghost use Rattle.a68_values.specs.declared.act.Entry.{Entry};
-ghost use Rattle.a68_workers.specs.Runs.{GoesFrom};
+ghost use Rattle.a68_workers.specs.Runs.{GoesFrom, IsAtRest};
+ghost use Rattle.a68_world.specs.Leases.{ActOf, BackOf, IsHeld, IsReplay, LendOf};
+ghost use Rattle.a68_world.specs.Run.{IsNumber, IsSoundRun};
 
-use a68_world::{Turned, World};
+use a68_acts::Reply;
+use a68_strand::Strand;
+use a68_world::{StrandState, Turned, World};
 use std::alloc::Global;
 use std::marker::{Brand, PhantomData};
 
@@ -41,12 +46,40 @@ pub struct HeldWorld<J: GivenRun> {
 
 // A turn of a strand. Tells whether there was memory.
 fn turn_any(alloc: Global, world: &mut World, strand: u32) -> bool
-    ensures { GoesFrom world.old world.new }
+    ensures goes { GoesFrom world.old world.new }
+    ensures rest { IsAtRest world.old → IsAtRest world.new }
 {
     match world.turn(alloc, strand) {
         Turned::NoMemory => false,
         Turned::Acted | Turned::Over(_) | Turned::NotReady => true,
     }
+}
+
+// The calls for strands that are lent, each with what it says of the run.
+fn lend_any(world: &mut World, strand: u32) -> Option<Strand>
+    ensures goes { GoesFrom world.old world.new }
+    ensures lends { LendOf world.old strand result world.new }
+{
+    let lent = world.lend(strand);
+    lent
+}
+
+fn act_any(alloc: Global, world: &mut World, strand: &Strand) -> Result<Reply, Turned>
+    requires { IsHeld world.old strand.now }
+    ensures goes { GoesFrom world.old world.new }
+    ensures acts { ActOf world.old strand.now result world.new }
+{
+    let done = world.act(alloc, strand);
+    done
+}
+
+fn back_any(alloc: Global, world: &mut World, strand: Strand)
+    requires lent { IsNumber world.old strand.number StrandState.Lent }
+    requires replay { is_spent strand.about.ask ≡ false → IsReplay world.old.code world.old.entries strand }
+    ensures goes { GoesFrom world.old world.new }
+    ensures back { BackOf world.old strand (is_spent strand.about.ask) world.new }
+{
+    world.back(alloc, strand);
 }
 
 impl<J: GivenRun> HeldWorld<J> {
@@ -65,6 +98,7 @@ impl<J: GivenRun> HeldWorld<J> {
 
     /// The world as it is now.
     pub fn into_world(self) -> World
+        ensures same { result ≡ self.world }
         ensures code { result.code ∷ [] ≡ J.code }
         ensures fuel { result.fuel ≡ J.fuel }
         ensures goes_on { take (length J.first) result.entries ≡ J.first }
@@ -73,14 +107,50 @@ impl<J: GivenRun> HeldWorld<J> {
         world
     }
 
-    /// A turn of the first strand that can be turned behind this one, and which it is; none where no strand can be, or where
-    /// memory ran out.
-    pub fn turn_next(&mut self, alloc: Global, after: u32) -> Option<u32> {
-        let strand = self.world.next(after)?;
-        if turn_any(alloc, &mut self.world, strand) {
-            Some(strand)
-        } else {
-            None
-        }
+    /// The world, to look at.
+    pub fn world(&self) -> &World
+        ensures same { result.now ≡ self.now.world }
+        ensures code { self.now.world.code ∷ [] ≡ J.code }
+    {
+        &self.world
+    }
+
+    /// What is known of every run.
+    pub fn known(&self)
+        ensures known { IsSoundRun self.now.world }
+        ensures code { self.now.world.code ∷ [] ≡ J.code }
+    {
+        let _known = self.world.code();
+    }
+
+    /// A turn of this strand. Tells whether there was memory.
+    pub fn turn(&mut self, alloc: Global, strand: u32) -> bool
+        ensures { IsAtRest self.old.world → IsAtRest self.new.world }
+    {
+        turn_any(alloc, &mut self.world, strand)
+    }
+
+    /// `World::lend`.
+    pub fn lend(&mut self, strand: u32) -> Option<Strand>
+        ensures { LendOf self.old.world strand result self.new.world }
+    {
+        lend_any(&mut self.world, strand)
+    }
+
+    /// `World::act`.
+    pub fn act(&mut self, alloc: Global, strand: &Strand) -> Result<Reply, Turned>
+        requires { IsHeld self.old.world strand.now }
+        ensures { ActOf self.old.world strand.now result self.new.world }
+    {
+        act_any(alloc, &mut self.world, strand)
+    }
+
+    /// `World::back`.
+    pub fn back(&mut self, alloc: Global, strand: Strand)
+        requires lent { IsNumber self.old.world strand.number StrandState.Lent }
+        requires replay { is_spent strand.about.ask ≡ false → IsReplay self.old.world.code self.old.world.entries strand }
+        ensures { BackOf self.old.world strand (is_spent strand.about.ask) self.new.world }
+    {
+        back_any(alloc, &mut self.world, strand);
     }
 }

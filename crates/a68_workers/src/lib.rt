@@ -4,9 +4,10 @@
 mod alone;
 mod held;
 mod laws;
+mod resting;
 mod runs;
 mod shared;
 
-pub use held::GivenRun;
-pub use laws::one_worker_has_one_run;
-pub use runs::{run, run_all};
+pub use held::{GivenRun, HeldWorld};
+pub use laws::{ended_runs_do_no_more, one_worker_has_one_run};
+pub use runs::{run_all, run_alone};

@@ -1,8 +1,9 @@
 //! Runs by several workers under one lock.
 ghost use Rattle.std.specs.Prelude.{◌≡◌, ◌∷◌, []};
-ghost use Rattle.a68_workers.specs.Runs.{GoesFrom};
+ghost use Rattle.a68_workers.specs.Runs.{GoesFrom, IsAtRest};
 
-use crate::held::{GivenRun, HeldWorld};
+use crate::held::GivenRun;
+use crate::resting::RestingWorld;
 use a68_outside::Gate;
 use a68_world::World;
 use std::alloc::Global;
@@ -15,7 +16,7 @@ use std::thread::Threads;
 fn work<J: GivenRun, R: Wait, G: Gate>(
     rt: &R,
     alloc: Global,
-    lock: &Mutex<HeldWorld<J>>,
+    lock: &Mutex<RestingWorld<J>>,
     worker: u32,
     gate: &G,
 ) {
@@ -44,9 +45,11 @@ pub fn run_shared<J: GivenRun + Send + Sync, R: Threads + Wait + Sync, G: Gate>(
     requires code { world.code ∷ [] ≡ J.code }
     requires fuel { world.fuel ≡ J.fuel }
     requires first { world.entries ≡ J.first }
-    ensures { GoesFrom world result }
+    requires rest { IsAtRest world }
+    ensures goes { GoesFrom world result }
+    ensures rest { IsAtRest result }
 {
-    let lock = Mutex::new(HeldWorld::<J>::new(world));
+    let lock = Mutex::new(RestingWorld::<J>::new(world));
     let shared = &lock;
     // Where threads fail the caller turns what is left.
     let _ = thread::map_indices(

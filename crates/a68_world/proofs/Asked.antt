@@ -39,7 +39,7 @@ use Rattle.a68_values.specs.declared.held.Held.TheVariants as held
 use Rattle.a68_values.specs.declared.plain.Name.{Name}
 use Rattle.a68_values.specs.declared.plain.Plain.{Plain}
 use Rattle.a68_values.specs.declared.plain.Plain.TheVariants as value
-use Rattle.a68_world.specs.Scopes.{DoingBelow, WantBelow}
+use Rattle.a68_world.specs.Scopes.{DoingBelow, AskedBelow}
 
 choose-below : (n : ℕ) (b : Bool) (x y : Doing) → DoingBelow n x → DoingBelow n y → DoingBelow n (if b then x else y)
 choose-below n true x y p q = p
@@ -215,7 +215,7 @@ leveled-below n (plain (value.Int i)) = tt
 leveled-below n (plain (value.Sema cell)) = tt
 leveled-below n v = tt
 
-on_sema-below : (n : ℕ) (act : ℕ → Want) (v : Content) → ((cell : ℕ) → WantBelow n (act cell)) → DoingBelow n (on_sema act v)
+on_sema-below : (n : ℕ) (act : ℕ → Want) (v : Content) → ((cell : ℕ) → AskedBelow n (act cell)) → DoingBelow n (on_sema act v)
 on_sema-below n act (plain value.Unset) below = tt
 on_sema-below n act (plain (value.Sema cell)) below = below cell
 on_sema-below n act v below = tt

@@ -27,13 +27,13 @@ one-more code states first units new x one are is = record {
   where
     old : (i : ℕ) (y : Seat) → IsNewSeat code states first i y → IsNewSeat code (states ++ new) first i y
     old i (seat.Home strand) u = (u.0, get_front states new i (standing strand) u.1, u.2, u.3)
-    old i seat.Spent u = u
+    old i (seat.Away spent closed) u = u
 
     new_one : (i : ℕ) (y : Seat) → i ≡ length units → IsNewSeat code new (first + length units) 0 y → IsNewSeat code (states ++ new) first i y
     new_one i (seat.Home strand) e u =
         let at : i ≡ length states + 0 = omega (arith, e, are.long) in
         (omega (arith, u.0, e), ap (slice_get (states ++ new)) at ∙ get_behind states new 0 ∙ u.1, u.2, u.3)
-    new_one i seat.Spent e u = u
+    new_one i (seat.Away spent closed) e u = u
 
     at_last : (j i : ℕ) (y : Seat) → i ≡ length units + j → slice_get (x ∷ []) j ≡ Some y → IsNewSeat code (states ++ new) first i y
     at_last zero i y e f = let same : x ≡ y = cc in new_one i y (omega (arith, e)) (subst (λ z. IsNewSeat code new (first + length units) 0 z) same is)

@@ -1,5 +1,5 @@
 -- The run behind an act.
-use Rattle.std.proofs.Common.{◌≡◌, ◌∙◌, inl, inr, ℕ, ◌+◌, ◌<◌, ◌≤◌, false, List, [], ◌∷◌, ◌++◌, length, length-append, map, refl, ap, sym, subst, arith}
+use Rattle.std.proofs.Common.{◌≡◌, ◌∙◌, inl, inr, ℕ, ◌+◌, ◌<◌, ◌≤◌, true, false, List, [], ◌∷◌, ◌++◌, length, length-append, map, refl, ap, sym, subst, arith}
 use Rattle.std.specs.Prelude.{Some, slice_get, slice_set, if◌then◌else◌}
 use Rattle.std.specs.Option.{is_some, option_map_or}
 use Rattle.std.proofs.Math.ListN.{length-set}
@@ -21,16 +21,18 @@ use Rattle.a68_strand.specs.declared.strand.Strand.{Strand}
 use Rattle.a68_values.specs.Logs.{Logged}
 use Rattle.a68_values.specs.declared.act.Act.{Act}
 use Rattle.a68_world.specs.Inside.{run_of, IsSound}
-use Rattle.a68_world.specs.Run.{AllHome, world}
+use Rattle.a68_world.specs.Run.{world}
 use Rattle.a68_world.specs.Seats.{Sits, SitsAt, SitsHere, AreSeated, AllSit, status_of}
 use Rattle.a68_world.specs.Stepping.{DoneFor, AreUnits, IsNewSeat, units_asked, units_at, units_begun}
-use Rattle.a68_world.specs.Turns.{GoesOn, IsReady}
+use Rattle.a68_world.specs.Turns.{GoesOn, IsReadyAs}
+use Rattle.a68_world.specs.declared.status.StrandState.{StrandState}
+use Rattle.a68_world.specs.declared.status.StrandState.TheVariants.{Spent}
 use Rattle.a68_world.specs.Waking.{AllRest, WaitBelow}
 use Rattle.a68_world.specs.declared.seat.Seat.{Seat}
 use Rattle.a68_world.specs.declared.seat.Seat.TheVariants as seat
 use Rattle.a68_world.specs.declared.world.World.TheInside.{Inside}
-use Rattle.a68_world.proofs.Kept.{all_home}
-use Rattle.a68_world.proofs.Places.{get_map, get_front, get_behind, get_other, parted, set_parted, set_same, length_map}
+use Rattle.a68_world.proofs.Kept.{none_spent}
+use Rattle.a68_world.proofs.Places.{get_map, get_front, get_behind, get_other, is_there, is_within, parted, set_parted, set_same, length_map}
 use Rattle.a68_world.proofs.Showing.{asking, next_act}
 use Rattle.a68_world.proofs.Steady.{Steady, steady_run}
 
@@ -43,17 +45,18 @@ now s = world (run_of s)
 pub many_seats : (s : Inside) → IsSound s → length s.seats.items ≡ length (now s).strands
 many_seats s sound = sym (length_map status_of s.seats.items) ∙ sound.run.all
 
-sits-home : (code : Code) (strands : List State) (k : ℕ) (x : Seat) → SitsAt code strands k x → (x ≡ seat.Spent → ⊥) → SitsHere code strands k x
+sits-home : (code : Code) (strands : List State) (k : ℕ) (x : Seat) → SitsAt code strands k x → (status_of x ≡ Spent → ⊥) → SitsHere code strands k x
 sits-home code strands k (seat.Home strand) p ne = p
-sits-home code strands k seat.Spent p ne = absurd (ne refl)
+sits-home code strands k (seat.Away false closed) p ne = (refl, p)
+sits-home code strands k (seat.Away true closed) p ne = absurd (ne refl)
 
--- where no strand is spent each sits in the world
-pub all_sit : (code : Code) (strands : List State) (seats : List Seat) → AreSeated code strands seats → AllHome (map status_of seats) → AllSit code strands seats
-all_sit code strands seats seated home k x e =
-    sits-home code strands k x (seated k x e) (λ is. home k (get_map status_of seats k x e ∙ ap (λ (y : Seat). Some (status_of y)) is))
+-- where no strand is spent each sits in the world, or is lent
+pub all_sit : (code : Code) (strands : List State) (seats : List Seat) → AreSeated code strands seats → ((k : ℕ) → slice_get (map status_of seats) k ≡ Some Spent → ⊥) → AllSit code strands seats
+all_sit code strands seats seated none k x e =
+    sits-home code strands k x (seated k x e) (λ is. none k (get_map status_of seats k x e ∙ ap (λ (y : StrandState). Some y) is))
 
 pub all_here : (s : Inside) → IsSound s → GoesOn (run_of s) → AllSit s.code (now s).strands s.seats.items
-all_here s sound goes = all_sit s.code (now s).strands s.seats.items sound.seats (all_home (run_of s) sound.run goes)
+all_here s sound goes = all_sit s.code (now s).strands s.seats.items sound.seats (none_spent (run_of s) sound.run goes)
 
 -- ---- an act
 
@@ -62,14 +65,17 @@ pub record Noted (s : Inside) (n : ℕ) (act : Act) (journal : Logged) : Type 0 
   pub items : journal.items ≡ s.journal.items ++ record { strand = n; act = act } ∷ []
   pub room : s.fuel ≤ journal.room
 
--- the strand of a seat asks for an act, which the store does, and its units have begun
+-- a strand, which stands in the world or is lent, asks for an act, which the store does, and its units have begun
 pub record Moved (s : Inside) (n : ℕ) (act : Act) (store : Store) (units : List Seat) : Type 0 where
   pub sound : IsSound s
   pub goes : GoesOn (run_of s)
-  pub ready : IsReady (run_of s) n
+  pub where_ : StrandState
+  pub ready : IsReadyAs (run_of s) n where_
   pub fuel : length s.journal.items < s.fuel
   pub strand : Strand
-  pub there : slice_get s.seats.items n ≡ Some (seat.Home strand)
+  pub at : Seat
+  pub there : slice_get s.seats.items n ≡ Some at
+  pub sits : Sits s.code (now s).strands n strand
   pub act_done : DoneFor s.store strand act store
   pub are : AreUnits s.code (units_begun s.code strand s.store) (length s.seats.items) units
 
@@ -96,9 +102,6 @@ module _ (s : Inside) (n : ℕ) (act : Act) (store : Store) (units : List Seat) 
   abbrev pub behind : World
   behind = record { store = store; strands = strands_after s.code (now s).strands n next new }
 
-  pub sits : Sits s.code (now s).strands n m.strand
-  sits = m.sound.seats n (seat.Home m.strand) m.there
-
   pub steady : Steady s.code (length s.journal.items) (now s)
   steady = steady_run (run_of s) m.sound.run
 
@@ -106,7 +109,7 @@ module _ (s : Inside) (n : ℕ) (act : Act) (store : Store) (units : List Seat) 
   pub next_is : acted s.code (now s) n ≡ Some (act, behind)
   next_is =
       let x = asking m.strand m.act_done.want m.act_done.asks in
-      next_act s.code (now s) n st m.act_done.want x.0 sits.there x.1
+      next_act s.code (now s) n st m.act_done.want x.0 m.sits.there x.1
       ∙ ap (λ (t : Store). after s.code (now s) n st m.act_done.want (does m.act_done.want t)) (sym m.sound.store)
       ∙ ap (after s.code (now s) n st m.act_done.want) m.act_done.does_it
 
@@ -134,14 +137,14 @@ module _ (s : Inside) (n : ℕ) (act : Act) (store : Store) (units : List Seat) 
   pub was_open : is_closed (now s).strands n ≡ false
   was_open =
       let x = asking m.strand m.act_done.want m.act_done.asks in
-      ap (λ o. option_map_or (λ (y : State). has_closed y.stance) o false) sits.there ∙ ap has_closed x.1
+      ap (λ o. option_map_or (λ (y : State). has_closed y.stance) o false) m.sits.there ∙ ap has_closed x.1
 
   pub long : (x : Seat) → length (slice_set s.seats.items n x ++ units) ≡ length all
   long x =
       omega (arith, length-append (slice_set s.seats.items n x) units, length-set s.seats.items n x, length-append (slice_set (now s).strands n next) new, length-set (now s).strands n next, are_new.long, many_seats s m.sound)
 
   pub there_next : slice_get all n ≡ Some next
-  there_next = get_front (slice_set (now s).strands n next) new n next (set_same (now s).strands n st next sits.there)
+  there_next = get_front (slice_set (now s).strands n next) new n next (set_same (now s).strands n st next m.sits.there)
 
   old-stays : (k : ℕ) (strand : Strand) → (k ≡ n → ⊥) → Sits s.code (now s).strands k strand → Sits s.code all k strand
   old-stays k strand ne p = record {
@@ -151,9 +154,17 @@ module _ (s : Inside) (n : ℕ) (act : Act) (store : Store) (units : List Seat) 
     room = p.room;
   }
 
-  old-here : (k : ℕ) (x : Seat) → (k ≡ n → ⊥) → SitsHere s.code (now s).strands k x → SitsHere s.code all k x
-  old-here k (seat.Home strand) ne p = old-stays k strand ne p
-  old-here k seat.Spent ne p = p
+  -- what has closed of the others
+  old-closed : (k : ℕ) (st : State) → (k ≡ n → ⊥) → slice_get (now s).strands k ≡ Some st → is_closed (now s).strands k ≡ is_closed all k
+  old-closed k st ne there =
+      ap (λ o. option_map_or (λ (y : State). has_closed y.stance) o false) there
+      ∙ sym (ap (λ o. option_map_or (λ (y : State). has_closed y.stance) o false) (get_front (slice_set (now s).strands n next) new k st (get_other (now s).strands n k next st ne there)))
+
+  old-here : (k : ℕ) (x : Seat) → (k ≡ n → ⊥) → k < length s.seats.items → SitsHere s.code (now s).strands k x → SitsHere s.code all k x
+  old-here k (seat.Home strand) ne h p = old-stays k strand ne p
+  old-here k (seat.Away spent closed) ne h p =
+      let st = is_there (now s).strands k (omega (arith, h, many_seats s m.sound)) in
+      (p.0, p.1 ∙ old-closed k st.0 ne st.1)
 
   born-here : (k i : ℕ) (x : Seat) → k ≡ length s.seats.items + i → IsNewSeat s.code new (length s.seats.items) i x → SitsHere s.code all k x
   born-here k i (seat.Home strand) e u = record {
@@ -164,7 +175,7 @@ module _ (s : Inside) (n : ℕ) (act : Act) (store : Store) (units : List Seat) 
     shows = u.2;
     room = u.3;
   }
-  born-here k i seat.Spent e u = u
+  born-here k i (seat.Away spent closed) e u = absurd u
 
   -- where they sit before any is woken
   pub sit_by : (x : Seat) → (P : (k : ℕ) → Seat → Type 0) → P n x → ((k : ℕ) (y : Seat) → SitsHere s.code all k y → P k y)
@@ -172,7 +183,7 @@ module _ (s : Inside) (n : ℕ) (act : Act) (store : Store) (units : List Seat) 
   sit_by x P told here_ k y e = elim (parted (slice_set s.seats.items n x) units k y e) [
     | inl front ↦ elim (set_parted s.seats.items n k x y front) [
       | inl is ↦ subst (λ j. P j y) (sym is.0) (subst (λ z. P n z) (sym is.1) told)
-      | inr old ↦ here_ k y (old-here k y old.0 (all_here s m.sound m.goes k y old.1))
+      | inr old ↦ here_ k y (old-here k y old.0 (is_within s.seats.items k y old.1) (all_here s m.sound m.goes k y old.1))
     ]
     | inr born ↦ here_ k y (born-here k born.0 y (omega (arith, born.1, length-set s.seats.items n x)) (are_new.each born.0 y born.2))
   ]

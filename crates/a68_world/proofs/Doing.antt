@@ -31,7 +31,8 @@ use Rattle.a68_world.specs.declared.seat.Seat.TheVariants as seat
 use Rattle.a68_world.specs.declared.world.World.TheInside.{Inside}
 use Rattle.a68_world.proofs.Behind as b
 use Rattle.a68_world.proofs.Behind.{Moved, Noted, now}
-use Rattle.a68_world.proofs.Outcomes.{told_wakes, told_acts, told_sound, untold_is, untold_sound}
+use Rattle.a68_world.proofs.Outcomes.{EndsBy, home_waits, home_wakes, sits_told, told_acts, told_sound, untold_is, untold_sound}
+use Rattle.a68_world.specs.declared.status.StrandState.TheVariants as status
 use Rattle.a68_world.proofs.Places.{set_again, length_map}
 use Rattle.a68_world.proofs.Showing.{asking, next_fault}
 use Rattle.a68_world.proofs.Standing.{due_other}
@@ -47,7 +48,7 @@ module _ (s : Inside) (n : ℕ) (sound : IsSound s) (goes : GoesOn (run_of s)) (
   abbrev moved : (strand : Strand) (act : Act) (store : Store) (units : List Seat) → slice_get s.seats.items n ≡ Some (seat.Home strand) → AreUnitsAt s.code s.store s.seats.items n units
       → DoneFor s.store strand act store → Moved s n act store units
   moved strand act store units there are d =
-      record { sound = sound; goes = goes; ready = due.ready; fuel = due.fuel; strand = strand; there = there; act_done = d; are = are strand there }
+      record { sound = sound; goes = goes; where_ = status.Home; ready = due.ready; fuel = due.fuel; strand = strand; at = seat.Home strand; there = there; sits = sound.seats n (seat.Home strand) there; act_done = d; are = are strand there }
 
   -- ---- the strand has been told
 
@@ -63,24 +64,26 @@ module _ (s : Inside) (n : ℕ) (sound : IsSound s) (goes : GoesOn (run_of s)) (
   told-all : (x y : Seat) (act : Act) (store : Store) (units : List Seat) (journal : Logged) (seats : Vec Seat Global) (below : ℕ) (lost : Bool) (end : Option End)
       → slice_get s.seats.items n ≡ Some x → AreUnitsAt s.code s.store s.seats.items n units → ComesToAt s.code s.store x (deed.Told act) store y → Noted s n act journal
       → StaysBelow s.waits_below (slice_set s.seats.items n y ++ units) n below → WakesBehind s.code n below (slice_set s.seats.items n y ++ units) seats.items lost
-      → MatchBool lost (end ≡ None) (EndShown seats.items store end)
+      → EndsBy seats.items store end
       → IsSound (run_told journal store seats below lost end) × Acts (run_of s) n (run_of (run_told journal store seats below lost end))
   told-all (seat.Home strand) (seat.Home t) act store units journal seats below lost end there are comes noted stays w e =
       let m = moved strand act store units there are comes.act_done in
-      let wakes = told_wakes s n act store units m t comes.settled comes.number comes.room seats.items below lost stays w in (
-        told_sound s n act store units m t comes.settled comes.number comes.room journal seats below lost end noted stays wakes e,
-        told_acts s n act store units m t comes.settled comes.number comes.room journal seats below lost end noted stays wakes e,
+      let sits = sits_told s n act store units m t comes.settled comes.number comes.room refl in
+      let waits = home_waits s n act store units m t comes.settled comes.number comes.room refl below stays in
+      let wakes = home_wakes s n act store units m t comes.settled comes.number comes.room refl seats.items below lost stays w in (
+        told_sound s n act store units m (seat.Home t) refl sits journal seats below lost end noted waits wakes e,
+        told_acts s n act store units m (seat.Home t) refl sits journal seats below lost end noted waits wakes e,
       )
-  told-all (seat.Home strand) seat.Spent act store units journal seats below lost end there are comes noted stays w e = absurd comes
-  told-all seat.Spent y act store units journal seats below lost end there are comes noted stays w e = absurd comes
+  told-all (seat.Home strand) (seat.Away spent closed) act store units journal seats below lost end there are comes noted stays w e = absurd comes
+  told-all (seat.Away spent closed) y act store units journal seats below lost end there are comes noted stays w e = absurd comes
 
   pub told_all : (x y : Seat) (act : Act) (store : Store) (units placed shown seen : List Seat) (journal : Logged) (seats : Vec Seat Global) (below : ℕ) (lost : Bool) (end : Option End)
       → Told x y act store units → Noted s n act journal → placed ≡ slice_set s.seats.items n y ++ units → seen ≡ placed → StaysBelow s.waits_below seen n below
-      → WakesBehind s.code n below placed seats.items lost → shown ≡ seats.items → MatchBool lost (end ≡ None) (EndShown shown store end)
+      → WakesBehind s.code n below placed seats.items lost → shown ≡ seats.items → EndsBy shown store end
       → IsSound (run_told journal store seats below lost end) × Acts (run_of s) n (run_of (run_told journal store seats below lost end))
   told_all x y act store units placed shown seen journal seats below lost end told noted is at stays w same e =
       told-all x y act store units journal seats below lost end told.there told.are told.comes noted (subst (λ l. StaysBelow s.waits_below l n below) (at ∙ is) stays)
-      (subst (λ l. WakesBehind s.code n below l seats.items lost) is w) (subst (λ l. MatchBool lost (end ≡ None) (EndShown l store end)) same e)
+      (subst (λ l. WakesBehind s.code n below l seats.items lost) is w) (subst (λ l. EndsBy l store end) same e)
 
   -- there are numbers for all
   few-told : (x y : Seat) (act : Act) (store : Store) (units : List Seat) (seats : List Seat) (below : ℕ) (lost : Bool)
@@ -88,11 +91,11 @@ module _ (s : Inside) (n : ℕ) (sound : IsSound s) (goes : GoesOn (run_of s)) (
       → StaysBelow s.waits_below (slice_set s.seats.items n y ++ units) n below → WakesBehind s.code n below (slice_set s.seats.items n y ++ units) seats lost → length seats < 2 ^ 32
   few-told (seat.Home strand) (seat.Home t) act store units seats below lost there are comes stays w =
       let m = moved strand act store units there are comes.act_done in
-      let wakes = told_wakes s n act store units m t comes.settled comes.number comes.room seats below lost stays w in
+      let wakes = home_wakes s n act store units m t comes.settled comes.number comes.room refl seats below lost stays w in
       let st = steady_more s.code (length s.journal.items) (now s) n act (b.behind s n act store units m) (steady_run (run_of s) sound.run) (b.next_is s n act store units m) in
       omega (arith, wakes.long, st.many, st.most, length_map (woken s.code (b.all s n act store units m)) (b.all s n act store units m))
-  few-told (seat.Home strand) seat.Spent act store units seats below lost there are comes stays w = absurd comes
-  few-told seat.Spent y act store units seats below lost there are comes stays w = absurd comes
+  few-told (seat.Home strand) (seat.Away spent closed) act store units seats below lost there are comes stays w = absurd comes
+  few-told (seat.Away spent closed) y act store units seats below lost there are comes stays w = absurd comes
 
   pub few_told : (x y : Seat) (act : Act) (store : Store) (units placed shown seen seats : List Seat) (below : ℕ) (lost : Bool)
       → Told x y act store units → placed ≡ slice_set s.seats.items n y ++ units → seen ≡ placed → StaysBelow s.waits_below seen n below
@@ -110,13 +113,14 @@ module _ (s : Inside) (n : ℕ) (sound : IsSound s) (goes : GoesOn (run_of s)) (
       → slice_get s.seats.items n ≡ Some x → AreUnitsAt s.code s.store s.seats.items n units → ComesToAt s.code s.store x (deed.Untold act) store y → Noted s n act journal
       → seats.items ≡ slice_set s.seats.items n y ++ units
       → IsSound (run_untold journal store seats) × FindsNoMemory (run_of s) n (run_of (run_untold journal store seats))
-  untold_all (seat.Home strand) seat.Spent act store units journal seats there are comes noted is =
-      let m = moved strand act store units there are comes.act_done in (
-        untold_sound s n act store units m comes.live comes.memory journal seats noted is,
-        untold_is s n act store units m comes.live comes.memory journal seats noted is,
+  untold_all (seat.Home strand) (seat.Away spent closed) act store units journal seats there are comes noted is =
+      let m = moved strand act store units there are comes.0.act_done in
+      let at = is ∙ ap (λ (z : Seat). slice_set s.seats.items n z ++ units) (ap (λ b. seat.Away b closed) comes.1 ∙ ap (seat.Away true) comes.2) in (
+        untold_sound s n act store units m comes.0.live comes.0.memory refl journal seats noted at,
+        untold_is s n act store units m comes.0.live comes.0.memory refl journal seats noted at,
       )
   untold_all (seat.Home strand) (seat.Home t) act store units journal seats there are comes noted is = absurd comes
-  untold_all seat.Spent y act store units journal seats there are comes noted is = absurd comes
+  untold_all (seat.Away spent closed) y act store units journal seats there are comes noted is = absurd comes
 
   -- ---- the act is not done
 
@@ -134,18 +138,18 @@ module _ (s : Inside) (n : ℕ) (sound : IsSound s) (goes : GoesOn (run_of s)) (
   pub refused_left : (x y : Seat) (why : FaultKind) (store : Store) → slice_get s.seats.items n ≡ Some x → ComesToAt s.code s.store x (deed.Refused why) store y
       → (store ≡ s.store) × (slice_set s.seats.items n y ≡ s.seats.items)
   refused_left (seat.Home strand) y why store there comes = (comes.0, ap (slice_set s.seats.items n) comes.1 ∙ set_again s.seats.items n (seat.Home strand) there)
-  refused_left seat.Spent y why store there comes = absurd comes
+  refused_left (seat.Away spent closed) y why store there comes = absurd comes
 
   pub refused_ends : (x y : Seat) (why : FaultKind) (store : Store) (place : ℕ) → slice_get s.seats.items n ≡ Some x → ComesToAt s.code s.store x (deed.Refused why) store y
       → place ≡ place_in x → EndsAt (run_of s) n (ends.Fault why place n)
   refused_ends (seat.Home strand) y why store place there comes is = fault_here strand why place there comes.2 is
-  refused_ends seat.Spent y why store place there comes is = absurd comes
+  refused_ends (seat.Away spent closed) y why store place there comes is = absurd comes
 
   pub unfound_left : (x y : Seat) (store : Store) → slice_get s.seats.items n ≡ Some x → ComesToAt s.code s.store x deed.NoMemory store y
       → (store ≡ s.store) × (slice_set s.seats.items n y ≡ s.seats.items)
   unfound_left (seat.Home strand) y store there comes = (comes.0, ap (slice_set s.seats.items n) comes.1 ∙ set_again s.seats.items n (seat.Home strand) there)
-  unfound_left seat.Spent y store there comes = absurd comes
+  unfound_left (seat.Away spent closed) y store there comes = absurd comes
 
   pub unfound_wants : (x y : Seat) (store : Store) → slice_get s.seats.items n ≡ Some x → ComesToAt s.code s.store x deed.NoMemory store y → IsOtherDue (run_of s) n
   unfound_wants (seat.Home strand) y store there comes = due_other s sound n strand there due comes.2
-  unfound_wants seat.Spent y store there comes = absurd comes
+  unfound_wants (seat.Away spent closed) y store there comes = absurd comes

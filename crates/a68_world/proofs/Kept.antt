@@ -1,5 +1,5 @@
 -- What is known of every run is known behind each turn.
-use Rattle.std.proofs.Common.{◌≡◌, ◌∙◌, ℕ, ◌+◌, ◌<◌, true, [], ◌∷◌, length, length-append, refl, ap, sym, subst, arith, true≢false}
+use Rattle.std.proofs.Common.{◌≡◌, ◌∙◌, inl, inr, ℕ, ◌+◌, ◌<◌, true, [], ◌∷◌, length, length-append, refl, ap, sym, subst, arith, true≢false}
 use Rattle.std.specs.Prelude.{None, Some, IfSome, slice_get}
 use Rattle.std.specs.Option.{option_map}
 use Rattle.std.specs.declared.option.Option.{Option}
@@ -10,16 +10,18 @@ use Rattle.a68_values.specs.declared.act.Act.{Act}
 use Rattle.a68_values.specs.declared.kept.End.{End}
 use Rattle.a68_values.specs.declared.kept.End.TheVariants as ends
 use Rattle.a68_world.specs.Run.{Run, IsSoundRun, AllHome, IsNumber, EndsWithoutTurn, world}
-use Rattle.a68_world.specs.Turns.{GoesOn, Acts, EndsAt, IsSpentBy, IsOf, noted}
+use Rattle.a68_world.specs.Turns.{GoesOn, ActsAs, EndsAt, IsSpentBy, IsOf, noted}
 use Rattle.a68_world.specs.Worlds.{world_of, IsJournal}
-use Rattle.a68_world.specs.declared.status.StrandState.TheVariants.{Spent}
+use Rattle.a68_world.specs.declared.status.StrandState.TheVariants.{Home, Lent, Spent}
+use Rattle.a68_world.specs.declared.status.StrandState.{StrandState}
+use Rattle.a68_world.proofs.Kin.{turn_open}
 use Rattle.a68_strand.proofs.Machines.{entry_of}
 use Rattle.a68_world.proofs.Journals.{world_more, journal_more}
 use Rattle.a68_world.proofs.Showing.{is_end}
 
 -- no strand is spent in a run that goes on
-pub all_home : (run : Run) → IsSoundRun run → GoesOn run → AllHome run.status
-all_home run r goes k there = true≢false (sym (r.spent k there) ∙ goes.kept)
+pub none_spent : (run : Run) → IsSoundRun run → GoesOn run → (k : ℕ) → IsNumber run k Spent → ⊥
+none_spent run r goes k there = true≢false (sym (r.spent k there goes.unended) ∙ goes.kept)
 
 -- ---- the world behind an act
 
@@ -48,7 +50,7 @@ record Grown (old new : Run) (n : ℕ) : Type 0 where
   pub many : length new.status ≡ length (world new).strands
 
 grown : (old new : Run) (n : ℕ) → Grown old new n → IfSome new.end (RunEndsWith new.code new.fuel new.entries (world new)) → (new.end ≡ None → AllHome new.status → EndsWithoutTurn new.code (world new) None)
-    → (new.lost ≡ true → new.end ≡ None) → ((k : ℕ) → IsNumber new k Spent → new.lost ≡ true) → IsSoundRun new
+    → (new.lost ≡ true → new.end ≡ None) → ((k : ℕ) → IsNumber new k Spent → new.end ≡ None → new.lost ≡ true) → IsSoundRun new
 grown old new n g ended goes lost gone =
     let run = g.run in
     record {
@@ -67,13 +69,15 @@ grown old new n g ended goes lost gone =
 
 -- ---- an act
 
-pub acts_keep : (old new : Run) (n : ℕ) → IsSoundRun old → Acts old n new → IsSoundRun new
-acts_keep old new n run a =
+pub acts_keep : (old new : Run) (n : ℕ) (there : StrandState) → IsSoundRun old → ActsAs old n there new → IsSoundRun new
+acts_keep old new n there run a =
     grown old new n (record { run = run; same = a.same; fuel = a.fuel; act = a.act; behind = a.behind; next = a.next; entries = a.entries; many = a.seated.many })
-    (ended new.end refl) (λ none home. subst (λ o. EndsWithoutTurn new.code (world new) o) none (a.ends.whole home)) (λ lost. let k = a.lost lost in a.ends.parted k.0 k.1) a.spent
+    (ended new.end refl) (λ none home. subst (λ o. EndsWithoutTurn new.code (world new) o) none (a.ends.whole home)) (λ lost. let k = a.lost lost in a.ends.parted k.0 Spent k.1 (λ e. absurd (cc))) (λ k e none. a.spent k e)
   where
     home : (e : End) → new.end ≡ Some e → AllHome new.status
-    home e is k there = let none = a.ends.parted k there in absurd (cc)
+    home e is k Home at = refl
+    home e is k Lent at = let none = a.ends.parted k Lent at (λ x. absurd (cc)) in absurd (cc)
+    home e is k Spent at = let none = a.ends.parted k Spent at (λ x. absurd (cc)) in absurd (cc)
 
     ended : (o : Option End) → new.end ≡ o → IfSome new.end (RunEndsWith new.code new.fuel new.entries (world new))
     ended None is = rw is tt
@@ -82,7 +86,7 @@ acts_keep old new n run a =
 pub spent_keep : (old new : Run) (n : ℕ) → IsSoundRun old → GoesOn old → IsOf old new → (new.lost ≡ true) × (new.end ≡ None) → IsSpentBy old n new → IsSoundRun new
 spent_keep old new n run goes same lost s =
     grown old new n (record { run = run; same = same; fuel = s.due.fuel; act = s.act; behind = s.behind; next = s.next; entries = s.entries; many = s.many })
-    (rw lost.1 tt) (λ none home. absurd (home n s.spent)) (λ e. lost.1) (λ k e. lost.0)
+    (rw lost.1 tt) (λ none home. absurd (let e = home n Spent s.spent in cc)) (λ e. lost.1) (λ k e none. lost.0)
 
 pub lost_keep : (run : Run) → IsSoundRun run → run.end ≡ None → IsSoundRun (record run { lost = true })
 lost_keep run r none = record {
@@ -96,27 +100,23 @@ lost_keep run r none = record {
   ended = r.ended;
   goes_on = r.goes_on;
   lost = λ lost. none;
-  spent = λ k e. refl;
+  spent = λ k e none. refl;
 }
 
 -- ---- an end that is set
-
--- a strand that can act or stands before a fault has not ended; nor has that of the program in a run that goes on
-open_ : (run : Run) → IsSoundRun run → GoesOn run → HasEnded (world run) 0 → ⊥
-open_ run r goes = (r.goes_on goes.unended (all_home run r goes)).0
 
 place-at : (run : Run) (n place : ℕ) (o : Option State) → slice_get (world run).strands n ≡ o → option_map (λ (st : State). place_at run.code.list st.at) o ≡ Some place
     → (st : State) × (slice_get (world run).strands n ≡ Some st) × (place ≡ place_at run.code.list st.at)
 place-at run n place None e p = absurd (cc)
 place-at run n place (Some st) e p = (st, e, cc)
 
-ends_with : (run : Run) (n : ℕ) (e : End) → IsSoundRun run → GoesOn run → EndsAt run n e → RunEndsWith run.code run.fuel run.entries (world run) e
-ends_with run n ends.Done r goes h = absurd h
-ends_with run n ends.AllHalted r goes h = absurd h
-ends_with run n ends.Spent r goes h = spent n (open_ run r goes) h.0 h.1
-ends_with run n (ends.Fault why place strand) r goes h =
+pub ends_with : (run : Run) (n : ℕ) (e : End) → IsSoundRun run → EndsAt run n e → RunEndsWith run.code run.fuel run.entries (world run) e
+ends_with run n ends.Done r h = absurd h
+ends_with run n ends.AllHalted r h = absurd h
+ends_with run n ends.Spent r h = spent n (turn_open run r n (inl h.1)) h.0 h.1
+ends_with run n (ends.Fault why place strand) r h =
     let st = place-at run n place (slice_get (world run).strands n) refl h.2 in
-    rw h.0 (fault {strand = n} {place = place} {kind = why} {st = st.0} (open_ run r goes) h.1 st.1 st.2)
+    rw h.0 (fault {strand = n} {place = place} {kind = why} {st = st.0} (turn_open run r n (inr (λ none. let some = sym h.1 ∙ none in absurd (cc)))) h.1 st.1 st.2)
 
 pub ended_keep : (run : Run) (n : ℕ) (e : End) → IsSoundRun run → GoesOn run → EndsAt run n e → IsSoundRun (record run { end = Some e })
 ended_keep run n e r goes at = record {
@@ -127,8 +127,8 @@ ended_keep run n e r goes at = record {
   within = r.within;
   runs = r.runs;
   all = r.all;
-  ended = ends_with run n e r goes at;
+  ended = ends_with run n e r at;
   goes_on = λ none home. absurd (cc);
   lost = λ lost. absurd (true≢false (sym lost ∙ goes.kept));
-  spent = r.spent;
+  spent = λ k e none. absurd (cc);
 }

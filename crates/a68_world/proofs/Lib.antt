@@ -1,4 +1,5 @@
 pub mod Asked
+pub mod Awaited
 pub mod Beginning
 pub mod Behind
 pub mod Doing
@@ -7,12 +8,19 @@ pub mod Firsts
 pub mod GoingAlone
 pub mod Journals
 pub mod Kept
+pub mod Kin
+pub mod Lending
+pub mod LentActs
 pub mod Outcomes
 pub mod Places
+pub mod Replays
+pub mod Returning
 pub mod Rousing
 pub mod ScopesKept
 pub mod Sends
 pub mod Showing
 pub mod Standing
 pub mod Steady
+pub mod Syncs
+pub mod Telling
 pub mod Wanting

@@ -1,7 +1,7 @@
 -- What an act of a strand makes of the run.
-use Rattle.std.proofs.Common.{◌≡◌, ◌∙◌, ◌⊎◌, inl, inr, ℕ, zero, suc, ◌<◌, ◌≤◌, Bool, true, false, List, ◌++◌, length, length-append, map, refl, ap, sym, subst, arith, true≢false}
+use Rattle.std.proofs.Common.{◌≡◌, ◌∙◌, ◌⊎◌, inl, inr, ℕ, zero, suc, ◌<◌, ◌≤◌, Bool, true, false, List, [], ◌∷◌, ◌++◌, length, length-append, map, refl, ap, sym, subst, arith, true≢false}
 use Rattle.std.proofs.lemmas.Bool.{false≢true}
-use Rattle.std.specs.Prelude.{◌||◌, None, Some, MatchBool, slice_get, slice_set, if◌then◌else◌}
+use Rattle.std.specs.Prelude.{◌&&◌, ◌||◌, None, Some, MatchBool, slice_get, slice_set, if◌then◌else◌}
 use Rattle.std.specs.Option.{option_map_or}
 use Rattle.std.specs.declared.alloc.Global.{Global}
 use Rattle.std.specs.declared.option.Option.{Option}
@@ -12,11 +12,11 @@ use Rattle.a68_acts.specs.Store.{Store}
 use Rattle.a68_code.specs.declared.code.Code.{Code}
 use Rattle.a68_exec.proofs.Alive.{active}
 use Rattle.a68_exec.proofs.Settled.{settle_rests}
-use Rattle.a68_strand.proofs.Waking.{none_woken, goes_waits, woken_still}
+use Rattle.a68_strand.proofs.Waking.{none_woken, goes_open, goes_waits, woken_still}
 use Rattle.a68_instructions.specs.Bodies.{stance_in}
 use Rattle.a68_instructions.specs.Machine.{State, settle, replied, next_state}
 use Rattle.a68_instructions.specs.declared.ask.Ask.{Ask}
-use Rattle.a68_exec.specs.Runs.{World, woken, woken_in, has_closed, is_passive, all_closed}
+use Rattle.a68_exec.specs.Runs.{World, woken, woken_in, has_closed, is_closed, is_passive, all_closed}
 use Rattle.a68_heights.specs.Room.{KeepsRoom}
 use Rattle.a68_strand.specs.Strands.{standing, HasSettled, TellsNot}
 use Rattle.a68_instructions.specs.declared.ask.Stance.{Stance}
@@ -28,10 +28,10 @@ use Rattle.a68_values.specs.declared.kept.End.{End}
 use Rattle.a68_world.specs.Ending.{EndShown}
 use Rattle.a68_world.specs.Inside.{run_of, IsSound}
 use Rattle.a68_world.specs.Run.{AllHome, IsNumber, EndsWithoutTurn, world}
-use Rattle.a68_world.specs.Seats.{Sits, SitsAt, SitsHere, AreSeated, AllSit, status_of, closed_in, closed_at, due_at, may_wake}
+use Rattle.a68_world.specs.Seats.{Sits, SitsAt, SitsHere, AreSeated, AllSit, is_home, status_of, closed_in, closed_at, due_at, may_wake}
 use Rattle.a68_world.specs.Stepping.{IsNewSeat}
-use Rattle.a68_world.specs.Turns.{IsDue, Acts, GoesOnIn, IsSpentBy, FindsNoMemory, TakesBehind}
-use Rattle.a68_world.specs.Waking.{IsReleased, StaysBelow, WaitBelow, Wakes, WakesBehind}
+use Rattle.a68_world.specs.Turns.{IsReadyAs, IsDueAs, ActsAs, GoesOnIn, IsSpentBy, FindsNoMemory, TakesBehind}
+use Rattle.a68_world.specs.Waking.{IsReleased, IsSpentAt, StaysBelow, WaitBelow, Wakes, WakesBehind}
 use Rattle.a68_world.specs.declared.seat.Seat.{Seat}
 use Rattle.a68_world.specs.declared.seat.Seat.TheVariants as seat
 use Rattle.a68_world.specs.declared.status.StrandState.{StrandState}
@@ -39,11 +39,12 @@ use Rattle.a68_world.specs.declared.status.StrandState.TheVariants as status
 use Rattle.a68_world.specs.declared.world.World.TheInside.{Inside}
 use Rattle.a68_world.proofs.Behind as b
 use Rattle.a68_world.proofs.Behind.{Moved, Noted, now, many_seats, all_sit}
-use Rattle.a68_world.proofs.Kept.{all_home, world_behind, acts_keep, spent_keep}
+use Rattle.a68_world.proofs.Kept.{none_spent, world_behind, acts_keep, spent_keep}
 use Rattle.a68_world.proofs.Places.{get_mapped, get_map, get_front, get_other, parted, set_same, is_there, is_within, length_map}
 use Rattle.a68_world.proofs.Rousing.{closed_same, all_closed_same, woke_first, not_due}
-use Rattle.a68_world.proofs.Showing.{end_seen}
+use Rattle.a68_world.proofs.Showing.{AllAtHome, end_seen}
 use Rattle.a68_world.proofs.Wanting.{takes_behind}
+use Rattle.std.specs.List.{list_all}
 
 -- ---- numbers and seats
 
@@ -52,18 +53,36 @@ le_or_lt zero k = inl (omega arith)
 le_or_lt (suc a) zero = inr (omega arith)
 le_or_lt (suc a) (suc k) = elim (le_or_lt a k) [ inl p ↦ inl (omega (arith, p)) | inr p ↦ inr (omega (arith, p)) ]
 
-status-spent : (x : Seat) → status_of x ≡ status.Spent → x ≡ seat.Spent
+status-spent : (x : Seat) → status_of x ≡ status.Spent → (closed : Bool) × (x ≡ seat.Away true closed)
 status-spent (seat.Home strand) e = absurd (cc)
-status-spent seat.Spent e = refl
+status-spent (seat.Away true closed) e = (closed, refl)
+status-spent (seat.Away false closed) e = absurd (cc)
+
+status-lent : (x : Seat) → status_of x ≡ status.Lent → (closed : Bool) × (x ≡ seat.Away false closed)
+status-lent (seat.Home strand) e = absurd (cc)
+status-lent (seat.Away true closed) e = absurd (cc)
+status-lent (seat.Away false closed) e = (closed, refl)
 
 -- a strand that is spent has a seat that says so
-pub seat_spent : (seats : List Seat) (k : ℕ) → slice_get (map status_of seats) k ≡ Some status.Spent → slice_get seats k ≡ Some seat.Spent
+pub seat_spent : (seats : List Seat) (k : ℕ) → slice_get (map status_of seats) k ≡ Some status.Spent → IsSpentAt seats k
 seat_spent seats k e =
     let x = get_mapped status_of seats k status.Spent e in
-    x.1 ∙ ap (λ (y : Seat). Some y) (status-spent x.0 x.2)
+    let y = status-spent x.0 x.2 in
+    (y.0, x.1 ∙ ap (λ (z : Seat). Some z) y.1)
+
+-- so has one that is lent
+pub seat_lent : (seats : List Seat) (k : ℕ) → slice_get (map status_of seats) k ≡ Some status.Lent → (closed : Bool) × (slice_get seats k ≡ Some (seat.Away false closed))
+seat_lent seats k e =
+    let x = get_mapped status_of seats k status.Lent e in
+    let y = status-lent x.0 x.2 in
+    (y.0, x.1 ∙ ap (λ (z : Seat). Some z) y.1)
 
 pub number_of : (seats : List Seat) (k : ℕ) (x : Seat) → slice_get seats k ≡ Some x → slice_get (map status_of seats) k ≡ Some (status_of x)
 number_of seats k x e = get_map status_of seats k x e
+
+both-true : (a b : Bool) → (a && b) ≡ true → (a ≡ true) × (b ≡ true)
+both-true true b e = (refl, e)
+both-true false b e = absurd (false≢true e)
 
 or-false : (a b : Bool) → (a || b) ≡ false → (a ≡ false) × (b ≡ false)
 or-false true b e = absurd (true≢false e)
@@ -92,15 +111,60 @@ waits-before code all st f c none w = by st.stance refl
     by (Failed why) e = (f, c, same (λ a b g. absurd (cc (e, g))))
     by Closed e = (f, c, same (λ a b g. absurd (cc (e, g))))
 
--- ---- the strand has been told
+-- ---- whether every strand stands in the world
+
+home-status : (x : Seat) → status_of x ≡ status.Home → is_home x ≡ true
+home-status (seat.Home strand) e = refl
+home-status (seat.Away true closed) e = absurd (cc)
+home-status (seat.Away false closed) e = absurd (cc)
+
+away-status : (x : Seat) → is_home x ≡ true → status_of x ≡ status.Home
+away-status (seat.Home strand) e = refl
+away-status (seat.Away spent closed) e = absurd (false≢true e)
+
+pub all_home_at : (seats : List Seat) → list_all is_home seats ≡ true → AllAtHome seats
+all_home_at [] e k x f = absurd (cc)
+all_home_at (y ∷ seats) e zero x f = let same : y ≡ x = cc in ap is_home (sym same) ∙ (both-true (is_home y) (list_all is_home seats) e).0
+all_home_at (y ∷ seats) e (suc k) x f = all_home_at seats (both-true (is_home y) (list_all is_home seats) e).1 k x f
+
+pub home_all : (seats : List Seat) → AllHome (map status_of seats) → list_all is_home seats ≡ true
+home_all [] home = refl
+home_all (y ∷ seats) home = rw (home-status y (home 0 (status_of y) refl), home_all seats (λ k there e. home (suc k) there e)) refl
+
+-- where the end is set by whether all do
+abbrev pub EndsBy : (seats : List Seat) → Store → Option End → Type 0
+EndsBy seats store end = MatchBool (list_all is_home seats) (EndShown seats store end) (end ≡ None)
+
+ends-shown : (b : Bool) (P Q : Type 0) → b ≡ true → MatchBool b P Q → P
+ends-shown true P Q e p = p
+ends-shown false P Q e p = absurd (false≢true e)
+
+ends-none : (b : Bool) (P Q : Type 0) → (b ≡ true → ⊥) → MatchBool b P Q → Q
+ends-none true P Q ne p = absurd (ne refl)
+ends-none false P Q ne p = p
+
+pub ends_whole : (code : Code) (w : World) (seats : List Seat) (end : Option End) → AreSeated code w.strands seats → length seats ≡ length w.strands → EndsBy seats w.store end
+    → AllHome (map status_of seats) → EndsWithoutTurn code w end
+ends_whole code w seats end seated long ends home =
+    let all = home_all seats home in
+    end_seen code w seats end seated (all_sit code w.strands seats seated (λ k e. let no = home k status.Spent e in absurd (cc))) (all_home_at seats all) long
+    (ends-shown (list_all is_home seats) (EndShown seats w.store end) (end ≡ None) all ends)
+
+pub ends_parted : (seats : List Seat) (store : Store) (end : Option End) → EndsBy seats store end → (k : ℕ) (there : StrandState) → slice_get (map status_of seats) k ≡ Some there
+    → (there ≡ status.Home → ⊥) → end ≡ None
+ends_parted seats store end ends k there at away =
+    ends-none (list_all is_home seats) (EndShown seats store end) (end ≡ None)
+    (λ all. let x = get_mapped status_of seats k there at in away (sym x.2 ∙ away-status x.0 (all_home_at seats all k x.0 x.1))) ends
+
+-- ---- the strand has done its act
 
 module _ (s : Inside) (n : ℕ) (act : Act) (store : Store) (units : List Seat) (m : Moved s n act store units) where
   -- an act is due
-  abbrev pub due_is : IsDue (run_of s) n
+  abbrev pub due_is : IsDueAs (run_of s) n m.where_
   due_is = record {
     ready = m.ready;
     st = standing m.strand;
-    there = (b.sits s n act store units m).there;
+    there = m.sits.there;
     want = m.act_done.want;
     wait = m.strand.about.waiting;
     asks = ap (λ (a : Ask). stance_in a m.strand.about.waiting) m.act_done.asks;
@@ -112,54 +176,24 @@ module _ (s : Inside) (n : ℕ) (act : Act) (store : Store) (units : List Seat) 
   takes_is untold =
       let done : does m.act_done.want (now s).store ≡ did act m.act_done.reply store = ap (does m.act_done.want) (sym m.sound.store) ∙ m.act_done.does_it in
       subst (TakesBehind s.code (standing m.strand) m.strand.about.waiting) (sym done)
-      (takes_behind (run_of s) m.sound.run n m.strand (b.sits s n act store units m) m.act_done.want m.act_done.asks m.act_done.reply untold)
+      (takes_behind (run_of s) m.sound.run n m.strand m.sits m.act_done.want m.act_done.asks m.act_done.reply untold)
 
-  module _ (t : Strand) (told : HasSettled s.code (replied s.code (standing m.strand) m.act_done.reply) t) (number : t.number ≡ m.strand.number) (keeps : KeepsRoom s.code m.strand.body t.body) where
+  module _ (y : Seat) (same : status_of y ≡ m.where_) (mine : SitsHere s.code (b.all s n act store units m) n y) where
     -- the seats before any strand is woken
     abbrev pub told_seats : List Seat
-    told_seats = slice_set s.seats.items n (seat.Home t) ++ units
-
-    told-sits : Sits s.code (b.all s n act store units m) n t
-    told-sits = record {
-      number = number ∙ (b.sits s n act store units m).number;
-      there = b.there_next s n act store units m ∙ ap (λ (x : State). Some x) (sym told.state);
-      shows = record { ask = told.ask; place = told.place };
-      room = keeps (b.sits s n act store units m).room;
-    }
+    told_seats = slice_set s.seats.items n y ++ units
 
     pub told_sit : AllSit s.code (b.all s n act store units m) told_seats
-    told_sit = b.sit_by s n act store units m (seat.Home t) (λ k y. SitsHere s.code (b.all s n act store units m) k y) told-sits (λ k y p. p)
+    told_sit = b.sit_by s n act store units m y (λ k z. SitsHere s.code (b.all s n act store units m) k z) mine (λ k z p. p)
 
-    told-there : slice_get told_seats n ≡ Some (seat.Home t)
-    told-there = get_front (slice_set s.seats.items n (seat.Home t)) units n (seat.Home t) (set_same s.seats.items n (seat.Home m.strand) (seat.Home t) m.there)
+    pub told_there : slice_get told_seats n ≡ Some y
+    told_there = get_front (slice_set s.seats.items n y) units n y (set_same s.seats.items n m.at y m.there)
 
-    told-long : length told_seats ≡ length (b.all s n act store units m)
-    told-long = b.long s n act store units m (seat.Home t)
+    pub told_long : length told_seats ≡ length (b.all s n act store units m)
+    told_long = b.long s n act store units m y
 
-    -- where the strand has not closed, and is not due, none is
-    told-none : may_wake told_seats n ≡ false → map (woken s.code (b.all s n act store units m)) (b.all s n act store units m) ≡ b.all s n act store units m
-    told-none e =
-        let both = or-false (closed_at told_seats n) (due_at told_seats n) e in
-        let open_ : has_closed (standing t).stance ≡ false = sym (ap (λ o. option_map_or closed_in o false) told-there) ∙ both.0 in
-        let same = closed_same s.code (b.all s n act store units m) (b.rest s n act store units m) 0 told_seats false (woke_first s.code (b.all s n act store units m) (b.rest s n act store units m) told_seats told_sit told-long) in
-        none_woken s.code (now s).strands (b.new s n act store units m) n (b.next s n act store units m) (b.steady s n act store units m).calm (b.was_open s n act store units m)
-        (settle_rests s.code (replied s.code (standing m.strand) m.act_done.reply))
-        (sym (ap (λ (x : State). has_closed x.stance) told.state) ∙ open_)
-        (λ f c waits.
-        sym (all_closed_same s.code (b.all s n act store units m) (b.rest s n act store units m) told_seats same f c)
-        ∙ not_due told_seats n f c t told-there both.1 (ap (λ (x : State). x.stance) told.state ∙ waits))
-        (b.fresh s n act store units m)
-
-    told-waits : (below : ℕ) → StaysBelow s.waits_below told_seats n below → WaitBelow below (b.all s n act store units m)
-    told-waits below stays = b.wait_all s n act store units m below stays.least (λ f c e. stays.own t f c told-there (ap (λ (x : State). x.stance) told.state ∙ e))
-
-    -- those that are due are woken
-    pub told_wakes : (seats : List Seat) (below : ℕ) (lost : Bool) → StaysBelow s.waits_below told_seats n below → WakesBehind s.code n below told_seats seats lost
-        → Wakes s.code (b.all s n act store units m) seats lost
-    told_wakes seats below lost stays w = w (b.all s n act store units m) told_sit told-long (b.rest s n act store units m) (told-waits below stays) told-none
-
-    module _ (journal : Logged) (seats : Vec Seat Global) (below : ℕ) (lost : Bool) (end : Option End) (noted : Noted s n act journal) (stays : StaysBelow s.waits_below told_seats n below)
-        (w : Wakes s.code (b.all s n act store units m) seats.items lost) (ends : MatchBool lost (end ≡ None) (EndShown seats.items store end)) where
+    module _ (journal : Logged) (seats : Vec Seat Global) (below : ℕ) (lost : Bool) (end : Option End) (noted : Noted s n act journal) (waits : WaitBelow below (b.all s n act store units m))
+        (w : Wakes s.code (b.all s n act store units m) told_seats seats.items lost) (ends : EndsBy seats.items store end) where
       abbrev pub told_run : Inside
       told_run = record s { journal = journal; store = store; seats = seats; waits_below = below; lost = lost; end = end }
 
@@ -172,24 +206,14 @@ module _ (s : Inside) (n : ℕ) (act : Act) (store : Store) (units : List Seat) 
       gone : (k : ℕ) → IsNumber (run_of told_run) k status.Spent → IsReleased (b.all s n act store units m) k × (lost ≡ true)
       gone k e = w.spent k (seat_spent seats.items k e)
 
-      end-lost : (b : Bool) → b ≡ true → MatchBool b (end ≡ None) (EndShown seats.items store end) → end ≡ None
-      end-lost true e p = p
-      end-lost false e p = absurd (false≢true e)
-
-      end-kept : (b : Bool) → (b ≡ true → ⊥) → MatchBool b (end ≡ None) (EndShown seats.items store end) → EndShown seats.items store end
-      end-kept true e p = absurd (e refl)
-      end-kept false e p = p
-
       many : length (map status_of seats.items) ≡ length (world (run_of told_run)).strands
       many =
           length_map status_of seats.items ∙ w.long ∙ sym (length_map (woken s.code (b.all s n act store units m)) (b.all s n act store units m)) ∙ sym (ap (λ (x : World). length x.strands) told-world)
 
       whole : AllHome (map status_of seats.items) → EndsWithoutTurn s.code (world (run_of told_run)) end
       whole home =
-          let unlost : lost ≡ true → ⊥ = λ e. let k = w.lost e in home k.0 (number_of seats.items k.0 seat.Spent k.1) in
-          let shown : EndShown seats.items (world (run_of told_run)).store end = subst (λ (x : World). EndShown seats.items x.store end) (sym told-world) (end-kept lost unlost ends) in
-          end_seen s.code (world (run_of told_run)) seats.items end told-seated (all_sit s.code (world (run_of told_run)).strands seats.items told-seated home)
-          (sym (length_map status_of seats.items) ∙ many) shown
+          ends_whole s.code (world (run_of told_run)) seats.items end told-seated (sym (length_map status_of seats.items) ∙ many)
+          (subst (λ (x : World). EndsBy seats.items x.store end) (sym told-world) ends) home
 
       -- a strand that is spent went on
       goes : (k : ℕ) → (k ≡ n → ⊥) → k < length s.seats.items → IsReleased (b.all s n act store units m) k → GoesOnIn (now s) (world (run_of told_run)) k
@@ -214,10 +238,10 @@ module _ (s : Inside) (n : ℕ) (act : Act) (store : Store) (units : List Seat) 
           }
 
       waits-behind : WaitBelow below (map (woken s.code (b.all s n act store units m)) (b.all s n act store units m))
-      waits-behind k x f c e w =
+      waits-behind k x f c e v =
           let y = get_mapped (woken s.code (b.all s n act store units m)) (b.all s n act store units m) k x e in
-          let before = waits-before s.code (b.all s n act store units m) y.0 f c (b.rest s n act store units m k y.0 y.1) (ap (λ (z : State). z.stance) y.2 ∙ w) in
-          told-waits below stays k y.0 before.0 before.1 y.1 before.2
+          let before = waits-before s.code (b.all s n act store units m) y.0 f c (b.rest s n act store units m k y.0 y.1) (ap (λ (z : State). z.stance) y.2 ∙ v) in
+          waits k y.0 before.0 before.1 y.1 before.2
 
       -- a new strand does not wait
       born : (k : ℕ) → length s.seats.items ≤ k → IsReleased (b.all s n act store units m) k → ⊥
@@ -228,7 +252,19 @@ module _ (s : Inside) (n : ℕ) (act : Act) (store : Store) (units : List Seat) 
         | inr fresh ↦ goes_waits r.st.stance r.first r.count ⊥ (b.fresh s n act store units m fresh.0 r.st fresh.2).1 r.waits
       ]
 
-      pub told_acts : Acts (run_of s) n (run_of told_run)
+      -- nor is it lent
+      unit-home : (i : ℕ) (closed : Bool) → IsNewSeat s.code (b.new s n act store units m) (length s.seats.items) i (seat.Away false closed) → ⊥
+      unit-home i closed u = u
+
+      born-home : (k : ℕ) (closed : Bool) → length s.seats.items ≤ k → slice_get told_seats k ≡ Some (seat.Away false closed) → ⊥
+      born-home k closed h e = elim (parted (slice_set s.seats.items n y) units k (seat.Away false closed) e) [
+        | inl front ↦
+            let p = is_within (slice_set s.seats.items n y) k (seat.Away false closed) front in
+            absurd (omega (arith, h, p, length-set s.seats.items n y))
+        | inr fresh ↦ unit-home fresh.0 closed ((b.are_new s n act store units m).each fresh.0 (seat.Away false closed) fresh.2)
+      ]
+
+      pub told_acts : ActsAs (run_of s) n m.where_ (run_of told_run)
       told_acts = record {
         goes_on = m.goes;
         fuel = m.fuel;
@@ -238,23 +274,32 @@ module _ (s : Inside) (n : ℕ) (act : Act) (store : Store) (units : List Seat) 
         behind = b.behind s n act store units m;
         next = b.next_is s n act store units m;
         entries = noted.items;
-        stays = stays_at n (here_ n (omega (arith, w.long, sym told-long, is_within told_seats n (seat.Home t) told-there)));
+        stays = mine_at y same mine told_there (here_ n (omega (arith, w.long, sym told_long, is_within told_seats n y told_there)));
         seated = record {
           fresh = λ k x none e. fresh_is k x none e;
           stays = λ k x old ne. stays_is k x old ne;
           many = many;
         };
-        lost = λ e. let k = w.lost e in (k.0, number_of seats.items k.0 seat.Spent k.1);
+        lost = λ e. let k = w.lost e in (k.0, number_of seats.items k.0 (seat.Away true k.1.0) k.1.1);
         spent = λ k e. (gone k e).1;
-        ends = record { whole = whole; parted = λ k e. end-lost lost (gone k e).1 ends };
+        ends = record { whole = whole; parted = λ k there at away. ends_parted seats.items store end ends k there at away };
       }
         where
           here_ : (k : ℕ) → k < length seats.items → (x : Seat) × (slice_get seats.items k ≡ Some x)
           here_ k h = is_there seats.items k h
 
-          stays_at : (k : ℕ) → (x : Seat) × (slice_get seats.items k ≡ Some x) → IsNumber (run_of told_run) k status.Home ⊎ (IsNumber (run_of told_run) k status.Spent × (lost ≡ true))
-          stays_at k (seat.Home u, e) = inl (number_of seats.items k (seat.Home u) e)
-          stays_at k (seat.Spent, e) = inr (number_of seats.items k seat.Spent e, (w.spent k e).1)
+          home_at : (t : Strand) → status.Home ≡ m.where_ → slice_get told_seats n ≡ Some (seat.Home t) → (x : Seat) × (slice_get seats.items n ≡ Some x)
+              → IsNumber (run_of told_run) n m.where_ ⊎ (IsNumber (run_of told_run) n status.Spent × (lost ≡ true))
+          home_at t is at (seat.Home u, e) = inl (number_of seats.items n (seat.Home u) e ∙ ap (λ (v : StrandState). Some v) is)
+          home_at t is at (seat.Away true closed, e) = inr (number_of seats.items n (seat.Away true closed) e, (w.spent n (closed, e)).1)
+          home_at t is at (seat.Away false closed, e) = let f = w.was_lent n closed e in absurd (cc)
+
+          mine_at : (z : Seat) → status_of z ≡ m.where_ → SitsHere s.code (b.all s n act store units m) n z → slice_get told_seats n ≡ Some z → (x : Seat) × (slice_get seats.items n ≡ Some x)
+              → IsNumber (run_of told_run) n m.where_ ⊎ (IsNumber (run_of told_run) n status.Spent × (lost ≡ true))
+          mine_at (seat.Home t) is sits at x = home_at t is at x
+          mine_at (seat.Away true closed) is sits at x = absurd (true≢false sits.0)
+          mine_at (seat.Away false closed) is sits at x =
+              inl (number_of seats.items n (seat.Away false closed) (w.lent n closed at) ∙ ap (λ (v : StrandState). Some v) is)
 
           beyond : (k : ℕ) → slice_get (map status_of s.seats.items) k ≡ None → length s.seats.items ≤ k
           beyond k none = elim (le_or_lt (length s.seats.items) k) [
@@ -265,33 +310,94 @@ module _ (s : Inside) (n : ℕ) (act : Act) (store : Store) (units : List Seat) 
           fresh_is : (k : ℕ) (x : StrandState) → slice_get (map status_of s.seats.items) k ≡ None → IsNumber (run_of told_run) k x → x ≡ status.Home
           fresh_is k status.Home none e = refl
           fresh_is k status.Spent none e = absurd (born k (beyond k none) (gone k e).0)
+          fresh_is k status.Lent none e =
+              let x = seat_lent seats.items k e in
+              absurd (born-home k x.0 (beyond k none) (w.was_lent k x.0 x.1))
+
+          seated_old : (k : ℕ) (x : Seat) → (k ≡ n → ⊥) → slice_get s.seats.items k ≡ Some x → slice_get told_seats k ≡ Some x
+          seated_old k x ne e = get_front (slice_set s.seats.items n y) units k x (get_other s.seats.items n k y x ne e)
+
+          of_home : (k : ℕ) (t : Strand) → (k ≡ n → ⊥) → k < length s.seats.items → slice_get told_seats k ≡ Some (seat.Home t) → (x : Seat) × (slice_get seats.items k ≡ Some x)
+              → IsNumber (run_of told_run) k status.Home ⊎ (IsNumber (run_of told_run) k status.Spent × GoesOnIn (now s) (world (run_of told_run)) k × (lost ≡ true))
+          of_home k t ne low at (seat.Home u, e) = inl (number_of seats.items k (seat.Home u) e)
+          of_home k t ne low at (seat.Away true closed, e) =
+              let r = w.spent k (closed, e) in
+              inr (number_of seats.items k (seat.Away true closed) e, goes k ne low r.0, r.1)
+          of_home k t ne low at (seat.Away false closed, e) = let f = w.was_lent k closed e in absurd (cc)
+
+          of_seat : (k : ℕ) (z : Seat) (x : StrandState) → (k ≡ n → ⊥) → slice_get s.seats.items k ≡ Some z → status_of z ≡ x
+              → IsNumber (run_of told_run) k x ⊎ ((x ≡ status.Home) × IsNumber (run_of told_run) k status.Spent × GoesOnIn (now s) (world (run_of told_run)) k × (lost ≡ true))
+          of_seat k (seat.Home t) x ne e is =
+              let low : k < length s.seats.items = is_within s.seats.items k (seat.Home t) e in
+              let more = length-append (slice_set s.seats.items n y) units in
+              elim (of_home k t ne low (seated_old k (seat.Home t) ne e) (here_ k (omega (arith, low, w.long, sym told_long, more, length-set s.seats.items n y)))) [
+                | inl p ↦ inl (p ∙ ap (λ (v : StrandState). Some v) is)
+                | inr p ↦ inr (sym is, p.0, p.1, p.2)
+              ]
+          of_seat k (seat.Away true closed) x ne e is = absurd (none_spent (run_of s) m.sound.run m.goes k (number_of s.seats.items k (seat.Away true closed) e))
+          of_seat k (seat.Away false closed) x ne e is =
+              inl (number_of seats.items k (seat.Away false closed) (w.lent k closed (seated_old k (seat.Away false closed) ne e)) ∙ ap (λ (v : StrandState). Some v) is)
 
           stays_is : (k : ℕ) (x : StrandState) → IsNumber (run_of s) k x → (k ≡ n → ⊥)
               → IsNumber (run_of told_run) k x ⊎ ((x ≡ status.Home) × IsNumber (run_of told_run) k status.Spent × GoesOnIn (now s) (world (run_of told_run)) k × (lost ≡ true))
-          stays_is k status.Spent old ne = absurd (all_home (run_of s) m.sound.run m.goes k old)
-          stays_is k status.Home old ne =
-              let o = get_mapped status_of s.seats.items k status.Home old in
-              let low : k < length s.seats.items = is_within s.seats.items k o.0 o.1 in
-              let more = length-append (slice_set s.seats.items n (seat.Home t)) units in
-              elim (stays_at k (here_ k (omega (arith, low, w.long, sym told-long, more, length-set s.seats.items n (seat.Home t))))) [
-                | inl p ↦ inl p
-                | inr p ↦ inr (refl, p.0, goes k ne low (gone k p.0).0, p.1)
-              ]
+          stays_is k x old ne = let o = get_mapped status_of s.seats.items k x old in of_seat k o.0 x ne o.1 o.2
 
       pub told_sound : IsSound told_run
       told_sound = record {
-        run = acts_keep (run_of s) (run_of told_run) n m.sound.run told_acts;
+        run = acts_keep (run_of s) (run_of told_run) n m.where_ m.sound.run told_acts;
         room = noted.room;
         store = sym (ap (λ (x : World). x.store) told-world);
         seats = told-seated;
         waits = subst (λ (x : World). WaitBelow below x.strands) (sym told-world) waits-behind;
       }
 
+  -- ---- it stands in the world, and has been told
+
+  module _ (t : Strand) (told : HasSettled s.code (replied s.code (standing m.strand) m.act_done.reply) t) (number : t.number ≡ m.strand.number) (keeps : KeepsRoom s.code m.strand.body t.body)
+      (home : status.Home ≡ m.where_) where
+    pub sits_told : Sits s.code (b.all s n act store units m) n t
+    sits_told = record {
+      number = number ∙ m.sits.number;
+      there = b.there_next s n act store units m ∙ ap (λ (x : State). Some x) (sym told.state);
+      shows = record { ask = told.ask; place = told.place };
+      room = keeps m.sits.room;
+    }
+
+    -- the seats before any strand is woken
+    abbrev pub home_seats : List Seat
+    home_seats = slice_set s.seats.items n (seat.Home t) ++ units
+
+    -- where the strand has not closed, and is not due, none is
+    told-none : may_wake home_seats n ≡ false → map (woken s.code (b.all s n act store units m)) (b.all s n act store units m) ≡ b.all s n act store units m
+    told-none e =
+        let both = or-false (closed_at home_seats n) (due_at home_seats n) e in
+        let there = told_there (seat.Home t) home sits_told in
+        let open_ : has_closed (standing t).stance ≡ false = sym (ap (λ o. option_map_or closed_in o false) there) ∙ both.0 in
+        let same = closed_same s.code (b.all s n act store units m) (b.rest s n act store units m) 0 home_seats home_seats false
+        (woke_first s.code (b.all s n act store units m) (b.rest s n act store units m) home_seats (told_sit (seat.Home t) home sits_told) (told_long (seat.Home t) home sits_told)) in
+        none_woken s.code (now s).strands (b.new s n act store units m) n (b.next s n act store units m) (b.steady s n act store units m).calm (b.was_open s n act store units m)
+        (settle_rests s.code (replied s.code (standing m.strand) m.act_done.reply))
+        (sym (ap (λ (x : State). has_closed x.stance) told.state) ∙ open_)
+        (λ f c waits.
+        sym (all_closed_same s.code (b.all s n act store units m) (b.rest s n act store units m) home_seats same f c)
+        ∙ not_due home_seats n f c t there both.1 (ap (λ (x : State). x.stance) told.state ∙ waits))
+        (b.fresh s n act store units m)
+
+    pub home_waits : (below : ℕ) → StaysBelow s.waits_below home_seats n below → WaitBelow below (b.all s n act store units m)
+    home_waits below stays =
+        b.wait_all s n act store units m below stays.least (λ f c e. stays.own t f c (told_there (seat.Home t) home sits_told) (ap (λ (x : State). x.stance) told.state ∙ e))
+
+    -- those that are due are woken
+    pub home_wakes : (seats : List Seat) (below : ℕ) (lost : Bool) → StaysBelow s.waits_below home_seats n below → WakesBehind s.code n below home_seats seats lost
+        → Wakes s.code (b.all s n act store units m) home_seats seats lost
+    home_wakes seats below lost stays w =
+        w (b.all s n act store units m) (told_sit (seat.Home t) home sits_told) (told_long (seat.Home t) home sits_told) (b.rest s n act store units m) (home_waits below stays) told-none
+
   -- ---- there was no memory to tell the strand
 
   module _ (live : is_passive (settle s.code (replied s.code (standing m.strand) m.act_done.reply)).stance ≡ false)
-      (untold : TellsNot s.code m.strand.body m.strand.about.waiting m.act_done.reply) (journal : Logged) (seats : Vec Seat Global)
-      (noted : Noted s n act journal) (are : seats.items ≡ slice_set s.seats.items n seat.Spent ++ units) where
+      (untold : TellsNot s.code m.strand.body m.strand.about.waiting m.act_done.reply) (home : status.Home ≡ m.where_) (journal : Logged) (seats : Vec Seat Global)
+      (noted : Noted s n act journal) (are : seats.items ≡ slice_set s.seats.items n (seat.Away true false) ++ units) where
     abbrev pub untold_run : Inside
     untold_run = record s { journal = journal; store = store; seats = seats; lost = true }
 
@@ -303,38 +409,49 @@ module _ (s : Inside) (n : ℕ) (act : Act) (store : Store) (units : List Seat) 
 
     untold-seated : AreSeated s.code (world (run_of untold_run)).strands seats.items
     untold-seated =
-        rw (untold-strands, are) (b.sit_by s n act store units m seat.Spent (λ k y. SitsAt s.code (b.all s n act store units m) k y) tt (λ k y p. at k y p))
+        rw (untold-strands, are) (b.sit_by s n act store units m (seat.Away true false) (λ k y. SitsAt s.code (b.all s n act store units m) k y) not-closed (λ k y p. at k y p))
       where
         at : (k : ℕ) (y : Seat) → SitsHere s.code (b.all s n act store units m) k y → SitsAt s.code (b.all s n act store units m) k y
         at k (seat.Home u) p = p
-        at k seat.Spent p = tt
+        at k (seat.Away spent closed) p = p.1
+
+        not-closed : false ≡ is_closed (b.all s n act store units m) n
+        not-closed = sym (ap (λ o. option_map_or (λ (x : State). has_closed x.stance) o false) (b.there_next s n act store units m) ∙ goes_open (b.next s n act store units m).stance live)
 
     untold-by : IsSpentBy (run_of s) n (run_of untold_run)
     untold-by = record {
-      due = due_is;
+      due = record {
+        ready = subst (λ (v : StrandState). IsReadyAs (run_of s) n v) (sym home) m.ready;
+        st = standing m.strand;
+        there = m.sits.there;
+        want = m.act_done.want;
+        wait = m.strand.about.waiting;
+        asks = ap (λ (a : Ask). stance_in a m.strand.about.waiting) m.act_done.asks;
+        fuel = m.fuel;
+      };
       takes = takes_is untold;
       act = act;
       behind = b.behind s n act store units m;
       next = b.next_is s n act store units m;
       entries = noted.items;
-      spent = number_of seats.items n seat.Spent (ap (λ l. slice_get l n) are ∙ get_front (slice_set s.seats.items n seat.Spent) units n seat.Spent (set_same s.seats.items n (seat.Home m.strand) seat.Spent m.there));
+      spent = number_of seats.items n (seat.Away true false) (ap (λ l. slice_get l n) are ∙ get_front (slice_set s.seats.items n (seat.Away true false)) units n (seat.Away true false) (set_same s.seats.items n m.at (seat.Away true false) m.there));
       stays = λ k x old ne.
           let o = get_mapped status_of s.seats.items k x old in
-          number_of seats.items k o.0 (ap (λ l. slice_get l k) are ∙ get_front (slice_set s.seats.items n seat.Spent) units k o.0 (get_other s.seats.items n k seat.Spent o.0 ne o.1)) ∙ ap (λ (y : StrandState). Some y) o.2;
+          number_of seats.items k o.0 (ap (λ l. slice_get l k) are ∙ get_front (slice_set s.seats.items n (seat.Away true false)) units k o.0 (get_other s.seats.items n k (seat.Away true false) o.0 ne o.1)) ∙ ap (λ (y : StrandState). Some y) o.2;
       fresh = λ k x none e. fresh_is k x none (get_mapped status_of seats.items k x e);
       many =
-          length_map status_of seats.items ∙ ap (λ l. length l) are ∙ b.long s n act store units m seat.Spent ∙ sym (ap (λ l. length l) untold-strands);
+          length_map status_of seats.items ∙ ap (λ l. length l) are ∙ b.long s n act store units m (seat.Away true false) ∙ sym (ap (λ l. length l) untold-strands);
     }
       where
         of_unit : (i : ℕ) (x : StrandState) (y : Seat) → IsNewSeat s.code (b.new s n act store units m) (length s.seats.items) i y → status_of y ≡ x → x ≡ status.Home
         of_unit i x (seat.Home u) p e = sym e
-        of_unit i x seat.Spent p e = absurd p
+        of_unit i x (seat.Away spent closed) p e = absurd p
 
         fresh_is : (k : ℕ) (x : StrandState) → slice_get (map status_of s.seats.items) k ≡ None → (y : Seat) × (slice_get seats.items k ≡ Some y) × (status_of y ≡ x) → x ≡ status.Home
-        fresh_is k x none y = elim (parted (slice_set s.seats.items n seat.Spent) units k y.0 (sym (ap (λ l. slice_get l k) are) ∙ y.1)) [
+        fresh_is k x none y = elim (parted (slice_set s.seats.items n (seat.Away true false)) units k y.0 (sym (ap (λ l. slice_get l k) are) ∙ y.1)) [
           | inl front ↦
-              let p = is_within (slice_set s.seats.items n seat.Spent) k y.0 front in
-              let o = is_there s.seats.items k (omega (arith, p, length-set s.seats.items n seat.Spent)) in
+              let p = is_within (slice_set s.seats.items n (seat.Away true false)) k y.0 front in
+              let o = is_there s.seats.items k (omega (arith, p, length-set s.seats.items n (seat.Away true false))) in
               absurd (cc (number_of s.seats.items k o.0 o.1, none))
           | inr born ↦ of_unit born.0 x y.0 ((b.are_new s n act store units m).each born.0 y.0 born.2) y.2
         ]

@@ -13,6 +13,11 @@ module _ {A B : Type 0} (f : A → B) where
   get_map (y ∷ xs) zero x e = let same : y ≡ x = cc in ap (λ z. Some (f z)) same
   get_map (y ∷ xs) (suc k) x e = get_map xs k x e
 
+  pub get_map_none : (xs : List A) (k : ℕ) → slice_get xs k ≡ None → slice_get (map f xs) k ≡ None
+  get_map_none [] k e = refl
+  get_map_none (x ∷ xs) zero e = absurd (cc)
+  get_map_none (x ∷ xs) (suc k) e = get_map_none xs k e
+
   pub length_map : (xs : List A) → length (map f xs) ≡ length xs
   length_map [] = refl
   length_map (x ∷ xs) = let more = length_map xs in omega (arith, more)
@@ -76,3 +81,14 @@ module _ {A : Type 0} where
 
   pub get_one : (xs : List A) (k : ℕ) (x y : A) → slice_get xs k ≡ Some x → slice_get xs k ≡ Some y → x ≡ y
   get_one xs k x y e f = cc
+
+  pub set_twice : (xs : List A) (n : ℕ) (x y : A) → slice_set (slice_set xs n x) n y ≡ slice_set xs n y
+  set_twice [] n x y = refl
+  set_twice (z ∷ xs) zero x y = refl
+  set_twice (z ∷ xs) (suc n) x y = ap (λ (l : List A). z ∷ l) (set_twice xs n x y)
+
+module _ {A B : Type 0} (f : A → B) where
+  pub map_set : (xs : List A) (n : ℕ) (x : A) → map f (slice_set xs n x) ≡ slice_set (map f xs) n (f x)
+  map_set [] n x = refl
+  map_set (y ∷ xs) zero x = refl
+  map_set (y ∷ xs) (suc n) x = ap (λ (l : List B). f y ∷ l) (map_set xs n x)

@@ -19,10 +19,10 @@ use Rattle.a68_instructions.specs.declared.ask.Waiting.{Waiting}
 use Rattle.a68_instructions.specs.Bodies.{stance_in}
 use Rattle.a68_strand.specs.declared.strand.Strand.{Strand}
 use Rattle.a68_world.specs.Seats.{Sits, SitsAt, SitsHere, AllSit, closed_in, closed_at, all_closed_at, due_in, due_at}
-use Rattle.a68_world.specs.Waking.{WaitBelow, seat_awaits, GoesOnAt, WakesBy, WakesAt, AllRest, IsReleased, Wakes}
+use Rattle.a68_world.specs.Waking.{WaitBelow, seat_awaits, GoesOnAt, WakesBy, WakesAt, AllRest, IsReleased, IsSpentAt, Wakes}
 use Rattle.a68_world.specs.declared.seat.Seat.{Seat}
 use Rattle.a68_world.specs.declared.seat.Seat.TheVariants as seat
-use Rattle.a68_world.proofs.Places.{get_mapped, get_map, get_other, set_parted, set_same, is_there, is_within, is_beyond}
+use Rattle.a68_world.proofs.Places.{get_mapped, get_map, get_map_none, get_other, set_parted, set_same, is_there, is_within, is_beyond}
 
 -- ---- so many that have closed
 
@@ -100,7 +100,7 @@ due_is seats n t = by (slice_get seats n) refl t
     by : (o : Option Seat) → slice_get seats n ≡ o → option_map_or (due_in seats) o false ≡ true → (strand : Strand) × (slice_get seats n ≡ Some (seat.Home strand)) × Due seats strand
     by None e t = absurd (false≢true t)
     by (Some (seat.Home strand)) e t = (strand, e, due_home seats strand t)
-    by (Some seat.Spent) e t = absurd (false≢true t)
+    by (Some (seat.Away spent closed)) e t = absurd (false≢true t)
 
 pub due_awaits : (seats : List Seat) (n : ℕ) (x : Seat) → due_at seats n ≡ true → slice_get seats n ≡ Some x → seat_awaits x ≡ true
 due_awaits seats n x t e =
@@ -115,19 +115,34 @@ pub not_due : (seats : List Seat) (n f c : ℕ) (strand : Strand) → slice_get 
 not_due seats n f c strand there t waits =
     sym (ap (λ (m : Stance). option_map_or (λ (units : ℕ × ℕ). all_closed_at seats units.0 units.1) (awaited_units m) false) waits) ∙ sym (ap (λ o. option_map_or (due_in seats) o false) there) ∙ t
 
+-- to be woken closes nothing
+pub closed_mapped : (code : Code) (all : List State) → AllRest code all → (k : ℕ) → is_closed (map (woken code all) all) k ≡ is_closed all k
+closed_mapped code all settled k = by (slice_get all k) refl
+  where
+    by : (o : Option State) → slice_get all k ≡ o → is_closed (map (woken code all) all) k ≡ is_closed all k
+    by None e =
+        let none : slice_get (map (woken code all) all) k ≡ None = get_map_none (woken code all) all k e in
+        ap (λ o. option_map_or (λ (st : State). has_closed st.stance) o false) none ∙ sym (ap (λ o. option_map_or (λ (st : State). has_closed st.stance) o false) e)
+    by (Some st) e =
+        ap (λ o. option_map_or (λ (st : State). has_closed st.stance) o false) (get_map (woken code all) all k st e) ∙ woken_closed code all st (settled k st e)
+        ∙ sym (ap (λ o. option_map_or (λ (st : State). has_closed st.stance) o false) e)
+
 -- ---- the strands as they are woken
 
 abbrev Roused : Code → List State → ℕ → Seat → Type 0
 Roused code all k (seat.Home strand) = Sits code (map (woken code all) all) k strand
-Roused code all k seat.Spent = IsReleased all k
+Roused code all k (seat.Away true closed) = IsReleased all k × (closed ≡ false)
+Roused code all k (seat.Away false closed) = closed ≡ is_closed all k
 
 -- those before the i-th have been woken
-pub record Woke (code : Code) (all : List State) (i : ℕ) (seats : List Seat) (lost : Bool) : Type 0 where
+pub record Woke (code : Code) (all : List State) (old : List Seat) (i : ℕ) (seats : List Seat) (lost : Bool) : Type 0 where
   pub long : length seats ≡ length all
   pub woke : (k : ℕ) (x : Seat) → k < i → slice_get seats k ≡ Some x → Roused code all k x
   pub rest : (k : ℕ) (x : Seat) → i ≤ k → slice_get seats k ≡ Some x → SitsHere code all k x
-  pub none : lost ≡ true → (k : ℕ) × (slice_get seats k ≡ Some seat.Spent)
-  pub gone : (k : ℕ) → slice_get seats k ≡ Some seat.Spent → lost ≡ true
+  pub none : lost ≡ true → (k : ℕ) × IsSpentAt seats k
+  pub gone : (k : ℕ) → IsSpentAt seats k → lost ≡ true
+  pub lent : (k : ℕ) (closed : Bool) → slice_get old k ≡ Some (seat.Away false closed) → slice_get seats k ≡ Some (seat.Away false closed)
+  pub was_lent : (k : ℕ) (closed : Bool) → slice_get seats k ≡ Some (seat.Away false closed) → slice_get old k ≡ Some (seat.Away false closed)
 
 below-or-not : (k i : ℕ) → (k < i) ⊎ (i ≤ k)
 below-or-not zero zero = inr (omega arith)
@@ -140,8 +155,8 @@ closed-found all k st e = ap (λ o. option_map_or (λ (st : State). has_closed s
 
 module _ (code : Code) (all : List State) (settled : AllRest code all) where
   -- to be woken closes nothing
-  pub closed_same : (i : ℕ) (seats : List Seat) (lost : Bool) → Woke code all i seats lost → (j : ℕ) → closed_at seats j ≡ is_closed all j
-  closed_same i seats lost w j = by (slice_get seats j) refl
+  pub closed_same : (i : ℕ) (seats : List Seat) (old : List Seat) (lost : Bool) → Woke code all old i seats lost → (j : ℕ) → closed_at seats j ≡ is_closed all j
+  closed_same i seats old lost w j = by (slice_get seats j) refl
     where
       past : (o : Option Seat) → slice_get seats j ≡ o → o ≡ None → is_closed all j ≡ false
       past o e n = elim (below-or-not j (length all)) [
@@ -163,9 +178,13 @@ module _ (code : Code) (all : List State) (settled : AllRest code all) where
         | inl p ↦ moved strand (w.woke j (seat.Home strand) p e)
         | inr p ↦ here_ strand (w.rest j (seat.Home strand) p e)
       ]
-      by (Some seat.Spent) e = elim (below-or-not j i) [
-        | inl p ↦ let r : IsReleased all j = w.woke j seat.Spent p e in sym (closed-found all j r.st r.there ∙ ap has_closed r.waits)
-        | inr p ↦ absurd (w.rest j seat.Spent p e)
+      by (Some (seat.Away true closed)) e = elim (below-or-not j i) [
+        | inl p ↦ let r : IsReleased all j × (closed ≡ false) = w.woke j (seat.Away true closed) p e in r.1 ∙ sym (closed-found all j r.0.st r.0.there ∙ ap has_closed r.0.waits)
+        | inr p ↦ absurd (true≢false (w.rest j (seat.Away true closed) p e).0)
+      ]
+      by (Some (seat.Away false closed)) e = elim (below-or-not j i) [
+        | inl p ↦ w.woke j (seat.Away false closed) p e
+        | inr p ↦ (w.rest j (seat.Away false closed) p e).1
       ]
 
   pub all_closed_same : (seats : List Seat) → ((j : ℕ) → closed_at seats j ≡ is_closed all j) → (first n : ℕ) → all_closed_at seats first n ≡ all_closed all first n
@@ -174,27 +193,30 @@ module _ (code : Code) (all : List State) (settled : AllRest code all) where
       ap (λ b. b && all_closed_at seats (suc first) n) (same first) ∙ ap (λ b. is_closed all first && b) (all_closed_same seats same (suc first) n)
 
   -- one that is not due stays
-  stays : (i : ℕ) (seats : List Seat) (lost : Bool) (strand : Strand) → Woke code all i seats lost → slice_get seats i ≡ Some (seat.Home strand) → due_at seats i ≡ false
+  stays : (i : ℕ) (seats old : List Seat) (lost : Bool) (strand : Strand) → Woke code all old i seats lost → slice_get seats i ≡ Some (seat.Home strand) → due_at seats i ≡ false
       → Sits code (map (woken code all) all) i strand
-  stays i seats lost strand w there t =
+  stays i seats old lost strand w there t =
       let sits : Sits code all i strand = w.rest i (seat.Home strand) (omega arith) there in
       let same : woken code all (standing strand) ≡ standing strand =
       woken_still code all (standing strand) (settled i (standing strand) sits.there)
-      (λ f c waits. sym (all_closed_same seats (closed_same i seats lost w) f c) ∙ not_due seats i f c strand there t waits) in
+      (λ f c waits. sym (all_closed_same seats (closed_same i seats old lost w) f c) ∙ not_due seats i f c strand there t waits) in
       record { number = sits.number; there = get_map (woken code all) all i (standing strand) sits.there ∙ ap (λ (st : State). Some st) same; shows = sits.shows; room = sits.room }
 
-  woke-still : (i : ℕ) (seats : List Seat) (lost : Bool) → Woke code all i seats lost → due_at seats i ≡ false → Woke code all (suc i) seats lost
-  woke-still i seats lost w t = record {
+  woke-still : (i : ℕ) (seats old : List Seat) (lost : Bool) → Woke code all old i seats lost → due_at seats i ≡ false → Woke code all old (suc i) seats lost
+  woke-still i seats old lost w t = record {
     long = w.long;
     woke = λ k x p e. elim (below-or-not k i) [ inl q ↦ w.woke k x q e | inr q ↦ here_ k x (omega (arith, p, q)) e ];
     rest = λ k x p e. w.rest k x (omega (arith, p)) e;
     none = w.none;
     gone = w.gone;
+    lent = w.lent;
+    was_lent = w.was_lent;
   }
     where
       same : (x : Seat) → slice_get seats i ≡ Some x → Roused code all i x
-      same (seat.Home strand) e = stays i seats lost strand w e t
-      same seat.Spent e = absurd (w.rest i seat.Spent (omega arith) e)
+      same (seat.Home strand) e = stays i seats old lost strand w e t
+      same (seat.Away true closed) e = absurd (true≢false (w.rest i (seat.Away true closed) (omega arith) e).0)
+      same (seat.Away false closed) e = (w.rest i (seat.Away false closed) (omega arith) e).1
 
       here_ : (k : ℕ) (x : Seat) → k ≡ i → slice_get seats k ≡ Some x → Roused code all k x
       here_ k x is e = subst (λ j. Roused code all j x) (sym is) (same x (sym (ap (slice_get seats) is) ∙ e))
@@ -210,8 +232,8 @@ module _ (code : Code) (all : List State) (settled : AllRest code all) where
     closed = sym (all_closed_same seats same d.first d.count) ∙ d.closed;
   }
 
-  told-woken : (st : State) (f c : ℕ) → st.stance ≡ Waits f c → all_closed all f c ≡ true → woken code all st ≡ settle code (replied code st reply.Go)
-  told-woken st f c waits closed =
+  pub told_woken : (st : State) (f c : ℕ) → st.stance ≡ Waits f c → all_closed all f c ≡ true → woken code all st ≡ settle code (replied code st reply.Go)
+  told_woken st f c waits closed =
       ap (λ (m : Stance). settle code (woken_in all st m)) waits
       ∙ ap (λ (b : Bool). settle code (if b then record st { at = suc st.at; stance = Idle } else st)) closed
       ∙ sym (ap (λ (m : Stance). settle code (replied_in m code st reply.Go)) waits)
@@ -220,7 +242,7 @@ module _ (code : Code) (all : List State) (settled : AllRest code all) where
       → ((f c : ℕ) → (standing strand).stance ≡ Waits f c → all_closed_at seats f c ≡ all_closed all f c) → GoesOnAt code (seat.Home strand) y found → Roused code all i y
   roused seats i strand (seat.Home next) true sits r d same g =
       let woke : woken code all (standing strand) ≡ standing next =
-      told-woken (standing strand) d.first d.count d.waits (sym (same d.first d.count d.waits) ∙ d.closed) ∙ sym g.0.state in
+      told_woken (standing strand) d.first d.count d.waits (sym (same d.first d.count d.waits) ∙ d.closed) ∙ sym g.0.state in
       record {
         number = g.1 ∙ sits.number;
         there = get_map (woken code all) all i (standing strand) sits.there ∙ ap (λ (st : State). Some st) woke;
@@ -228,26 +250,31 @@ module _ (code : Code) (all : List State) (settled : AllRest code all) where
         room = g.2 sits.room;
       }
   roused seats i strand (seat.Home next) false sits r d same g = absurd g
-  roused seats i strand seat.Spent true sits r d same g = absurd g
-  roused seats i strand seat.Spent false sits r d same g = r
+  roused seats i strand (seat.Away spent closed) true sits r d same g = absurd g
+  roused seats i strand (seat.Away true closed) false sits r d same g = (r, g.1)
+  roused seats i strand (seat.Away false closed) false sits r d same g = absurd (false≢true g.0)
 
   found-lost : (found lost : Bool) → lost ≡ true → (if found then lost else true) ≡ true
   found-lost true lost e = e
   found-lost false lost e = refl
 
-  spent-by : (strand : Strand) (found : Bool) → GoesOnAt code (seat.Home strand) seat.Spent found → found ≡ false
-  spent-by strand true g = absurd g
-  spent-by strand false g = refl
+  spent-by : (strand : Strand) (spent closed found : Bool) → GoesOnAt code (seat.Home strand) (seat.Away spent closed) found → found ≡ false
+  spent-by strand spent closed true g = absurd g
+  spent-by strand spent closed false g = refl
 
-  lost-by : (strand : Strand) (y : Seat) → GoesOnAt code (seat.Home strand) y false → y ≡ seat.Spent
+  not-lent : (strand : Strand) (closed found : Bool) → GoesOnAt code (seat.Home strand) (seat.Away false closed) found → ⊥
+  not-lent strand closed true g = g
+  not-lent strand closed false g = false≢true g.0
+
+  lost-by : (strand : Strand) (y : Seat) → GoesOnAt code (seat.Home strand) y false → y ≡ seat.Away true false
   lost-by strand (seat.Home next) g = absurd g
-  lost-by strand seat.Spent g = refl
+  lost-by strand (seat.Away spent closed) g = ap (λ b. seat.Away b closed) g.0 ∙ ap (seat.Away true) g.1
 
-  woke-due : (i : ℕ) (seats : List Seat) (lost found : Bool) (strand : Strand) (y : Seat) → Woke code all i seats lost → slice_get seats i ≡ Some (seat.Home strand) → Due seats strand
-      → GoesOnAt code (seat.Home strand) y found → Woke code all (suc i) (slice_set seats i y) (if found then lost else true)
-  woke-due i seats lost found strand y w there d g =
+  woke-due : (i : ℕ) (seats old : List Seat) (lost found : Bool) (strand : Strand) (y : Seat) → Woke code all old i seats lost → slice_get seats i ≡ Some (seat.Home strand) → Due seats strand
+      → GoesOnAt code (seat.Home strand) y found → Woke code all old (suc i) (slice_set seats i y) (if found then lost else true)
+  woke-due i seats old lost found strand y w there d g =
       let sits : Sits code all i strand = w.rest i (seat.Home strand) (omega arith) there in
-      let same = closed_same i seats lost w in
+      let same = closed_same i seats old lost w in
       let r = released seats i strand sits same d in
       let new : Roused code all i y = roused seats i strand y found sits r d (λ f c e. all_closed_same seats same f c) g in
       record {
@@ -261,48 +288,58 @@ module _ (code : Code) (all : List State) (settled : AllRest code all) where
           | inr q ↦ w.rest k x (omega (arith, p)) q.1
         ];
         none = λ e. none_of found e g;
-        gone = λ k e. elim (set_parted seats i k y seat.Spent e) [
-          | inl q ↦ ap (λ (b : Bool). if b then lost else true) (spent-by strand found (subst (λ z. GoesOnAt code (seat.Home strand) z found) (sym q.1) g))
-          | inr q ↦ found-lost found lost (w.gone k q.1)
+        gone = λ k e. elim (set_parted seats i k y (seat.Away true e.0) e.1) [
+          | inl q ↦ ap (λ (b : Bool). if b then lost else true) (spent-by strand true e.0 found (subst (λ z. GoesOnAt code (seat.Home strand) z found) (sym q.1) g))
+          | inr q ↦ found-lost found lost (w.gone k (e.0, q.1))
+        ];
+        lent = λ k closed e. get_other seats i k y (seat.Away false closed) (apart k closed e) (w.lent k closed e);
+        was_lent = λ k closed e. elim (set_parted seats i k y (seat.Away false closed) e) [
+          | inl q ↦ absurd (not-lent strand closed found (subst (λ z. GoesOnAt code (seat.Home strand) z found) (sym q.1) g))
+          | inr q ↦ w.was_lent k closed q.1
         ];
       }
     where
-      kept : lost ≡ true → (k : ℕ) × (slice_get (slice_set seats i y) k ≡ Some seat.Spent)
+      apart : (k : ℕ) (closed : Bool) → slice_get old k ≡ Some (seat.Away false closed) → k ≡ i → ⊥
+      apart k closed e s = let f = sym (ap (slice_get seats) s) ∙ w.lent k closed e in absurd (cc (there, f))
+
+      kept : lost ≡ true → (k : ℕ) × IsSpentAt (slice_set seats i y) k
       kept e =
           let k = w.none e in
-          (k.0, get_other seats i k.0 y seat.Spent (λ s. home (sym (ap (slice_get seats) s) ∙ k.1)) k.1)
+          (k.0, (k.1.0, get_other seats i k.0 y (seat.Away true k.1.0) (λ s. home k.1.0 (sym (ap (slice_get seats) s) ∙ k.1.1)) k.1.1))
         where
-          home : slice_get seats i ≡ Some seat.Spent → ⊥
-          home f = absurd (cc (there, f))
+          home : (closed : Bool) → slice_get seats i ≡ Some (seat.Away true closed) → ⊥
+          home closed f = absurd (cc (there, f))
 
-      none_of : (b : Bool) → (if b then lost else true) ≡ true → GoesOnAt code (seat.Home strand) y b → (k : ℕ) × (slice_get (slice_set seats i y) k ≡ Some seat.Spent)
+      none_of : (b : Bool) → (if b then lost else true) ≡ true → GoesOnAt code (seat.Home strand) y b → (k : ℕ) × IsSpentAt (slice_set seats i y) k
       none_of true e g = kept e
-      none_of false e g = (i, set_same seats i (seat.Home strand) y there ∙ ap (λ z. Some z) (lost-by strand y g))
+      none_of false e g = (i, (false, set_same seats i (seat.Home strand) y there ∙ ap (λ z. Some z) (lost-by strand y g)))
 
-  pub woke_on : (i : ℕ) (old new : List Seat) (lost found : Bool) → Woke code all i old lost → WakesAt code i old new found → Woke code all (suc i) new (if found then lost else true)
-  woke_on i old new lost found w step = by (due_at old i) refl step
+  pub woke_on : (i : ℕ) (begun old new : List Seat) (lost found : Bool) → Woke code all begun i old lost → WakesAt code i old new found → Woke code all begun (suc i) new (if found then lost else true)
+  woke_on i begun old new lost found w step = by (due_at old i) refl step
     where
-      by : (b : Bool) → due_at old i ≡ b → WakesBy b code i old new found → Woke code all (suc i) new (if found then lost else true)
-      by false e s = rw (s.0, s.1) (woke-still i old lost w e)
+      by : (b : Bool) → due_at old i ≡ b → WakesBy b code i old new found → Woke code all begun (suc i) new (if found then lost else true)
+      by false e s = rw (s.0, s.1) (woke-still i old begun lost w e)
       by true e s =
           let d = due_is old i e in
           let some : Some s.0 ≡ Some (seat.Home d.0) = sym s.2 ∙ d.1 in
           let same : s.0 ≡ seat.Home d.0 = cc in
-          rw s.4 (woke-due i old lost found d.0 s.1 w d.1 d.2 (subst (λ (z : Seat). GoesOnAt code z s.1 found) same s.3))
+          rw s.4 (woke-due i old begun lost found d.0 s.1 w d.1 d.2 (subst (λ (z : Seat). GoesOnAt code z s.1 found) same s.3))
 
-  pub woke_first : (seats : List Seat) → AllSit code all seats → length seats ≡ length all → Woke code all 0 seats false
+  pub woke_first : (seats : List Seat) → AllSit code all seats → length seats ≡ length all → Woke code all seats 0 seats false
   woke_first seats sit long = record {
     long = long;
     woke = λ k x p e. absurd (omega (arith, p));
     rest = λ k x p e. sit k x e;
     none = λ e. absurd (false≢true e);
-    gone = λ k e. absurd (sit k seat.Spent e);
+    gone = λ k e. absurd (true≢false (sit k (seat.Away true e.0) e.1).0);
+    lent = λ k closed e. e;
+    was_lent = λ k closed e. e;
   }
 
-  pub woke_next : (i : ℕ) (old new : List Seat) (lost found : Bool) → Woke code all i old lost → WakesAt code i old new found → Woke code all (i + 1) new (if found then lost else true)
-  woke_next i old new lost found w step =
+  pub woke_next : (i : ℕ) (begun old new : List Seat) (lost found : Bool) → Woke code all begun i old lost → WakesAt code i old new found → Woke code all begun (i + 1) new (if found then lost else true)
+  woke_next i begun old new lost found w step =
       let next : suc i ≡ i + 1 = omega arith in
-      subst (λ j. Woke code all j new (if found then lost else true)) next (woke_on i old new lost found w step)
+      subst (λ j. Woke code all begun j new (if found then lost else true)) next (woke_on i begun old new lost found w step)
 
   -- one that does not wait stays
   still_here : (below k : ℕ) (strand : Strand) → WaitBelow below all → below ≤ k → Sits code all k strand → Sits code (map (woken code all) all) k strand
@@ -312,22 +349,28 @@ module _ (code : Code) (all : List State) (settled : AllRest code all) where
       (λ f c w. absurd (omega (arith, high, waits k (standing strand) f c sits.there w))) in
       record { number = sits.number; there = get_map (woken code all) all k (standing strand) sits.there ∙ ap (λ (st : State). Some st) same; shows = sits.shows; room = sits.room }
 
-  pub woke_all : (seats : List Seat) (i below : ℕ) (lost : Bool) → WaitBelow below all → ((k : ℕ) → k < length seats → i ≤ k → below ≤ k) → Woke code all i seats lost
-      → Wakes code all seats lost
-  woke_all seats i below lost waits high w = record {
+  pub woke_all : (seats old : List Seat) (i below : ℕ) (lost : Bool) → WaitBelow below all → ((k : ℕ) → k < length seats → i ≤ k → below ≤ k) → Woke code all old i seats lost
+      → Wakes code all old seats lost
+  woke_all seats old i below lost waits high w = record {
     long = w.long;
     seated = λ k x e. seated_by k x e;
     spent = λ k e. (gone k e (below-or-not k i), w.gone k e);
     lost = w.none;
+    lent = w.lent;
+    was_lent = w.was_lent;
   }
     where
+      map-closed : (k : ℕ) → is_closed (map (woken code all) all) k ≡ is_closed all k
+      map-closed k = closed_mapped code all settled k
+
       here_by : (k : ℕ) (x : Seat) → below ≤ k → SitsHere code all k x → SitsAt code (map (woken code all) all) k x
       here_by k (seat.Home strand) h p = still_here below k strand waits h p
-      here_by k seat.Spent h p = tt
+      here_by k (seat.Away spent closed) h p = p.1 ∙ sym (map-closed k)
 
       woke_by : (k : ℕ) (x : Seat) → Roused code all k x → SitsAt code (map (woken code all) all) k x
       woke_by k (seat.Home strand) r = r
-      woke_by k seat.Spent r = tt
+      woke_by k (seat.Away true closed) r = r.1 ∙ sym (closed-found all k r.0.st r.0.there ∙ ap has_closed r.0.waits) ∙ sym (map-closed k)
+      woke_by k (seat.Away false closed) r = r ∙ sym (map-closed k)
 
       seated_by : (k : ℕ) (x : Seat) → slice_get seats k ≡ Some x → SitsAt code (map (woken code all) all) k x
       seated_by k x e = elim (below-or-not k i) [
@@ -335,22 +378,24 @@ module _ (code : Code) (all : List State) (settled : AllRest code all) where
         | inr p ↦ here_by k x (high k (is_within seats k x e) p) (w.rest k x p e)
       ]
 
-      gone : (k : ℕ) → slice_get seats k ≡ Some seat.Spent → (k < i) ⊎ (i ≤ k) → IsReleased all k
-      gone k e (inl p) = w.woke k seat.Spent p e
-      gone k e (inr p) = absurd (w.rest k seat.Spent p e)
+      gone : (k : ℕ) → IsSpentAt seats k → (k < i) ⊎ (i ≤ k) → IsReleased all k
+      gone k e (inl p) = (w.woke k (seat.Away true e.0) p e.1).0
+      gone k e (inr p) = absurd (true≢false (w.rest k (seat.Away true e.0) p e.1).0)
 
 -- none is due
-pub none_wakes : (code : Code) (all : List State) (seats : List Seat) → AllSit code all seats → length seats ≡ length all → map (woken code all) all ≡ all → Wakes code all seats false
+pub none_wakes : (code : Code) (all : List State) (seats : List Seat) → AllSit code all seats → length seats ≡ length all → map (woken code all) all ≡ all → Wakes code all seats seats false
 none_wakes code all seats sit long same = record {
   long = long;
   seated = λ k x e. subst (λ (l : List State). SitsAt code l k x) (sym same) (sits k x (sit k x e));
-  spent = λ k e. absurd (sit k seat.Spent e);
+  spent = λ k e. absurd (true≢false (sit k (seat.Away true e.0) e.1).0);
   lost = λ e. absurd (false≢true e);
+  lent = λ k closed e. e;
+  was_lent = λ k closed e. e;
 }
   where
     sits : (k : ℕ) (x : Seat) → SitsHere code all k x → SitsAt code all k x
     sits k (seat.Home strand) p = p
-    sits k seat.Spent p = absurd p
+    sits k (seat.Away spent closed) p = p.1
 
 -- each step keeps as many seats
 pub wakes_long : (code : Code) (n : ℕ) (old new : List Seat) (found : Bool) → WakesAt code n old new found → length new ≡ length old

@@ -38,12 +38,21 @@ use Rattle.a68_values.specs.declared.plain.Routine.{Routine}
 use Rattle.a68_values.specs.declared.act.FaultKind.{FaultKind}
 use Rattle.a68_values.specs.declared.act.FaultKind.TheVariants as fault
 use Rattle.a68_values.specs.declared.chain.Environ.{Environ}
-use Rattle.a68_world.specs.Scopes.{ChainBelow, ItemsBelow, WantBelow, DoingBelow, StanceBelow, ReplyBelow, StateBelow}
+use Rattle.a68_world.specs.Scopes.{ChainBelow, ItemsBelow, WantBelow, AskedBelow, AskBelow, DoingBelow, StanceBelow, ReplyBelow, StateBelow}
 use Rattle.a68_world.proofs.Asked.{start-below, resumed-below}
 
 -- a strand in frames of such scopes, with such callers on its stack
 abbrev Stands : ℕ → State → Type 0
 Stands n st = ChainBelow n st.chain × ItemsBelow n st.stack.items
+
+ask-of : (n : ℕ) (w : Want) (wait : Waiting) → AskedBelow n w → AskBelow n w wait
+ask-of n (want.Enter outer scope slots) wait p = p
+ask-of n (want.Fork entrances) wait p = absurd p
+ask-of n _ wait p = tt
+
+pub want-of : (n : ℕ) (w : Want) (wait : Waiting) → AskBelow n w wait → WantBelow n w
+want-of n (want.Enter outer scope slots) wait p = p
+want-of n _ wait p = tt
 
 failed : (n : ℕ) (st : State) (why : FaultKind) → Stands n st → StateBelow n (fails st why)
 failed n st why p = record { chain = p.0; items = tt; stance = tt }
@@ -57,7 +66,7 @@ to-place n st at items p q = record { chain = p.0; items = q; stance = tt }
 follows-below : (n : ℕ) (st : State) (b : Bool) (items : List Item) (doing : Doing) → Stands n st → ItemsBelow n items → DoingBelow n doing → StateBelow n (follows st b items doing)
 follows-below n st true items (Yields v) p i q = record { chain = p.0; items = i; stance = tt }
 follows-below n st false items (Yields v) p i q = record { chain = p.0; items = i; stance = tt }
-follows-below n st b items (Asks w go) p i q = record { chain = p.0; items = i; stance = q }
+follows-below n st b items (Asks w go) p i q = record { chain = p.0; items = i; stance = ask-of n w (waiting.Operation go) q }
 follows-below n st b items (Meets why) p i q = record { chain = p.0; items = tt; stance = tt }
 
 -- what stands below values that are taken off
@@ -220,7 +229,7 @@ controls-below n modes texts (does.Step to) st p = steps-below n st to (top_coun
 controls-below n modes texts does.Turn st p = record { chain = p.chain; items = p.items; stance = tt }
 controls-below n modes texts (does.Advance to) st p = advances-below n st to st.stack.items (p.chain, p.items) p.items
 controls-below n modes texts does.Forget st p = forgets-below n st st.stack.items (p.chain, p.items) p.items
-controls-below n modes texts (does.Fork entrances) st p = record { chain = p.chain; items = p.items; stance = tt }
+controls-below n modes texts (does.Fork entrances) st p = record { chain = p.chain; items = p.items; stance = refl }
 controls-below n modes texts does.Close st p = record { chain = p.chain; items = p.items; stance = tt }
 controls-below n modes texts _ st p = p
 
@@ -307,12 +316,13 @@ pub brings_room-below : (n : ℕ) (r : Reply) → n < 2 ^ 32 → ReplyBelow n r 
 brings_room-below n (reply.Frame chain) h p = has_room-below n chain h p
 brings_room-below n _ h p = refl
 
-want-more : (m n : ℕ) (w : Want) → m ≤ n → WantBelow m w → WantBelow n w
-want-more m n (want.Enter outer scope slots) h p = omega (arith, p)
-want-more m n _ h p = tt
+ask-more : (m n : ℕ) (w : Want) (wait : Waiting) → m ≤ n → AskBelow m w wait → AskBelow n w wait
+ask-more m n (want.Enter outer scope slots) wait h p = omega (arith, p)
+ask-more m n (want.Fork entrances) wait h p = p
+ask-more m n _ wait h p = tt
 
 stance-more : (m n : ℕ) (x : Stance) → m ≤ n → StanceBelow m x → StanceBelow n x
-stance-more m n (Asking w wait) h p = want-more m n w h p
+stance-more m n (Asking w wait) h p = ask-more m n w wait h p
 stance-more m n Idle h p = tt
 stance-more m n (Failed why) h p = tt
 stance-more m n (Waits first count) h p = tt

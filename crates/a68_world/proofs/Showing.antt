@@ -26,7 +26,7 @@ use Rattle.a68_values.specs.declared.kept.End.{End}
 use Rattle.a68_values.specs.declared.kept.End.TheVariants as ends
 use Rattle.a68_world.specs.Ending.{EndShown}
 use Rattle.a68_world.specs.Run.{EndsWithoutTurn}
-use Rattle.a68_world.specs.Seats.{Sits, SitsHere, AreSeated, AllSit, turn_shown, turn_in, turn_at, ended_shown, ended_in, ended_at}
+use Rattle.a68_world.specs.Seats.{Sits, SitsHere, AreSeated, AllSit, is_home, turn_shown, turn_in, turn_at, ended_shown, ended_in, ended_at}
 use Rattle.a68_world.specs.declared.seat.Seat.{Seat}
 use Rattle.a68_world.specs.declared.seat.Seat.TheVariants as seat
 use Rattle.a68_world.proofs.Places.{is_there, is_within}
@@ -49,7 +49,7 @@ next_act code w n st want x there e = ap (option_and_then (λ (st : State). acts
 pub next_fault : (w : World) (n : ℕ) (st : State) (m : Stance) → slice_get w.strands n ≡ Some st → st.stance ≡ m → fault_of w n ≡ fault_in m w.store
 next_fault w n st m there e = ap (option_and_then (λ (st : State). fault_in st.stance w.store)) there ∙ ap (λ (m : Stance). fault_in m w.store) e
 
-no_act : (code : Code) (w : World) (n : ℕ) (st : State) (m : Stance) → slice_get w.strands n ≡ Some st → st.stance ≡ m → acted code w n ≡ acts_in m code w n st
+pub no_act : (code : Code) (w : World) (n : ℕ) (st : State) (m : Stance) → slice_get w.strands n ≡ Some st → st.stance ≡ m → acted code w n ≡ acts_in m code w n st
 no_act code w n st m there e = ap (option_and_then (λ (st : State). acts_in st.stance code w n st)) there ∙ ap (λ (m : Stance). acts_in m code w n st) e
 
 -- what an outcome says of a turn
@@ -65,11 +65,11 @@ turn-by code w n st want waits a f = (λ t. absurd (false≢true t), λ t h. eli
 abbrev TurnIn : (code : Code) (w : World) (n : ℕ) → Ask → Type 0
 TurnIn code w n a = (turn_shown a w.store ≡ true → HasTurn code w n) × (turn_shown a w.store ≡ false → HasTurn code w n → ⊥)
 
-no-turn : (code : Code) (w : World) (n : ℕ) → acted code w n ≡ None → fault_of w n ≡ None → HasTurn code w n → ⊥
+pub no-turn : (code : Code) (w : World) (n : ℕ) → acted code w n ≡ None → fault_of w n ≡ None → HasTurn code w n → ⊥
 no-turn code w n a f (inl can) = can a
 no-turn code w n a f (inr stands) = stands f
 
-turn-in : (code : Code) (w : World) (n : ℕ) (st : State) (m : Stance) (place : ℕ) → slice_get w.strands n ≡ Some st → st.stance ≡ m → TurnIn code w n (asked place m)
+pub turn-in : (code : Code) (w : World) (n : ℕ) (st : State) (m : Stance) (place : ℕ) → slice_get w.strands n ≡ Some st → st.stance ≡ m → TurnIn code w n (asked place m)
 turn-in code w n st Idle place there e = (λ t. absurd (false≢true t), λ t h. no-turn code w n (no_act code w n st Idle there e) (next_fault w n st Idle there e) h)
 turn-in code w n st (Asking want x) place there e = turn-by code w n st want (does want w.store) (next_act code w n st want x there e) (next_fault w n st (Asking want x) there e)
 turn-in code w n st (Failed why) place there e = (λ t. inr (λ none. let some = sym (next_fault w n st (Failed why) there e) ∙ none in absurd (cc)), λ t h. absurd (true≢false t))
@@ -91,9 +91,13 @@ turn_there code w n h = by (slice_get w.strands n) refl
 
 -- ---- seats
 
+-- each strand stands in the world
+abbrev pub AllAtHome : List Seat → Type 0
+AllAtHome seats = (k : ℕ) (x : Seat) → slice_get seats k ≡ Some x → is_home x ≡ true
+
 -- where each strand stands in the world, one with a turn shows it
-pub turn_seen : (code : Code) (w : World) (seats : List Seat) (n : ℕ) → AllSit code w.strands seats → length seats ≡ length w.strands → HasTurn code w n → turn_at seats w.store n ≡ true
-turn_seen code w seats n sit long h =
+pub turn_seen : (code : Code) (w : World) (seats : List Seat) (n : ℕ) → AllSit code w.strands seats → AllAtHome seats → length seats ≡ length w.strands → HasTurn code w n → turn_at seats w.store n ≡ true
+turn_seen code w seats n sit home long h =
     let st = turn_there code w n h in
     let x = is_there seats n (omega (arith, long, is_within w.strands n st.0 st.1)) in
     by x.0 x.1 (sit n x.0 x.1)
@@ -104,7 +108,7 @@ turn_seen code w seats n sit long h =
 
     by : (x : Seat) → slice_get seats n ≡ Some x → SitsHere code w.strands n x → turn_at seats w.store n ≡ true
     by (seat.Home strand) e sits = ap (λ o. option_map_or (turn_in w.store) o false) e ∙ tested strand (turn_shown strand.about.ask w.store) refl sits
-    by seat.Spent e sits = absurd sits
+    by (seat.Away spent closed) e sits = absurd (false≢true (home n (seat.Away spent closed) e))
 
 -- a seat that shows a turn is that of a strand which has one
 pub turn_at_is : (code : Code) (w : World) (seats : List Seat) (n : ℕ) → AreSeated code w.strands seats → turn_at seats w.store n ≡ true
@@ -114,7 +118,7 @@ turn_at_is code w seats n seated t = by (slice_get seats n) refl t
     by : (o : Option Seat) → slice_get seats n ≡ o → option_map_or (turn_in w.store) o false ≡ true → (strand : Strand) × (slice_get seats n ≡ Some (seat.Home strand)) × HasTurn code w n
     by None e t = absurd (false≢true t)
     by (Some (seat.Home strand)) e t = (strand, e, (turn_sits code w n strand (seated n (seat.Home strand) e)).0 t)
-    by (Some seat.Spent) e t = absurd (false≢true t)
+    by (Some (seat.Away spent closed)) e t = absurd (false≢true t)
 
 -- a seat that shows none
 pub turn_not : (code : Code) (w : World) (seats : List Seat) (n : ℕ) (strand : Strand) → AreSeated code w.strands seats → slice_get seats n ≡ Some (seat.Home strand)
@@ -143,10 +147,10 @@ ended-is code w seats seated t = by (slice_get seats 0) refl t
           there = sits.there;
           idle = ended-in (place_at code.list strand.body.at) (standing strand).stance (sym (ap ended_shown sits.shows.ask) ∙ t);
         }
-    by (Some seat.Spent) e t = absurd (false≢true t)
+    by (Some (seat.Away spent closed)) e t = absurd (false≢true t)
 
-ended-seen : (code : Code) (w : World) (seats : List Seat) → AllSit code w.strands seats → length seats ≡ length w.strands → ended_at seats 0 ≡ false → HasEnded w 0 → ⊥
-ended-seen code w seats sit long t h =
+ended-seen : (code : Code) (w : World) (seats : List Seat) → AllSit code w.strands seats → AllAtHome seats → length seats ≡ length w.strands → ended_at seats 0 ≡ false → HasEnded w 0 → ⊥
+ended-seen code w seats sit home long t h =
     let x = is_there seats 0 (omega (arith, long, is_within w.strands 0 h.st h.there)) in
     by x.0 x.1 (sit 0 x.0 x.1)
   where
@@ -157,17 +161,17 @@ ended-seen code w seats sit long t h =
         let idle : (standing strand).stance ≡ Idle = ap (λ (st : State). st.stance) is ∙ h.idle in
         let shows : ended_at seats 0 ≡ true = ap (λ o. option_map_or ended_in o false) e ∙ ap ended_shown (shown code strand Idle sits.shows idle) in
         true≢false (sym shows ∙ t)
-    by seat.Spent e sits = sits
+    by (seat.Away spent closed) e sits = absurd (false≢true (home 0 (seat.Away spent closed) e))
 
 -- where each strand stands in the world, the end that the seats show is the one without a further turn
-pub end_seen : (code : Code) (w : World) (seats : List Seat) (e : Option End) → AreSeated code w.strands seats → AllSit code w.strands seats → length seats ≡ length w.strands
+pub end_seen : (code : Code) (w : World) (seats : List Seat) (e : Option End) → AreSeated code w.strands seats → AllSit code w.strands seats → AllAtHome seats → length seats ≡ length w.strands
     → EndShown seats w.store e → EndsWithoutTurn code w e
-end_seen code w seats None seated sit long p = (ended-seen code w seats sit long p.0, (p.1.0, (turn_at_is code w seats p.1.0 seated p.1.1).2))
-end_seen code w seats (Some ends.Done) seated sit long p = ended-is code w seats seated p
-end_seen code w seats (Some ends.AllHalted) seated sit long p =
-    (ended-seen code w seats sit long p.0, λ n h. true≢false (sym (turn_seen code w seats n sit long h) ∙ p.1 n))
-end_seen code w seats (Some (ends.Fault why place strand)) seated sit long p = absurd p
-end_seen code w seats (Some ends.Spent) seated sit long p = absurd p
+end_seen code w seats None seated sit home long p = (ended-seen code w seats sit home long p.0, (p.1.0, (turn_at_is code w seats p.1.0 seated p.1.1).2))
+end_seen code w seats (Some ends.Done) seated sit home long p = ended-is code w seats seated p
+end_seen code w seats (Some ends.AllHalted) seated sit home long p =
+    (ended-seen code w seats sit home long p.0, λ n h. true≢false (sym (turn_seen code w seats n sit home long h) ∙ p.1 n))
+end_seen code w seats (Some (ends.Fault why place strand)) seated sit home long p = absurd p
+end_seen code w seats (Some ends.Spent) seated sit home long p = absurd p
 
 -- such an end is the machine's
 pub is_end : (code : Code) (fuel : ℕ) (entries : List Entry) (w : World) (end : Option End) → EndsWithoutTurn code w end → IfSome end (RunEndsWith code fuel entries w)

@@ -41,18 +41,19 @@ use Rattle.a68_world.specs.Inside.{run_of, IsSound}
 use Rattle.a68_world.specs.Run.{RunBegins, EndsWithoutTurn, most_fuel, world}
 use Rattle.a68_world.specs.Scopes.{WantBelow, StanceBelow}
 use Rattle.a68_world.specs.Stepping.{AsksOther, IsAsking, IsAskingAt, BringsRoom, FewUnitsAt, units_asked}
-use Rattle.a68_world.specs.Turns.{GoesOn, IsReady, IsDue, IsOtherDue, EndsAt, StandsAt, IsAble, FinishesRun}
+use Rattle.a68_world.specs.Turns.{GoesOn, IsReady, IsReadyAs, IsDue, IsDueAs, IsOtherDue, IsOtherDueAs, EndsAt, StandsAt, IsAble, FinishesRun}
 use Rattle.a68_world.specs.declared.seat.Seat.{Seat}
 use Rattle.a68_world.specs.declared.seat.Seat.TheVariants as seat
+use Rattle.a68_world.specs.declared.status.StrandState.{StrandState}
 use Rattle.a68_world.specs.declared.status.StrandState.TheVariants as status
 use Rattle.a68_world.specs.declared.world.World.TheInside.{Inside}
-use Rattle.a68_world.specs.Seats.{Sits, SitsAt, SitsHere, AreSeated, AllSit, AreFirstSeats, status_of, turn_at, turn_shown}
+use Rattle.a68_world.specs.Seats.{Sits, SitsAt, SitsHere, AreSeated, AllSit, AreFirstSeats, is_home, status_of, turn_at, turn_shown}
 use Rattle.a68_world.proofs.Behind.{now, many_seats}
 use Rattle.a68_world.proofs.Entering.{RoomAfter, RoomBehind, does-room}
 use Rattle.a68_world.proofs.Outcomes.{number_of}
 use Rattle.a68_world.proofs.Places.{get_mapped}
-use Rattle.a68_world.proofs.ScopesKept.{brings_room-below}
-use Rattle.a68_world.proofs.Showing.{asking, shown, next_act, next_fault, turn_sits, turn_at_is, turn_not, end_seen, is_end}
+use Rattle.a68_world.proofs.ScopesKept.{brings_room-below, want-of}
+use Rattle.a68_world.proofs.Showing.{AllAtHome, asking, shown, next_act, next_fault, turn_sits, turn_at_is, turn_not, end_seen, is_end}
 use Rattle.a68_world.proofs.Steady.{steady_run, counted_behind, opening_waits}
 
 -- a Fork need not wait
@@ -101,10 +102,17 @@ module _ (code : Code) (fuel : ℕ) (journal : Logged) (store : Store) (seats : 
     where
       by : (x : Seat) → SitsHere code (opening code).strands k x → SitsAt code (opening code).strands k x
       by (seat.Home strand) p = p
-      by seat.Spent p = tt
+      by (seat.Away spent closed) p = p.1
+
+  made-home : AllAtHome seats.items
+  made-home k x e = by k x (sym (ap (λ l. slice_get l k) m.first.1) ∙ e)
+    where
+      by : (k : ℕ) (x : Seat) → slice_get (seat.Home m.first.0 ∷ []) k ≡ Some x → is_home x ≡ true
+      by zero x e = let same : seat.Home m.first.0 ≡ x = cc in sym (ap is_home same)
+      by (suc k) x e = absurd (cc)
 
   made-end : EndsWithoutTurn code (opening code) end
-  made-end = end_seen code (opening code) seats.items end made-seated made-sit (ap (λ l. length l) m.first.1) (rw m.store_is at m.end_is)
+  made-end = end_seen code (opening code) seats.items end made-seated made-sit made-home (ap (λ l. length l) m.first.1) (rw m.store_is at m.end_is)
 
   pub made_is : RunBegins code fuel (run_of made_run)
   made_is = record {
@@ -134,7 +142,7 @@ module _ (code : Code) (fuel : ℕ) (journal : Logged) (store : Store) (seats : 
       ended = rw made-world (is_end code fuel journal.items (opening code) end made-end);
       goes_on = λ none home. rw made-world (subst (λ o. EndsWithoutTurn code (opening code) o) none made-end);
       lost = λ e. absurd (false≢true e);
-      spent = λ k e. absurd (none-spent k e);
+      spent = λ k e none. absurd (none-spent k e);
     };
     room = omega (arith, m.room);
     store = rw made-world m.store_is;
@@ -150,7 +158,8 @@ none_from (Some x) b e f = absurd (cc)
 
 home-status : (x : Seat) → status_of x ≡ status.Home → (strand : Strand) × (x ≡ seat.Home strand)
 home-status (seat.Home strand) e = (strand, refl)
-home-status seat.Spent e = absurd (cc)
+home-status (seat.Away true closed) e = absurd (cc)
+home-status (seat.Away false closed) e = absurd (cc)
 
 -- a strand that stands in the world has a seat
 pub seat_home : (seats : List Seat) (n : ℕ) → slice_get (map status_of seats) n ≡ Some status.Home → (strand : Strand) × (slice_get seats n ≡ Some (seat.Home strand))
@@ -214,10 +223,8 @@ module _ (s : Inside) (sound : IsSound s) where
       let st = steady_run (run_of s) sound.run in
       omega (arith, st.few, fuel, sound.run.little_fuel, ap (λ (t : Store). length t.frames) sound.store)
 
-  module _ (n : ℕ) (strand : Strand) (there : slice_get s.seats.items n ≡ Some (seat.Home strand)) where
-    sits : Sits s.code (now s).strands n strand
-    sits = sound.seats n (seat.Home strand) there
-
+  -- a strand, in the world or lent, that stands as the machine has it
+  module _ (n : ℕ) (strand : Strand) (where_ : StrandState) (sits : Sits s.code (now s).strands n strand) where
     has-state : (st : State) → slice_get (now s).strands n ≡ Some st → standing strand ≡ st
     has-state st e =
         let both : Some (standing strand) ≡ Some st = sym sits.there ∙ e in
@@ -228,27 +235,27 @@ module _ (s : Inside) (sound : IsSound s) where
     stands-at = ap (option_map (λ (st : State). machine.place_at s.code.list st.at)) sits.there ∙ ap (λ p. Some p) (sym sits.shows.place)
 
     -- a strand that is due shows the act
-    pub due_wants : IsDue (run_of s) n → (w : Want) × (strand.about.ask ≡ ask.Want w)
-    due_wants due =
+    pub due_wants_as : IsDueAs (run_of s) n where_ → (w : Want) × (strand.about.ask ≡ ask.Want w)
+    due_wants_as due =
         let same = has-state due.st due.there in
         (due.want, shown s.code strand (Asking due.want due.wait) sits.shows (ap (λ (x : State). x.stance) same ∙ due.asks))
 
     -- other values than plain ones take part in the act that is due
-    pub due_other : IsDue (run_of s) n → AsksOther s.store strand → IsOtherDue (run_of s) n
-    due_other due other =
+    pub due_other_as : IsDueAs (run_of s) n where_ → AsksOther s.store strand → IsOtherDueAs (run_of s) n where_
+    due_other_as due other =
         let same = has-state due.st due.there in
         let asks : strand.about.ask ≡ ask.Want due.want = shown s.code strand (Asking due.want due.wait) sits.shows (ap (λ (x : State). x.stance) same ∙ due.asks) in
         record { due = due; other = subst (λ (x : Store). IsOther due.want x) sound.store (other due.want asks) }
 
-    not-waiting : IsReady (run_of s) n → (w : Want) → strand.about.ask ≡ ask.Want w → does w s.store ≡ waits → ⊥
+    not-waiting : IsReadyAs (run_of s) n where_ → (w : Want) → strand.about.ask ≡ ask.Want w → does w s.store ≡ waits → ⊥
     not-waiting ready w asks e =
         let t : turn_shown strand.about.ask (now s).store ≡ false =
         ap (λ a. turn_shown a (now s).store) asks ∙ ap (λ o. if has_to_wait o then false else true) (ap (does w) (sym sound.store) ∙ e) in
         (turn_sits s.code (now s) n strand sits).1 t ready.turn
 
-    pub asking_is : IsDue (run_of s) n → IsAsking s.store strand
-    asking_is due =
-        let w = due_wants due in
+    pub asking_as : IsDueAs (run_of s) n where_ → IsAsking s.store strand
+    asking_as due =
+        let w = due_wants_as due in
         record { asks = ap wants w.1; goes = not-waiting due.ready; room = brings }
       where
         brings : BringsRoom s.store strand
@@ -257,19 +264,13 @@ module _ (s : Inside) (sound : IsSound s) where
             let x = asking strand w asks in
             let below = st.below n (standing strand) sits.there in
             let frames : length s.store.frames ≡ length (now s).store.frames = ap (λ (t : Store). length t.frames) sound.store in
-            let want : WantBelow (length (now s).store.frames) w = subst (λ (m : Stance). StanceBelow (length (now s).store.frames) m) x.1 below.stance in
+            let want : WantBelow (length (now s).store.frames) w = want-of (length (now s).store.frames) w x.0 (subst (λ (m : Stance). StanceBelow (length (now s).store.frames) m) x.1 below.stance) in
             let room : RoomAfter (length (now s).store.frames) told after =
             subst (λ (o : Outcome). RoomBehind (length (now s).store.frames) o) (ap (does w) (sym sound.store) ∙ e) (does-room w (now s).store st.frames want) in
             brings_room-below (length after.frames) told (omega (arith, room.most, st.few, due.fuel, sound.run.little_fuel)) room.reply
 
-    pub asking_at : IsDue (run_of s) n → (x : Seat) → slice_get s.seats.items n ≡ Some x → IsAskingAt s.store x
-    asking_at due x e =
-        let both : Some (seat.Home strand) ≡ Some x = sym there ∙ e in
-        let same : seat.Home strand ≡ x = cc in
-        subst (λ y. IsAskingAt s.store y) same (asking_is due)
-
-    few-asked : (a : Ask) → strand.about.ask ≡ a → length s.seats.items + length (units_asked a s.store) < 2 ^ 32
-    few-asked (ask.Want w) asks = by w refl
+    pub few_asked_as : (a : Ask) → strand.about.ask ≡ a → length s.seats.items + length (units_asked a s.store) < 2 ^ 32
+    few_asked_as (ask.Want w) asks = by w refl
       where
         by : (v : Want) → w ≡ v → length s.seats.items + length (units_asked (ask.Want v) s.store) < 2 ^ 32
         by (want.Fork entrances) is = test (does (want.Fork entrances) s.store) refl
@@ -283,16 +284,13 @@ module _ (s : Inside) (sound : IsSound s) where
             test (refuses why) e = rw e (omega (arith, few_seats))
             test waits e = absurd (forks-go s.store entrances e)
         by _ is = omega (arith, few_seats)
-    few-asked _ asks = omega (arith, few_seats)
-
-    pub few_units : FewUnitsAt s.seats.items s.store n
-    few_units = (strand, there, few-asked strand.about.ask refl)
+    few_asked_as _ asks = omega (arith, few_seats)
 
     -- ---- the end to which a turn comes
 
-    pub ends_at : IsReady (run_of s) n → GoesOn (run_of s) → (full : Bool) → (full ≡ false → length s.journal.items < s.fuel) → (full ≡ true → s.fuel ≤ length s.journal.items)
-        → MatchOption (end_asked strand.about.ask strand.place s.store full n) (IsDue (run_of s) n) (EndsAt (run_of s) n)
-    ends_at ready goes full more none = by (standing strand).stance refl full refl
+    pub ends_as : IsReadyAs (run_of s) n where_ → GoesOn (run_of s) → (full : Bool) → (full ≡ false → length s.journal.items < s.fuel) → (full ≡ true → s.fuel ≤ length s.journal.items)
+        → MatchOption (end_asked strand.about.ask strand.place s.store full n) (IsDueAs (run_of s) n where_) (EndsAt (run_of s) n)
+    ends_as ready goes full more none = by (standing strand).stance refl full refl
       where
         fault : (m : Stance) → (standing strand).stance ≡ m → fault_of (now s) n ≡ fault_in m (now s).store
         fault m e = next_fault (now s) n (standing strand) m sits.there e
@@ -315,7 +313,7 @@ module _ (s : Inside) (sound : IsSound s) where
             machine_after : Want → Outcome → Option (Act × World)
             machine_after v o = runs_after s.code (now s) n (standing strand) v o
 
-        by : (m : Stance) → (standing strand).stance ≡ m → (b : Bool) → full ≡ b → MatchOption (end_asked strand.about.ask strand.place s.store full n) (IsDue (run_of s) n) (EndsAt (run_of s) n)
+        by : (m : Stance) → (standing strand).stance ≡ m → (b : Bool) → full ≡ b → MatchOption (end_asked strand.about.ask strand.place s.store full n) (IsDueAs (run_of s) n where_) (EndsAt (run_of s) n)
         by Idle e b f = absurd (idle Idle e refl)
         by (Waits first count) e b f = absurd (idle (Waits first count) e refl)
         by Closed e b f = absurd (idle Closed e refl)
@@ -324,6 +322,27 @@ module _ (s : Inside) (sound : IsSound s) where
             rw (asks (Asking w x) e, f) (record { ready = ready; st = standing strand; there = sits.there; want = w; wait = x; asks = e; fuel = more f })
         by (Asking w x) e true f =
             rw (asks (Asking w x) e, f, sound.store) (spent_at w x e f (does w (now s).store) refl)
+
+  -- one that stands in the world
+  module _ (n : ℕ) (strand : Strand) (there : slice_get s.seats.items n ≡ Some (seat.Home strand)) where
+    sits_there : Sits s.code (now s).strands n strand
+    sits_there = sound.seats n (seat.Home strand) there
+
+    pub due_other : IsDue (run_of s) n → AsksOther s.store strand → IsOtherDue (run_of s) n
+    due_other due other = due_other_as n strand status.Home sits_there due other
+
+    pub asking_at : IsDue (run_of s) n → (x : Seat) → slice_get s.seats.items n ≡ Some x → IsAskingAt s.store x
+    asking_at due x e =
+        let both : Some (seat.Home strand) ≡ Some x = sym there ∙ e in
+        let same : seat.Home strand ≡ x = cc in
+        subst (λ y. IsAskingAt s.store y) same (asking_as n strand status.Home sits_there due)
+
+    pub few_units : FewUnitsAt s.seats.items s.store n
+    few_units = (strand, there, few_asked_as n strand status.Home sits_there strand.about.ask refl)
+
+    pub ends_at : IsReady (run_of s) n → GoesOn (run_of s) → (full : Bool) → (full ≡ false → length s.journal.items < s.fuel) → (full ≡ true → s.fuel ≤ length s.journal.items)
+        → MatchOption (end_asked strand.about.ask strand.place s.store full n) (IsDue (run_of s) n) (EndsAt (run_of s) n)
+    ends_at ready goes full more none = ends_as n strand status.Home sits_there ready goes full more none
 
 -- the same at its seat
 pub ends_seat : (s : Inside) (n : ℕ) (x : Seat) (full : Bool) (found : Option End) → IsSound s → IsReady (run_of s) n → GoesOn (run_of s) → slice_get s.seats.items n ≡ Some x
@@ -338,7 +357,7 @@ ends_seat s n (seat.Home strand) full found sound ready goes there by e =
     more : (b : Bool) → MatchBool b (s.fuel ≤ length s.journal.items) (length s.journal.items < s.fuel) → b ≡ true → s.fuel ≤ length s.journal.items
     more true p t = p
     more false p t = absurd (false≢true t)
-ends_seat s n seat.Spent full found sound ready goes there by e =
+ends_seat s n (seat.Away spent closed) full found sound ready goes there by e =
     let h = seat_home s.seats.items n ready.home in
     absurd (cc (h.1, there))
 

@@ -1,5 +1,5 @@
 -- What is known of the store and the strands behind every journal.
-use Rattle.std.proofs.Common.{◌≡◌, ◌∙◌, inl, inr, ℕ, zero, suc, ◌+◌, ◌<◌, ◌≤◌, ℤ, pos, Bool, true, false, List, [], ◌∷◌, ◌++◌, length, length-append, refl, ap, sym, subst, arith, true≢false, ltb-false}
+use Rattle.std.proofs.Common.{◌≡◌, ◌∙◌, ◌⊎◌, inl, inr, ℕ, zero, suc, ◌+◌, ◌<◌, ◌≤◌, ℤ, pos, Bool, true, false, List, [], ◌∷◌, ◌++◌, length, length-append, refl, ap, sym, subst, arith, true≢false, ltb-false}
 use Rattle.std.specs.Prelude.{⊤, None, Some, slice_get, slice_set, replicate, nat_lt, int_lt, ◌+ℤ◌, if◌then◌else◌}
 use Rattle.std.specs.Option.{option_and_then, option_map_or}
 use Rattle.std.proofs.Math.ListN.{length-set}
@@ -28,10 +28,12 @@ use Rattle.a68_values.specs.declared.act.FaultKind.TheVariants as fault
 use Rattle.a68_values.specs.declared.act.Entry.{Entry}
 use Rattle.a68_values.specs.declared.held.Held.{Held}
 use Rattle.a68_world.specs.Run.{Run, IsSoundRun, world}
-use Rattle.a68_world.specs.Scopes.{FramesBelow, WantBelow, StanceBelow, StateBelow}
+use Rattle.a68_world.specs.Scopes.{AskBelow, FramesBelow, WantBelow, StanceBelow, StateBelow}
+use Rattle.a68_instructions.specs.declared.ask.Waiting.TheVariants as waiting
 use Rattle.a68_world.proofs.Entering.{RoomAfter, RoomBehind, does-room}
 use Rattle.a68_world.proofs.Places.{get_mapped, length_map, parted, set_parted}
-use Rattle.a68_world.proofs.ScopesKept.{settle-below, replied-below, state-more}
+use Rattle.a68_world.proofs.ScopesKept.{settle-below, replied-below, state-more, want-of}
+use Rattle.a68_world.proofs.Awaited.{AreAwaited, IsAwaited, awaited_after, fork_reply, fork_waits}
 
 pub record Steady (code : Code) (count : ℕ) (w : World) : Type 0 where
   -- an event makes one frame at most, and scopes are below the number of frames
@@ -39,6 +41,8 @@ pub record Steady (code : Code) (count : ℕ) (w : World) : Type 0 where
   pub frames : FramesBelow (length w.store.frames) w.store.frames
   pub below : (k : ℕ) (st : State) → slice_get w.strands k ≡ Some st → StateBelow (length w.store.frames) st
   pub calm : IsCalm code w.strands
+  -- each that has not closed is awaited
+  pub kin : AreAwaited w.strands
   -- the store counts the strands
   pub many : w.store.strands ≡ length w.strands
   pub most : w.store.strands ≤ most_strands
@@ -200,8 +204,24 @@ pub room_behind : (code : Code) (count : ℕ) (w : World) (n : ℕ) (act : Act) 
     → RoomAfter (length w.store.frames) a.reply a.store
 room_behind code count w n act behind a s =
     let st : StateBelow (length w.store.frames) a.st = s.below n a.st a.there in
-    let want : WantBelow (length w.store.frames) a.want = subst (λ (m : Stance). StanceBelow (length w.store.frames) m) a.asks st.stance in
+    let want : WantBelow (length w.store.frames) a.want = want-of (length w.store.frames) a.want a.wait (subst (λ (m : Stance). StanceBelow (length w.store.frames) m) a.asks st.stance) in
     subst (λ (o : Outcome). RoomBehind (length w.store.frames) o) a.does_it (does-room a.want w.store s.frames want)
+
+-- the strands that an act makes are units for which the one waits that made them
+fork-at : (code : Code) (st : State) (v : Want) (i : ℕ) (x : State) → slice_get (begun code st v) i ≡ Some x → (es : List ℕ) × (v ≡ want.Fork es)
+fork-at code st (want.Fork es) i x e = (es, refl)
+fork-at code st _ i x e = absurd (cc)
+
+forks : (code : Code) (count : ℕ) (w : World) (n : ℕ) (done : Act) (behind : World) (a : Acted code w n done behind) → Steady code count w
+    → (i : ℕ) (x : State) → slice_get (begun code a.st a.want) i ≡ Some x → (settle code (replied code a.st a.reply)).stance ≡ Waits (length w.strands) (length (begun code a.st a.want))
+forks code count w n done behind a s i x at =
+    let f = fork-at code a.st a.want i x at in
+    let es : List ℕ = f.0 in
+    let below : AskBelow (length w.store.frames) a.want a.wait = subst (λ (m : Stance). StanceBelow (length w.store.frames) m) a.asks (s.below n a.st a.there).stance in
+    let pair : a.wait ≡ waiting.Fork (length es) = subst (λ (v : Want). AskBelow (length w.store.frames) v a.wait) f.1 below in
+    let told : a.reply ≡ reply.Base w.store.strands = fork_reply es w.store a.store done a.reply (ap (λ v. does v w.store) (sym f.1) ∙ a.does_it) in
+    let long : length (begun code a.st a.want) ≡ length es = ap (λ v. length (begun code a.st v)) f.1 ∙ length-begun code a.st (want.Fork es) in
+    fork_waits code a.st es a.wait a.reply w.store.strands (a.asks ∙ ap (λ v. Asking v a.wait) f.1) pair told ∙ ap (λ k. Waits k (length es)) s.many ∙ ap (Waits (length w.strands)) (sym long)
 
 pub steady_more : (code : Code) (count : ℕ) (w : World) (n : ℕ) (act : Act) (behind : World) → Steady code count w → acted code w n ≡ Some (act, behind)
     → Steady code (suc count) behind
@@ -223,11 +243,20 @@ steady_more code count w n act behind s e =
       ]
       | inr born ↦ begun-below m code a.st a.want born.0 st (old n a.st a.there) born.2
     ] in
+    let rests : (k : ℕ) (st : State) → slice_get all k ≡ Some st → next_state code st ≡ None = λ k st there.
+    elim (parted (slice_set w.strands n next) new k st there) [
+      | inl front ↦ elim (set_parted w.strands n k next st front) [
+        | inl here_ ↦ ap (next_state code) here_.1 ∙ settle_rests code (replied code a.st a.reply)
+        | inr other ↦ s.calm.rests k st other.1
+      ]
+      | inr born ↦ (begun_goes code a.st a.want born.0 st born.2).0
+    ] in
     rw a.is (record {
       few = omega (arith, room.most, s.few);
       frames = room.below;
       below = λ k st there. let x = get_mapped (woken code all) all k st there in subst (λ (y : State). StateBelow m y) x.2 (woken-below m code all x.0 (each k x.0 x.1));
       calm = calm_kept code w.strands new n next s.calm (settle_rests code (replied code a.st a.reply)) (λ j st there. (begun_goes code a.st a.want j st there).0);
+      kin = awaited_after code w.strands new n next a.st a.want a.wait rests s.kin a.there a.asks (forks code count w n act behind a s);
       many = counted.0 ∙ omega (arith, s.many, length_map (woken code all) all, length-append (slice_set w.strands n next) new, length-set w.strands n next, length-begun code a.st a.want);
       most = counted.1 s.most;
     })
@@ -246,12 +275,17 @@ steady_opening code =
       frames = opening-frames;
       below = λ k st e. one k st e;
       calm = record { rests = λ k st e. settled k st e; due = λ k st f c e w. absurd (waits_not k st f c e w) };
+      kin = λ k st e open_. only k st e;
       many = refl;
       most = omega arith;
     }
   where
     begin : State
     begin = beginning 0 (record { frame = 0; scope = 0 } ∷ [])
+
+    only : (k : ℕ) (st : State) → slice_get (settle code begin ∷ []) k ≡ Some st → (k ≡ 0) ⊎ IsAwaited (settle code begin ∷ []) k
+    only zero st e = inl refl
+    only (suc k) st e = absurd (cc)
 
     one : (k : ℕ) (st : State) → slice_get (settle code begin ∷ []) k ≡ Some st → StateBelow 1 st
     one zero st e = let same : settle code begin ≡ st = cc in subst (λ (x : State). StateBelow 1 x) same (settle-below 1 code begin (record { chain = (omega arith, tt); items = tt; stance = tt }))
@@ -273,15 +307,15 @@ steady-next : (code : Code) (count : ℕ) (w v : World) (n : ℕ) (act : Act) (e
 steady-next code count w v n act es None e s more runs = absurd runs
 steady-next code count w v n act es (Some p) e s more runs = more p.1 (steady_more code count w n p.0 p.1 s e) runs.1
 
-steady-goes : (code : Code) (count : ℕ) (w v : World) (es : List Entry) → Steady code count w → Machine code w es v → Steady code (count + length es) v
-steady-goes code count w v [] s runs = subst (λ (k : ℕ). Steady code k v) (omega arith) (subst (λ (x : World). Steady code count x) runs s)
-steady-goes code count w v (e ∷ es) s runs =
+pub steady_goes : (code : Code) (count : ℕ) (w v : World) (es : List Entry) → Steady code count w → Machine code w es v → Steady code (count + length es) v
+steady_goes code count w v [] s runs = subst (λ (k : ℕ). Steady code k v) (omega arith) (subst (λ (x : World). Steady code count x) runs s)
+steady_goes code count w v (e ∷ es) s runs =
     subst (λ (k : ℕ). Steady code k v) (omega arith)
-    (steady-next code count w v e.strand e.act es (acted code w e.strand) refl s (λ b t r. steady-goes code (suc count) b v es t r) runs)
+    (steady-next code count w v e.strand e.act es (acted code w e.strand) refl s (λ b t r. steady_goes code (suc count) b v es t r) runs)
 
 pub steady_run : (run : Run) → IsSoundRun run → Steady run.code (length run.entries) (world run)
 steady_run run r =
-    subst (λ (k : ℕ). Steady run.code k (world run)) (omega arith) (steady-goes run.code 0 (opening run.code) (world run) run.entries (steady_opening run.code) r.runs)
+    subst (λ (k : ℕ). Steady run.code k (world run)) (omega arith) (steady_goes run.code 0 (opening run.code) (world run) run.entries (steady_opening run.code) r.runs)
 
 -- nor does a strand wait at the beginning
 pub opening_waits : (code : Code) (k : ℕ) (st : State) (first count : ℕ) → slice_get (opening code).strands k ≡ Some st → st.stance ≡ Waits first count → k < 0

@@ -23,7 +23,7 @@ end_asked _ place store full n = None
 
 abbrev pub end_at : Seat → Store → (full : Bool) → (n : ℕ) → Option End
 end_at (seat.Home strand) store full n = end_asked strand.about.ask strand.place store full n
-end_at seat.Spent store full n = None
+end_at (seat.Away spent closed) store full n = None
 
 -- ---- the end without a further turn
 

@@ -3,6 +3,7 @@ pub mod AloneAt
 pub mod Codes
 pub mod Ending
 pub mod Inside
+pub mod Leases
 pub mod Run
 pub mod Scopes
 pub mod Seats

@@ -40,7 +40,7 @@ IsNumber run k where_ = slice_get run.status k ≡ Some where_
 
 -- every strand stands in the world
 abbrev pub AllHome : List StrandState → Type 0
-AllHome status = (k : ℕ) → slice_get status k ≡ Some Spent → ⊥
+AllHome status = (k : ℕ) (there : StrandState) → slice_get status k ≡ Some there → there ≡ Home
 
 -- The end that a run has without a further turn (own): Done where strand 0 has ended, AllHalted where it has not and no
 -- strand has a turn, and else none.
@@ -63,9 +63,9 @@ pub record IsSoundRun (run : Run) : Type 0 where
   pub ended : IfSome run.end (RunEndsWith run.code run.fuel run.entries (world run))
   -- where no end is set and every strand stands in the world, there is a turn to take
   pub goes_on : run.end ≡ None → AllHome run.status → EndsWithoutTurn run.code (world run) None
-  -- a run that is lost sets no end, and one with a spent strand is lost
+  -- a run that is lost sets no end, and one with a spent strand is lost while it goes on
   pub lost : run.lost ≡ true → run.end ≡ None
-  pub spent : (k : ℕ) → IsNumber run k Spent → run.lost ≡ true
+  pub spent : (k : ℕ) → IsNumber run k Spent → run.end ≡ None → run.lost ≡ true
 
 -- a run that is yet to begin, where no event is needed with its end
 pub record RunBegins (code : Code) (fuel : ℕ) (run : Run) : Type 0 where

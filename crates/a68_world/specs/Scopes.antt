@@ -1,6 +1,6 @@
 -- Inner: the headline does not rest on this file.
 -- Scopes that are small enough for one more frame.
-use Rattle.std.specs.Prelude.{◌≡◌, ◌<◌, ◌≤◌, ⊤, ℕ, List, [], ◌∷◌, Some, slice_get}
+use Rattle.std.specs.Prelude.{◌≡◌, ◌<◌, ◌≤◌, ⊤, ℕ, List, [], ◌∷◌, Some, length, slice_get}
 use Rattle.a68_acts.specs.Store.{Frame}
 use Rattle.a68_acts.specs.declared.operation.Doing.{Doing}
 use Rattle.a68_acts.specs.declared.operation.Doing.TheVariants.{Asks}
@@ -11,6 +11,8 @@ use Rattle.a68_acts.specs.declared.want.Want.TheVariants as want
 use Rattle.a68_stack.specs.declared.stack.Item.{Item}
 use Rattle.a68_stack.specs.declared.stack.Item.TheVariants as item
 use Rattle.a68_instructions.specs.Machine.{State}
+use Rattle.a68_instructions.specs.declared.ask.Waiting.{Waiting}
+use Rattle.a68_instructions.specs.declared.ask.Waiting.TheVariants as waiting
 use Rattle.a68_instructions.specs.declared.ask.Stance.{Stance}
 use Rattle.a68_instructions.specs.declared.ask.Stance.TheVariants.{Asking}
 use Rattle.a68_values.specs.declared.chain.Environ.{Environ}
@@ -29,12 +31,24 @@ abbrev pub WantBelow : ℕ → Want → Type 0
 WantBelow n (want.Enter outer scope slots) = scope ≤ n
 WantBelow n _ = ⊤
 
+-- An act for which an operation asks. No operation asks for strands.
+abbrev pub AskedBelow : ℕ → Want → Type 0
+AskedBelow n (want.Enter outer scope slots) = scope ≤ n
+AskedBelow n (want.Fork entrances) = ⊥
+AskedBelow n _ = ⊤
+
+-- The same, with what the strand does with the reply. One that asks for strands waits for as many.
+abbrev pub AskBelow : ℕ → Want → Waiting → Type 0
+AskBelow n (want.Enter outer scope slots) wait = scope ≤ n
+AskBelow n (want.Fork entrances) wait = wait ≡ waiting.Fork (length entrances)
+AskBelow n _ wait = ⊤
+
 abbrev pub DoingBelow : ℕ → Doing → Type 0
-DoingBelow n (Asks w next) = WantBelow n w
+DoingBelow n (Asks w next) = AskedBelow n w
 DoingBelow n _ = ⊤
 
 abbrev pub StanceBelow : ℕ → Stance → Type 0
-StanceBelow n (Asking w wait) = WantBelow n w
+StanceBelow n (Asking w wait) = AskBelow n w wait
 StanceBelow n _ = ⊤
 
 abbrev pub ReplyBelow : ℕ → Reply → Type 0

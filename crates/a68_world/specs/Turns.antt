@@ -30,10 +30,14 @@ pub record GoesOn (run : Run) : Type 0 where
   pub unended : run.end ≡ None
   pub kept : run.lost ≡ false
 
--- the strand stands in the world, and has a turn
-pub record IsReady (run : Run) (n : ℕ) : Type 0 where
-  pub home : IsNumber run n Home
+-- the strand is there, and has a turn
+pub record IsReadyAs (run : Run) (n : ℕ) (there : StrandState) : Type 0 where
+  pub home : IsNumber run n there
   pub turn : HasTurn run.code (world run) n
+
+-- the strand stands in the world, and has a turn
+abbrev pub IsReady : (run : Run) (n : ℕ) → Type 0
+IsReady run n = IsReadyAs run n Home
 
 -- it is a run of the same code and fuel
 abbrev pub IsOf : (old new : Run) → Type 0
@@ -62,25 +66,29 @@ pub record Seated (old new : Run) (but : ℕ) : Type 0 where
 -- The end that an act sets: where every strand stands in the world, the one that needs no further turn; else none.
 pub record SetsEnd (new : Run) : Type 0 where
   pub whole : AllHome new.status → EndsWithoutTurn new.code (world new) new.end
-  pub parted : (k : ℕ) → IsNumber new k Spent → new.end ≡ None
+  pub parted : (k : ℕ) (there : StrandState) → IsNumber new k there → (there ≡ Home → ⊥) → new.end ≡ None
 
--- The strand has done its next act, and stands as the machine says. Where no further turn is needed the end is set.
-pub record Acts (old : Run) (n : ℕ) (new : Run) : Type 0 where
+-- The strand, which is there, has done its next act. Where no further turn is needed, and every strand stands in the world, the
+-- end is set.
+pub record ActsAs (old : Run) (n : ℕ) (there : StrandState) (new : Run) : Type 0 where
   pub goes_on : GoesOn old
   pub fuel : length old.entries < old.fuel
-  pub ready : IsReady old n
+  pub ready : IsReadyAs old n there
   pub same : IsOf old new
   pub act : Act
   pub behind : World
   pub next : acted old.code (world old) n ≡ Some (act, behind)
   pub entries : new.entries ≡ noted old n act
-  -- it stands in the world; where it waits for no unit that has yet to close it goes on at once, and may find no memory
-  pub stays : IsNumber new n Home ⊎ (IsNumber new n Spent × (new.lost ≡ true))
+  -- it stays there; where it waits for no unit that has yet to close it goes on at once, and may find no memory
+  pub stays : IsNumber new n there ⊎ (IsNumber new n Spent × (new.lost ≡ true))
   pub seated : Seated old new n
   -- the run is lost where a strand that was told to go on is spent, and only there
   pub lost : new.lost ≡ true → (k : ℕ) × IsNumber new k Spent
   pub spent : (k : ℕ) → IsNumber new k Spent → new.lost ≡ true
   pub ends : SetsEnd new
+
+abbrev pub Acts : (old : Run) (n : ℕ) (new : Run) → Type 0
+Acts old n new = ActsAs old n Home new
 
 -- the place of the construct whose instruction the strand stands at
 abbrev pub StandsAt : Run → ℕ → ℕ → Type 0
@@ -93,11 +101,14 @@ EndsAt run n (ends.Fault why place strand) = (strand ≡ n) × (fault_of (world 
 EndsAt run n ends.Spent = (length run.entries ≡ run.fuel) × CanActNow run.code (world run) n
 EndsAt run n _ = ⊥
 
-pub record EndsHere (old : Run) (n : ℕ) (e : End) (new : Run) : Type 0 where
+pub record EndsHereAs (old : Run) (n : ℕ) (there : StrandState) (e : End) (new : Run) : Type 0 where
   pub goes_on : GoesOn old
-  pub ready : IsReady old n
+  pub ready : IsReadyAs old n there
   pub ends : EndsAt old n e
   pub after : new ≡ record old { end = Some e }
+
+abbrev pub EndsHere : (old : Run) (n : ℕ) (e : End) (new : Run) → Type 0
+EndsHere old n e new = EndsHereAs old n Home e new
 
 -- the run had ended so, and stays as it was
 pub record HadEnded (old : Run) (e : End) (new : Run) : Type 0 where
@@ -112,8 +123,8 @@ pub record IsNotReady (old : Run) (n : ℕ) (new : Run) : Type 0 where
   pub after : new ≡ old
 
 -- the strand asks for an act for which it need not wait, and there is fuel
-pub record IsDue (run : Run) (n : ℕ) : Type 0 where
-  pub ready : IsReady run n
+pub record IsDueAs (run : Run) (n : ℕ) (where_ : StrandState) : Type 0 where
+  pub ready : IsReadyAs run n where_
   pub st : State
   pub there : slice_get (world run).strands n ≡ Some st
   pub want : Want
@@ -121,10 +132,16 @@ pub record IsDue (run : Run) (n : ℕ) : Type 0 where
   pub asks : st.stance ≡ Asking want wait
   pub fuel : length run.entries < run.fuel
 
+abbrev pub IsDue : (run : Run) (n : ℕ) → Type 0
+IsDue run n = IsDueAs run n Home
+
 -- an act is due in which other values than plain ones take part, or which meets a fault
-pub record IsOtherDue (run : Run) (n : ℕ) : Type 0 where
-  pub due : IsDue run n
+pub record IsOtherDueAs (run : Run) (n : ℕ) (there : StrandState) : Type 0 where
+  pub due : IsDueAs run n there
   pub other : IsOther due.want (world run).store
+
+abbrev pub IsOtherDue : (run : Run) (n : ℕ) → Type 0
+IsOtherDue run n = IsOtherDueAs run n Home
 
 -- Behind an act the strand takes memory: it does not wait plainly for the reply, or one of its silent instructions up to the next
 -- act works on other values than plain ones.
@@ -133,9 +150,12 @@ TakesBehind code st wait (did act reply store) = (told_plainly wait reply ≡ fa
 TakesBehind code st wait _ = ⊥
 
 -- nothing is done: no memory was found before, or other values than plain ones take part in the act that is due
-pub record IsLeftUndone (old : Run) (n : ℕ) (new : Run) : Type 0 where
-  pub why : (old.lost ≡ true) ⊎ IsOtherDue old n
+pub record IsLeftUndoneAs (old : Run) (n : ℕ) (there : StrandState) (new : Run) : Type 0 where
+  pub why : (old.lost ≡ true) ⊎ IsOtherDueAs old n there
   pub after : new ≡ record old { lost = true }
+
+abbrev pub IsLeftUndone : (old : Run) (n : ℕ) (new : Run) → Type 0
+IsLeftUndone old n new = IsLeftUndoneAs old n Home new
 
 -- the strand has done its next act, behind which it takes memory, and there was none
 pub record IsSpentBy (old : Run) (n : ℕ) (new : Run) : Type 0 where

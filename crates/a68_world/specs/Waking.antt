@@ -15,12 +15,12 @@ use Rattle.a68_world.specs.declared.seat.Seat.TheVariants as seat
 
 abbrev pub seat_awaits : Seat → Bool
 seat_awaits (seat.Home strand) = awaits strand.about.ask
-seat_awaits seat.Spent = false
+seat_awaits (seat.Away spent closed) = false
 
 -- a strand that is told to go on has settled, or is spent
 abbrev pub GoesOnAt : Code → (old new : Seat) → Bool → Type 0
 GoesOnAt code (seat.Home strand) (seat.Home next) true = HasSettled code (replied code (standing strand) reply.Go) next × (next.number ≡ strand.number) × KeepsRoom code strand.body next.body
-GoesOnAt code (seat.Home strand) seat.Spent false = ⊤
+GoesOnAt code (seat.Home strand) (seat.Away spent closed) false = (spent ≡ true) × (closed ≡ false)
 GoesOnAt code _ _ _ = ⊥
 
 -- one that waits for units which have all closed goes on, and each other one stays
@@ -44,13 +44,20 @@ pub record IsReleased (strands : List State) (k : ℕ) : Type 0 where
   pub waits : st.stance ≡ Waits first count
   pub closed : all_closed strands first count ≡ true
 
+-- the strand of this number is spent
+abbrev pub IsSpentAt : List Seat → ℕ → Type 0
+IsSpentAt seats k = (closed : Bool) × (slice_get seats k ≡ Some (seat.Away true closed))
+
 -- Those that waited for units which have all closed have been told to go on. One that found no memory is spent, and the run
 -- is lost.
-pub record Wakes (code : Code) (strands : List State) (new : List Seat) (found_none : Bool) : Type 0 where
+pub record Wakes (code : Code) (strands : List State) (old new : List Seat) (found_none : Bool) : Type 0 where
   pub long : length new ≡ length strands
   pub seated : AreSeated code (map (woken code strands) strands) new
-  pub spent : (k : ℕ) → slice_get new k ≡ Some seat.Spent → IsReleased strands k × (found_none ≡ true)
-  pub lost : found_none ≡ true → (k : ℕ) × (slice_get new k ≡ Some seat.Spent)
+  pub spent : (k : ℕ) → IsSpentAt new k → IsReleased strands k × (found_none ≡ true)
+  pub lost : found_none ≡ true → (k : ℕ) × IsSpentAt new k
+  -- one that is lent stays so, and no other is
+  pub lent : (k : ℕ) (closed : Bool) → slice_get old k ≡ Some (seat.Away false closed) → slice_get new k ≡ Some (seat.Away false closed)
+  pub was_lent : (k : ℕ) (closed : Bool) → slice_get new k ≡ Some (seat.Away false closed) → slice_get old k ≡ Some (seat.Away false closed)
 
 -- the strands that wait for units have smaller numbers than this
 abbrev pub WaitBelow : ℕ → List State → Type 0
@@ -64,10 +71,10 @@ pub record StaysBelow (below : ℕ) (seats : List Seat) (n new : ℕ) : Type 0 w
 -- the strands at their seats are woken
 abbrev pub AllWake : Code → (below : ℕ) → (old new : List Seat) → Bool → Type 0
 AllWake code below old new lost =
-    (strands : List State) → AllSit code strands old → length old ≡ length strands → AllRest code strands → WaitBelow below strands → Wakes code strands new lost
+    (strands : List State) → AllSit code strands old → length old ≡ length strands → AllRest code strands → WaitBelow below strands → Wakes code strands old new lost
 
 -- the strands at their seats are woken, where none is due that need not be looked for
 abbrev pub WakesBehind : Code → (n below : ℕ) → (old new : List Seat) → Bool → Type 0
 WakesBehind code n below old new lost =
     (strands : List State) → AllSit code strands old → length old ≡ length strands → AllRest code strands → WaitBelow below strands
-    → (may_wake old n ≡ false → map (woken code strands) strands ≡ strands) → Wakes code strands new lost
+    → (may_wake old n ≡ false → map (woken code strands) strands ≡ strands) → Wakes code strands old new lost

@@ -1,4 +1,5 @@
 //! The calls of a world.
+ghost use Rattle.std.specs.List.{list_all};
 ghost use Rattle.std.specs.Prelude.{◌≡◌, [], ◌∷◌, ◌++◌, ◌<◌, ◌≤◌, ◌^◌, ◌↔◌, ℕ, length, Some, None, IfOk, IfSome, IsNone, MatchBool, MatchOption, MatchResult};
 ghost use Rattle.a68_acts.specs.Store.{opening_store};
 ghost use Rattle.a68_code.specs.Valid.{IsValid};
@@ -8,11 +9,11 @@ ghost use Rattle.a68_instructions.specs.Machine.{beginning};
 ghost use Rattle.a68_strand.specs.Strands.{HasSettled};
 ghost use Rattle.a68_world.specs.Ending.{EndShown};
 ghost use Rattle.a68_world.specs.Run.{IsSoundRun, RunBegins, most_fuel};
-ghost use Rattle.a68_world.specs.Seats.{AreFirstSeats, place_at};
+ghost use Rattle.a68_world.specs.Seats.{AreFirstSeats, is_home, place_at};
 ghost use Rattle.a68_world.specs.Turns.{GoesOn, IsReady, EndsAt, IsDue, IsOtherDue, TurnOf, IsAble, FinishesRun, last_strand};
 
 use crate::deed::Deed;
-use crate::seat::Seat;
+use crate::seat::{Seat, are_home};
 use crate::stepping::act_at;
 use crate::turning::{end_at, end_shown, next_turn, turn_at};
 use crate::units::{seat_all, units_ready};
@@ -65,8 +66,8 @@ fn parts(alloc: Global, code: &Code, fuel: u32) -> Result<(Log, Store, Vec<Seat>
     Ok((journal, store, seats))
 }
 
-// An entry of a strand in the journal, which has room for it.
-fn note(journal: &mut Log, strand: u32, act: Act)
+/// An entry of a strand in the journal, which has room for it.
+pub fn note(journal: &mut Log, strand: u32, act: Act)
     requires { length journal.old.items < journal.old.room }
     ensures items { journal.new.items ≡ journal.old.items ++ record { strand = strand; act = act } ∷ [] }
     ensures room { journal.old.room ≤ journal.new.room }
@@ -78,23 +79,24 @@ fn note(journal: &mut Log, strand: u32, act: Act)
     }
 }
 
-// Has the journal as many entries as there is fuel?
+/// Has the journal as many entries as there is fuel?
 #[inline(always)]
-fn is_full(journal: &Log, fuel: u32) -> bool
+pub fn is_full(journal: &Log, fuel: u32) -> bool
     ensures { MatchBool result (fuel ≤ length journal.now.items) (length journal.now.items < fuel) }
 {
     journal.len() >= fuel as usize
 }
 
-// The end that is set behind an act: none where the run is lost.
-fn end_behind(lost: bool, seats: &[Seat], store: &Store, n: u32) -> Option<End>
+/// The end that is set behind an act of this strand: none where not every strand stands in the world.
+pub fn end_behind(seats: &[Seat], store: &Store, n: u32) -> Option<End>
     requires few { length seats.now < 2 ^ 32 }
-    ensures { MatchBool lost (result ≡ None) (EndShown seats.now store.now result) }
+    ensures { MatchBool (list_all is_home seats.now) (EndShown seats.now store.now result) (result ≡ None) }
 {
-    if lost {
+    let end = end_shown(seats, store, n);
+    if end.is_some() && !are_home(seats) {
         return None;
     }
-    end_shown(seats, store, n)
+    end
 }
 
 // The place of the construct at whose instruction the strand stands.
@@ -157,7 +159,7 @@ impl World {
 
     // Has this strand something to do at its turn?
     #[inline(always)]
-    fn can_turn(&self, n: u32) -> bool
+    pub(crate) fn can_turn(&self, n: u32) -> bool
         ensures { MatchBool result (IsReady self.now n) (IsReady self.now n → ⊥) }
     {
         turn_at(&self.seats, &self.store, n as usize)
@@ -223,7 +225,7 @@ impl World {
                 let below = waits_below(self.waits_below, &self.seats, n);
                 self.lost = wake_behind(alloc, &self.code, &mut self.seats, at, below);
                 self.waits_below = below;
-                self.end = end_behind(self.lost, &self.seats, &self.store, n);
+                self.end = end_behind(&self.seats, &self.store, n);
                 Turned::Acted
             }
             Deed::Untold(act) => {

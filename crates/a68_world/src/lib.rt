@@ -4,6 +4,7 @@
 mod alone;
 mod calls;
 mod deed;
+mod leases;
 mod seat;
 mod status;
 mod stepping;

@@ -5,6 +5,8 @@
 pub enum StrandState {
     /// It stands in the world.
     Home,
+    /// It is lent.
+    Lent,
     /// It found no memory.
     Spent,
 }

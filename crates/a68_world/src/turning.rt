@@ -10,9 +10,9 @@ use a68_store::Store;
 use a68_strand::Strand;
 use a68_values::End;
 
-// Has a strand that shows this something to do at its turn?
+/// Has a strand that shows this something to do at its turn?
 #[inline(always)]
-fn turn_shown(ask: &Ask, store: &Store) -> bool
+pub fn turn_shown(ask: &Ask, store: &Store) -> bool
     ensures { result ≡ turn_shown ask.now store.now }
 {
     match ask {
@@ -28,7 +28,7 @@ fn turn_in(seat: &Seat, store: &Store) -> bool
 {
     match seat {
         Seat::Home(strand) => turn_shown(strand.ask(), store),
-        Seat::Spent => false,
+        Seat::Away { .. } => false,
     }
 }
 
@@ -104,9 +104,9 @@ pub fn end_shown(seats: &[Seat], store: &Store, n: u32) -> Option<End>
     }
 }
 
-// The end to which the run comes at a turn of a strand that stands before a fault, or where the fuel is spent.
+/// The end to which the run comes at a turn of a strand that stands before a fault, or where the fuel is spent.
 #[inline(always)]
-fn end_asked(strand: &Strand, store: &Store, full: bool, n: u32) -> Option<End>
+pub fn end_asked(strand: &Strand, store: &Store, full: bool, n: u32) -> Option<End>
     ensures { result ≡ end_asked strand.now.about.ask strand.now.place store.now full n }
 {
     match strand.ask() {
@@ -139,6 +139,6 @@ pub fn end_at(seat: &Seat, store: &Store, full: bool, n: u32) -> Option<End>
 {
     match seat {
         Seat::Home(strand) => end_asked(strand, store, full, n),
-        Seat::Spent => None,
+        Seat::Away { .. } => None,
     }
 }

@@ -1,5 +1,5 @@
 //! The strands that an act makes.
-ghost use Rattle.std.specs.Prelude.{◌≡◌, ◌<◌, ◌≤◌, ◌+◌, ◌++◌, ◌^◌, [], ◌∷◌, IsTrue, length, IfOk, IfSome, OnOk, OnErr};
+ghost use Rattle.std.specs.Prelude.{◌≡◌, ◌≢◌, ◌<◌, ◌≤◌, ◌+◌, ◌++◌, ◌^◌, [], ◌∷◌, IsTrue, length, IfOk, IfSome, OnOk, OnErr};
 ghost use Rattle.std.specs.Option.{option_map_or};
 ghost use Rattle.std.specs.Vec.{vec_len, vec_capacity};
 ghost use Rattle.a68_stack.specs.Room.{has_room};
@@ -104,6 +104,22 @@ fn begin_units(
     }
 }
 
+// These seats, once there is room for them beside the others. For none it takes no memory.
+fn with_room(seats: &mut Vec<Seat>, units: Vec<Seat>) -> Result<Vec<Seat>, NoMemory>
+    ensures same { seats.new.items ≡ seats.old.items }
+    ensures units { IfOk result (λ made. made.items ≡ units.items) }
+    ensures room { IfOk result (λ made. vec_len seats.new + vec_len made ≤ vec_capacity seats.new) }
+    ensures err { OnErr result (vec_len units ≢ 0) }
+{
+    match seats.reserve(units.len()) {
+        Ok(()) => Ok(units),
+        Err(_) => {
+            drop(units);
+            Err(NoMemory)
+        }
+    }
+}
+
 /// The seats of the strands that the act of this strand makes, and room for them. An act that makes none takes no memory for
 /// that.
 pub fn units_ready(
@@ -125,13 +141,26 @@ pub fn units_ready(
         unreachable!();
     };
     let units = begin_units(alloc, code, store, strand, seats.len() as u32)?;
-    match seats.reserve(units.len()) {
-        Ok(()) => Ok(units),
-        Err(_) => {
-            drop(units);
-            Err(NoMemory)
-        }
-    }
+    with_room(seats, units)
+}
+
+/// The same of a strand that is lent.
+pub fn units_for(
+    alloc: Global,
+    code: &Code,
+    store: &Store,
+    seats: &mut Vec<Seat>,
+    strand: &Strand,
+) -> Result<Vec<Seat>, NoMemory>
+    requires few { length code.now.list < 2 ^ 32 }
+    requires numbers { length seats.old.items + length (units_asked strand.now.about.ask store.now) < 2 ^ 32 }
+    ensures same { seats.new.items ≡ seats.old.items }
+    ensures units { IfOk result (λ units. AreUnits code.now (units_begun code.now strand.now store.now) (length seats.old.items) units.items) }
+    ensures room { IfOk result (λ units. vec_len seats.new + vec_len units ≤ vec_capacity seats.new) }
+    ensures err { OnErr result (AsksOther store.now strand.now) }
+{
+    let units = begin_units(alloc, code, store, strand, seats.len() as u32)?;
+    with_room(seats, units)
 }
 
 /// New strands take their seats behind the others.

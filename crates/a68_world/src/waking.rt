@@ -14,7 +14,7 @@ fn closed_in(seat: &Seat) -> bool
 {
     match seat {
         Seat::Home(strand) => strand.closed(),
-        Seat::Spent => false,
+        Seat::Away { closed, .. } => *closed,
     }
 }
 
@@ -88,8 +88,8 @@ fn go_on(alloc: Global, code: &Code, seat: &mut Seat) -> bool
     }
 }
 
-// The strand of this number goes on where it waits for units that have all closed. Tells whether it found memory.
-fn wake_at(alloc: Global, code: &Code, seats: &mut Vec<Seat>, n: usize) -> bool
+/// The strand of this number goes on where it waits for units that have all closed. Tells whether it found memory.
+pub fn wake_at(alloc: Global, code: &Code, seats: &mut Vec<Seat>, n: usize) -> bool
     requires few { length code.now.list < 2 ^ 32 }
     requires within { n < length seats.old.items }
     ensures { WakesAt code.now n seats.old.items seats.new.items result }
@@ -107,9 +107,9 @@ fn is_lost(lost: bool, found: bool) -> bool
     if found { lost } else { true }
 }
 
-// All strands go on that wait for units which have all closed; those that wait have numbers below this one. Tells whether
+/// All strands go on that wait for units which have all closed; those that wait have numbers below this one. Tells whether
 // one found no memory.
-fn wake_all(alloc: Global, code: &Code, seats: &mut Vec<Seat>, below: usize) -> bool
+pub fn wake_all(alloc: Global, code: &Code, seats: &mut Vec<Seat>, below: usize) -> bool
     requires few { length code.now.list < 2 ^ 32 }
     ensures { AllWake code.now below seats.old.items seats.new.items result }
 {

@@ -139,6 +139,11 @@ rows::operation-returns t c =
     and_behind c.args.out.now.stop c.all.new.out.stop c.emit.new.self.stop c.args.out.now.list c.all.new.out.list c.emit.new.self.list
     (stretches (trees_at (behind c.args.id (tree_of c.args.program.now)) c.args.parts.now) (length c.args.out.now.list)) (λ n. instr c.args.place c.args.does ∷ []) c.all.ensures c.emit.ensures
 
+pub calls::standard_formula-returns : goal.calls::standard_formula-returns
+calls::standard_formula-returns t c =
+    and_behind c.args.out.now.stop c.all.new.out.stop c.apply.new.out.stop c.args.out.now.list c.all.new.out.list c.apply.new.out.list
+    (stretches (trees_at (behind c.args.id (tree_of c.args.program.now)) c.args.parts.now) (length c.args.out.now.list)) (λ n. instr c.args.place (does.Apply c.args.row) ∷ []) c.all.ensures c.apply.ensures
+
 pub rows::last-write_part-requires : goal.rows::last-write_part-requires
 rows::last-write_part-requires t c =
     let b = between-each c.args.id (length c.args.program.now.of.now.tree.nodes) (length c.args.parts.now - 1) c.args.parts.now c.requires (omega arith) in
@@ -471,11 +476,35 @@ choices::write_arms-write_arm-requires = chosen.choices::write_arms-write_arm-re
 pub choices::write_arms-loop-part-preserved : goal.choices::write_arms-loop-part-preserved
 choices::write_arms-loop-part-preserved = chosen.choices::write_arms-loop-part-preserved
 
-pub choices::choose-returns : goal.choices::choose-returns
-choices::choose-returns = chosen.choices::choose-returns
+pub choices::choose-returns-clause-writes : goal.choices::choose-returns-clause-writes
+choices::choose-returns-clause-writes = chosen.choices::choose-returns-clause-writes
 
-pub choices::case-returns : goal.choices::case-returns
-choices::case-returns = chosen.choices::case-returns
+pub choices::choose-returns-clause-jumps : goal.choices::choose-returns-clause-jumps
+choices::choose-returns-clause-jumps = chosen.choices::choose-returns-clause-jumps
+
+pub choices::write_front-returns : goal.choices::write_front-returns
+choices::write_front-returns = chosen.choices::write_front-returns
+
+pub choices::write_case-write_front-ending-requires : goal.choices::write_case-write_front-ending-requires
+choices::write_case-write_front-ending-requires = chosen.choices::write_case-write_front-ending-requires
+
+pub choices::write_case-returns-clause-on : goal.choices::write_case-returns-clause-on
+choices::write_case-returns-clause-on = chosen.choices::write_case-returns-clause-on
+
+pub choices::write_cases-tails-init : goal.choices::write_cases-tails-init
+choices::write_cases-tails-init = chosen.choices::write_cases-tails-init
+
+pub choices::write_cases-tails-preserved : goal.choices::write_cases-tails-preserved
+choices::write_cases-tails-preserved = chosen.choices::write_cases-tails-preserved
+
+pub choices::case_chain-otherwise-requires : goal.choices::case_chain-otherwise-requires
+choices::case_chain-otherwise-requires = chosen.choices::case_chain-otherwise-requires
+
+pub choices::case_chain-returns : goal.choices::case_chain-returns
+choices::case_chain-returns = chosen.choices::case_chain-returns
+
+pub choices::case-case_chain-requires : goal.choices::case-case_chain-requires
+choices::case-case_chain-requires = chosen.choices::case-case_chain-requires
 
 pub turns::count-returns : goal.turns::count-returns
 turns::count-returns = repeated.turns::count-returns

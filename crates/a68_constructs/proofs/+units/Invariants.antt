@@ -9,6 +9,7 @@ use Rattle.a68_emit.specs.Listing.{stretches}
 use Rattle.a68_emit.specs.Views.{bound_of, extra, tree_of}
 use Rattle.a68_emit.specs.Writing.{Writes}
 use Rattle.a68_constructs.proofs.Conforming.{SpecsAhead}
+use Rattle.a68_constructs.specs.Endings.{GoesOn, TailIsWithin, out_tree}
 use Rattle.a68_constructs.proofs.Numbering.{ArmsAhead}
 use Rattle.a68_constructs.proofs.+units.Given as goal
 
@@ -50,6 +51,15 @@ decreases-choices::write_link l = 16 * (extra l.program.now + (length l.program.
 
 abbrev pub decreases-calls::formula : goal.decreases-calls::formula
 decreases-calls::formula l = 16 * (extra l.program.now + (length l.program.now.of.now.tree.nodes - l.id)) + 5
+
+abbrev pub decreases-calls::standard_formula : goal.decreases-calls::standard_formula
+decreases-calls::standard_formula l = 16 * (extra l.program.now + (length l.program.now.of.now.tree.nodes - l.id)) + 4
+
+abbrev pub decreases-rows::assignation : goal.decreases-rows::assignation
+decreases-rows::assignation l = 16 * (extra l.program.now + (length l.program.now.of.now.tree.nodes - l.id)) + 4
+
+abbrev pub decreases-rows::identity : goal.decreases-rows::identity
+decreases-rows::identity l = 16 * (extra l.program.now + (length l.program.now.of.now.tree.nodes - l.id)) + 4
 
 abbrev pub decreases-calls::declared_formula : goal.decreases-calls::declared_formula
 decreases-calls::declared_formula l = 16 * (extra l.program.now + (length l.program.now.of.now.tree.nodes - l.id)) + 4
@@ -175,7 +185,19 @@ abbrev pub decreases-choices::write_links-links : goal.decreases-choices::write_
 decreases-choices::write_links-links l = length l.program.of.now.tree.nodes - l.link.id
 
 abbrev pub decreases-choices::case : goal.decreases-choices::case
-decreases-choices::case l = 16 * (extra l.program.now + (length l.program.now.of.now.tree.nodes - l.id)) + 5
+decreases-choices::case l = 16 * (extra l.program.now + (length l.program.now.of.now.tree.nodes - l.id)) + 7
+
+abbrev pub decreases-choices::case_chain : goal.decreases-choices::case_chain
+decreases-choices::case_chain l = 16 * (extra l.program.now + (length l.program.now.of.now.tree.nodes - l.id)) + 6
+
+abbrev pub decreases-choices::write_cases : goal.decreases-choices::write_cases
+decreases-choices::write_cases l = 16 * (extra l.program.now + (length l.program.now.of.now.tree.nodes - l.first.id)) + 5
+
+abbrev pub decreases-choices::write_case : goal.decreases-choices::write_case
+decreases-choices::write_case l = 16 * (extra l.program.now + (length l.program.now.of.now.tree.nodes - l.id)) + 5
+
+abbrev pub decreases-choices::write_front : goal.decreases-choices::write_front
+decreases-choices::write_front l = 16 * (extra l.program.now + (length l.program.now.of.now.tree.nodes - l.id)) + 4
 
 abbrev pub decreases-choices::choose : goal.decreases-choices::choose
 decreases-choices::choose l = 16 * (extra l.program.now + (length l.program.now.of.now.tree.nodes - l.id)) + 3
@@ -185,6 +207,15 @@ decreases-choices::write_arms l = 16 * (extra l.program.now + (length l.program.
 
 abbrev pub decreases-choices::write_arm : goal.decreases-choices::write_arm
 decreases-choices::write_arm l = 16 * (extra l.program.now + (length l.program.now.of.now.tree.nodes - l.id)) + 1
+
+-- the choices before this one are written
+abbrev pub invariant-choices::write_cases-tails : goal.invariant-choices::write_cases-tails
+invariant-choices::write_cases-tails l =
+    TailIsWithin l.program.of.now l.tail × (l.fn.first.id ≤ l.tail.id)
+    × GoesOn (out_tree (tree_of l.program) l.fn.first) (out_tree (tree_of l.program) l.tail) l.initial.endings.items l.initial.out.stop l.initial.out.list l.endings.items l.out.stop l.out.list
+
+abbrev pub decreases-choices::write_cases-tails : goal.decreases-choices::write_cases-tails
+decreases-choices::write_cases-tails l = length l.program.of.now.tree.nodes - l.tail.id
 
 -- the parts before this one are written
 abbrev pub invariant-choices::write_arms-loop-part : goal.invariant-choices::write_arms-loop-part

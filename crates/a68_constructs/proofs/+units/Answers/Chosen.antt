@@ -1,26 +1,31 @@
 -- What choices by a truth value or a number have written.
-use Rattle.std.proofs.Common.{◌≡◌, ◌⊎◌, ℕ, Bool, List, Option, ◌+◌, ◌-◌, ◌++◌, [], ◌∷◌, length, sym, ◌∙◌, ap, subst, drop, take, get_or, arith, ◌<◌}
+use Rattle.std.proofs.lemmas.List.{length-append, take_rest}
+use Rattle.std.proofs.Common.{◌≡◌, refl, ◌⊎◌, ℕ, Bool, List, Option, ◌+◌, ◌-◌, ◌++◌, [], ◌∷◌, length, sym, ◌∙◌, ap, subst, drop, take, get_or, arith, ◌<◌}
 use Rattle.std.specs.Option.{option_map_or}
 use Rattle.a68_annot.specs.declared.annotated.Annotated.{Annotated}
 use Rattle.a68_emit.proofs.Linking.{case_is, enquiry_is, link_behind}
 use Rattle.a68_elab.specs.Made as made
-use Rattle.a68_elab.specs.Trees.{Tree, while_in, ◌and_tree◌, count}
-use Rattle.a68_elab.specs.Made.{trees_at}
+use Rattle.a68_elab.specs.Trees.{Tree, cases, while_in, ◌and_tree◌, count}
+use Rattle.a68_elab.specs.Made.{framed, trees_at}
 use Rattle.a68_elab.specs.Programs.{behind}
 use Rattle.a68_emit.specs.Listing.{stretch}
 use Rattle.a68_constructs.specs.Loops.{asked}
 use Rattle.a68_code.specs.declared.code.Instr.{Instr}
-use Rattle.a68_emit.specs.Writing.{aim_all, ran_out, Writes}
-use Rattle.a68_emit.specs.Numbers.{put_all}
+use Rattle.a68_emit.specs.Writing.{ran_out, Writes}
+use Rattle.a68_emit.specs.Numbers.{arm_jumps, put_all}
 use Rattle.a68_emit.specs.Views.{tree_of}
-use Rattle.a68_emit.specs.Chains.{enquiry_tree, Finishes, IsOpen, TreeIsWritten, link_tree, other_tree, shuts}
+use Rattle.a68_emit.specs.Chains.{enquiry_tree, Finishes, IsOpen, TreeIsWritten, link_tree, other_tree}
 use Rattle.a68_emit.specs.declared.ends.Opened.{Opened}
 use Rattle.a68_emit.proofs.Chaining.{open_more}
 use Rattle.a68_constructs.proofs.Constructs.{rest_parts, count_trees}
 use Rattle.a68_parts.proofs.Between.{between-each}
-use Rattle.a68_constructs.proofs.Numbering.{ArmsAhead, arm_end, arm_writes, arms_on, case_framed, case_writes}
+use Rattle.a68_constructs.proofs.Awaiting.{between-rest, case_node_is, case_some, front_as, front_is, front_writes, goes_as, goes_further, goes_on, goes_same, goes_to, node_parts, out_within, put_none}
+use Rattle.a68_constructs.proofs.Numbering.{ArmsAhead, arm_end, arm_writes, arms_on}
+use Rattle.a68_constructs.specs.Endings.{AllEnd, case_tree, out_tree, tail_behind}
+use Rattle.a68_constructs.specs.declared.choices.Tail.{Tail}
+use Rattle.a68_constructs.specs.declared.endings.Ending.{Ending}
 use Rattle.a68_constructs.proofs.Jumping.{link_all, link_jump}
-use Rattle.a68_emit.proofs.Writing.{had_not, drop_next}
+use Rattle.a68_emit.proofs.Writing.{had_not, is_written, drop_next}
 use Rattle.a68_constructs.proofs.+units.Goals as goal
 use Rattle.std.specs.Prelude.{not, IfSome}
 use Rattle.a68_modes.specs.Nodes.{shape_at, is_void}
@@ -179,31 +184,39 @@ choices::write_arms-loop-part-preserved t c =
     arms_on c.args.place (trees_at f ids) rest (f (get_or ids i 0)) starts c.write_arm.new.starts.items jumps c.write_arm.new.jumps.items w0.stop w1.stop w2.stop w0.list w1.list w2.list
     before c.write_arm.ensures.writes c.write_arm.ensures.starts c.write_arm.ensures.jumps
 
-pub choices::choose-returns : goal.choices::choose-returns
-choices::choose-returns t c =
+pub choices::choose-returns-clause-writes : goal.choices::choose-returns-clause-writes
+choices::choose-returns-clause-writes t c =
     let f = behind c.args.id (tree_of c.args.program.now) in
     let ids = c.args.parts.now in
     let w0 = c.args.out.now in
     let w1 = c.emit.new.self in
     let w2 = c.write_arms.new.out in
-    let w3 = c.otherwise.new.out in
-    let w4 = c.patch_all.new.self in
-    let w5 = c.patch_each.new.self in
+    let w3 = c.patch_each.new.self in
     let case = c.len-case.result in
-    let end = c.len-end.result in
     let starts = c.write_arms.new.starts.items in
-    let jumps = c.write_arms.new.jumps.items in
     let many : length c.in-Ok.items.items ≡ count (trees_at f ids) + 1 = c.in-Ok.ensures ∙ ap (λ (n : ℕ). n + 1) (sym (count_trees f ids)) in
-    let ends : w4.list ≡ aim_all w3.list jumps end = c.patch_all.ensures.list ∙ ap (λ (j : List ℕ). aim_all w3.list j end) c.deref.ensures.value in
-    let each : ((w5.list ≡ put_all w4.list case 0 starts) × (w5.stop ≡ w4.stop)) ⊎ (w5.stop ≡ ran_out w4.stop) =
-    subst (λ (ps : List ℕ). ((w5.list ≡ put_all w4.list case 0 ps) × (w5.stop ≡ w4.stop)) ⊎ (w5.stop ≡ ran_out w4.stop)) c.deref-2.ensures.value c.patch_each.ensures in
-    case_writes w0.stop w1.stop w2.stop w3.stop w4.stop w5.stop w0.list w1.list w2.list w3.list w4.list w5.list c.args.place case end c.in-Ok.items.items starts jumps (trees_at f ids)
-    (option_map_or (tree_of c.args.program.now) c.args.other (made.left_out c.args.place c.args.goal))
-    c.len-case.ensures.long many c.emit.ensures c.write_arms.ensures.writes c.write_arms.ensures.starts c.write_arms.ensures.jumps c.otherwise.ensures c.len-end.ensures.long ends
-    c.patch_all.ensures.stop each
+    let each : ((w3.list ≡ put_all w2.list case 0 starts) × (w3.stop ≡ w2.stop)) ⊎ (w3.stop ≡ ran_out w2.stop) =
+    subst (λ (ps : List ℕ). ((w3.list ≡ put_all w2.list case 0 ps) × (w3.stop ≡ w2.stop)) ⊎ (w3.stop ≡ ran_out w2.stop)) c.deref.ensures.value c.patch_each.ensures in
+    front_writes w0.stop w1.stop w2.stop w3.stop w0.list w1.list w2.list w3.list c.args.place case c.in-Ok.items.items starts (trees_at f ids)
+    c.len-case.ensures.long many c.emit.ensures c.write_arms.ensures.writes c.write_arms.ensures.starts each
 
-pub choices::case-returns : goal.choices::case-returns
-choices::case-returns t c =
+pub choices::choose-returns-clause-jumps : goal.choices::choose-returns-clause-jumps
+choices::choose-returns-clause-jumps t c = λ none.
+    let f = behind c.args.id (tree_of c.args.program.now) in
+    let ids = c.args.parts.now in
+    let w0 = c.args.out.now in
+    let w1 = c.emit.new.self in
+    let w2 = c.write_arms.new.out in
+    let w3 = c.patch_each.new.self in
+    let none2 = put_none w2.stop w3.stop w2.list w3.list _ c.patch_each.ensures none in
+    let none1 = had_not w1.stop w2.stop w1.list w2.list _ c.write_arms.ensures.writes none2 in
+    let long = ap (λ (l : List Instr). length l) (is_written w0.stop w1.stop w0.list w1.list _ c.emit.ensures none1) ∙ length-append w0.list _ in
+    c.write_arms.ensures.jumps none2 ∙ ap (λ (k : ℕ). arm_jumps (trees_at f ids) k) long
+
+-- ---- chains of choices by a number
+
+pub choices::write_front-returns : goal.choices::write_front-returns
+choices::write_front-returns t c =
     let v = c.args.program.now in
     let a = v.of.now in
     let id = c.args.id in
@@ -215,23 +228,75 @@ choices::case-returns t c =
     let ids = c.args.parts.now in
     let enquiry = get_or ids 0 0 in
     let units = c.before_out-units.result.now in
-    let other = c.out_of-other.result in
-    let below = (between-each id (length a.tree.nodes) 0 ids c.requires (omega arith)).0 in
-    let w0 = c.args.out.now in
-    let w1 = c.enquire.new.out in
-    let w2 = c.choose.new.out in
-    let w3 = c.shut.new.out in
-    let shut : Writes w2.stop w3.stop w2.list w3.list (shuts note.slots yields place) =
-    subst (λ (b : Bool). Writes w2.stop w3.stop w2.list w3.list (shuts note.slots (not b) place)) c.is_void.ensures c.shut.ensures in
-    let all = case_framed w0.stop w1.stop w2.stop w3.stop w0.list w1.list w2.list w3.list node.span.from note.slots place yields
-    (made.phrases_of node.span.from (trees_at (behind enquiry (tree_of v)) c.parts-phrases.result.now)) (trees_at (behind id (tree_of v)) units)
-    (option_map_or (tree_of v) other (made.left_out place goal_mode)) c.enquire.ensures c.choose.ensures shut in
+    let tail = tail_behind a id place goal_mode ids in
+    let below = (between-each id (length a.tree.nodes) 0 ids c.requires.between (omega arith)).0 in
+    let q = made.phrases_of node.span.from (trees_at (behind enquiry (tree_of v)) c.parts-phrases.result.now) in
     let rest = take (length ids - 1) (drop 1 ids) in
+    let rest_is : rest ≡ drop 1 ids = take_rest ids 1 in
     let units_are : units ≡ made.before_out a rest = c.before_out-units.ensures.parts ∙ ap (λ (x : Annotated). made.before_out x rest) c.annotated.ensures in
-    let other_is : other ≡ made.out_of a rest = c.out_of-other.ensures.out ∙ ap (λ (x : Annotated). made.out_of x rest) c.annotated-2.ensures in
-    let other_within : IfSome other (λ p. (id < p) × (p < length a.tree.nodes)) =
-    subst (λ (x : Annotated). IfSome other (λ p. (id < p) × (p < length x.tree.nodes))) c.annotated-2.ensures c.out_of-other.ensures.within in
-    let same = case_is a (tree_of v) id place goal_mode yields enquiry (take (length ids - 1) (drop 1 ids)) c.parts-phrases.result.now units other node note c.node.ensures.is c.note.ensures c.parts-phrases.ensures.is
+    let other_is : tail.other ≡ made.out_of a rest = ap (made.out_of a) (sym rest_is) in
+    let other_within : IfSome tail.other (λ p. (id < p) × (p < length a.tree.nodes)) = out_within a id (length a.tree.nodes) (drop 1 ids) (between-rest id (length a.tree.nodes) ids c.requires.between) in
+    let same = case_is a (tree_of v) id place goal_mode yields enquiry rest c.parts-phrases.result.now units tail.other node note c.node.ensures.is c.note.ensures c.parts-phrases.ensures.is
     c.parts-phrases.ensures.behind below units_are other_is other_within in
-    let whole = ap (λ (l : List ℕ). made.case_of a (behind id (tree_of v)) place goal_mode yields l) (sym (rest_parts ids (omega arith))) in
-    subst (λ (u : Tree). Writes w0.stop w3.stop w0.list w3.list (stretch u (length w0.list))) (same ∙ whole) all
+    let whole = ap (λ (l : List ℕ). made.case_of a (behind id (tree_of v)) place goal_mode yields l) (sym (rest_parts ids c.requires.some)) in
+    let void = ap not c.is_void.ensures in
+    front_as _ _ _ _ _ _ _ _ _ (ap (λ (b : Bool). framed node.span.from place note.slots b (cases place q (trees_at (behind id (tree_of v)) units) (out_tree (tree_of v) tail))) void ∙ same ∙ whole) refl
+    (front_is c.args.out.now.stop c.enquire.new.out.stop c.choose.new.out.stop c.args.out.now.list c.enquire.new.out.list c.choose.new.out.list _ node.span.from q (trees_at (behind id (tree_of v)) units)
+    (out_tree (tree_of v) tail) c.enquire.ensures c.choose.ensures.writes c.choose.ensures.jumps)
+
+pub choices::write_case-write_front-ending-requires : goal.choices::write_case-write_front-ending-requires
+choices::write_case-write_front-ending-requires t c =
+    let a = c.args.program.now.of.now in
+    let node = c.node-node.result.now in
+    let same = node_parts a c.args.id node c.parts-parts.result.now c.node-node.ensures.is c.parts-parts.ensures.is in
+    let some = subst (λ (ids : List ℕ). 0 < length ids) same (case_some a c.args.id node c.requires.case c.node-node.ensures.is) in
+    (omega arith, (some, c.parts-parts.ensures.behind))
+
+pub choices::write_case-returns-clause-on : goal.choices::write_case-returns-clause-on
+choices::write_case-returns-clause-on t c =
+    let v = c.args.program.now in
+    let a = v.of.now in
+    let node = c.node-node.result.now in
+    let note = c.note-note.result.now in
+    let ids = c.parts-parts.result.now in
+    let parts = node_parts a c.args.id node ids c.node-node.ensures.is c.parts-parts.ensures.is in
+    let same = case_node_is a v.sight c.args.id node note c.requires.case c.node-node.ensures.is c.note-note.ensures
+    ∙ ap (λ (is : List ℕ). case_tree a (tree_of v) c.args.id node.span.from note.goal is) parts in
+    let on = goes_on _ _ _ _ _ _ _ _ _ _ _ c.write_front-ending.ensures c.keep_ending.ensures.kept c.keep_ending.ensures.list in
+    goes_to _ _ _ _ _ _ _ _ _ (ap (out_tree (tree_of v)) (sym c.tail_of.ensures.is)) (goes_as _ _ _ _ _ _ _ _ _ (sym same) on)
+
+pub choices::write_cases-tails-init : goal.choices::write_cases-tails-init
+choices::write_cases-tails-init t c = (c.requires, omega arith, goes_same _ _ _ _)
+
+pub choices::write_cases-tails-preserved : goal.choices::write_cases-tails-preserved
+choices::write_cases-tails-preserved t c =
+    let below = c.in-Some.ensures.within in
+    let so_far = c.tails.invariant.1 in
+    let here = c.write_case-tail.ensures.node in (
+      c.write_case-tail.ensures.within,
+      omega arith,
+      goes_further _ _ _ _ _ _ _ _ _ _ _ _ _ c.in-Some.ensures.tree c.tails.invariant.2 c.write_case-tail.ensures.on,
+    )
+
+pub choices::case_chain-otherwise-requires : goal.choices::case_chain-otherwise-requires
+choices::case_chain-otherwise-requires t c =
+    let behind = c.write_cases-last.ensures.behind in
+    let first = ap (λ (x : Tail). x.id) c.tail_of-first.ensures.is in
+    (omega (arith, behind, first), c.write_cases-last.ensures.within)
+
+pub choices::case_chain-returns : goal.choices::case_chain-returns
+choices::case_chain-returns t c =
+    let v = c.args.program.now in
+    let a = v.of.now in
+    let f = tree_of v in
+    let whole = case_tree a f c.args.id c.args.place c.args.goal c.args.parts.now in
+    let w0 = c.args.out.now in
+    let w3 = c.otherwise.new.out in
+    let start = goes_on _ _ _ _ _ _ _ _ _ _ _ c.write_front-ending.ensures c.keep_ending.ensures.kept c.keep_ending.ensures.list in
+    let all = goes_further _ _ _ _ _ _ _ _ _ _ _ _ _ (ap (out_tree f) (sym c.tail_of-first.ensures.is)) start c.write_cases-last.ensures.on in
+    let awaited = all.on whole w0.stop w0.list (λ s l w. subst (λ (es : List Ending). AllEnd es (TreeIsWritten whole w0.stop w0.list) s l) (sym c.new-endings.ensures.items) w) in
+    c.end_all.ensures whole w0.stop w0.list
+    (subst (λ (es : List Ending). AllEnd es (TreeIsWritten whole w0.stop w0.list) w3.stop w3.list) (sym c.deref.ensures.value) (awaited w3.stop w3.list c.otherwise.ensures))
+
+pub choices::case-case_chain-requires : goal.choices::case-case_chain-requires
+choices::case-case_chain-requires t c = (omega arith, (omega arith, c.requires))

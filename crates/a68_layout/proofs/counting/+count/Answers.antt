@@ -1,8 +1,10 @@
-use Rattle.std.proofs.Common.{◌∙◌, sym, arith}
+use Rattle.std.proofs.Common.{◌≡◌, ◌∙◌, ap, sym, arith}
 use Rattle.std.proofs.lemmas.List.{take_rest}
+use Rattle.a68_modes.specs.Nodes.{shape_at}
+use Rattle.a68_modes.specs.declared.shape.Shape.TheVariants.{Struct}
 use Rattle.a68_layout.specs.Rooms.{room_within, needs_within}
 use Rattle.a68_layout.specs.Widths.{cells_of}
-use Rattle.a68_layout.proofs.Inwards.{room-leaf, room-row, rooms-more, row-counted, one-counted}
+use Rattle.a68_layout.proofs.Inwards.{room-leaf, room-row, room-structure, room-same, rooms-more, row-counted, one-counted}
 use Rattle.a68_layout.proofs.Leaves.{leaf, leaf-past}
 use Rattle.a68_layout.proofs.counting.+count.Goals as goal
 
@@ -39,3 +41,14 @@ count_fields-loop-field-preserved t c =
       within = omega arith;
       sum = one-counted c.args.rows c.loop-field.counted c.count_room-counted.result _ _ _ more one ∙ c.loop-field.invariant.sum;
     }
+
+pub count_room-returns-in-Struct : goal.count_room-returns-in-Struct
+count_room-returns-in-Struct t c =
+    let same : c.deref.result.now ≡ c.in-Struct.fields = c.deref.ensures.value ∙ c.fields.view_is in
+    let is : Struct c.deref.result.now ≡ shape_at c.args.modes.now c.args.mode = ap (λ fs. Struct fs) same ∙ sym c.in-Struct.is ∙ c.shape.ensures.shape in
+    rw (room-structure c.args.depth c.args.modes.now c.args.mode c.deref.result.now c.args.bounds.now c.if-depth-eq0.false is) c.count_fields.ensures
+
+pub count_room-returns-in-Same : goal.count_room-returns-in-Same
+count_room-returns-in-Same t c =
+    let is = sym c.in-Same.is ∙ c.shape.ensures.shape in
+    rw (room-same c.args.depth c.args.modes.now c.args.mode c.in-Same.mode c.args.bounds.now c.if-depth-eq0.false is) c.count_room.ensures

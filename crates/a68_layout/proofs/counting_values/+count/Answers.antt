@@ -20,7 +20,7 @@ count_value-returns-then-mode-len t c =
 pub count_value-returns-in-Rows : goal.count_value-returns-in-Rows
 count_value-returns-in-Rows t c =
     let is = sym c.in-Rows.is ∙ c.shape.ensures.shape in
-    rw (room_for-row c.args.depth c.args.modes.now c.args.mode c.in-Rows.dims c.in-Rows.flex c.in-Rows.of c.args.value.now c.if-depth-eq0.false is) c.count_row.ensures
+    rw (room_for-row c.args.depth c.args.modes.now c.args.mode c.in-Rows.dims c.in-Rows.flex c.in-Rows.of c.args.value.now c.if-depth-eq0.false is) c.count_filled.ensures
 
 pub count_value-returns-in-Struct : goal.count_value-returns-in-Struct
 count_value-returns-in-Struct t c =

@@ -14,8 +14,8 @@ decreases-count_elements l = 3 * l.depth + 1
 abbrev pub decreases-count_parts : goal.decreases-count_parts
 decreases-count_parts l = 3 * l.depth + 1
 
-abbrev pub decreases-count_row : goal.decreases-count_row
-decreases-count_row l = 3 * l.depth + 2
+abbrev pub decreases-count_filled : goal.decreases-count_filled
+decreases-count_filled l = 3 * l.depth + 2
 
 abbrev pub decreases-count_structure : goal.decreases-count_structure
 decreases-count_structure l = 3 * l.depth + 2

@@ -3,7 +3,9 @@ use Rattle.std.proofs.lemmas.List.{length-append, take_rest}
 use Rattle.std.proofs.lemmas.Result.{err_from_is_err_and}
 use Rattle.a68_layout.specs.Rooms.{inwards, all_inwards, room_within, rooms_of, needs_within}
 use Rattle.a68_layout.specs.Widths.{cells_of}
-use Rattle.a68_layout.proofs.Inwards.{room-leaf, room-row, rooms-more, row-shape}
+use Rattle.a68_layout.proofs.Inwards.{room-leaf, room-row, room-structure, room-same, rooms-more, row-shape}
+use Rattle.a68_modes.specs.Nodes.{shape_at}
+use Rattle.a68_modes.specs.declared.shape.Shape.TheVariants.{Struct}
 use Rattle.a68_layout.proofs.Leaves.{leaf, leaf-past}
 use Rattle.a68_layout.proofs.Made.{rest-on, rest-end, stop-on, copies-on, copies-stop, copies-end}
 use Rattle.a68_layout.proofs.making.+make.Goals as goal
@@ -103,3 +105,29 @@ make_fields-loop-field-preserved t c =
       );
       rest = rest-on _ _ _ _ _ _ _ _ _ made (rw (ap (all_inwards c.args.rows) more) at c.loop-field.invariant.rest);
     }
+
+-- ---- a structure, and a mode word
+
+pub make_room-make_fields-requires : goal.make_room-make_fields-requires
+make_room-make_fields-requires t c =
+    let same : c.deref.result.now ≡ c.in-Struct.fields = c.deref.ensures.value ∙ c.fields.view_is in
+    let is : Struct c.deref.result.now ≡ shape_at c.args.modes.now c.args.mode = ap (λ fs. Struct fs) same ∙ sym c.in-Struct.is ∙ c.shape.ensures.shape in
+    let shape = room-structure c.args.depth c.args.modes.now c.args.mode c.deref.result.now c.args.bounds.now c.if-depth-eq0.false is in
+    (omega arith, rw shape at c.requires)
+
+pub make_room-returns-in-Struct : goal.make_room-returns-in-Struct
+make_room-returns-in-Struct t c =
+    let same : c.deref.result.now ≡ c.in-Struct.fields = c.deref.ensures.value ∙ c.fields.view_is in
+    let is : Struct c.deref.result.now ≡ shape_at c.args.modes.now c.args.mode = ap (λ fs. Struct fs) same ∙ sym c.in-Struct.is ∙ c.shape.ensures.shape in
+    rw (room-structure c.args.depth c.args.modes.now c.args.mode c.deref.result.now c.args.bounds.now c.if-depth-eq0.false is) c.make_fields.ensures
+
+pub make_room-make_room-requires : goal.make_room-make_room-requires
+make_room-make_room-requires t c =
+    let is = sym c.in-Same.is ∙ c.shape.ensures.shape in
+    let shape = room-same c.args.depth c.args.modes.now c.args.mode c.in-Same.mode c.args.bounds.now c.if-depth-eq0.false is in
+    (omega arith, rw shape at c.requires)
+
+pub make_room-returns-in-Same : goal.make_room-returns-in-Same
+make_room-returns-in-Same t c =
+    let is = sym c.in-Same.is ∙ c.shape.ensures.shape in
+    rw (room-same c.args.depth c.args.modes.now c.args.mode c.in-Same.mode c.args.bounds.now c.if-depth-eq0.false is) c.make_room.ensures

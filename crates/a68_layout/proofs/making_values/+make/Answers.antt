@@ -16,7 +16,7 @@ make_value-returns-then-mode-len t c =
 pub make_value-returns-in-Rows : goal.make_value-returns-in-Rows
 make_value-returns-in-Rows t c =
     let is = sym c.in-Rows.is ∙ c.shape.ensures.shape in
-    rw (room_for-row c.args.depth c.args.modes.now c.args.mode c.in-Rows.dims c.in-Rows.flex c.in-Rows.of c.args.value.now c.if-depth-eq0.false is) c.make_row.ensures
+    rw (room_for-row c.args.depth c.args.modes.now c.args.mode c.in-Rows.dims c.in-Rows.flex c.in-Rows.of c.args.value.now c.if-depth-eq0.false is) c.make_filled.ensures
 
 pub make_value-returns-in-Struct : goal.make_value-returns-in-Struct
 make_value-returns-in-Struct t c =

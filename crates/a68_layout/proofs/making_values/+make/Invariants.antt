@@ -13,8 +13,8 @@ decreases-make_elements l = 3 * l.depth + 1
 abbrev pub decreases-make_parts : goal.decreases-make_parts
 decreases-make_parts l = 3 * l.depth + 1
 
-abbrev pub decreases-make_row : goal.decreases-make_row
-decreases-make_row l = 3 * l.depth + 2
+abbrev pub decreases-make_filled : goal.decreases-make_filled
+decreases-make_filled l = 3 * l.depth + 2
 
 abbrev pub decreases-make_structure : goal.decreases-make_structure
 decreases-make_structure l = 3 * l.depth + 2

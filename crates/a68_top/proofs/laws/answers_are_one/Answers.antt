@@ -1,10 +1,11 @@
-use Rattle.a68_elab.specs.Programs.{program_of}
+use Rattle.std.proofs.Common.{◌≤◌, ℕ, List, length, subst}
+use Rattle.a68_symbols.specs.Limits.{most_bytes}
 use Rattle.a68_top.proofs.Compiled.{Codes, not_refused, one_made}
-use Rattle.a68_top.proofs.One.{Laws, one_refusal, same_program}
+use Rattle.a68_top.proofs.One.{Laws, one_listing, one_refusal, same_program}
 use Rattle.a68_top.proofs.Within.{Bounds, place_within}
 use Rattle.a68_top.proofs.laws.answers_are_one.Goals as goal
 
-laws : goal.After-translations_are_listings → Laws
+laws : goal.After-listings_keep_the_symbols → Laws
 laws c = record {
   named = c.symbols_are_one.ensures.named;
   classes = c.classes_are_one.ensures.list;
@@ -16,13 +17,13 @@ laws c = record {
   ungenerated = c.translations_are_listings.ensures.one;
 }
 
-codes : goal.After-translations_are_listings → Codes
+codes : goal.After-listings_keep_the_symbols → Codes
 codes c = record {
   code = c.translations_are_listings.ensures.code;
   apart = c.translations_are_listings.ensures.apart;
 }
 
-bounds : goal.After-translations_are_listings → Bounds
+bounds : goal.After-listings_keep_the_symbols → Bounds
 bounds c = record {
   broken = c.symbols_are_bounded.ensures.refused;
   symbols = c.symbols_are_bounded.ensures.within;
@@ -39,6 +40,13 @@ returns c = record {
   apart = not_refused (laws c) (codes c);
   programs = same_program (laws c);
   compiled = one_made (laws c) (codes c);
-  runs = λ text made fuel a b m.
-      c.one_worker_has_one_run.ensures made.code fuel (c.ended_programs_do_no_more.ensures (program_of made.program) made.code m.translated) a b;
+  runs = λ text made fuel a b m. c.one_worker_has_one_run.ensures made.code fuel a b;
+  listings = one_listing (laws c);
+  laid_out = λ text out is short.
+      c.listings_keep_the_symbols.ensures text is.is.found is.is.symbols is.is.named is.is.classes is.tree.nodes is.is.classed.words.whole is.is.derived
+      (subst (λ (l : List ℕ). length l ≤ most_bytes) is.laid_out short);
+  races = c.races_are_one.ensures.shown;
+  beyond = c.races_are_one.ensures.beyond;
+  raced = c.races_are_one.ensures.apart;
+  among = c.races_are_one.ensures.within;
 }

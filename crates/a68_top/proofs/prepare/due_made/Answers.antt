@@ -11,3 +11,6 @@ returns-in-Check-clause-answer g c =
 
 pub returns-in-Code-clause-answer : goal.returns-in-Code-clause-answer
 returns-in-Code-clause-answer g c = rw c.in-Code.is c.listed.ensures.says
+
+pub returns-in-Races-clause-answer : goal.returns-in-Races-clause-answer
+returns-in-Races-clause-answer g c = rw c.in-Races.is c.raced.ensures.answer

@@ -1,7 +1,7 @@
 use Rattle.std.proofs.Common.{◌≡◌, ap, sym}
 use Rattle.std.specs.Prelude.{Some}
-use Rattle.a68_top.specs.Commands.{task_of}
-use Rattle.a68_top.specs.Words.{file_of}
+use Rattle.a68_command.specs.Commands.{task_of}
+use Rattle.a68_command.specs.Words.{file_of}
 use Rattle.a68_top.proofs.Told.{fetched, made}
 use Rattle.a68_top.proofs.prepare.text_for.Goals as goal
 
@@ -19,6 +19,16 @@ pub returns-in-Code-clause-text : goal.returns-in-Code-clause-text
 returns-in-Code-clause-text g c =
     let e : file_of (task_of c.args.command.now) ≡ Some c.as_str-in-Code.result.now = rw c.in-Code.is (ap Some (sym c.as_str-in-Code.ensures)) in
     fetched (task_of c.args.command.now) (g.F.Shelf.under c.args.shelf.now) c.as_str-in-Code.result.now c.fetch-in-Code.result e c.fetch-in-Code.ensures.text c.fetch-in-Code.ensures.length
+
+pub returns-in-Races-clause-text : goal.returns-in-Races-clause-text
+returns-in-Races-clause-text g c =
+    let e : file_of (task_of c.args.command.now) ≡ Some c.as_str-in-Races.result.now = rw c.in-Races.is (ap Some (sym c.as_str-in-Races.ensures)) in
+    fetched (task_of c.args.command.now) (g.F.Shelf.under c.args.shelf.now) c.as_str-in-Races.result.now c.fetch-in-Races.result e c.fetch-in-Races.ensures.text c.fetch-in-Races.ensures.length
+
+pub returns-in-LayOut-clause-text : goal.returns-in-LayOut-clause-text
+returns-in-LayOut-clause-text g c =
+    let e : file_of (task_of c.args.command.now) ≡ Some c.as_str-in-LayOut.result.now = rw c.in-LayOut.is (ap Some (sym c.as_str-in-LayOut.ensures)) in
+    fetched (task_of c.args.command.now) (g.F.Shelf.under c.args.shelf.now) c.as_str-in-LayOut.result.now c.fetch-in-LayOut.result e c.fetch-in-LayOut.ensures.text c.fetch-in-LayOut.ensures.length
 
 pub returns-in-Make-clause-text : goal.returns-in-Make-clause-text
 returns-in-Make-clause-text g c = rw c.in-Make.is (made (g.F.Shelf.under c.args.shelf.now) c.in-Make.units _ c.made_text.result c.made_text.ensures.text)

@@ -15,4 +15,5 @@ loop-strand-preserved g c =
     record {
       goes = goes_through first c.turn_first.new.world c.go_alone.new.world goes c.go_alone.ensures.goes_on;
       took = c.in_ok-go_alone.ensures.took first goes took;
+      rest = c.in_ok-go_alone.ensures.rest;
     }

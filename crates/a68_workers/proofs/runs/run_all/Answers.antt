@@ -8,7 +8,7 @@ pub returns-clause-goes_on : goal.returns-clause-goes_on
 returns-clause-goes_on g c =
     let old = c.args.world in
     let now = c.run_shared-world.result in
-    IfOk-weaker c.run_alone-2.result (GoesFrom now) (GoesFrom old) (λ new. goes_through old now new c.run_shared-world.ensures) c.run_alone-2.ensures.goes_on
+    IfOk-weaker c.run_alone-2.result (GoesFrom now) (GoesFrom old) (λ new. goes_through old now new c.run_shared-world.ensures.goes) c.run_alone-2.ensures.goes_on
 
 -- several take no turns
 pub returns-clause-alone : goal.returns-clause-alone

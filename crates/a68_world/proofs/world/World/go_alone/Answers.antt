@@ -1,5 +1,5 @@
-use Rattle.std.proofs.Common.{◌≡◌, Some, inr, length, refl, subst, arith}
-use Rattle.std.specs.Prelude.{slice_get}
+use Rattle.std.proofs.Common.{◌≡◌, ◌∙◌, Some, inr, List, length, map, refl, ap, subst, arith}
+use Rattle.std.specs.Prelude.{slice_get, slice_set}
 use Rattle.std.specs.Vec.{with_item}
 use Rattle.a68_acts.specs.Store.{Store}
 use Rattle.a68_instructions.proofs.Settling.{stepped, stopped}
@@ -8,7 +8,10 @@ use Rattle.a68_world.specs.declared.seat.Seat.{Seat}
 use Rattle.a68_world.specs.Ending.{EndShown}
 use Rattle.a68_world.proofs.Doing.{seat_there}
 use Rattle.a68_world.proofs.GoingAlone.{gone_ahead, gone_all, rests_at, still_ahead, stopped_all}
+use Rattle.a68_world.proofs.Places.{set_again}
 use Rattle.a68_world.proofs.Standing.{none_from}
+use Rattle.a68_world.specs.Seats.{status_of}
+use Rattle.a68_world.specs.declared.status.StrandState.TheVariants as status
 use Rattle.a68_world.proofs.world.World.go_alone.Goals as goal
 
 pub go_at-requires-clause-rests : goal.go_at-requires-clause-rests
@@ -57,7 +60,7 @@ returns-in-Ok-true-clause-ahead c =
     let one : length s.seats.items ≡ 1 = omega (arith, c.len.ensures, c.if-len-ne1.false) in
     let x = c.index_mut.result.now in
     let there : slice_get s.seats.items 0 ≡ Some x = seat_there s.seats.items s.seats.items 0 x refl (omega (arith, one)) c.index_mut.ensures.value in
-    λ unended kept st strands.
+    λ unended kept home st strands.
     gone_ahead s c.self.invariant one (none_from s.end c.is_some.result c.is_some.ensures c.if-is_some.false) c.if-self.false c.go_at.new.journal c.go_at.new.store (with_item s.seats 0 c.go_at.new.seat) c.go_at.ensures.room c.go_at.ensures.within x
     c.go_at.new.seat there (stepped c.in-Ok-true.field-0 _ _ c.in-Ok-true.ensures.went c.in-Ok-true.field-0-test) refl c.in-Ok-true.ensures.ahead st strands
 
@@ -70,4 +73,6 @@ returns-in-Ok-false-clause-ahead c =
     let same = stopped c.in-Ok-false.field-0 _ _ c.in-Ok-false.ensures.went c.in-Ok-false.field-0-test in
     let entries = length c.go_at.new.journal.items in
     let none = subst (λ (y : Seat). NoneAheadAt s.fuel entries s.store y) same.0 (subst (λ (t : Store). NoneAheadAt s.fuel entries t c.go_at.new.seat) same.1 c.in-Ok-false.ensures.ahead) in
-    λ unended kept st strands. still_ahead s c.self.invariant one c.go_at.new.journal same.2 x there none kept st strands
+    λ unended kept home st strands.
+    still_ahead s c.self.invariant one c.go_at.new.journal same.2 x there none kept
+    (subst (λ (l : List Seat). slice_get (map status_of l) 0 ≡ Some status.Home) (ap (slice_set s.seats.items 0) same.0 ∙ set_again s.seats.items 0 x there) home) st strands

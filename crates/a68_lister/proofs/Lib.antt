@@ -1,0 +1,10 @@
+pub mod Alone
+pub mod Beside
+pub mod Laid
+pub mod Laying
+pub mod Recut
+pub mod Relisting
+pub mod Signs
+pub mod Spelling
+pub mod Standing
+pub mod Treed

@@ -1,0 +1,7 @@
+use Rattle.a68_machine_tests.proofs.Held.{told_held}
+use Rattle.a68_machine_tests.proofs.leases.acts.Goals as goal
+
+pub returns : goal.returns
+returns g c =
+    told_held c.args.world.now c.act.new.self c.args.strand c.told.new.self c.in-Ok.reply c.code.result.now c.told.result c.expect.result c.code.ensures.code c.expect.ensures c.code-known.ensures.known c.requires c.in-Ok.ensures
+    c.told.ensures.ok c.told.ensures.number c.told.ensures.room

@@ -1,0 +1,9 @@
+pub mod Finding
+pub mod Lasts
+pub mod Lining
+pub mod Numbering
+pub mod One
+pub mod Order
+pub mod Stepping
+pub mod Steps
+pub mod Telling

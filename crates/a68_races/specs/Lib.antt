@@ -1,0 +1,9 @@
+pub mod Before
+pub mod Clocks
+pub mod Codes
+pub mod Lines
+pub mod Races
+pub mod Shown
+pub mod Telling
+pub mod Watches
+pub mod Cells

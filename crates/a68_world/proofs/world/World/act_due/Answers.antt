@@ -1,0 +1,132 @@
+use Rattle.std.proofs.Common.{◌≡◌, ◌∙◌, ◌<◌, ◌++◌, ◌∷◌, [], Bool, true, false, List, length, map, refl, sym, ap, subst, arith}
+use Rattle.std.specs.Prelude.{◌||◌, Some, slice_get, slice_set}
+use Rattle.a68_world.specs.Inside.{run_of}
+use Rattle.a68_world.specs.Leases.{BoundsBy, IsHeld, closes_by, waits_by}
+use Rattle.a68_world.specs.Run.{Run, world}
+use Rattle.a68_world.specs.Seats.{status_of, turn_shown}
+use Rattle.a68_world.specs.Turns.{GoesOn, IsDueAs, IsOtherDueAs}
+use Rattle.a68_world.specs.declared.seat.Seat.{Seat}
+use Rattle.a68_world.specs.declared.seat.Seat.TheVariants as seat
+use Rattle.a68_world.specs.declared.status.StrandState.TheVariants as status
+use Rattle.a68_world.proofs.Behind.{Noted}
+use Rattle.a68_world.proofs.LentActs.{due_reached, fault_lent, lent_acts, lent_there, sits_turn}
+use Rattle.a68_world.proofs.Places.{is_within}
+use Rattle.a68_world.proofs.Standing.{asking_as, due_other_as, few_asked_as, few_frames}
+use Rattle.a68_world.proofs.world.World.act_due.Goals as goal
+
+pub units_for-requires-clause-numbers : goal.units_for-requires-clause-numbers
+units_for-requires-clause-numbers c =
+    let s = c.self.inside in
+    let strand = c.args.strand.now in
+    let held : IsHeld (run_of s) strand = subst (λ (r : Run). IsHeld r strand) (sym c.self.view_is) c.requires.held in
+    let turn = ap (turn_shown strand.about.ask) c.self.invariant.store ∙ ap (λ (r : Run). turn_shown strand.about.ask (world r).store) c.self.view_is ∙ c.requires.turn in
+    few_asked_as s c.self.invariant strand.number strand status.Lent (sits_turn s c.self.invariant strand held turn) strand.about.ask refl
+
+pub lose_lent-requires-clause-due : goal.lose_lent-requires-clause-due
+lose_lent-requires-clause-due c =
+    let s = c.self.inside in
+    let strand = c.args.strand.now in
+    let held : IsHeld (run_of s) strand = subst (λ (r : Run). IsHeld r strand) (sym c.self.view_is) c.requires.held in
+    let turn = ap (turn_shown strand.about.ask) c.self.invariant.store ∙ ap (λ (r : Run). turn_shown strand.about.ask (world r).store) c.self.view_is ∙ c.requires.turn in
+    let due : IsDueAs (run_of s) strand.number status.Lent = subst (λ (r : Run). IsDueAs r strand.number status.Lent) (sym c.self.view_is) c.requires.due in
+    let wanted : IsOtherDueAs (run_of s) strand.number status.Lent =
+    due_other_as s c.self.invariant strand.number strand status.Lent (sits_turn s c.self.invariant strand held turn) due c.in_default.ensures.err in
+    subst (λ (l : List Seat). IsOtherDueAs (record { code = s.code; fuel = s.fuel; entries = s.journal.items; status = map status_of l; lost = s.lost; end = s.end }) strand.number status.Lent) (sym c.units_for.ensures.same) wanted
+
+pub act_lent-requires-clause-frames : goal.act_lent-requires-clause-frames
+act_lent-requires-clause-frames c =
+    let s = c.self.inside in
+    let strand = c.args.strand.now in
+    let due : IsDueAs (run_of s) strand.number status.Lent = subst (λ (r : Run). IsDueAs r strand.number status.Lent) (sym c.self.view_is) c.requires.due in
+    few_frames s c.self.invariant due.fuel
+
+pub act_lent-requires-clause-asking : goal.act_lent-requires-clause-asking
+act_lent-requires-clause-asking c =
+    let s = c.self.inside in
+    let strand = c.args.strand.now in
+    let held : IsHeld (run_of s) strand = subst (λ (r : Run). IsHeld r strand) (sym c.self.view_is) c.requires.held in
+    let turn = ap (turn_shown strand.about.ask) c.self.invariant.store ∙ ap (λ (r : Run). turn_shown strand.about.ask (world r).store) c.self.view_is ∙ c.requires.turn in
+    let due : IsDueAs (run_of s) strand.number status.Lent = subst (λ (r : Run). IsDueAs r strand.number status.Lent) (sym c.self.view_is) c.requires.due in
+    asking_as s c.self.invariant strand.number strand status.Lent (sits_turn s c.self.invariant strand held turn) due
+
+pub index_mut-requires : goal.index_mut-requires
+index_mut-requires c =
+    let s = c.self.inside in
+    let strand = c.args.strand.now in
+    let held : IsHeld (run_of s) strand = subst (λ (r : Run). IsHeld r strand) (sym c.self.view_is) c.requires.held in
+    let t = lent_there s strand held in
+    omega (arith, is_within s.seats.items strand.number (seat.Away false t.0) t.1, c.number-in-Told.ensures, ap (λ (l : List Seat). length l) c.units_for.ensures.same, c.units_for.new.seats.ok.0)
+
+pub invariant_of-self-in-Told : goal.invariant_of-self-in-Told
+invariant_of-self-in-Told c =
+    let s = c.self.inside in
+    let strand = c.args.strand.now in
+    let n = strand.number in
+    let held : IsHeld (run_of s) strand = subst (λ (r : Run). IsHeld r strand) (sym c.self.view_is) c.requires.held in
+    let goes : GoesOn (run_of s) = subst (λ (r : Run). GoesOn r) (sym c.self.view_is) c.requires.goes_on in
+    let due : IsDueAs (run_of s) n status.Lent = subst (λ (r : Run). IsDueAs r n status.Lent) (sym c.self.view_is) c.requires.due in
+    let units = c.in-Ok.units.items in
+    let told = c.act_lent.new.reply in
+    let store = c.act_lent.new.store in
+    let closed = c.closes_by-closed.result in
+    let r = due_reached s strand c.self.invariant held c.in-Told.act told store units goes due c.in-Told.ensures c.in-Ok.ensures.units in
+    let noted : Noted s n c.in-Told.act c.note.new.journal = record {
+      items = c.note.ensures.items ∙ ap (λ k. s.journal.items ++ record { strand = k; act = c.in-Told.act } ∷ []) c.number.ensures;
+      room = omega (arith, c.note.ensures.room, c.self.invariant.room);
+    } in
+    let placed : c.seat_all.new.seats.items ≡ slice_set s.seats.items n (seat.Away false closed) ++ units =
+    c.seat_all.ensures ∙ ap (λ l. slice_set l c.number-in-Told.result c.set_closed.new.seat ++ units) c.units_for.ensures.same ∙ ap (λ k. slice_set s.seats.items k c.set_closed.new.seat ++ units) c.number-in-Told.ensures
+    ∙ ap (λ z. slice_set s.seats.items n z ++ units) c.set_closed.ensures in
+    let bounds = subst (λ k. BoundsBy (waits_by strand.about.waiting told) s.waits_below k c.bound_behind-below.result) c.number-in-Told-2.ensures (subst (λ b. BoundsBy b s.waits_below c.number-in-Told-2.result c.bound_behind-below.result) c.waits_by-waits.ensures c.bound_behind-below.ensures) in
+    (lent_acts s c.self.invariant strand held c.in-Told.act told store units r closed c.either-may.result c.wake_if-self-inside.result c.seat_all.new.seats.items c.note.new.journal c.wake_if-self-inside.new.seats c.bound_behind-below.result
+    c.closes_by-closed.ensures (c.either-may.ensures ∙ ap (λ b. b || c.waits_by-waits.result) c.closes_by-closed.ensures ∙ ap (λ b. closes_by strand.about.waiting told || b) c.waits_by-waits.ensures) noted placed bounds c.wake_if-self-inside.ensures).0
+
+pub returns-in-Told : goal.returns-in-Told
+returns-in-Told c =
+    let s = c.self.inside in
+    let strand = c.args.strand.now in
+    let n = strand.number in
+    let held : IsHeld (run_of s) strand = subst (λ (r : Run). IsHeld r strand) (sym c.self.view_is) c.requires.held in
+    let goes : GoesOn (run_of s) = subst (λ (r : Run). GoesOn r) (sym c.self.view_is) c.requires.goes_on in
+    let due : IsDueAs (run_of s) n status.Lent = subst (λ (r : Run). IsDueAs r n status.Lent) (sym c.self.view_is) c.requires.due in
+    let units = c.in-Ok.units.items in
+    let told = c.act_lent.new.reply in
+    let store = c.act_lent.new.store in
+    let closed = c.closes_by-closed.result in
+    let r = due_reached s strand c.self.invariant held c.in-Told.act told store units goes due c.in-Told.ensures c.in-Ok.ensures.units in
+    let noted : Noted s n c.in-Told.act c.note.new.journal = record {
+      items = c.note.ensures.items ∙ ap (λ k. s.journal.items ++ record { strand = k; act = c.in-Told.act } ∷ []) c.number.ensures;
+      room = omega (arith, c.note.ensures.room, c.self.invariant.room);
+    } in
+    let placed : c.seat_all.new.seats.items ≡ slice_set s.seats.items n (seat.Away false closed) ++ units =
+    c.seat_all.ensures ∙ ap (λ l. slice_set l c.number-in-Told.result c.set_closed.new.seat ++ units) c.units_for.ensures.same ∙ ap (λ k. slice_set s.seats.items k c.set_closed.new.seat ++ units) c.number-in-Told.ensures
+    ∙ ap (λ z. slice_set s.seats.items n z ++ units) c.set_closed.ensures in
+    let bounds = subst (λ k. BoundsBy (waits_by strand.about.waiting told) s.waits_below k c.bound_behind-below.result) c.number-in-Told-2.ensures (subst (λ b. BoundsBy b s.waits_below c.number-in-Told-2.result c.bound_behind-below.result) c.waits_by-waits.ensures c.bound_behind-below.ensures) in
+    rw (← c.self.view_is) (lent_acts s c.self.invariant strand held c.in-Told.act told store units r closed c.either-may.result c.wake_if-self-inside.result c.seat_all.new.seats.items c.note.new.journal c.wake_if-self-inside.new.seats c.bound_behind-below.result
+    c.closes_by-closed.ensures (c.either-may.ensures ∙ ap (λ b. b || c.waits_by-waits.result) c.closes_by-closed.ensures ∙ ap (λ b. closes_by strand.about.waiting told || b) c.waits_by-waits.ensures) noted placed bounds c.wake_if-self-inside.ensures).1
+
+pub end_lent-requires-clause-held : goal.end_lent-requires-clause-held
+end_lent-requires-clause-held c =
+    let s = c.self.inside in
+    let strand = c.args.strand.now in
+    let held : IsHeld (run_of s) strand = subst (λ (r : Run). IsHeld r strand) (sym c.self.view_is) c.requires.held in
+    subst (λ (l : List Seat). IsHeld (record { code = s.code; fuel = s.fuel; entries = s.journal.items; status = map status_of l; lost = s.lost; end = s.end }) strand) (sym c.units_for.ensures.same) held
+
+pub end_lent-requires-clause-ends : goal.end_lent-requires-clause-ends
+end_lent-requires-clause-ends c =
+    let s = c.self.inside in
+    let strand = c.args.strand.now in
+    let held : IsHeld (run_of s) strand = subst (λ (r : Run). IsHeld r strand) (sym c.self.view_is) c.requires.held in
+    let turn = ap (turn_shown strand.about.ask) c.self.invariant.store ∙ ap (λ (r : Run). turn_shown strand.about.ask (world r).store) c.self.view_is ∙ c.requires.turn in
+    rw (c.place.ensures, c.number-in-Refused.ensures) (fault_lent s strand c.in-Refused.kind c.self.invariant (sits_turn s c.self.invariant strand held turn) c.in-Refused.ensures.1)
+
+pub lose_lent-requires-in-NoMemory-clause-due : goal.lose_lent-requires-in-NoMemory-clause-due
+lose_lent-requires-in-NoMemory-clause-due c =
+    let s = c.self.inside in
+    let strand = c.args.strand.now in
+    let held : IsHeld (run_of s) strand = subst (λ (r : Run). IsHeld r strand) (sym c.self.view_is) c.requires.held in
+    let turn = ap (turn_shown strand.about.ask) c.self.invariant.store ∙ ap (λ (r : Run). turn_shown strand.about.ask (world r).store) c.self.view_is ∙ c.requires.turn in
+    let due : IsDueAs (run_of s) strand.number status.Lent = subst (λ (r : Run). IsDueAs r strand.number status.Lent) (sym c.self.view_is) c.requires.due in
+    let wanted : IsOtherDueAs (run_of s) strand.number status.Lent =
+    due_other_as s c.self.invariant strand.number strand status.Lent (sits_turn s c.self.invariant strand held turn) due c.in-NoMemory.ensures.1 in
+    subst (λ (l : List Seat). IsOtherDueAs (record { code = s.code; fuel = s.fuel; entries = s.journal.items; status = map status_of l; lost = s.lost; end = s.end }) strand.number status.Lent) (sym c.units_for.ensures.same) wanted
