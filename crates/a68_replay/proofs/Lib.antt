@@ -1,0 +1,5 @@
+pub mod Again
+pub mod Once
+pub mod Picking
+pub mod Putting
+pub mod Spelling

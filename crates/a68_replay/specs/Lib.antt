@@ -1,0 +1,4 @@
+pub mod Following
+pub mod Reading
+pub mod Replays
+pub mod Schedules
