@@ -16,7 +16,7 @@ use Rattle.clap.proofs.WalkLemmas.{walk_stopped}
 use Rattle.a68_command.specs.Matching.{matched_task, split_task, unless_fault}
 use Rattle.a68_command.specs.Options.{Dashes, Form, Named, Plain, Unknown, WordsSoFar, form_of, is_among, start, steps, text_of}
 use Rattle.a68_command.specs.Splitting.{call_app}
-use Rattle.a68_command.specs.Words.{Given, Task, allowed_to, asked_by, given_by, is_allowed, is_whole, lay_out, made_by, races_by, run_by, show_code, task_by, task_in, task_of_found, task_with, verbs}
+use Rattle.a68_command.specs.Words.{Given, Task, allowed_to, asked_by, given_by, is_allowed, is_whole, lay_out, made_by, races_by, replay_by, run_by, show_code, task_by, task_in, task_of_found, task_with, trace_by, verbs}
 use Rattle.a68_command.proofs.Level.{behind_verb, none_of}
 use Rattle.a68_command.proofs.Lexed.{Lexes, dashes, lexes, named, plain_word, refused_bundle, strange}
 use Rattle.a68_command.proofs.Rows.{either}
@@ -194,12 +194,15 @@ unasked name g none =
     let check = both_false _ _ run.1 in
     let code = both_false _ _ check.1 in
     let make = both_false _ _ code.1 in
-    let races = both_false _ _ make.1 in
+    let trace = both_false _ _ make.1 in
+    let replay = both_false _ _ trace.1 in
+    let races = both_false _ _ replay.1 in
     let list = both_false _ _ races.1 in
     λ i. cond (turned_round (codes "run") name run.0 i) (run_by g) (cond (turned_round (codes "check") name check.0 i) (Some (Rattle.a68_command.specs.Words.check g.operand))
     (cond (turned_round (codes "code") name code.0 i) (Some (show_code g.operand)) (cond (turned_round (codes "make") name make.0 i) (made_by g)
+    (cond (turned_round (codes "trace") name trace.0 i) (trace_by g) (cond (turned_round (codes "replay") name replay.0 i) (replay_by g)
     (cond (turned_round (codes "races") name races.0 i) (races_by g)
-    (cond (turned_round (codes "list") name list.0 i) (Some (lay_out g.operand)) None)))))
+    (cond (turned_round (codes "list") name list.0 i) (Some (lay_out g.operand)) None)))))))
 
 no_task : (name : Text) (o : Option WordsSoFar) → is_among verbs name ≡ false → option_and_then (task_of_found name) o ≡ None
 no_task name None none = refl

@@ -46,6 +46,13 @@ pub enum Command {
         fuel: u32,
         names: bool,
     },
+    /// To compile the text of a file with definitions by which it reads the lines of another one, and to run it.
+    RunOn {
+        file: FileName,
+        input: FileName,
+        workers: u32,
+        fuel: u32,
+    },
     /// To compile the text of a file.
     Check {
         file: FileName,
@@ -58,6 +65,17 @@ pub enum Command {
     Make {
         units: u32,
         workers: u32,
+    },
+    /// To compile the text of a file, to run it, and to write the schedule of the run.
+    Trace {
+        file: FileName,
+        workers: u32,
+        fuel: u32,
+    },
+    /// To compile the text of a file, and to run it by a schedule, the text of another one.
+    Replay {
+        file: FileName,
+        schedule: FileName,
     },
     /// To compile the text of a file, to run it, and to tell the races of the run.
     Races {

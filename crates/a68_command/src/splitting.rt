@@ -10,10 +10,12 @@ use clap::{Arg, ArgAction};
 use std::alloc::Global;
 
 // The verbs.
-fn verbs<'a>() -> [&'a str; 6]
+fn verbs<'a>() -> [&'a str; 8]
     ensures { map (λ verb. verb.now) result ≡ spec.verbs }
 {
-    ["run", "check", "code", "make", "races", "list"]
+    [
+        "run", "check", "code", "make", "trace", "replay", "races", "list",
+    ]
 }
 
 // The first operand, which is required.

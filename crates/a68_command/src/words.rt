@@ -62,6 +62,7 @@ fn allowed_to(verb: &str) -> Allowed
         return Allowed {
             workers: true,
             fuel: true,
+            input: true,
             names: true,
             ..nothing_more
         };
@@ -72,10 +73,16 @@ fn allowed_to(verb: &str) -> Allowed
             ..nothing_more
         };
     }
-    if verb == "races" {
+    if verb == "trace" || verb == "races" {
         return Allowed {
             workers: true,
             fuel: true,
+            ..nothing_more
+        };
+    }
+    if verb == "replay" {
+        return Allowed {
+            second: true,
             ..nothing_more
         };
     }
@@ -138,6 +145,45 @@ fn unit_count_in(word: &str) -> Option<u32>
     }
 }
 
+// What `run` asks for with so many workers and so much fuel. It tells no names of a text that reads an input.
+fn run_with(
+    alloc: Global,
+    texts: Texts<'_>,
+    workers: u32,
+    fuel: u32,
+) -> Result<Option<Command>, NoMemory>
+    requires workers { (1 ≤ workers) × (workers ≤ MOST_WORKERS) }
+    requires fuel { (1 ≤ fuel) × (fuel ≤ MOST_FUEL) }
+    ensures task { IfOk result (λ command. option_map task_of command ≡ spec.run_with (given_of texts.entry) workers fuel) }
+    ensures range { IfOk result (λ command. IfSome command commands.HasRange) }
+{
+    let names = texts.names;
+    match texts.input {
+        None => {
+            let file = FileName::new(alloc, texts.operand)?;
+            Ok(Some(Command::Run {
+                file,
+                workers,
+                fuel,
+                names,
+            }))
+        }
+        Some(input) => {
+            if names {
+                return Ok(None);
+            }
+            let file = FileName::new(alloc, texts.operand)?;
+            let input = FileName::new(alloc, input)?;
+            Ok(Some(Command::RunOn {
+                file,
+                input,
+                workers,
+                fuel,
+            }))
+        }
+    }
+}
+
 // What `run` asks for.
 fn run_by(alloc: Global, texts: Texts<'_>) -> Result<Option<Command>, NoMemory>
     ensures task { IfOk result (λ command. option_map task_of command ≡ spec.run_by (given_of texts.entry)) }
@@ -149,14 +195,8 @@ fn run_by(alloc: Global, texts: Texts<'_>) -> Result<Option<Command>, NoMemory>
     let Some(fuel) = number_or(USUAL_FUEL, MOST_FUEL, texts.fuel) else {
         return Ok(None);
     };
-    let file = FileName::new(alloc, texts.operand)?;
-    let names = texts.names;
-    Ok(Some(Command::Run {
-        file,
-        workers,
-        fuel,
-        names,
-    }))
+    let command = run_with(alloc, texts, workers, fuel)?;
+    Ok(command)
 }
 
 // What `make` asks for.
@@ -173,15 +213,55 @@ fn made_by(texts: Texts<'_>) -> Option<Command>
     Some(Command::Make { units, workers })
 }
 
+// The workers and the fuel of a run whose entries are looked at one by one.
+fn traced_numbers(texts: Texts<'_>) -> Option<(u32, u32)>
+    ensures numbers { result ≡ spec.traced_numbers (given_of texts.entry) }
+    ensures range { IfSome result (λ n. ((1 ≤ n.0) × (n.0 ≤ MOST_WORKERS)) × ((1 ≤ n.1) × (n.1 ≤ MOST_TRACED_FUEL))) }
+{
+    let Some(workers) = number_or(1, MOST_WORKERS, texts.workers) else {
+        return None;
+    };
+    let Some(fuel) = number_or(MOST_TRACED_FUEL, MOST_TRACED_FUEL, texts.fuel) else {
+        return None;
+    };
+    Some((workers, fuel))
+}
+
+// What `trace` asks for.
+fn trace_by(alloc: Global, texts: Texts<'_>) -> Result<Option<Command>, NoMemory>
+    ensures task { IfOk result (λ command. option_map task_of command ≡ spec.trace_by (given_of texts.entry)) }
+    ensures range { IfOk result (λ command. IfSome command commands.HasRange) }
+{
+    let Some((workers, fuel)) = traced_numbers(texts) else {
+        return Ok(None);
+    };
+    let file = FileName::new(alloc, texts.operand)?;
+    Ok(Some(Command::Trace {
+        file,
+        workers,
+        fuel,
+    }))
+}
+
+// What `replay` asks for.
+fn replay_by(alloc: Global, texts: Texts<'_>) -> Result<Option<Command>, NoMemory>
+    ensures task { IfOk result (λ command. option_map task_of command ≡ spec.replay_by (given_of texts.entry)) }
+    ensures range { IfOk result (λ command. IfSome command commands.HasRange) }
+{
+    let Some(schedule) = texts.second else {
+        return Ok(None);
+    };
+    let file = FileName::new(alloc, texts.operand)?;
+    let schedule = FileName::new(alloc, schedule)?;
+    Ok(Some(Command::Replay { file, schedule }))
+}
+
 // What `races` asks for.
 fn races_by(alloc: Global, texts: Texts<'_>) -> Result<Option<Command>, NoMemory>
     ensures task { IfOk result (λ command. option_map task_of command ≡ spec.races_by (given_of texts.entry)) }
     ensures range { IfOk result (λ command. IfSome command commands.HasRange) }
 {
-    let Some(workers) = number_or(1, MOST_WORKERS, texts.workers) else {
-        return Ok(None);
-    };
-    let Some(fuel) = number_or(MOST_TRACED_FUEL, MOST_TRACED_FUEL, texts.fuel) else {
+    let Some((workers, fuel)) = traced_numbers(texts) else {
         return Ok(None);
     };
     let file = FileName::new(alloc, texts.operand)?;
@@ -211,6 +291,14 @@ fn asked_by(alloc: Global, verb: &str, texts: Texts<'_>) -> Result<Option<Comman
     }
     if verb == "make" {
         return Ok(made_by(texts));
+    }
+    if verb == "trace" {
+        let command = trace_by(alloc, texts)?;
+        return Ok(command);
+    }
+    if verb == "replay" {
+        let command = replay_by(alloc, texts)?;
+        return Ok(command);
     }
     if verb == "races" {
         let command = races_by(alloc, texts)?;

@@ -1,4 +1,5 @@
 pub mod Again
+pub mod Fronts
 pub mod Once
 pub mod Picking
 pub mod Putting

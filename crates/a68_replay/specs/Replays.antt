@@ -1,4 +1,3 @@
--- Inner: the headline does not rest on this file.
 -- Runs that follow a schedule (own).
 use Rattle.std.specs.Prelude.{◌≡◌, ◌++◌, ℕ, List, [], ◌∷◌, length, take, Some, slice_get}
 use Rattle.a68_base.specs.declared.limits.TheConstants.{MOST_FUEL}

@@ -3,15 +3,18 @@ ghost use Rattle.std.specs.Prelude.{◌≡◌, ◌≤◌, ℕ, List, length};
 ghost use Rattle.a68_base.specs.declared.limits.TheConstants.{MOST_FUEL};
 ghost use Rattle.a68_code.specs.declared.code.Code.{Code};
 ghost use Rattle.a68_replay.specs.Replays.{Replays, comes_back};
-ghost use Rattle.a68_replay.specs.Schedules.{ArePicks, IsSchedule, picks_of, schedule_text};
+ghost use Rattle.a68_replay.specs.Schedules.{ArePicks, IsBad, IsSchedule, picks_of, schedule_text};
 ghost use Rattle.a68_replay.specs.declared.picks.TheConstants.{MOST_PICKS};
 ghost use Rattle.a68_replay.specs.declared.turning.Replayed.{Replayed};
 ghost use Rattle.a68_strand.specs.RunOf.{RunOf};
 ghost use Rattle.a68_values.specs.declared.kept.Kept.{Kept};
 
-/// A law: a text is the schedule of one list of picks at most, and what is written of picks is read as these.
+/// A law: a text is the schedule of one list of picks at most, and what is written of picks is read as these. A text that is none
+/// is bad at one place at most.
 pub fn schedules_read_back()
     ensures one { (bytes a b : List ℕ) → IsSchedule bytes a → IsSchedule bytes b → a ≡ b }
+    ensures bad { (bytes : List ℕ) (i j : ℕ) → IsBad bytes i → IsBad bytes j → i ≡ j }
+    ensures apart { (bytes picks : List ℕ) (place : ℕ) → IsSchedule bytes picks → IsBad bytes place → ⊥ }
     ensures back { (picks : List ℕ) → ArePicks picks → length picks ≤ MOST_PICKS → IsSchedule (schedule_text picks) picks }
 {}
 

@@ -1,5 +1,5 @@
 -- The lines on notes.
-use Rattle.std.specs.Prelude.{ℕ, List, [], ◌∷◌, ◌++◌, codes}
+use Rattle.std.specs.Prelude.{ℕ, ◌-◌, nat_lt, List, [], ◌∷◌, ◌++◌, codes, if◌then◌else◌}
 use Rattle.std.specs.Fmt.{decimal}
 use Rattle.a68_base.specs.declared.refusal.Rule.{Rule}
 use Rattle.a68_base.specs.declared.refusal.Rule.TheVariants.{Q2, Q3, Q4}
@@ -14,7 +14,7 @@ abbrev pub line : List ℕ → List ℕ
 line text = text ++ 10 ∷ []
 
 abbrev pub usage_line : List ℕ
-usage_line = line (codes "usage: a68 run FILE [--workers N] [--fuel N] [--names] | check FILE | code FILE | make N [--workers N] | races FILE [--workers N] [--fuel N] | list FILE")
+usage_line = line (codes "usage: a68 run FILE [--workers N] [--fuel N] [--names] [--input NAME] | check FILE | code FILE | make N [--workers N] | trace FILE [--workers N] [--fuel N] | replay FILE SCHEDULE | races FILE [--workers N] [--fuel N] | list FILE")
 
 abbrev pub read_fault_line : List ℕ
 read_fault_line = line (codes "a68: read fault")
@@ -28,6 +28,14 @@ place_name rule = codes "byte"
 
 abbrev pub refusal_line : Rule → ℕ → List ℕ
 refusal_line rule place = line (codes "a68: refused " ++ rule_name rule ++ codes " at " ++ place_name rule ++ codes " " ++ decimal place)
+
+-- a place of a text with so many bytes in front of a program: a byte of the program, or none
+abbrev pub shown_place : (offset place : ℕ) → List ℕ
+shown_place offset place = if nat_lt place offset then codes "in the prelude" else codes "at byte " ++ decimal (place - offset)
+
+-- the line of a refusal of such a text
+abbrev pub moved_refusal_line : (offset : ℕ) → Rule → ℕ → List ℕ
+moved_refusal_line offset rule place = line (codes "a68: refused " ++ rule_name rule ++ codes " " ++ shown_place offset place)
 
 -- how many units a made program had, and how many events its run
 abbrev pub units_line : (units events : ℕ) → List ℕ
@@ -55,3 +63,11 @@ end_line ends.Done = []
 end_line (ends.Fault kind place strand) = fault_line kind place
 end_line ends.AllHalted = line (codes "a68: all halted")
 end_line ends.Spent = line (codes "a68: fuel spent")
+
+-- the same of a text with so many bytes in front of its program
+abbrev pub moved_fault_line : (offset : ℕ) → FaultKind → ℕ → List ℕ
+moved_fault_line offset kind place = line (codes "a68: fault " ++ fault_name kind ++ codes " " ++ shown_place offset place)
+
+abbrev pub moved_end_line : (offset : ℕ) → End → List ℕ
+moved_end_line offset (ends.Fault kind place strand) = moved_fault_line offset kind place
+moved_end_line offset end = end_line end

@@ -8,6 +8,8 @@ mod name;
 mod put;
 mod variables;
 
-pub use lines::{READ_FAULT, USAGE, end_line, refusal_line, units_line};
+pub use lines::{
+    READ_FAULT, USAGE, end_line, moved_end_line, moved_refusal_line, refusal_line, units_line,
+};
 pub use listing::code_text;
 pub use variables::names_text;

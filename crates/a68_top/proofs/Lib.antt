@@ -1,8 +1,10 @@
 pub mod Answering
 pub mod Compiled
-pub mod Crowded
+pub mod Ending
+pub mod Joined
 pub mod One
 pub mod Refusing
+pub mod Second
 pub mod Told
 pub mod Within
 pub mod Written

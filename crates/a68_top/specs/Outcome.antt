@@ -1,5 +1,5 @@
 -- What a call did, by its status, whatever the shelf and the sinks did.
-use Rattle.std.specs.Prelude.{◌≡◌, ◌⊎◌, ℕ, List, [], ◌∷◌, IfSome, Some, ⊤}
+use Rattle.std.specs.Prelude.{◌≡◌, ◌⊎◌, ℕ, List, [], ◌∷◌, IfSome, ⊤}
 use Rattle.std.specs.declared.option.Option.{Option}
 use Rattle.std.specs.Io.KnownBytes.{append_known}
 use Rattle.a68_base.specs.declared.status.Status.{Status}
@@ -8,7 +8,7 @@ use Rattle.a68_outside.specs.Cause.{Rose}
 use Rattle.a68_outside.specs.Known.{ReceivesFront}
 use Rattle.a68_top.specs.declared.finish.Finish.{Finish}
 use Rattle.a68_command.specs.Words.{Task, files_of}
-use Rattle.a68_top.specs.Answer.{Answer, bare, text_for}
+use Rattle.a68_top.specs.Answer.{Answer, bare}
 use Rattle.a68_report.specs.Lines.{read_fault_line}
 
 -- before and after a call: the faults of an object, and the bytes that a sink received, where it tells them
@@ -39,12 +39,6 @@ abbrev pub AreTexts : (List ℕ → Option (List ℕ)) → List (List ℕ) → L
 AreTexts under [] [] = ⊤
 AreTexts under (file ∷ files) (text ∷ texts) = IfSome (under file) (λ all. text ≡ all) × AreTexts under files texts
 AreTexts _ _ _ = ⊥
-
--- this is the text of a task, by the texts of the files that it reads
-pub record IsTextFor (task : Task) (under : List ℕ → Option (List ℕ)) (text : List ℕ) : Type 0 where
-  pub texts : List (List ℕ)
-  pub texts_are : AreTexts under (files_of (Some task)) texts
-  pub text_is : text_for task texts ≡ Some text
 
 -- This finish and these bytes are the answer for the texts of the files that the task reads.
 pub record Owes (task : Option Task) (under : List ℕ → Option (List ℕ)) (finish : Finish) (on_out on_notes : List ℕ) : Type 0 where

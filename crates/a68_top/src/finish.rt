@@ -33,10 +33,35 @@ pub struct Finish {
 pub enum Telling {
     /// Nothing more.
     EndAlone,
+    /// Nothing more; and the line counts places from behind so many bytes, which stand in front of the program.
+    MovedEnd(u32),
     /// What the variables of the program refer to.
     Variables,
     /// The units of a made text and the events of its run, where that is done.
     Units(u32),
+}
+
+/// What a run writes to `out`.
+#[derive(Clone, Copy)]
+pub enum Writing {
+    /// The text that it has printed.
+    Printed,
+    /// Its schedule.
+    Schedule,
+}
+
+/// How a run is made: by how many workers, and for how many events at most.
+#[derive(Clone, Copy)]
+pub struct Means {
+    pub workers: u32,
+    pub fuel: u32,
+}
+
+/// What is asked of a run: what it writes, and what it tells.
+#[derive(Clone, Copy)]
+pub struct Asked {
+    pub writing: Writing,
+    pub telling: Telling,
 }
 
 /// What a call owes where every write succeeds: its finish, and the bytes for `out` and for `notes`.

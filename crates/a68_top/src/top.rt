@@ -4,8 +4,9 @@ ghost use Rattle.a68_command.specs.Words.{MayAskFor, task_in, files_of};
 ghost use Rattle.a68_top.specs.Outcome.{FinishIs, sunk};
 
 use crate::deliver::deliver;
+use crate::fetching::Early;
 use crate::finish::{Finish, bare, delivered};
-use crate::prepare::{Early, prepare};
+use crate::prepare::prepare;
 use a68_base::Status;
 use a68_outside::{Gate, Shelf, Sink, write_whole};
 use a68_report::READ_FAULT;
@@ -14,7 +15,7 @@ use std::marker::Sync;
 use std::sync::Wait;
 use std::thread::Threads;
 
-/// Does what the words ask for: reads the file from the shelf, compiles and runs its text, and writes what is printed
+/// Does what the words ask for: reads the files from the shelf, compiles and runs its text, and writes what is printed
 /// to `out` and the lines on it to `notes`. The words do not have the program's name among them.
 ///
 /// All memory is taken before the first byte is written, and nothing more is written after a write that failed.
@@ -27,7 +28,7 @@ pub fn a68<R: Threads + Wait + Sync, F: Shelf, K: Sink, N: Sink, G: Gate>(
     notes: &mut N,
     gate: &G,
 ) -> Finish
-    // The shelf may be asked for the file that the words name.
+    // The shelf may be asked for the files that the words name.
     requires { MayAskFor F.may_ask (task_in (map string_bytes words.now)) }
 
     // The headline: what the status says is what was done.

@@ -28,7 +28,7 @@ pub fn run_f(text: &str) -> Words<'_> {
         reads_fail: &[],
         room: 100,
         writes_fail: &[],
-        notes_room: 200,
+        notes_room: 400,
     }
 }
 

@@ -16,6 +16,4 @@ mod table;
 #[cfg(test)]
 mod top;
 #[cfg(test)]
-mod words;
-#[cfg(test)]
 mod workers;

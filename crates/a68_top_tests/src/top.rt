@@ -7,7 +7,7 @@ const FORMULA: &str = "BEGIN print(1 + 2 * 3) END";
 const SEVEN: &str = "                  +7";
 
 const USAGE: &str =
-    "usage: a68 run FILE [--workers N] [--fuel N] [--names] | check FILE | code FILE | make N [--workers N] | races FILE [--workers N] [--fuel N] | list FILE\n";
+    "usage: a68 run FILE [--workers N] [--fuel N] [--names] [--input NAME] | check FILE | code FILE | make N [--workers N] | trace FILE [--workers N] [--fuel N] | replay FILE SCHEDULE | races FILE [--workers N] [--fuel N] | list FILE\n";
 
 const FIVE: &str = "BEGIN INT x := 5; print(x) END";
 

@@ -48,5 +48,12 @@ returns c = record {
   races = c.races_are_one.ensures.shown;
   beyond = c.races_are_one.ensures.beyond;
   raced = c.races_are_one.ensures.apart;
+  schedules = c.schedules_read_back.ensures.one;
+  bad = c.schedules_read_back.ensures.bad;
+  readable = c.schedules_read_back.ensures.apart;
+  written = c.schedules_read_back.ensures.back;
+  picked = c.schedules_have_one_run.ensures.run;
+  replays = c.schedules_have_one_run.ensures.outcome;
+  traced = c.traced_runs_come_back.ensures;
   among = c.races_are_one.ensures.within;
 }

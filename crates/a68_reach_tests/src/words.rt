@@ -22,6 +22,9 @@ fn parts(command: &Command) -> (&'static str, &str, u32) {
         Command::Check { file } => ("check", file.as_str(), 0),
         Command::Code { file } => ("code", file.as_str(), 0),
         Command::Make { units, .. } => ("make", "", *units),
+        Command::RunOn { file, fuel, .. } => ("run on", file.as_str(), *fuel),
+        Command::Trace { file, fuel, .. } => ("trace", file.as_str(), *fuel),
+        Command::Replay { file, .. } => ("replay", file.as_str(), 0),
         Command::Races { file, fuel, .. } => ("races", file.as_str(), *fuel),
         Command::LayOut { file } => ("list", file.as_str(), 0),
     }
@@ -45,6 +48,35 @@ fn are_none(rt: &impl Abort, alloc: Global, words: &[&str]) {
     let words = strings(rt, alloc, words);
     let command = command_of(alloc, &words).expect(rt, "memory");
     holds(rt, command.is_none(), "no command");
+    drop(command);
+    drop(words);
+}
+
+// The second file of a command, where it has one.
+fn second(command: &Command) -> Option<&str> {
+    match command {
+        Command::RunOn { input, .. } => Some(input.as_str()),
+        Command::Replay { schedule, .. } => Some(schedule.as_str()),
+        _ => None,
+    }
+}
+
+// Whether the words are this command, with this second file.
+fn have_second(
+    rt: &impl Abort,
+    alloc: Global,
+    words: &[&str],
+    due: (&str, &str, u32),
+    other: &str,
+) {
+    are_command(rt, alloc, words, due);
+    let words = strings(rt, alloc, words);
+    let command = command_of(alloc, &words).expect(rt, "memory");
+    let found = match &command {
+        Some(command) => second(command) == Some(other),
+        None => false,
+    };
+    holds(rt, found, "the second file");
     drop(command);
     drop(words);
 }
@@ -174,6 +206,73 @@ const RACED: &[(&[&str], &str, u32)] = &[
 fn words_ask_for_races(rt: HostRuntime) {
     for (words, file, fuel) in RACED {
         are_command(&rt, rt.alloc(), words, ("races", file, *fuel));
+    }
+}
+
+/// Words that ask for a schedule, the file, and the fuel.
+const TRACED: &[(&[&str], &str, u32)] = &[
+    (&["trace", "f"], "f", 1_000_000),
+    (&["trace", "-"], "-", 1_000_000),
+    (&["trace", "--", "-f"], "-f", 1_000_000),
+    (&["trace", "replay"], "replay", 1_000_000),
+    (&["trace", "f", "--fuel", "7"], "f", 7),
+    (&["trace", "--fuel=1000000", "f"], "f", 1_000_000),
+    (&["trace", "--workers", "64", "f", "--fuel=01"], "f", 1),
+];
+
+#[test]
+fn words_ask_for_schedules(rt: HostRuntime) {
+    for (words, file, fuel) in TRACED {
+        are_command(&rt, rt.alloc(), words, ("trace", file, *fuel));
+    }
+}
+
+/// Words that ask for a run by a schedule, and the two files.
+const REPLAYED: &[(&[&str], &str, &str)] = &[
+    (&["replay", "f", "g"], "f", "g"),
+    (&["replay", "f", "f"], "f", "f"),
+    (&["replay", "-", "-"], "-", "-"),
+    (&["replay", "f", ""], "f", ""),
+    (&["replay", "f", "--", "-g"], "f", "-g"),
+    (&["replay", "--", "--fuel", "--names"], "--fuel", "--names"),
+    (&["replay", "f", "g", "--"], "f", "g"),
+];
+
+#[test]
+fn words_name_schedules(rt: HostRuntime) {
+    for (words, file, schedule) in REPLAYED {
+        have_second(&rt, rt.alloc(), words, ("replay", file, 0), schedule);
+    }
+}
+
+/// Words that ask for a run that reads an input, and the file, the input and the fuel.
+const READING: &[(&[&str], &str, &str, u32)] = &[
+    (&["run", "f", "--input", "g"], "f", "g", 4_000_000),
+    (&["run", "f", "--input=g"], "f", "g", 4_000_000),
+    (&["run", "--input", "g", "f"], "f", "g", 4_000_000),
+    (&["run", "f", "--input", "-"], "f", "-", 4_000_000),
+    (&["run", "f", "--input=-g"], "f", "-g", 4_000_000),
+    (&["run", "f", "--input=--fuel"], "f", "--fuel", 4_000_000),
+    (&["run", "f", "--input="], "f", "", 4_000_000),
+    (&["run", "f", "--input=a=b"], "f", "a=b", 4_000_000),
+    (
+        &["run", "--input=g", "--", "--input"],
+        "--input",
+        "g",
+        4_000_000,
+    ),
+    (
+        &["run", "f", "--input", "g", "--fuel", "7", "--workers=2"],
+        "f",
+        "g",
+        7,
+    ),
+];
+
+#[test]
+fn words_name_inputs(rt: HostRuntime) {
+    for (words, file, input, fuel) in READING {
+        have_second(&rt, rt.alloc(), words, ("run on", file, *fuel), input);
     }
 }
 
@@ -365,8 +464,6 @@ const MISFITTING: &[&[&str]] = &[
     &["run", "--names", "f", "--names"],
     &["run", "f", "--=x"],
     &["run", "f", "---"],
-    &["run", "f", "--input", "g"],
-    &["run", "f", "--input=g"],
     &["run", "f", "--second", "g"],
     &["run", "--operand", "f"],
     &["make", "+3"],
@@ -392,6 +489,48 @@ const UNRACED: &[&[&str]] = &[
     &["list", "f", "--names"],
 ];
 
+/// Words that ask for no schedule, and for no run by one.
+const UNTRACED: &[&[&str]] = &[
+    &["trace"],
+    &["Trace", "f"],
+    &["trace", "f", "g"],
+    &["trace", "f", "--names"],
+    &["trace", "f", "--fuel", "0"],
+    &["trace", "f", "--fuel", "1000001"],
+    &["trace", "f", "--fuel=16000000"],
+    &["trace", "f", "--workers", "65"],
+    &["trace", "f", "--input", "g"],
+    &["replay"],
+    &["replay", "f"],
+    &["replay", "f", "g", "h"],
+    &["replay", "f", "-g"],
+    &["replay", "f", "g", "--fuel", "7"],
+    &["replay", "f", "g", "--workers", "1"],
+    &["replay", "f", "g", "--names"],
+    &["replay", "f", "--input", "g"],
+    &["replay", "f", "g", "--input=h"],
+];
+
+/// Words that name no input.
+const UNREAD: &[&[&str]] = &[
+    &["run", "--input", "g"],
+    &["run", "f", "--input"],
+    &["run", "f", "--input", "-g"],
+    &["run", "f", "--input", "--", "g"],
+    &["run", "f", "--input", "--names"],
+    &["run", "f", "--input", "g", "--input", "g"],
+    &["run", "f", "--input=g", "--input=h"],
+    &["run", "f", "--input", "g", "--names"],
+    &["run", "--names", "f", "--input=g"],
+    &["run", "f", "g", "--input", "h"],
+    &["run", "f", "--inputs", "g"],
+    &["run", "f", "--in=g"],
+    &["check", "f", "--input", "g"],
+    &["code", "f", "--input", "g"],
+    &["make", "3", "--input", "g"],
+    &["list", "f", "--input", "g"],
+];
+
 #[test]
 fn other_words_are_no_command(rt: HostRuntime) {
     for table in [MISSHAPEN, MISCOUNTED, MISMANNED, MISNAMED, UNSUITED] {
@@ -403,7 +542,7 @@ fn other_words_are_no_command(rt: HostRuntime) {
 
 #[test]
 fn words_like_options_are_no_command(rt: HostRuntime) {
-    for table in [HELPLESS, MISFITTING, UNRACED] {
+    for table in [HELPLESS, MISFITTING, UNRACED, UNTRACED, UNREAD] {
         for words in table {
             are_none(&rt, rt.alloc(), words);
         }

@@ -1,5 +1,5 @@
 use Rattle.std.proofs.Common.{rules}
-use Rattle.a68_top.proofs.prepare.fetch.Goals as goal
+use Rattle.a68_top.proofs.fetching.fetch.Goals as goal
 
 pub begin-requires : goal.begin-requires
 begin-requires g c = c.requires

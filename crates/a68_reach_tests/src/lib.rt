@@ -1,0 +1,15 @@
+//! Tests of the words of the command line, and of calls over two files, by hand.
+#![tactic(auto)]
+
+#[cfg(test)]
+mod calls;
+#[cfg(test)]
+mod inputs;
+#[cfg(test)]
+mod replays;
+#[cfg(test)]
+mod schedules;
+#[cfg(test)]
+mod table;
+#[cfg(test)]
+mod words;
