@@ -1,6 +1,7 @@
 -- Paths: the coercions from one mode to another (Report, 6.1 to 6.7). In which order the rules are tried is own.
 use Rattle.std.specs.Prelude.{◌≡◌, ◌<◌, ℕ, List, [], ◌∷◌, ◌++◌, length, false, Option, Some, None}
 use Rattle.std.specs.List.{All}
+use Rattle.a68_modes.specs.declared.standard.TheConstants as standard
 use Rattle.a68_coerce.specs.declared.goal.CoercionGoal.{CoercionGoal}
 use Rattle.a68_coerce.specs.declared.goal.CoercionGoal.TheVariants as goal
 use Rattle.a68_coerce.specs.Goals.{ReachesGoal, within, IsRowOver, IsNameOver, IsVoid, IsVoidGoal, is_multiple}
@@ -88,13 +89,13 @@ pub data FirmTo (nodes : List Shape) (m : Mode) : CoercionGoal → List Coercion
 
 -- the goal is [] BOOL, or the row of BOOL of one dimension that a row of two is a row of
 abbrev pub IsBools : List Shape → CoercionGoal → Type 0
-IsBools nodes (goal.Mode n) = Equivalent nodes n (as_it_stands 11)
-IsBools nodes (goal.Row dims flex of) = (dims ≡ 1) × (flex ≡ false) × Equivalent nodes of (as_it_stands 2)
+IsBools nodes (goal.Mode n) = Equivalent nodes n (as_it_stands standard.ROW_OF_BOOL)
+IsBools nodes (goal.Row dims flex of) = (dims ≡ 1) × (flex ≡ false) × Equivalent nodes of (as_it_stands standard.BOOL)
 IsBools nodes g = ⊥
 
 -- firm to BITS, and widened
 abbrev pub WidenedTo : List Shape → Mode → CoercionGoal → List Coercion → Type 0
-WidenedTo nodes m g path = IsBools nodes g × ThenCoerces (FirmTo nodes m (goal.Mode (as_it_stands 4))) Widen path
+WidenedTo nodes m g path = IsBools nodes g × ThenCoerces (FirmTo nodes m (goal.Mode (as_it_stands standard.BITS))) Widen path
 
 -- meek to the name of an element or of a row with one dimension fewer, and rowed
 abbrev pub NamedTo : List Shape → Mode → CoercionGoal → List Coercion → Type 0

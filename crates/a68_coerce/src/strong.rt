@@ -16,7 +16,7 @@ use crate::unite::firm;
 use crate::walk::meek;
 use a68_base::NoMemory;
 use a68_equiv::{Classes, Mode, behind};
-use a68_modes::{Coercion, Modes, Shape};
+use a68_modes::{Coercion, Modes, Shape, standard};
 use std::alloc::Global;
 
 /// Gives what a row of an element is a row of.
@@ -110,9 +110,9 @@ fn is_bools(modes: &Modes, classes: &Classes, goal: CoercionGoal) -> bool
     ensures { IsTrue result ↔ IsBools modes.now goal }
 {
     match goal {
-        CoercionGoal::Mode(n) => classes.are_same(n, Mode::as_it_stands(11)),
+        CoercionGoal::Mode(n) => classes.are_same(n, Mode::as_it_stands(standard::ROW_OF_BOOL)),
         CoercionGoal::Row { dims, flex, of } => {
-            dims == 1 && !flex && classes.are_same(of, Mode::as_it_stands(2))
+            dims == 1 && !flex && classes.are_same(of, Mode::as_it_stands(standard::BOOL))
         }
         _ => false,
     }
@@ -134,7 +134,7 @@ fn widened(modes: &Modes, classes: &Classes, from: Mode, goal: CoercionGoal) -> 
         modes,
         classes,
         from,
-        CoercionGoal::Mode(Mode::as_it_stands(4)),
+        CoercionGoal::Mode(Mode::as_it_stands(standard::BITS)),
     ) else {
         return None;
     };

@@ -1,6 +1,6 @@
 //! Collateral clauses, selections and slices.
 ghost use Rattle.a68_acts.specs.Operations as operations;
-ghost use Rattle.std.specs.Prelude.{◌<◌, length};
+ghost use Rattle.std.specs.Prelude.{◌≡◌, ◌<◌, length, slice_get, Some};
 ghost use Rattle.a68_elab.specs.Made as made;
 ghost use Rattle.a68_elab.specs.Made.{trees_at};
 ghost use Rattle.a68_elab.specs.Programs.{behind};
@@ -10,15 +10,14 @@ ghost use Rattle.a68_emit.specs.Views.{tree_of};
 ghost use Rattle.a68_emit.specs.Writers.{Wrote};
 ghost use Rattle.a68_modes.specs.Nodes.{shape_at};
 ghost use Rattle.a68_tree.specs.Trees.{AllBetween};
+ghost use Rattle.a68_tree.specs.declared.kind.NodeKind.TheVariants as kind;
 
 use crate::rows::{all, last, operation, write_part};
 use a68_annot::Note;
 use a68_code::Does;
-use a68_emit::{
-    CollateralForm, View, Writer, field, form_at, forms_of, meaningless, mode_in_front,
-};
+use a68_emit::{CollateralForm, View, Writer, form_at, forms_of, meaningless, mode_in_front};
 use a68_modes::ModeId;
-use a68_tree::NodeId;
+use a68_tree::{Node, NodeId};
 use std::alloc::Global;
 
 // [parts] Compose: a structure. There is no memory for more parts than an instruction can tell.
@@ -101,17 +100,20 @@ pub fn selection(
     alloc: Global,
     program: &View,
     id: NodeId,
-    parts: &[NodeId],
+    node: &Node,
     place: u32,
-    name: u32,
     out: &mut Writer,
 )
-    requires { AllBetween id (length program.now.of.now.tree.nodes) parts.now }
-    ensures { Wrote out.old out.new (stretch (made.selection_of program.now.of.now.modes place (made.first_goal program.now.of.now parts.now) name
-        (trees_at (behind id (tree_of program.now)) parts.now)) (length out.old.list)) }
+    requires between { AllBetween id (length program.now.of.now.tree.nodes) node.now.parts }
+    requires there { id < length program.now.of.now.tree.nodes }
+    requires is { slice_get program.now.of.now.tree.nodes id ≡ Some node.now }
+    requires selects { node.now.kind ≡ kind.Selection }
+    ensures { Wrote out.old out.new (stretch (made.selection_of program.now.of.now.modes place (made.first_goal program.now.of.now node.now.parts) node.now.name
+        (trees_at (behind id (tree_of program.now)) node.now.parts)) (length out.old.list)) }
 {
+    let parts = program.of.parts(id);
     let mode = mode_in_front(program, parts);
-    match u32::try_from(field(program, mode, name)) {
+    match u32::try_from(program.of.field(id)) {
         Ok(field) => {
             last(alloc, program, id, parts, out);
             out.emit(place, Does::Select { mode, field });

@@ -1,6 +1,6 @@
 //! The instructions of constructs. Above each function stands what it writes: `[x]` is what the part x writes.
 ghost use Rattle.a68_acts.specs.Operations as operations;
-ghost use Rattle.std.specs.Prelude.{◌≡◌, ◌<◌, ◌∷◌, ◌++◌, [], not, length};
+ghost use Rattle.std.specs.Prelude.{◌≡◌, ◌<◌, ◌∷◌, ◌++◌, [], Some, length, not, slice_get};
 ghost use Rattle.a68_elab.specs.Made as made;
 ghost use Rattle.a68_elab.specs.Made.{trees_at};
 ghost use Rattle.a68_elab.specs.Programs.{behind};
@@ -155,6 +155,7 @@ pub fn write_part(alloc: Global, program: &View, id: NodeId, part: NodeId, out: 
 #[cycle(units)]
 fn construct(alloc: Global, program: &View, id: NodeId, node: &Node, note: &Note, out: &mut Writer)
     requires there { id < length program.now.of.now.tree.nodes }
+    requires is { slice_get program.now.of.now.tree.nodes id ≡ Some node.now }
     requires between { AllBetween id (length program.now.of.now.tree.nodes) node.now.parts }
     requires named { node.now.name < length program.now.of.now.tree.spellings }
     requires begins { node.now.span.from < made.behind_all program.now.of.now.tree.nodes }
@@ -183,7 +184,7 @@ fn construct(alloc: Global, program: &View, id: NodeId, node: &Node, note: &Note
         NodeKind::Collateral => collateral(alloc, program, id, parts, place, note, out),
         NodeKind::Vacuum => vacuum(place, note.goal, out),
         NodeKind::Slice => slice(alloc, program, id, parts, place, out),
-        NodeKind::Selection => selection(alloc, program, id, parts, place, node.name, out),
+        NodeKind::Selection => selection(alloc, program, id, node, place, out),
         NodeKind::Call => call(alloc, program, id, parts, place, note, out),
         NodeKind::Cast => last(alloc, program, id, parts, out),
         NodeKind::Serial => serial(alloc, program, id, parts, place, note, out),

@@ -39,7 +39,7 @@ fn control(
     }
 }
 
-// [FROM] [BY] [TO] Counter; with TO [FROM] [BY] [TO] Apply 26 Counter.
+// [FROM] [BY] [TO] Counter; with TO [FROM] [BY] [TO] Apply + Counter.
 #[cycle(units)]
 fn count(alloc: Global, program: &View, id: NodeId, parts: &LoopParts, place: u32, out: &mut Writer)
     requires { AreWithin id (length program.now.of.now.tree.nodes) parts.now }

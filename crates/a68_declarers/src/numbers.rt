@@ -4,7 +4,7 @@ ghost use Rattle.a68_declarers.specs.Numbers.{declarers, number_at, twin_of, Are
 
 use crate::reading::is_declarer;
 use a68_base::NoMemory;
-use a68_modes::ModeId;
+use a68_modes::{ModeId, standard};
 use a68_tree::{NodeId, Tree};
 use std::alloc::Global;
 use std::marker::Model;
@@ -46,20 +46,15 @@ impl Numbers {
     }
 }
 
-/// STRING, and `[] CHAR`, which it is without its FLEX.
-const STRING: ModeId = 12;
-
-const ROW_OF_CHAR: ModeId = 7;
-
 /// The node of the mode of a node without its FLEX down to the next REF or PROC: of the two nodes of a declarer the second.
 pub fn twin(node: ModeId) -> ModeId
     requires { node < 2 ^ 24 }
     ensures { result ≡ twin_of node }
 {
-    if node < STRING {
+    if node < standard::STRING {
         node
-    } else if node == STRING {
-        ROW_OF_CHAR
+    } else if node == standard::STRING {
+        standard::ROW_OF_CHAR
     } else {
         node + node % 2
     }
@@ -71,7 +66,7 @@ pub fn numbers_of(alloc: Global, tree: &Tree) -> Result<Numbers, NoMemory>
     ensures { IfOk result (λ numbers. AreNumbers tree.now numbers) }
 {
     let mut items = Vec::new(alloc);
-    let mut next = 13;
+    let mut next = standard::STANDARD;
     for id in 0..tree.len() {
         let mut number = 0;
         if is_declarer(tree, id) {

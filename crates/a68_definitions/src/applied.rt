@@ -7,7 +7,7 @@ ghost use Rattle.a68_ranges.specs.Tables.{AreRanges};
 
 use crate::reading::parts_of;
 use a68_base::NoMemory;
-use a68_ranges::Ranges;
+use a68_ranges::{Ranges, tags};
 use a68_tree::{NodeId, NodeKind, Tree};
 use std::alloc::Global;
 use std::marker::Model;
@@ -75,13 +75,13 @@ fn standard_place(nodes: u32, found: Option<NodeId>) -> Option<u32>
     }
 }
 
-/// Gives the place of the tag of the standard environ that a node applies, where it is one that is only called: 6 `print`,
-/// 7 `write`, 8 `whole`.
+/// Gives the place of the tag of the standard environ that a node applies, where it is one that is only called: `print`,
+/// `write` or `whole`.
 pub fn called_tag(tree: &Tree, tags: &Tags, node: NodeId) -> Option<u32>
     ensures { result ≡ specs.called_tag tree.now tags.now node }
 {
     match standard_place(tree.len(), tags.at(node)) {
-        Some(place) if place >= 6 => Some(place),
+        Some(place) if place >= tags::PRINT => Some(place),
         _ => None,
     }
 }

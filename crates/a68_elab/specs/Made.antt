@@ -3,6 +3,7 @@ use Rattle.std.specs.Prelude.{ℕ, zero, suc, ◌+◌, pos, max, min, Bool, true
 use Rattle.std.specs.List.{list_any}
 use Rattle.std.specs.Option.{is_some, option_map_or, option_and_then}
 use Rattle.std.specs.declared.option.Option.{Option}
+use Rattle.a68_modes.specs.declared.standard.TheConstants as standard
 use Rattle.a68_acts.specs.Operations.{Operation, constant, skip, nil, routine, tag, make, heap, bind, deref, store, apply, same, slice, display, vacuum, compose, select, unite, row_up, row_up_name, widen, drop, print, whole, fields_of}
 use Rattle.a68_annot.specs.declared.annotated.Annotated.{Annotated}
 use Rattle.a68_annot.specs.declared.note.Note.{Note}
@@ -171,7 +172,7 @@ coerced modes place goal mode (coercion.Deproc ∷ path) t =
 -- uniting names the mode from which it starts
 coerced modes place goal mode (coercion.Unite from ∷ path) t = coerced modes place goal from path (operation place (unite from) serial (only t))
 -- BITS become a row of BOOL
-coerced modes place goal mode (coercion.Widen ∷ path) t = coerced modes place goal 11 path (operation place widen serial (only t))
+coerced modes place goal mode (coercion.Widen ∷ path) t = coerced modes place goal standard.ROW_OF_BOOL path (operation place widen serial (only t))
 coerced modes place goal mode (coercion.RowUp ∷ path) t =
     option_map_or (λ m. coerced modes place goal m path (operation place (row_up m) serial (only t))) (rowed_to modes goal path) meaningless
 coerced modes place goal mode (coercion.RowUpName ∷ path) t =

@@ -3,6 +3,7 @@ use Rattle.std.specs.Prelude.{ℕ, zero, suc, Bool, true, false, ◌&&◌, ◌||
 use Rattle.std.specs.Option.{option_map, option_map_or}
 use Rattle.std.specs.declared.option.Option.{Option}
 use Rattle.std.specs.declared.result.Result.{Result}
+use Rattle.a68_signs.specs.declared.operators.TheConstants as operators
 use Rattle.a68_acts.specs.Operations.{start, resumed, called, tested, case_of, counter_of, has_turn, advanced}
 use Rattle.a68_acts.specs.declared.operation.Counter.{Counter}
 use Rattle.a68_acts.specs.declared.operation.Doing.{Doing}
@@ -110,7 +111,7 @@ conforms place yields chain (spec takes tagged whole t behind) out v =
 -- TO is looked at alone: it is the operand of a monadic + (own)
 abbrev pub limits : LoopTurns → List Environ → List Content → Then Term
 limits l chain (from ∷ by ∷ to ∷ []) =
-    goes_with l.place (λ t. part (counting l) chain (yielded from and_term (yielded by and_term only (yielded t)))) (applied 26 void to)
+    goes_with l.place (λ t. part (counting l) chain (yielded from and_term (yielded by and_term only (yielded t)))) (applied operators.POSITIVE void to)
 limits l chain _ = meets fault.Kind l.place
 
 -- the counter of the values of FROM, BY and TO (Report, 3.5.2)

@@ -4,6 +4,8 @@ use Rattle.std.specs.Prelude.{ℕ, Bool, true, false, not, ◌&&◌, ◌||◌, �
 use Rattle.std.specs.List.{list_all}
 use Rattle.std.specs.Option.{is_some, option_map_or, option_and_then}
 use Rattle.std.specs.declared.option.Option.{Option}
+use Rattle.a68_modes.specs.declared.standard.TheConstants as standard
+use Rattle.a68_signs.specs.declared.operators.TheConstants as operators
 use Rattle.a68_acts.specs.Operations.{is_union}
 use Rattle.a68_annot.specs.declared.annotated.Annotated.{Annotated}
 use Rattle.a68_annot.specs.declared.note.Note.{Note}
@@ -146,15 +148,15 @@ is_row _ = false
 
 -- an operator that runs: each of the table
 abbrev pub applies : (row : ℕ) → Bool
-applies row = nat_le 1 row && nat_le row 38
+applies row = nat_le operators.PLUSAB row && nat_le row operators.UPB
 
 -- an operator that leaves a value: each but UP and DOWN
 abbrev pub gives : (row : ℕ) → Bool
-gives row = not (nat_eq row 35 || nat_eq row 36)
+gives row = not (nat_eq row operators.UP || nat_eq row operators.DOWN)
 
 -- how many operands it has: two, and one from row 26 on
 abbrev pub operands : (row : ℕ) → ℕ
-operands row = if nat_le row 25 then 2 else 1
+operands row = if nat_le row operators.UPB_OF then 2 else 1
 
 -- on as many values as it takes (Report, 5.4.2)
 abbrev pub formula_runs : Annotated → (row : ℕ) → List ℕ → Bool
@@ -373,7 +375,7 @@ path_leaves modes goal mode true (coercion.Deproc ∷ path) =
     let m = behind_proc (shape_at modes mode) in
     path_leaves modes goal m (not (is_void (shape_at modes m))) path
 path_leaves modes goal mode true (coercion.Unite from ∷ path) = path_leaves modes goal from true path
-path_leaves modes goal mode true (coercion.Widen ∷ path) = path_leaves modes goal 11 true path
+path_leaves modes goal mode true (coercion.Widen ∷ path) = path_leaves modes goal standard.ROW_OF_BOOL true path
 path_leaves modes goal mode true (coercion.RowUp ∷ path) =
     option_and_then (λ m. if is_there modes m then path_leaves modes goal m true path else None) (rowed_to modes goal path)
 path_leaves modes goal mode true (coercion.RowUpName ∷ path) =

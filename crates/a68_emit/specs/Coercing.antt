@@ -2,6 +2,7 @@
 -- The instructions of coercions, and of formulas.
 use Rattle.std.specs.Prelude.{ℕ, Bool, true, not, ◌&&◌, List, [], ◌∷◌, ◌++◌}
 use Rattle.std.specs.Option.{is_some, option_map_or}
+use Rattle.a68_modes.specs.declared.standard.TheConstants as standard
 use Rattle.a68_code.specs.declared.code.Instr.{Instr}
 use Rattle.a68_code.specs.declared.does.Does.TheVariants as does
 use Rattle.a68_elab.specs.Made.{behind_proc, behind_ref, rowed_to}
@@ -30,7 +31,7 @@ abbrev pub behind : List Shape → (goal mode : ℕ) → Coercion → List Coerc
 behind modes goal mode coercion.Deref path = behind_ref (shape_at modes mode)
 behind modes goal mode coercion.Deproc path = behind_proc (shape_at modes mode)
 behind modes goal mode (coercion.Unite m) path = m
-behind modes goal mode coercion.Widen path = 11
+behind modes goal mode coercion.Widen path = standard.ROW_OF_BOOL
 behind modes goal mode coercion.RowUp path = row_at modes goal path
 behind modes goal mode coercion.RowUpName path = row_at modes goal path
 behind modes goal mode coercion.Drop path = 0

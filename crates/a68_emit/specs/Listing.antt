@@ -1,5 +1,6 @@
 -- The code of a program: the instructions of each construct, in order.
 use Rattle.std.specs.Prelude.{ℕ, zero, suc, Bool, true, false, ◌+◌, List, [], ◌∷◌, ◌++◌, length, map, if◌then◌else◌}
+use Rattle.a68_signs.specs.declared.operators.TheConstants as operators
 use Rattle.a68_builder.specs.Linking.{linked}
 use Rattle.a68_code.specs.declared.code.Instr.{Instr}
 use Rattle.a68_code.specs.declared.code.RoutineEntrance.{RoutineEntrance}
@@ -15,7 +16,7 @@ instr place d = record { place = place; does = d }
 -- where TO is there: Apply 26
 abbrev pub limits : (limited : Bool) (place : ℕ) → List Instr
 limits false place = []
-limits true place = instr place (does.Apply 26) ∷ []
+limits true place = instr place (does.Apply operators.POSITIVE) ∷ []
 
 -- with FOR: Enter 1, Index, Bind 0
 abbrev pub indexes : (counts : Bool) (place : ℕ) → List Instr

@@ -1,5 +1,6 @@
 -- Translation: which instructions a construct becomes, and where they stand.
 use Rattle.std.specs.Prelude.{◌≡◌, ◌≤◌, ℕ, zero, suc, ◌+◌, Bool, true, false, List, [], ◌∷◌, length, map, Some, slice_get, if◌then◌else◌}
+use Rattle.a68_signs.specs.declared.operators.TheConstants as operators
 use Rattle.a68_acts.specs.Operations.{Operation, constant, skip, nil, routine, tag, make, heap, bind, deref, store, apply, same, slice, display, vacuum, compose, select, unite, row_up, row_up_name, widen, drop, print, whole, leaves}
 use Rattle.a68_acts.specs.Members.{members_of}
 use Rattle.a68_code.specs.Flow.{takes, one_if}
@@ -49,7 +50,7 @@ leave gives = does.Leave (if gives then 1 else 0)
 -- where TO is there: Apply 26
 abbrev pub Limits : Code → (limited : Bool) → (place a b : ℕ) → Type 0
 Limits code false place a b = a ≡ b
-Limits code true place a b = Has code place (does.Apply 26) a b
+Limits code true place a b = Has code place (does.Apply operators.POSITIVE) a b
 
 -- with FOR: Enter 1, Index, Bind 0
 abbrev pub Indexes : Code → (counts : Bool) → (place a b : ℕ) → Type 0

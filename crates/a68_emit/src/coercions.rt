@@ -7,7 +7,7 @@ ghost use Rattle.a68_emit.specs.Writers.{Wrote};
 use crate::writer::Writer;
 use a68_annot::Note;
 use a68_code::Does;
-use a68_modes::{Coercion, ModeId, Modes};
+use a68_modes::{Coercion, ModeId, Modes, standard};
 use a68_parts::{behind_proc, behind_ref, rowed_to};
 
 // Is a coercion built, behind which a path leads to a mode?
@@ -75,7 +75,7 @@ fn coerce_once(
         }
         Coercion::Widen => {
             out.emit(place, Does::Widen);
-            11
+            standard::ROW_OF_BOOL
         }
         Coercion::RowUp => {
             let behind = row_at(modes, goal, path);

@@ -11,6 +11,7 @@ use crate::view::View;
 use crate::writer::Writer;
 use a68_code::Does;
 use a68_parts::{LoopParts, only_id};
+use a68_signs::operators;
 use a68_tree::NodeId;
 
 // Has the range of WHILE a frame?
@@ -46,12 +47,12 @@ pub fn open(place: u32, slots: u32, out: &mut Writer)
     }
 }
 
-/// With TO Apply 26.
+/// With TO the operator `+` before its value: an unset one is a fault.
 pub fn limit(place: u32, is_limited: bool, out: &mut Writer)
     ensures { Wrote out.old out.new (listing.limits is_limited place) }
 {
     if is_limited {
-        out.emit(place, Does::Apply(26));
+        out.emit(place, Does::Apply(operators::POSITIVE));
     }
 }
 

@@ -7,6 +7,7 @@ ghost use Rattle.a68_elab.specs.Runs.{is_outcome, outcome, runs};
 ghost use Rattle.a68_emit.specs.Texts as texts;
 ghost use Rattle.a68_emit.specs.Texts.{AreFirsts, AreFirstUnits, AreInside, AreNumbered};
 ghost use Rattle.a68_modes.specs.Nodes.{shape_at, is_void};
+ghost use Rattle.a68_parts.specs.Selecting.{selected};
 ghost use Rattle.a68_runs.specs.Running.{AreRuns};
 ghost use Rattle.a68_tree.specs.Trees.{AllBetween};
 
@@ -14,13 +15,15 @@ use crate::entered::{Entered, UnitNode};
 use a68_annot::{Annotated, Note};
 use a68_base::NoMemory;
 use a68_modes::{ModeId, Modes};
+use a68_parts::selected_fields;
 use a68_runs::leaves;
 use a68_tree::{Node, NodeId, NodeKind};
 use std::alloc::Global;
 use std::marker::Model;
 
 /// An annotated tree whose routine texts and units of parallel clauses are numbered in order of text, and of which it is
-/// known which nodes run. The numbers are kept by the bytes at which these begin, so that each is found at once.
+/// known which nodes run and which fields selections take. The numbers are kept by the bytes at which these begin, so that
+/// each is found at once.
 #[derive(Drop)]
 pub struct Numbered<'a> {
     program: &'a Annotated,
@@ -28,12 +31,14 @@ pub struct Numbered<'a> {
     texts: Vec<u32>,
     units: Vec<u32>,
     runs: Vec<bool>,
+    fields: Vec<usize>,
 }
 
 impl<'a> Model for Numbered<'a> {
     ghost use Rattle.a68_annot.specs.contracts.annotated.Annotated as annotated;
     ghost use Rattle.a68_annot.specs.declared.annotated.Annotated.{Annotated};
     ghost use Rattle.a68_emit.specs.Texts.{AreNumbered};
+    ghost use Rattle.a68_parts.specs.Selecting.{AreSelected};
     ghost use Rattle.a68_runs.specs.Running.{AreRuns};
 
     ghost Value = { Annotated };
@@ -42,7 +47,7 @@ impl<'a> Model for Numbered<'a> {
 
     ghost view = { λ numbered. numbered.program.now };
 
-    ghost invariant = { λ numbered. AreNumbered numbered.program.now numbered.apart.items numbered.texts.items numbered.units.items × AreRuns numbered.program.now numbered.runs.items };
+    ghost invariant = { λ numbered. AreNumbered numbered.program.now numbered.apart.items numbered.texts.items numbered.units.items × AreRuns numbered.program.now numbered.runs.items × AreSelected numbered.program.now numbered.fields.items };
 }
 
 // The byte behind that at which a node begins, or one that is behind it already.
@@ -218,6 +223,7 @@ impl<'a> Numbered<'a> {
         requires { AreRuns program.now runs.items }
         ensures { IfOk result (λ numbered. numbered ≡ program.now) }
     {
+        let fields = selected_fields(alloc, program)?;
         let first_texts = first_texts(alloc, program)?;
         let first_units = first_units(alloc, program)?;
         let mut apart = Vec::new(alloc);
@@ -237,6 +243,7 @@ impl<'a> Numbered<'a> {
             texts,
             units,
             runs,
+            fields,
         })
     }
 
@@ -296,6 +303,14 @@ impl<'a> Numbered<'a> {
         ensures { result ≡ runs self.now id }
     {
         self.runs[id as usize]
+    }
+
+    /// The place of the field that a node takes, if it is a selection, among those of the structure; else 0.
+    pub fn field(&self, id: NodeId) -> usize
+        requires { id < length self.now.tree.nodes }
+        ensures { option_map (selected self.now) (slice_get self.now.tree.nodes id) ≡ Some result }
+    {
+        self.fields[id as usize]
     }
 
     /// Is a value asked of a node?

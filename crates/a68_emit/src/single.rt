@@ -18,9 +18,7 @@ use a68_base::NoMemory;
 use a68_code::Does;
 use a68_layout::{TrimForm, TrimForms};
 use a68_modes::{ModeId, Shape};
-use a68_parts::{
-    behind_ref, field_in, fields_at, first_goal, is_one_of, parts_at, standard_of, value_in,
-};
+use a68_parts::{behind_ref, first_goal, is_one_of, parts_at, standard_of, value_in};
 use a68_runs::form_of as slice_form;
 use a68_tree::{Node, NodeId};
 use a68_values::Value;
@@ -129,13 +127,6 @@ pub fn mode_in_front(program: &View, parts: &[NodeId]) -> ModeId
     ensures { result ≡ made.first_goal program.now.of.now parts.now }
 {
     first_goal(program.of.annotated(), parts)
-}
-
-/// The place of the field of that tag, in a structure of that mode or in one to which a name of that mode refers.
-pub fn field(program: &View, mode: ModeId, name: u32) -> usize
-    ensures { result ≡ made.field_in name (made.fields_at program.now.of.now.modes mode) }
-{
-    field_in(name, fields_at(program.of.modes(), mode))
 }
 
 // The words and marks that negate an identity relation.

@@ -6,6 +6,8 @@ mod coerce;
 #[cfg(test)]
 mod equiv;
 #[cfg(test)]
+mod fields;
+#[cfg(test)]
 mod modes;
 #[cfg(test)]
 mod nodes;

@@ -62,7 +62,13 @@ fn definition_fits(
     }
     let _there = modes.len();
     let parameters = operand_modes(alloc, tree, of, definition)?;
-    let fits = all_fit(alloc, modes, classes, formula.operands, &parameters)?;
+    let fits = all_fit(
+        alloc,
+        modes,
+        classes,
+        formula.operands,
+        parameters.as_slice(),
+    )?;
     Ok(fits)
 }
 

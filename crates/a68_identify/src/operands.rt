@@ -10,7 +10,11 @@ use a68_base::NoMemory;
 use a68_declare::NodeModes;
 use a68_modes::ModeId;
 use a68_tree::{NodeId, NodeKind, Tree};
+use smallvec::SmallVec;
 use std::alloc::Global;
+
+/// The modes of parameters. An operator that can be applied has one or two, which take no memory.
+pub type Parameters = SmallVec<ModeId, 2>;
 
 /// The mode of a declarer, without its FLEX down to the next REF or PROC; VOID for a number of no node.
 fn mode_of(of: &NodeModes, declarer: NodeId) -> ModeId
@@ -32,11 +36,11 @@ fn front_of(parts: &[NodeId]) -> &[NodeId]
 }
 
 /// The modes of these declarers.
-fn modes_of(alloc: Global, of: &NodeModes, declarers: &[NodeId]) -> Result<Vec<ModeId>, NoMemory>
+fn modes_of(alloc: Global, of: &NodeModes, declarers: &[NodeId]) -> Result<Parameters, NoMemory>
     requires { length of.now.as_they_stand ≡ length of.now.without_flex }
     ensures { IfOk result (λ modes. modes.items ≡ map (mode_at of.now) declarers.now) }
 {
-    let mut modes = Vec::new(alloc);
+    let mut modes = SmallVec::new(alloc);
     for declarer in declarers {
         modes.push(mode_of(of, *declarer))?;
     }
@@ -49,12 +53,12 @@ fn modes_of_text(
     tree: &Tree,
     of: &NodeModes,
     text: NodeId,
-) -> Result<Vec<ModeId>, NoMemory>
+) -> Result<Parameters, NoMemory>
     requires { length of.now.as_they_stand ≡ length of.now.without_flex }
     ensures { IfOk result (λ modes. modes.items ≡ map (mode_at of.now) (declarers_among tree.now text (parts_at tree.now text))) }
 {
     let mut declarer = text;
-    let mut modes = Vec::new(alloc);
+    let mut modes = SmallVec::new(alloc);
     for part in parts_of(tree, text) {
         if is_parameter(tree, *part) {
             modes.push(mode_of(of, declarer))?;
@@ -67,14 +71,14 @@ fn modes_of_text(
 
 /// The modes of the parameters of a plan or a routine text.
 #[tactic(auto, unfolding(crate::specs::Operators::declarers_of))]
-fn modes_in(alloc: Global, tree: &Tree, of: &NodeModes, id: NodeId) -> Result<Vec<ModeId>, NoMemory>
+fn modes_in(alloc: Global, tree: &Tree, of: &NodeModes, id: NodeId) -> Result<Parameters, NoMemory>
     requires { length of.now.as_they_stand ≡ length of.now.without_flex }
     ensures { IfOk result (λ modes. modes.items ≡ map (mode_at of.now) (declarers_of tree.now id (kind_at tree.now id))) }
 {
     match kind_of(tree, id) {
         NodeKind::Plan => modes_of(alloc, of, front_of(parts_of(tree, id))),
         NodeKind::RoutineText => modes_of_text(alloc, tree, of, id),
-        _ => Ok(Vec::new(alloc)),
+        _ => Ok(SmallVec::new(alloc)),
     }
 }
 
@@ -84,12 +88,12 @@ pub fn operand_modes(
     tree: &Tree,
     of: &NodeModes,
     definition: NodeId,
-) -> Result<Vec<ModeId>, NoMemory>
+) -> Result<Parameters, NoMemory>
     requires { length of.now.as_they_stand ≡ length of.now.without_flex }
     ensures { IfOk result (λ modes. modes.items ≡ operators.operand_modes tree.now of.now definition) }
 {
     match parts_of(tree, definition).first() {
         Some(first) => modes_in(alloc, tree, of, *first),
-        None => Ok(Vec::new(alloc)),
+        None => Ok(SmallVec::new(alloc)),
     }
 }

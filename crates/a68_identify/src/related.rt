@@ -72,7 +72,7 @@ fn is_related_to(
     }
     let _there = modes.len();
     let ones = operand_modes(alloc, tree, of, one)?;
-    let are = all_related(alloc, modes, classes, &ones, signature.parameters)?;
+    let are = all_related(alloc, modes, classes, ones.as_slice(), signature.parameters)?;
     Ok(are)
 }
 
@@ -123,7 +123,7 @@ fn is_late(
     let parameters = operand_modes(alloc, tree, of, later)?;
     let signature = Signature {
         sign,
-        parameters: &parameters,
+        parameters: parameters.as_slice(),
     };
     let late = any_related_to(alloc, tree, modes, classes, of, &signature, before)?;
     Ok(late)

@@ -1,7 +1,10 @@
 pub mod Ahead
 pub mod Behind
 pub mod Cutting
+pub mod Fronts
 pub mod Onward
 pub mod Quoting
 pub mod Strings
+pub mod Preludes
 pub mod Together
+pub mod Tokens

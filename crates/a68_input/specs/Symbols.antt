@@ -1,8 +1,8 @@
 -- Inner: the headline does not rest on this file.
 -- The symbols of a program with the definitions in front of it.
-use Rattle.std.specs.Prelude.{◌≤◌, ℕ, ◌+◌, List, [], ◌∷◌, ◌++◌, length, map}
+use Rattle.std.specs.Prelude.{◌≤◌, ℕ, ◌+◌, ◌*◌, List, [], ◌∷◌, ◌++◌, length, map}
 use Rattle.a68_input.specs.Joining.{prelude, joined}
-use Rattle.a68_input.specs.Lines.{HaveNoFeed}
+use Rattle.a68_input.specs.Lines.{HaveNoFeed, KeepLimits}
 use Rattle.a68_symbols.specs.Limits.{most_bytes, most_symbols}
 use Rattle.a68_symbols.specs.Symbols.{Piece, HasSymbols}
 use Rattle.a68_symbols.specs.declared.symbol.SymbolKind.TheVariants.{Mark}
@@ -14,6 +14,16 @@ moved offset piece = record { kind = piece.kind; span = record { from = offset +
 -- the bracket that closes the clause, behind a program that ends at this byte
 abbrev pub closing : (end : ℕ) → Piece
 closing end = record { kind = Mark; span = record { from = end + 1; to = end + 2 } }
+
+-- What stands in front of a program has symbols, few enough.
+pub record HasFront (lines : List (List ℕ)) : Type 0 where
+  pub front : List Piece
+  pub has : HasSymbols (prelude lines) front
+  pub few : length front ≤ 15 * length lines + 92
+
+-- A law: it is so for all lines of an input that is not too long.
+abbrev pub PreludesHaveSymbols : Type 0
+PreludesHaveSymbols = (lines : List (List ℕ)) → KeepLimits lines → HasFront lines
 
 -- The joined text has the symbols of what stands in front of the program, those of the program moved behind that, and the bracket.
 pub record JoinsSymbols (text : List ℕ) (lines : List (List ℕ)) (pieces : List Piece) : Type 0 where

@@ -7,5 +7,7 @@ mod lines;
 mod pieces;
 
 pub use joining::{Joined, join};
-pub use laws::{joined_texts_have_the_symbols, lines_read_back};
+pub use laws::{
+    joined_texts_have_the_symbols, lines_are_one, lines_read_back, preludes_have_symbols,
+};
 pub use lines::{InputStop, Lines, MOST_INPUT, MOST_LINES, lines_of};

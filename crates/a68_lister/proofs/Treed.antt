@@ -14,8 +14,8 @@ use Rattle.a68_symbols.specs.Limits.{most_symbols}
 use Rattle.a68_symbols.specs.Names.{Named}
 use Rattle.a68_symbols.specs.Symbols.{Piece, piece_of, IsCut, cut_ended, cut_passed, cut_taken}
 use Rattle.a68_symbols.proofs.Again.{true≢false}
-use Rattle.a68_tree.specs.declared.sym.Sym.{Sym}
-use Rattle.a68_tree.specs.Spellings.{sym_of, sym_in, number_sym, is_digit, bytes_of}
+use Rattle.a68_symbols.specs.declared.sym.Sym.{Sym}
+use Rattle.a68_symbols.specs.Spellings.{sym_of, sym_in, number_sym, is_digit, bytes_of}
 use Rattle.a68_words.specs.declared.class.Class.{Class}
 
 -- a tag or a number is one to the grammar

@@ -1,13 +1,13 @@
 -- With which symbol each form begins.
 use Rattle.std.proofs.Common.{rules, ◌≡◌, Bool, true, false, List, ◌∷◌, refl, ◌∙◌, ap, ◌||◌, ◌&&◌}
 use denote.Enum.Bare.{same_true}
-use Rattle.a68_tree.specs.contracts.sym.Bracket.{the_type as bracket_type}
-use Rattle.a68_tree.specs.contracts.sym.Token.{the_type as token_type}
-use Rattle.a68_tree.specs.declared.sym.Token.{Token}
-use Rattle.a68_tree.specs.declared.sym.Token.TheVariants as t
-use Rattle.a68_tree.specs.declared.sym.Bracket.TheVariants as b
-use Rattle.a68_tree.specs.declared.sym.Sym.{Sym}
-use Rattle.a68_tree.specs.declared.sym.Sym.TheVariants.{Opens, Closes, Is}
+use Rattle.a68_symbols.specs.contracts.sym.Bracket.{the_type as bracket_type}
+use Rattle.a68_symbols.specs.contracts.sym.Token.{the_type as token_type}
+use Rattle.a68_symbols.specs.declared.sym.Token.{Token}
+use Rattle.a68_symbols.specs.declared.sym.Token.TheVariants as t
+use Rattle.a68_symbols.specs.declared.sym.Bracket.TheVariants as b
+use Rattle.a68_symbols.specs.declared.sym.Sym.{Sym}
+use Rattle.a68_symbols.specs.declared.sym.Sym.TheVariants.{Opens, Closes, Is}
 use Rattle.a68_tree.specs.declared.kind.NodeKind.{NodeKind}
 use Rattle.a68_tree.specs.Forest.{Forest, spells}
 use Rattle.a68_tree.specs.Grammar as g

@@ -1,12 +1,12 @@
 -- Inner: the headline does not rest on this file.
 -- What tells apart what may begin with the same symbols, however far ahead it stands (own).
 use Rattle.std.specs.Prelude.{ℕ, zero, suc, Bool, true, false, List, [], ◌∷◌, ◌||◌}
-use Rattle.a68_tree.specs.declared.sym.Bracket.{Bracket}
-use Rattle.a68_tree.specs.declared.sym.Bracket.TheVariants as b
-use Rattle.a68_tree.specs.declared.sym.Token.{Token}
-use Rattle.a68_tree.specs.declared.sym.Token.TheVariants as t
-use Rattle.a68_tree.specs.declared.sym.Sym.{Sym}
-use Rattle.a68_tree.specs.declared.sym.Sym.TheVariants.{Opens, Closes, Is}
+use Rattle.a68_symbols.specs.declared.sym.Bracket.{Bracket}
+use Rattle.a68_symbols.specs.declared.sym.Bracket.TheVariants as b
+use Rattle.a68_symbols.specs.declared.sym.Token.{Token}
+use Rattle.a68_symbols.specs.declared.sym.Token.TheVariants as t
+use Rattle.a68_symbols.specs.declared.sym.Sym.{Sym}
+use Rattle.a68_symbols.specs.declared.sym.Sym.TheVariants.{Opens, Closes, Is}
 use Rattle.a68_lookahead.specs.declared.look.Due.{Due}
 use Rattle.a68_lookahead.specs.declared.look.Due.TheVariants as due
 use Rattle.a68_lookahead.specs.declared.look.Landmark.{Landmark}

@@ -1,10 +1,10 @@
 -- Inner: the headline does not rest on this file.
 -- With which symbols the forms of the grammar begin, and which ones may stand behind them.
 use Rattle.std.specs.Prelude.{Bool, true, false, ◌||◌}
-use Rattle.a68_tree.specs.declared.sym.Bracket.TheVariants as b
-use Rattle.a68_tree.specs.declared.sym.Token.TheVariants as t
-use Rattle.a68_tree.specs.declared.sym.Sym.{Sym}
-use Rattle.a68_tree.specs.declared.sym.Sym.TheVariants.{Opens, Closes, Is}
+use Rattle.a68_symbols.specs.declared.sym.Bracket.TheVariants as b
+use Rattle.a68_symbols.specs.declared.sym.Token.TheVariants as t
+use Rattle.a68_symbols.specs.declared.sym.Sym.{Sym}
+use Rattle.a68_symbols.specs.declared.sym.Sym.TheVariants.{Opens, Closes, Is}
 use Rattle.a68_lookahead.specs.Symbols.{same}
 
 -- ---- a loop, from the inside out

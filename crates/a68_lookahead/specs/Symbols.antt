@@ -1,12 +1,12 @@
 -- Inner: the headline does not rest on this file.
 -- The first symbols of a text.
 use Rattle.std.specs.Prelude.{◌≡◌, Bool, true, false, ◌||◌, ◌&&◌, List, [], ◌∷◌}
-use Rattle.a68_tree.specs.declared.sym.Bracket.TheVariants as b
-use Rattle.a68_tree.specs.declared.sym.Token.{Token}
-use Rattle.a68_tree.specs.declared.sym.Token.TheVariants as t
-use Rattle.a68_tree.specs.declared.sym.Sym.{Sym}
-use Rattle.a68_tree.specs.declared.sym.Sym.TheVariants.{Opens, Closes, Is}
-use Rattle.a68_tree.specs.contracts.sym.SymPartialEq.TheImpl as sym_eq
+use Rattle.a68_symbols.specs.declared.sym.Bracket.TheVariants as b
+use Rattle.a68_symbols.specs.declared.sym.Token.{Token}
+use Rattle.a68_symbols.specs.declared.sym.Token.TheVariants as t
+use Rattle.a68_symbols.specs.declared.sym.Sym.{Sym}
+use Rattle.a68_symbols.specs.declared.sym.Sym.TheVariants.{Opens, Closes, Is}
+use Rattle.a68_symbols.specs.contracts.sym.SymPartialEq.TheImpl as sym_eq
 
 -- whether two symbols are the same
 abbrev pub same : Sym → Sym → Bool

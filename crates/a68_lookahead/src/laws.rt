@@ -1,7 +1,7 @@
 //! What looking ahead tells.
 ghost use Rattle.std.specs.Prelude.{◌≡◌, ◌⊎◌, List, ◌∷◌, true, false};
 ghost use Rattle.a68_tree.specs.declared.kind.NodeKind.{NodeKind};
-ghost use Rattle.a68_tree.specs.declared.sym.Sym.{Sym};
+ghost use Rattle.a68_symbols.specs.declared.sym.Sym.{Sym};
 ghost use Rattle.a68_tree.specs.Forest.{Forest, spells};
 ghost use Rattle.a68_tree.specs.Grammar.{IsUnit, IsRoutine, IsChoices};
 ghost use Rattle.a68_lookahead.specs.Ahead as spec;

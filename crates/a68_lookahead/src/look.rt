@@ -2,7 +2,7 @@
 ghost use Rattle.std.specs.Prelude.{◌≡◌, ◌<◌, ◌^◌};
 ghost use Rattle.a68_lookahead.specs.Ahead as spec;
 
-use a68_tree::{Bracket, Sym, Token};
+use a68_symbols::{Bracket, Sym, Token};
 
 /// What is due outside the brackets.
 #[derive(Clone, Copy)]

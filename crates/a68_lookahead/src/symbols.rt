@@ -2,7 +2,7 @@
 ghost use Rattle.std.specs.Prelude.{◌≡◌};
 ghost use Rattle.a68_lookahead.specs.Symbols as spec;
 
-use a68_tree::{Bracket, Sym, Token};
+use a68_symbols::{Bracket, Sym, Token};
 
 /// Whether the text begins with that symbol.
 pub fn starts(text: &[Sym], wanted: Sym) -> bool

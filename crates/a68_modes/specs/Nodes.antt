@@ -2,6 +2,7 @@
 use Rattle.std.specs.Prelude.{◌≡◌, ◌<◌, ◌≤◌, ℕ, Bool as Truth, List, [], ◌∷◌, ◌++◌, length, take, map, true, false, slice_index_or}
 use Rattle.std.specs.List.{All}
 use Rattle.a68_base.specs.declared.limits.TheConstants.{MOST_MODES}
+use Rattle.a68_modes.specs.declared.standard.TheConstants as standard
 use Rattle.a68_modes.specs.declared.shape.Shape.{Shape}
 use Rattle.a68_modes.specs.declared.shape.Shape.TheVariants.{Void, Int, Bool, Char, Bits, Sema, Layout, Ref, Rows, Struct, Union, Proc, Same, Blank}
 
@@ -38,16 +39,18 @@ parts_of _ = []
 abbrev pub ShapeIsWithin : ℕ → Shape → Type 0
 ShapeIsWithin n shape = All (λ m. m < n) (parts_of shape)
 
--- VOID, INT, BOOL, CHAR, BITS, SEMA, layout, [] CHAR, what can be printed, REF INT, REF STRING, [] BOOL, STRING
+-- the standard modes by their numbers: VOID, INT, BOOL, CHAR, BITS, SEMA, layout, [] CHAR, what can be printed, REF INT,
+-- REF STRING, [] BOOL, STRING
 abbrev pub standard_shapes : List Shape
 standard_shapes =
-    Void ∷ Int ∷ Bool ∷ Char ∷ Bits ∷ Sema ∷ Layout ∷ Rows 1 false 3 ∷ Union (1 ∷ 2 ∷ 3 ∷ 4 ∷ 7 ∷ 6 ∷ [])
-    ∷ Ref 1 ∷ Ref 12 ∷ Rows 1 false 2 ∷ Rows 1 true 3 ∷ []
+    Void ∷ Int ∷ Bool ∷ Char ∷ Bits ∷ Sema ∷ Layout ∷ Rows 1 false standard.CHAR
+    ∷ Union (standard.INT ∷ standard.BOOL ∷ standard.CHAR ∷ standard.BITS ∷ standard.ROW_OF_CHAR ∷ standard.LAYOUT ∷ [])
+    ∷ Ref standard.INT ∷ Ref standard.STRING ∷ Rows 1 false standard.BOOL ∷ Rows 1 true standard.CHAR ∷ []
 
 -- what every list of modes keeps
 pub record HoldsNodes (nodes : List Shape) : Type 0 where
   -- it begins with the standard modes
-  pub standard : take 13 nodes ≡ standard_shapes
+  pub standard : take standard.STANDARD nodes ≡ standard_shapes
   -- a mode within a shape is one of its nodes
   pub within : (m : ℕ) → m < length nodes → ShapeIsWithin (length nodes) (shape_at nodes m)
   -- it has room for no more than 16,777,216

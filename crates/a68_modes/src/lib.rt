@@ -5,7 +5,7 @@ mod coercion;
 mod lists;
 mod modes;
 mod shape;
-mod standard;
+pub mod standard;
 
 pub use coercion::{Coercion, Path, Sort};
 pub use lists::{Fields, Members};

@@ -2,7 +2,7 @@
 use Rattle.std.proofs.Common.{◌≡◌, ℕ, ◌+◌, ◌-◌, ◌<◌, List, [], ◌∷◌, ◌++◌, length, refl, ap, sym, ◌∙◌, arith, nat_eq, true, false}
 use Rattle.std.proofs.lemmas.Bool.{ne_eqb}
 use Rattle.std.proofs.lemmas.List.{length-append}
-use Rattle.a68_tree.specs.declared.sym.Sym.{Sym}
+use Rattle.a68_symbols.specs.declared.sym.Sym.{Sym}
 use Rattle.a68_tree.specs.Forest.{Forest, forget, spells, Single, single_part, single_mark, single_aside, Some, some_part, some_mark, some_aside, some_forget, Several, several_parts, several_mark, several_aside}
 use Rattle.a68_tree.specs.Nodes.{Entry, with_node, with_under}
 use Rattle.a68_nodes.specs.Stack.{Layer, node, begun}

@@ -1,10 +1,10 @@
 -- What stands for the layers, one step on.
 use Rattle.std.proofs.Common.{◌≡◌, ℕ, ◌+◌, List, [], ◌∷◌, ◌++◌, length, Option, Some, None, refl, sym, ap, ◌∙◌, append_assoc, add-one}
 use Rattle.std.proofs.lemmas.List.{append-nil}
-use Rattle.a68_tree.specs.declared.sym.Bracket.{Bracket}
-use Rattle.a68_tree.specs.declared.sym.Sym.{Sym}
-use Rattle.a68_tree.specs.declared.sym.Sym.TheVariants.{Opens, Closes, Is}
-use Rattle.a68_tree.specs.declared.sym.Token.{Token}
+use Rattle.a68_symbols.specs.declared.sym.Bracket.{Bracket}
+use Rattle.a68_symbols.specs.declared.sym.Sym.{Sym}
+use Rattle.a68_symbols.specs.declared.sym.Sym.TheVariants.{Opens, Closes, Is}
+use Rattle.a68_symbols.specs.declared.sym.Token.{Token}
 use Rattle.a68_tree.specs.Forest.{Forest, end, mark, group, sign, shared, forget, spells, joined}
 use Rattle.a68_tree.specs.Nodes.{Entry, nodes}
 use Rattle.a68_nodes.specs.declared.draft.Piece.{Piece}

@@ -1,7 +1,7 @@
 -- Inner: the headline does not rest on this file.
 -- What stands for the layers that are open.
 use Rattle.std.specs.Prelude.{◌≡◌, List, [], ◌∷◌, ◌++◌, length}
-use Rattle.a68_tree.specs.declared.sym.Sym.{Sym}
+use Rattle.a68_symbols.specs.declared.sym.Sym.{Sym}
 use Rattle.a68_tree.specs.Forest.{Forest, spells}
 use Rattle.a68_tree.specs.Nodes.{nodes}
 use Rattle.a68_nodes.specs.Stack.{Layer, begun, text_of}

@@ -2,8 +2,8 @@
 -- What a forest has at its top: the numbers of parts, and signs.
 use Rattle.std.specs.Prelude.{ℕ, ◌+◌, List, [], ◌∷◌, ◌++◌, length}
 use Rattle.a68_tree.specs.declared.kind.NodeKind.TheVariants as k
-use Rattle.a68_tree.specs.declared.sym.Sym.{Sym}
-use Rattle.a68_tree.specs.declared.sym.Sym.TheVariants.{Closes, Is}
+use Rattle.a68_symbols.specs.declared.sym.Sym.{Sym}
+use Rattle.a68_symbols.specs.declared.sym.Sym.TheVariants.{Closes, Is}
 use Rattle.a68_tree.specs.Forest.{Forest, end, mark, group, part, sign, aside, shared, forget, spells}
 use Rattle.a68_tree.specs.Nodes.{Entry, nodes, with_under, with_node}
 use Rattle.a68_nodes.specs.declared.draft.Piece.{Piece}

@@ -1,9 +1,9 @@
 -- Inner: the headline does not rest on this file.
 -- The layers that are open while a text is read (own).
 use Rattle.std.specs.Prelude.{Option, None, Some, List, [], ◌∷◌}
-use Rattle.a68_tree.specs.declared.sym.Bracket.{Bracket}
-use Rattle.a68_tree.specs.declared.sym.Sym.{Sym}
-use Rattle.a68_tree.specs.declared.sym.Sym.TheVariants.{Opens}
+use Rattle.a68_symbols.specs.declared.sym.Bracket.{Bracket}
+use Rattle.a68_symbols.specs.declared.sym.Sym.{Sym}
+use Rattle.a68_symbols.specs.declared.sym.Sym.TheVariants.{Opens}
 use Rattle.a68_tree.specs.Forest.{Forest, spells, joined}
 
 -- A layer: the bracket that it stands in, or none where it is what may become a node; and what has been read in it. A

@@ -8,7 +8,8 @@ ghost use Rattle.a68_nodes.specs.Views.{view, views, all_opened, inherited, AllW
 use crate::draft::{Draft, OpenLayer, Piece};
 use crate::frames::open;
 use a68_base::NoMemory;
-use a68_tree::{NodeKind, Sym};
+use a68_symbols::Sym;
+use a68_tree::NodeKind;
 use std::alloc::Global;
 
 /// Takes off the last piece, where there are more than so many.

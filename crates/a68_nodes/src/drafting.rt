@@ -2,10 +2,10 @@
 ghost use Rattle.std.specs.Prelude.{◌≡◌, true, false, ◌++◌, List, [], ◌∷◌, take, drop, length, IfOk, OnOk};
 ghost use Rattle.a68_tree.specs.declared.kind.NodeKind.{NodeKind};
 ghost use Rattle.a68_tree.specs.declared.kind.NodeKind.TheVariants as k;
-ghost use Rattle.a68_tree.specs.declared.sym.Bracket.{Bracket};
-ghost use Rattle.a68_tree.specs.declared.sym.Sym.{Sym};
-ghost use Rattle.a68_tree.specs.declared.sym.Sym.TheVariants.{Opens, Closes, Is};
-ghost use Rattle.a68_tree.specs.declared.sym.Token.{Token};
+ghost use Rattle.a68_symbols.specs.declared.sym.Bracket.{Bracket};
+ghost use Rattle.a68_symbols.specs.declared.sym.Sym.{Sym};
+ghost use Rattle.a68_symbols.specs.declared.sym.Sym.TheVariants.{Opens, Closes, Is};
+ghost use Rattle.a68_symbols.specs.declared.sym.Token.{Token};
 ghost use Rattle.a68_tree.specs.Forest.{Forest, Single, Several, end, group, part, sign, aside, shared, forget, spells};
 ghost use Rattle.a68_tree.specs.Nodes.{with_node};
 ghost use Rattle.a68_nodes.specs.Stack.{Layer, node, inside, put};
@@ -16,7 +16,8 @@ use crate::closing::{behind_first, close, close_within, unfinished};
 use crate::draft::{Draft, OpenLayer, Piece, Section};
 use crate::frames::{add_parts, is_one, keep, keep_one, kept, open};
 use a68_base::NoMemory;
-use a68_tree::{NodeKind, Sym};
+use a68_symbols::Sym;
+use a68_tree::NodeKind;
 use std::alloc::Global;
 use std::marker::Model;
 

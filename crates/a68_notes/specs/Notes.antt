@@ -1,6 +1,7 @@
 -- What is known of each node of a tree that breaks no rule (Report, 2.1.1.3, 3.2, 4.4, 4.8, 5.4.2, 6.1.1 and 7.2.2).
 use Rattle.std.specs.Prelude.{◌≡◌, ◌-◌, ℕ, List, [], length, nat_lt, slice_get, slice_index_or, Option, Some, None, Bool, true, false, if◌then◌else◌}
 use Rattle.std.specs.Option.{option_map_or}
+use Rattle.a68_modes.specs.declared.standard.TheConstants as standard
 use Rattle.a68_annot.specs.declared.note.Note.{Note}
 use Rattle.a68_coerce.specs.Paths.{Finds, Leads}
 use Rattle.a68_coerce.specs.declared.leaf.Leaf.{Leaf}
@@ -43,8 +44,8 @@ use Rattle.a68_yields.specs.declared.yielding.Yielding.TheVariants as yields
 abbrev pub goal_of : Position → ℕ
 goal_of (position.Goal m setter) = m
 goal_of (position.Asks by_sort (Some m)) = m
-goal_of (position.Items call) = 8
-goal_of _ = 0
+goal_of (position.Items call) = standard.PRINTABLE
+goal_of _ = standard.VOID
 
 -- the mode that is asked at a node; at a declarer its mode without FLEX, of which a name of its values is made
 abbrev pub goal_by : ByNode → (n : ℕ) → Position → NodeKind → ℕ

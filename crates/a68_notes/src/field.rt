@@ -6,7 +6,7 @@ use a68_coerce::Leaf;
 use a68_declare::NodeModes;
 use a68_definitions::{Tags, part_number};
 use a68_identify::Identified;
-use a68_modes::ModeId;
+use a68_modes::{ModeId, standard};
 use a68_positions::Position;
 use a68_tree::{NodeId, NodeKind, Tree};
 use a68_yields::{Finding, Yielding};
@@ -18,8 +18,10 @@ fn goal_of(own: Position) -> ModeId
     match own {
         Position::Goal(mode, _) => mode,
         Position::Asks(_, Some(mode)) => mode,
-        Position::Items(_) => 8,
-        Position::Asks(_, None) | Position::Nowhere | Position::Unlooked | Position::Called => 0,
+        Position::Items(_) => standard::PRINTABLE,
+        Position::Asks(_, None) | Position::Nowhere | Position::Unlooked | Position::Called => {
+            standard::VOID
+        }
     }
 }
 

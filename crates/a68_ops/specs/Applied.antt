@@ -2,6 +2,7 @@
 use Rattle.std.specs.Prelude.{ℕ, ℤ, pos, ◌+◌, nat_eq, nat_lt, not, ◌&&◌, ◌||◌, None, Some, Err, if◌then◌else◌}
 use Rattle.std.specs.Option.{option_map_or}
 use Rattle.std.specs.declared.option.Option.{Option}
+use Rattle.a68_signs.specs.declared.operators.TheConstants as operators
 use Rattle.a68_values.specs.Content.{Content, void, plain}
 use Rattle.a68_values.specs.declared.act.FaultKind.TheVariants as fault
 use Rattle.a68_values.specs.declared.plain.Plain.{Plain}
@@ -81,9 +82,9 @@ applied_plain row left right =
     else (option_map_or (λ operator. between_plain operator left right) (dyadic_of row) (Some (Err fault.Kind)))
 
 -- The value that an operator combined with assignation gives to its name, of the old value and the other operand (Report,
--- 10.2.3.11): rows 1 to 5 apply `+`, `-`, `*`, OVER and MOD; row 6 puts the operand in front.
+-- 10.2.3.11): PLUSAB to MODAB apply `+`, `-`, `*`, OVER and MOD, and PLUSTO puts the operand in front.
 unfoldable pub updated : (row : ℕ) (old operand : Content) → Yield
 updated row old operand =
-    if nat_eq row 6 then applied 15 operand old
-    else (if nat_lt 0 row && nat_lt row 6 then applied (row + 14) old operand
+    if nat_eq row operators.PLUSTO then applied operators.PLUS operand old
+    else (if nat_lt 0 row && nat_lt row operators.PLUSTO then applied (row + operators.PLUS_FROM_PLUSAB) old operand
     else (Err fault.Kind))

@@ -11,6 +11,7 @@ use crate::integers::{difference, on_int, on_ints, on_truths, product, sum};
 use crate::operator::{Dyadic, Monadic, dyadic_of, monadic_of, truth};
 use crate::texts::{items_of, on_texts, text_times};
 use crate::unset::{is_unset, is_unset_plain};
+use a68_signs::operators;
 use a68_values::{FaultKind, Plain, Value, ValueNode};
 use std::alloc::Global;
 
@@ -172,11 +173,11 @@ pub fn apply(alloc: Global, row: u32, left: &Value, right: &Value) -> Result<Val
 pub fn updated(alloc: Global, row: u32, old: &Value, operand: &Value) -> Result<Value, OpStop>
     ensures { IsAsTold is_row result (spec.updated row old.now operand.now) }
 {
-    if row == 6 {
+    if row == operators::PLUSTO {
         return apply(alloc, 15, operand, old);
     }
     if row > 0 && row < 6 {
-        return apply(alloc, row + 14, old, operand);
+        return apply(alloc, row + operators::PLUS_FROM_PLUSAB, old, operand);
     }
     Err(OpStop::Fault(FaultKind::Kind))
 }
@@ -199,7 +200,7 @@ pub fn apply_plain(row: u32, left: Plain, right: Plain) -> Option<Result<Plain, 
     }
 }
 
-/// The INT that `+`, `-` or `*` yields between two INT, by its row (15 to 17); none for another row, and where the result is no
+/// The INT that `+`, `-` or `*` yields between two INT, by its row; none for another row, and where the result is no
 /// INT.
 #[inline(always)]
 #[tactic(auto, unfolding(crate::specs::Applied::applied))]
@@ -207,9 +208,9 @@ pub fn apply_to_ints(row: u32, left: i64, right: i64) -> Option<i64>
     ensures { IfSome result (λ number. spec.applied row (plain (Plain.Int left)) (plain (Plain.Int right)) ≡ Ok (plain (Plain.Int number))) }
 {
     match row {
-        15 => sum(left, right),
-        16 => difference(left, right),
-        17 => product(left, right),
+        operators::PLUS => sum(left, right),
+        operators::MINUS => difference(left, right),
+        operators::TIMES => product(left, right),
         _ => None,
     }
 }

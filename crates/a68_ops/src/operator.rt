@@ -1,8 +1,9 @@
 //! The operators that yield at once.
 ghost use Rattle.std.specs.Prelude.{◌≡◌};
-ghost use Rattle.a68_ops.specs.Operators as operators;
+ghost use Rattle.a68_ops.specs.Operators as spec;
 ghost use Rattle.a68_ops.specs.Yields as yields;
 
+use a68_signs::operators;
 use a68_values::{FaultKind, Plain};
 
 /// An operator between two operands.
@@ -43,26 +44,26 @@ pub enum Monadic {
 /// Finds the operator of a row.
 #[inline(always)]
 pub fn dyadic_of(row: u32) -> Option<Dyadic>
-    ensures { result ≡ operators.dyadic_of row }
+    ensures { result ≡ spec.dyadic_of row }
 {
     match row {
-        7 => Some(Dyadic::Or),
-        8 => Some(Dyadic::And),
-        9 => Some(Dyadic::Equal),
-        10 => Some(Dyadic::NotEqual),
-        11 => Some(Dyadic::Less),
-        12 => Some(Dyadic::AtMost),
-        13 => Some(Dyadic::AtLeast),
-        14 => Some(Dyadic::Greater),
-        15 => Some(Dyadic::Plus),
-        16 => Some(Dyadic::Minus),
-        17 => Some(Dyadic::Times),
-        18 => Some(Dyadic::Over),
-        19 => Some(Dyadic::Mod),
-        20 => Some(Dyadic::Elem),
-        21 => Some(Dyadic::Power),
-        22 => Some(Dyadic::ShiftLeft),
-        23 => Some(Dyadic::ShiftRight),
+        operators::OR => Some(Dyadic::Or),
+        operators::AND => Some(Dyadic::And),
+        operators::EQ => Some(Dyadic::Equal),
+        operators::NE => Some(Dyadic::NotEqual),
+        operators::LT => Some(Dyadic::Less),
+        operators::LE => Some(Dyadic::AtMost),
+        operators::GE => Some(Dyadic::AtLeast),
+        operators::GT => Some(Dyadic::Greater),
+        operators::PLUS => Some(Dyadic::Plus),
+        operators::MINUS => Some(Dyadic::Minus),
+        operators::TIMES => Some(Dyadic::Times),
+        operators::OVER => Some(Dyadic::Over),
+        operators::MOD => Some(Dyadic::Mod),
+        operators::ELEM => Some(Dyadic::Elem),
+        operators::POWER => Some(Dyadic::Power),
+        operators::SHL => Some(Dyadic::ShiftLeft),
+        operators::SHR => Some(Dyadic::ShiftRight),
         _ => None,
     }
 }
@@ -70,17 +71,17 @@ pub fn dyadic_of(row: u32) -> Option<Dyadic>
 /// Finds the operator of a row before one operand.
 #[inline(always)]
 pub fn monadic_of(row: u32) -> Option<Monadic>
-    ensures { result ≡ operators.monadic_of row }
+    ensures { result ≡ spec.monadic_of row }
 {
     match row {
-        26 => Some(Monadic::Plus),
-        27 => Some(Monadic::Minus),
-        28 => Some(Monadic::Not),
-        29 => Some(Monadic::Abs),
-        30 => Some(Monadic::Sign),
-        31 => Some(Monadic::Odd),
-        32 => Some(Monadic::Repr),
-        33 => Some(Monadic::Bin),
+        operators::POSITIVE => Some(Monadic::Plus),
+        operators::NEGATIVE => Some(Monadic::Minus),
+        operators::NOT => Some(Monadic::Not),
+        operators::ABS => Some(Monadic::Abs),
+        operators::SIGN => Some(Monadic::Sign),
+        operators::ODD => Some(Monadic::Odd),
+        operators::REPR => Some(Monadic::Repr),
+        operators::BIN => Some(Monadic::Bin),
         _ => None,
     }
 }
@@ -96,7 +97,7 @@ pub fn truth(holds: bool) -> Result<Plain, FaultKind>
 /// Compares two operands of which it is known whether the left is less, and whether they are equal.
 #[inline(always)]
 pub fn compared(operator: Dyadic, less: bool, equal: bool) -> Result<Plain, FaultKind>
-    ensures { result ≡ operators.compared operator less equal }
+    ensures { result ≡ spec.compared operator less equal }
 {
     match operator {
         Dyadic::Equal => truth(equal),

@@ -5,11 +5,11 @@ use Rattle.a68_symbols.specs.Limits.{most_symbols}
 use Rattle.a68_symbols.specs.Names.{Named}
 use Rattle.a68_tree.specs.declared.kind.NodeKind.{NodeKind}
 use Rattle.a68_tree.specs.declared.node.Node.{Node}
-use Rattle.a68_tree.specs.declared.sym.Sym.{Sym}
+use Rattle.a68_symbols.specs.declared.sym.Sym.{Sym}
 use Rattle.a68_tree.specs.Forest.{Forest, spells}
 use Rattle.a68_tree.specs.Grammar.{IsEnclosed}
 use Rattle.a68_tree.specs.Nodes.{Entry, node_of}
-use Rattle.a68_tree.specs.Spellings.{syms_of, sym_in}
+use Rattle.a68_symbols.specs.Spellings.{syms_of, sym_in}
 use Rattle.a68_tree.specs.Trees.{entries}
 use Rattle.a68_tree.proofs.Three.{entries_few}
 use Rattle.a68_lookahead.proofs.Firsts.{first_enclosed}

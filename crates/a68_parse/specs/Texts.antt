@@ -1,10 +1,10 @@
 -- The symbols of a text as the grammar tells them apart: a word that is not reserved stands for a mode or is an operator.
 use Rattle.std.specs.Prelude.{List, [], ◌∷◌, Option, Some}
 use Rattle.a68_symbols.specs.Names.{Named}
-use Rattle.a68_tree.specs.declared.sym.Sym.{Sym}
-use Rattle.a68_tree.specs.declared.sym.Sym.TheVariants.{Is}
-use Rattle.a68_tree.specs.declared.sym.Token.TheVariants as t
-use Rattle.a68_tree.specs.Spellings.{syms_of}
+use Rattle.a68_symbols.specs.declared.sym.Sym.{Sym}
+use Rattle.a68_symbols.specs.declared.sym.Sym.TheVariants.{Is}
+use Rattle.a68_symbols.specs.declared.sym.Token.TheVariants as t
+use Rattle.a68_symbols.specs.Spellings.{syms_of}
 use Rattle.a68_words.specs.declared.class.Class.{Class}
 use Rattle.a68_words.specs.declared.class.Class.TheVariants.{ModeWord, OperatorWord}
 

@@ -3,8 +3,7 @@ ghost use Rattle.std.specs.Prelude.{◌≡◌, IfOk};
 ghost use Rattle.a68_parse.specs.Texts as spec;
 
 use a68_base::NoMemory;
-use a68_symbols::Symbols;
-use a68_tree::{Sym, Token, syms};
+use a68_symbols::{Sym, Symbols, Token, syms};
 use a68_words::{Class, Classed};
 use std::alloc::Global;
 

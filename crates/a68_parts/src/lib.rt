@@ -8,7 +8,7 @@ mod nodes;
 mod rowing;
 
 pub use constants::{is_quoted, standard_of, truths, value_in};
-pub use fields::{field_in, fields_at, first_goal};
+pub use fields::{fields_at, first_goal, selected_fields};
 pub use loops::{LoopParts, loop_parts, only_id};
 pub use nodes::{
     before_out, begins_in_heap, begins_with_declarer, behind_heap, behind_proc, behind_ref, called,

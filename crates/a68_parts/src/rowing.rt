@@ -1,5 +1,5 @@
 //! Rowing: the modes between a value and the row that it becomes.
-ghost use Rattle.std.specs.Prelude.{◌≡◌};
+ghost use Rattle.std.specs.Prelude.{◌≡◌, ◌<◌, ◌≤◌, ◌-◌, true, length, drop, IfSome, IsTrue};
 ghost use Rattle.a68_elab.specs.Made as made;
 ghost use Rattle.a68_modes.specs.Nodes.{shape_at};
 ghost use Rattle.a68_parts.specs.Rowing as running;
@@ -104,12 +104,95 @@ fn before(modes: &Modes, mode: Option<ModeId>, coercion: Coercion) -> Option<Mod
     }
 }
 
+// What the last coercions of a path lead back to: so many of them, and the mode.
+#[derive(Clone, Copy)]
+struct Back {
+    count: usize,
+    mode: Option<ModeId>,
+}
+
+// Is it a rowing of a value?
+fn is_row_up(coercion: Coercion) -> bool
+    ensures { IsTrue result → coercion ≡ Coercion.RowUp }
+{
+    matches!(coercion, Coercion::RowUp)
+}
+
+// A row of so many dimensions, without FLEX, of a mode: the one in front of a mode, where it is that, else the first.
+fn near(modes: &Modes, at: ModeId, dims: u32, of: ModeId) -> Option<ModeId>
+    ensures { IfSome result (λ mode. (mode < length modes.now) × (made.is_row_of dims of (shape_at modes.now mode) ≡ true)) }
+{
+    let before = at.saturating_sub(1);
+    if before < modes.len() {
+        if is_row_of(modes.shape(before), dims, of) {
+            return Some(before);
+        }
+    }
+    row_of(modes, dims, of)
+}
+
+// The goal, or behind some rowings the first row of so many dimensions.
+fn first_row(modes: &Modes, goal: ModeId, of: ModeId, count: usize, dims: u32) -> Option<ModeId>
+    ensures { result ≡ running.first_row modes.now goal of count dims }
+{
+    if count == 0 {
+        Some(goal)
+    } else {
+        row_of(modes, dims, of)
+    }
+}
+
+// The last rowings of a path that leads to a row, as far as the rows with fewer dimensions are there. The rows between are
+// not looked for among all modes, since each stands mostly in front of the one with a dimension more.
+fn rows_back(modes: &Modes, goal: ModeId, dims: u32, of: ModeId, path: &[Coercion]) -> Back
+    requires { running.IsRows dims of (shape_at modes.now goal) }
+    ensures within { result.count ≤ length path.now }
+    ensures mode { result.mode ≡ made.rowed_to modes.now goal (drop (length path.now - result.count) path.now) }
+{
+    let mut at = goal;
+    let mut left = dims;
+    for count in 0..path.len() {
+        if left < 2 || !is_row_up(path[path.len() - 1 - count]) {
+            let mode = first_row(modes, goal, of, count, left);
+            return Back { count, mode };
+        }
+        let Some(next) = near(modes, at, left - 1, of) else {
+            let mode = first_row(modes, goal, of, count, left);
+            return Back { count, mode };
+        };
+        at = next;
+        left -= 1;
+    }
+    let count = path.len();
+    let mode = first_row(modes, goal, of, count, left);
+    Back { count, mode }
+}
+
+// What the last rowings of a path lead back to.
+fn reached(modes: &Modes, goal: ModeId, path: &[Coercion]) -> Back
+    ensures within { result.count ≤ length path.now }
+    ensures mode { result.mode ≡ made.rowed_to modes.now goal (drop (length path.now - result.count) path.now) }
+{
+    let none = Back {
+        count: 0,
+        mode: Some(goal),
+    };
+    if goal >= modes.len() {
+        return none;
+    }
+    match modes.shape(goal) {
+        Shape::Rows { dims, of, .. } => rows_back(modes, goal, *dims, *of, path),
+        _ => none,
+    }
+}
+
 /// The mode that a rowing reaches, behind which these coercions lead to a mode; none where it is not there.
 pub fn rowed_to(modes: &Modes, goal: ModeId, path: &[Coercion]) -> Option<ModeId>
     ensures { result ≡ made.rowed_to modes.now goal path.now }
 {
-    let mut mode = Some(goal);
-    for behind in 0..path.len() {
+    let reached = reached(modes, goal, path);
+    let mut mode = reached.mode;
+    for behind in reached.count..path.len() {
         mode = before(modes, mode, path[path.len() - 1 - behind]);
     }
     mode

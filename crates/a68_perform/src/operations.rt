@@ -24,6 +24,7 @@ use a68_rows::{
     bound_of, bounded, bounded_by, extends, ints_of, names_field, names_part, updating_text,
     with_dimension,
 };
+use a68_signs::operators;
 use a68_steps::stepped;
 use a68_values::{
     Cells, Chain, Descriptor, FaultKind, Held, Name, Plain, Routine, Value, ValueNode, Values,
@@ -59,7 +60,7 @@ pub fn making(
 {
     match ints_of(alloc, bounds) {
         Ok(bounds) => {
-            let doing = made_with(alloc, modes, mode, scope, &bounds)?;
+            let doing = made_with(alloc, modes, mode, scope, bounds.as_slice())?;
             Ok(doing)
         }
         Err(OpStop::Fault(kind)) => Ok(Doing::Meets(kind)),
@@ -209,7 +210,7 @@ pub fn whole_of(alloc: Global, value: &Value, width: &Value) -> Result<Doing, No
 pub fn is_update(row: u32) -> bool
     ensures { result ≡ operations.is_update row }
 {
-    0 < row && row < 6
+    0 < row && row < operators::PLUSTO
 }
 
 /// An operator that is combined with assignation, on a name and another operand.
@@ -302,14 +303,14 @@ pub fn applied_to_one(alloc: Global, row: u32, value: &Value) -> Result<Doing, N
     ensures full { OnErr result (one_plainly row value.now ≡ false) }
 {
     match row {
-        34 => {
+        operators::LEVEL => {
             let doing = leveled(alloc, value)?;
             Ok(doing)
         }
-        35 => Ok(raising(value)),
-        36 => Ok(lowering(value)),
-        37 => Ok(bounded(false, 1, value)),
-        38 => Ok(bounded(true, 1, value)),
+        operators::UP => Ok(raising(value)),
+        operators::DOWN => Ok(lowering(value)),
+        operators::LWB => Ok(bounded(false, 1, value)),
+        operators::UPB => Ok(bounded(true, 1, value)),
         _ => {
             let none = Value {
                 node: ValueNode::Void,
@@ -335,12 +336,12 @@ pub fn applied_to_two(
         return Ok(doing);
     }
     match row {
-        6 => {
+        operators::PLUSTO => {
             let doing = updating(alloc, row, right, left)?;
             Ok(doing)
         }
-        24 => Ok(bounded_by(false, left, right)),
-        25 => Ok(bounded_by(true, left, right)),
+        operators::LWB_OF => Ok(bounded_by(false, left, right)),
+        operators::UPB_OF => Ok(bounded_by(true, left, right)),
         _ => {
             let doing = applied(alloc, row, left, right)?;
             Ok(doing)

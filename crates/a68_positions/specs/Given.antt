@@ -1,5 +1,7 @@
 -- What a node asks of each of its parts, by what is asked of itself (Report, 6.1.1, and the clauses of chapters 3 to 5).
 use Rattle.std.specs.Prelude.{◌-◌, ◌+◌, ℕ, List, length, nat_eq, nat_lt, slice_index_or, Option, Some, None, Bool, true, false, if◌then◌else◌}
+use Rattle.a68_modes.specs.declared.standard.TheConstants as standard
+use Rattle.a68_ranges.specs.declared.tags.TheConstants as tags
 use Rattle.a68_declare.specs.Outcome.{ByNode}
 use Rattle.a68_definitions.specs.Defined.{first_declarer, fixed_mode_at, is_declarer, part_from_end, part_number}
 use Rattle.a68_definitions.specs.Tags.{called_by}
@@ -106,7 +108,7 @@ is_collateral _ = false
 
 -- print and write take one unit, which is the item unless it is a collateral clause: then its units are (10.3.3.1; own form)
 abbrev pub item : (n count : ℕ) → NodeKind → Position
-item n count k = if nat_eq count 2 then (if is_collateral k then position.Items n else goal n 8) else position.Unlooked
+item n count k = if nat_eq count 2 then (if is_collateral k then position.Items n else goal n standard.PRINTABLE) else position.Unlooked
 
 -- whole takes two integers (10.3.2.1)
 abbrev pub whole : (n count : ℕ) → Position
@@ -117,7 +119,7 @@ primary (Some c) found = position.Called
 primary None found = asked by.Meek found
 
 abbrev pub argument : List Shape → (n count place : ℕ) → (called : Option ℕ) → Finding → NodeKind → Position
-argument nodes n count place (Some c) found k = if nat_eq c 8 then whole n count else item n count k
+argument nodes n count place (Some c) found k = if nat_eq c tags.WHOLE then whole n count else item n count k
 argument nodes n count place None found k = parameter nodes n count place found
 
 -- ---- formulas (5.4.2): the mode of an operand is that of the parameter, or where that stands for every row the one that is found aside
@@ -149,7 +151,7 @@ unit_of n count place aside _ = position.Unlooked
 
 abbrev pub display_unit : List Shape → (n count place aside : ℕ) → (own : Position) → Position
 display_unit nodes n count place aside (position.Goal m setter) = unit_of n count place aside (shape_at nodes m)
-display_unit nodes n count place aside (position.Items call) = goal call 8
+display_unit nodes n count place aside (position.Items call) = goal call standard.PRINTABLE
 display_unit nodes n count place aside position.Nowhere = position.Nowhere
 display_unit nodes n count place aside position.Called = position.Nowhere
 display_unit nodes n count place aside _ = position.Unlooked

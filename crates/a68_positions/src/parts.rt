@@ -10,7 +10,8 @@ ghost use Rattle.a68_yields.specs.Below.{IsFindingBelow};
 use crate::position::{Position, asked, goal};
 use a68_definitions::part_number;
 use a68_identify::Identified;
-use a68_modes::{ModeId, Modes, Shape, Sort};
+use a68_modes::{ModeId, Modes, Shape, Sort, standard};
+use a68_ranges::tags;
 use a68_signs::Operator;
 use a68_tree::{NodeId, NodeKind};
 use a68_yields::Finding;
@@ -59,7 +60,7 @@ fn item(node: NodeId, count: usize, part: NodeKind) -> Position
     }
     match part {
         NodeKind::Collateral => Position::Items(node),
-        _ => goal(node, 8),
+        _ => goal(node, standard::PRINTABLE),
     }
 }
 
@@ -99,7 +100,7 @@ pub fn argument(
 {
     match called {
         Some(called) => {
-            if called == 8 {
+            if called == tags::WHOLE {
                 whole(node, count)
             } else {
                 item(node, count, part)
@@ -211,7 +212,7 @@ pub fn display_unit(
 {
     match own {
         Position::Goal(mode, _) => unit_of(node, count, place, aside, modes.shape(mode)),
-        Position::Items(call) => goal(call, 8),
+        Position::Items(call) => goal(call, standard::PRINTABLE),
         Position::Nowhere | Position::Called => Position::Nowhere,
         Position::Unlooked | Position::Asks(_, _) => Position::Unlooked,
     }

@@ -1,7 +1,7 @@
 -- Inner: the headline does not rest on this file.
 -- What a goal is made of.
 use Rattle.std.specs.Prelude.{List, Option, Some, None}
-use Rattle.a68_tree.specs.declared.sym.Sym.{Sym}
+use Rattle.a68_symbols.specs.declared.sym.Sym.{Sym}
 use Rattle.a68_unit_productions.specs.declared.goal.Goal.{Goal}
 use Rattle.a68_unit_productions.specs.declared.goal.Goal.TheVariants as g
 use Rattle.a68_productions.specs.Clauses as clauses

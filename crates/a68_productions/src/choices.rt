@@ -3,7 +3,8 @@ ghost use Rattle.std.specs.Prelude.{◌≡◌};
 ghost use Rattle.a68_productions.specs.Choices as spec;
 
 use a68_lookahead::starts;
-use a68_tree::{Bracket, NodeKind, Sym, Token};
+use a68_symbols::{Bracket, Sym, Token};
+use a68_tree::NodeKind;
 use a68_unit_productions::Goal;
 
 /// `{ELIF serial THEN serial} [ELSE serial]`
@@ -181,7 +182,7 @@ pub fn loop_from(text: &[Sym]) -> &'static [Goal]
     }
 }
 
-/// The same from BY on.
+/// `[BY unit] [TO unit] [WHILE serial] DO serial OD`
 pub fn loop_by(text: &[Sym]) -> &'static [Goal]
     ensures { result.now ≡ spec.loop_by text.now }
 {
@@ -198,7 +199,7 @@ pub fn loop_by(text: &[Sym]) -> &'static [Goal]
     }
 }
 
-/// The same from TO on.
+/// `[TO unit] [WHILE serial] DO serial OD`
 pub fn loop_to(text: &[Sym]) -> &'static [Goal]
     ensures { result.now ≡ spec.loop_to text.now }
 {
@@ -215,7 +216,7 @@ pub fn loop_to(text: &[Sym]) -> &'static [Goal]
     }
 }
 
-/// The same from WHILE on.
+/// `[WHILE serial] DO serial OD`
 pub fn loop_while(text: &[Sym]) -> &'static [Goal]
     ensures { result.now ≡ spec.loop_while text.now }
 {

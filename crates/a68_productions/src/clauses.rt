@@ -3,10 +3,11 @@ ghost use Rattle.std.specs.Prelude.{◌≡◌};
 ghost use Rattle.a68_productions.specs.Clauses as spec;
 
 use a68_lookahead::{phrase_ahead, spec_ahead, starts};
-use a68_tree::{Bracket, NodeKind, Sym, Token};
+use a68_symbols::{Bracket, Sym, Token};
+use a68_tree::NodeKind;
 use a68_unit_productions::Goal;
 
-/// An enclosed clause, by its first symbol.
+/// `'(' .. | BEGIN .. | PAR .. | IF serial THEN serial [else] FI | CASE serial IN .. | [FOR tag] loop`, by the first symbol.
 pub fn enclosed(text: &[Sym]) -> &'static [Goal]
     ensures { result.now ≡ spec.enclosed text.now }
 {
@@ -47,7 +48,7 @@ pub fn enclosed(text: &[Sym]) -> &'static [Goal]
     }
 }
 
-/// What stands behind `(`.
+/// `')' | unit ',' units ')' | serial ')' | serial '|' ..`, behind `(`.
 pub fn brief(text: &[Sym]) -> &'static [Goal]
     ensures { result.now ≡ spec.brief text.now }
 {
@@ -67,7 +68,7 @@ pub fn brief(text: &[Sym]) -> &'static [Goal]
     }
 }
 
-/// Behind `(` and a unit: one more unit, or the rest of a serial clause.
+/// `',' units ')' | [';' serial] ..`, behind `(` and a unit: one more unit, or the rest of a serial clause.
 pub fn brief_unit(text: &[Sym]) -> &'static [Goal]
     ensures { result.now ≡ spec.brief_unit text.now }
 {
@@ -88,7 +89,7 @@ pub fn brief_unit(text: &[Sym]) -> &'static [Goal]
     }
 }
 
-/// Behind `(` and a serial clause.
+/// `'|' .. | ')'`, behind `(` and a serial clause.
 pub fn brief_end(text: &[Sym]) -> &'static [Goal]
     ensures { result.now ≡ spec.brief_end text.now }
 {
@@ -99,7 +100,7 @@ pub fn brief_end(text: &[Sym]) -> &'static [Goal]
     }
 }
 
-/// Behind the first bar.
+/// `choices [out] ')' | serial [else] ')' | unit ',' units [out] ')'`, behind the first bar.
 pub fn brief_choice(text: &[Sym]) -> &'static [Goal]
     ensures { result.now ≡ spec.brief_choice text.now }
 {
@@ -126,7 +127,7 @@ pub fn brief_choice(text: &[Sym]) -> &'static [Goal]
     }
 }
 
-/// Behind the first bar and a unit.
+/// `',' units [out] ')' | [';' serial] [else] ')'`, behind the first bar and a unit.
 pub fn brief_chosen(text: &[Sym]) -> &'static [Goal]
     ensures { result.now ≡ spec.brief_chosen text.now }
 {
@@ -150,7 +151,7 @@ pub fn brief_chosen(text: &[Sym]) -> &'static [Goal]
     }
 }
 
-/// What stands behind BEGIN.
+/// `END | unit ',' units END | serial END`, behind BEGIN.
 pub fn block(text: &[Sym]) -> &'static [Goal]
     ensures { result.now ≡ spec.block text.now }
 {
@@ -171,7 +172,7 @@ pub fn block(text: &[Sym]) -> &'static [Goal]
     }
 }
 
-/// Behind BEGIN and a unit.
+/// `',' units END | [';' serial] END`, behind BEGIN and a unit.
 pub fn block_unit(text: &[Sym]) -> &'static [Goal]
     ensures { result.now ≡ spec.block_unit text.now }
 {
@@ -193,7 +194,7 @@ pub fn block_unit(text: &[Sym]) -> &'static [Goal]
     }
 }
 
-/// What stands behind PAR.
+/// `'(' units ')' | BEGIN units END`, behind PAR.
 pub fn parallel(text: &[Sym]) -> &'static [Goal]
     ensures { result.now ≡ spec.parallel text.now }
 {
@@ -214,7 +215,7 @@ pub fn parallel(text: &[Sym]) -> &'static [Goal]
     }
 }
 
-/// Behind CASE, the enquiry and IN.
+/// `choices [out] ESAC | unit ',' units [out] ESAC`, behind CASE, the enquiry and IN.
 pub fn case_choice(text: &[Sym]) -> &'static [Goal]
     ensures { result.now ≡ spec.case_choice text.now }
 {

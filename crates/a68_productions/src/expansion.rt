@@ -4,7 +4,7 @@ ghost use Rattle.std.specs.Option.{option_map};
 ghost use Rattle.a68_productions.specs.Expand as spec;
 
 use crate::{choices, clauses};
-use a68_tree::Sym;
+use a68_symbols::Sym;
 use a68_unit_productions::{Goal, declarations, declarers, primaries, units};
 
 /// The goals that a form is made of, the first one first; none where the goal is to take a symbol or to do something.

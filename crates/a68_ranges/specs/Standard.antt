@@ -1,19 +1,18 @@
 -- The definition of an applied tag, mode word or priority: in the innermost surrounding range, else in the standard environ (Report, 10.2).
-use Rattle.std.specs.Prelude.{◌≡◌, ◌<◌, ◌+◌, ◌-◌, ◌⊎◌, ℕ, List, [], ◌∷◌, length, slice_get, Option, Some, None, codes}
+use Rattle.std.specs.Prelude.{◌≡◌, ◌<◌, ◌+◌, ◌-◌, ◌⊎◌, ℕ, List, [], ◌∷◌, length, map, slice_get, Option, Some, None}
 use Rattle.std.specs.Option.{option_and_then, option_map_or}
 use Rattle.a68_base.specs.Tables.{find}
 use Rattle.a68_ranges.specs.Nodes.{parts_at, spelling_at}
 use Rattle.a68_ranges.specs.Definitions.{IsWordDefinition, Undefined}
 use Rattle.a68_ranges.specs.declared.sort.IndicatorKind.TheVariants as sorts
 use Rattle.a68_ranges.specs.declared.standard.Standard.{Standard}
+use Rattle.a68_ranges.specs.declared.tags.TheConstants.{TAGS}
 use Rattle.a68_signs.specs.Signs.{priority_of}
 use Rattle.a68_tree.specs.Trees.{Built}
 
 -- the tags of the standard environ, by their places (10.2.1, 10.3; newline and space, print, write and whole are own)
 unfoldable pub standard_tags : List (List ℕ × ℕ)
-standard_tags =
-    (codes "maxint", 0) ∷ (codes "intwidth", 1) ∷ (codes "bitswidth", 2) ∷ (codes "maxabschar", 3) ∷ (codes "newline", 4) ∷
-    (codes "space", 5) ∷ (codes "print", 6) ∷ (codes "write", 7) ∷ (codes "whole", 8) ∷ []
+standard_tags = map (λ row. (row.0.now, row.1)) TAGS
 
 abbrev pub spelled : Built → (name : ℕ) → {A : Type 0} → List (List ℕ × A) → Option A
 spelled tree name table = option_and_then (find table) (slice_get tree.spellings name)

@@ -12,6 +12,7 @@ mod reading;
 mod sort;
 mod standard;
 mod tables;
+pub mod tags;
 mod written;
 
 pub use build::ranges;

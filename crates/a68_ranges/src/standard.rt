@@ -4,6 +4,7 @@ ghost use Rattle.std.specs.Option.{option_and_then};
 ghost use Rattle.a68_ranges.specs.Standard as environ;
 ghost use Rattle.a68_ranges.specs.Standard.{spelled};
 
+use crate::tags::TAGS;
 use a68_base::{NoMemory, find};
 use a68_signs::priority_of;
 use a68_tree::{NodeId, Tree};
@@ -16,30 +17,13 @@ pub struct Standard {
     pub priority: Option<u32>,
 }
 
-#[tactic(auto, unfolding(crate::specs::Standard::standard_tags))]
-// The tags of the standard environ, by their places (10.2.1, 10.3).
-fn standard_tags() -> &'static [(&'static str, u32)]
-    ensures { map (λ row. (row.0.now, row.1)) result.now ≡ environ.standard_tags }
-{
-    &[
-        ("maxint", 0),
-        ("intwidth", 1),
-        ("bitswidth", 2),
-        ("maxabschar", 3),
-        ("newline", 4),
-        ("space", 5),
-        ("print", 6),
-        ("write", 7),
-        ("whole", 8),
-    ]
-}
-
 // What a spelling is in the standard environ.
+#[tactic(auto, unfolding(crate::specs::Standard::standard_tags))]
 fn standard_of(spelling: &[u8]) -> Standard
     ensures { result ≡ environ.standard_of spelling.now }
 {
     Standard {
-        tag: find(standard_tags(), spelling),
+        tag: find(&TAGS, spelling),
         priority: priority_of(spelling),
     }
 }

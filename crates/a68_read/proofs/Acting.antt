@@ -3,8 +3,8 @@ use Rattle.std.proofs.Common.{◌≡◌, true, Option, None, List, [], ◌∷◌
 use Rattle.std.proofs.lemmas.Bool.{false≢true}
 use Rattle.a68_tree.specs.declared.kind.NodeKind.{NodeKind}
 use Rattle.a68_tree.specs.declared.kind.NodeKind.TheVariants as k
-use Rattle.a68_tree.specs.declared.sym.Bracket.{Bracket}
-use Rattle.a68_tree.specs.declared.sym.Sym.{Sym}
+use Rattle.a68_symbols.specs.declared.sym.Bracket.{Bracket}
+use Rattle.a68_symbols.specs.declared.sym.Sym.{Sym}
 use Rattle.a68_tree.specs.Forest.{Forest, end, part, aside, shared, forget, spells}
 use Rattle.a68_tree.specs.Grammar.{IsEnclosed}
 use Rattle.a68_nodes.specs.Stack.{Layer, node, put}

@@ -1,8 +1,8 @@
 -- Where a goal stands for what is at the front of a text, so do the goals that it is made of: the parts of choices and loops.
 use Rattle.std.proofs.Common.{List, ◌∷◌, refl}
-use Rattle.a68_tree.specs.declared.sym.Token.TheVariants as t
-use Rattle.a68_tree.specs.declared.sym.Sym.{Sym}
-use Rattle.a68_tree.specs.declared.sym.Sym.TheVariants.{Is}
+use Rattle.a68_symbols.specs.declared.sym.Token.TheVariants as t
+use Rattle.a68_symbols.specs.declared.sym.Sym.{Sym}
+use Rattle.a68_symbols.specs.declared.sym.Sym.TheVariants.{Is}
 use Rattle.a68_tree.specs.Forest.{Forest, end, joined, spells}
 use Rattle.a68_tree.specs.Grammar as gr
 use Rattle.a68_nodes.specs.Stack.{Layer, put}

@@ -2,10 +2,10 @@
 use Rattle.std.proofs.Common.{◌≡◌, zero, true, false, List, ◌∷◌, refl, ◌∙◌, subst}
 use Rattle.a68_tree.specs.declared.kind.NodeKind.{NodeKind}
 use Rattle.a68_tree.specs.declared.kind.NodeKind.TheVariants as k
-use Rattle.a68_tree.specs.declared.sym.Token.TheVariants as t
-use Rattle.a68_tree.specs.declared.sym.Bracket.{Bracket}
-use Rattle.a68_tree.specs.declared.sym.Sym.{Sym}
-use Rattle.a68_tree.specs.declared.sym.Sym.TheVariants.{Closes, Is}
+use Rattle.a68_symbols.specs.declared.sym.Token.TheVariants as t
+use Rattle.a68_symbols.specs.declared.sym.Bracket.{Bracket}
+use Rattle.a68_symbols.specs.declared.sym.Sym.{Sym}
+use Rattle.a68_symbols.specs.declared.sym.Sym.TheVariants.{Closes, Is}
 use Rattle.a68_tree.specs.Forest.{Forest, end, mark, part, shared, joined, spells}
 use Rattle.a68_tree.specs.Grammar as gr
 use Rattle.a68_tree.specs.Grammar.{IsElse, IsElseBrief, IsOut, IsOutBrief, IsOutC, IsOutCBrief, IsUnit, IsDeclarer, IsDefinitions, IsDeclared, IsDeclaration, IsModes, IsPriorities, IsOps, IsPlanned, IsIdentities, IsProcs, IsVariables, IsVariable}

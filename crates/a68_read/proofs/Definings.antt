@@ -2,7 +2,7 @@
 use Rattle.std.proofs.Common.{◌≡◌, refl, sym, subst}
 use Rattle.a68_tree.specs.declared.kind.NodeKind.{NodeKind}
 use Rattle.a68_tree.specs.declared.kind.NodeKind.TheVariants as k
-use Rattle.a68_tree.specs.declared.sym.Token.TheVariants as t
+use Rattle.a68_symbols.specs.declared.sym.Token.TheVariants as t
 use Rattle.a68_tree.specs.Forest.{Forest, end, mark, part, aside, shared, forget, joined}
 use Rattle.a68_tree.specs.Grammar as gr
 use Rattle.a68_tree.specs.Grammar.{IsDeclarer, IsDefinitions, IsDeclared, IsModes, IsPriorities, IsOps, IsPlan, IsPlanned, IsIdentities, IsProcs, IsVariables, IsVariable}

@@ -1,9 +1,9 @@
 -- Where a goal fits, what it is made of fits: the parts of choices and loops.
 use Rattle.std.proofs.Common.{Bool, true, false, List, [], ◌∷◌, refl, if◌then◌else◌}
 use Rattle.a68_tree.specs.declared.kind.NodeKind.TheVariants as k
-use Rattle.a68_tree.specs.declared.sym.Token.TheVariants as t
-use Rattle.a68_tree.specs.declared.sym.Bracket.TheVariants as b
-use Rattle.a68_tree.specs.declared.sym.Sym.{Sym}
+use Rattle.a68_symbols.specs.declared.sym.Token.TheVariants as t
+use Rattle.a68_symbols.specs.declared.sym.Bracket.TheVariants as b
+use Rattle.a68_symbols.specs.declared.sym.Sym.{Sym}
 use Rattle.a68_tree.specs.Grammar as gr
 use Rattle.a68_nodes.specs.Stack.{Layer}
 use Rattle.a68_unit_productions.specs.declared.goal.Goal.TheVariants as g
@@ -12,7 +12,7 @@ use Rattle.a68_read.specs.Fits.{Shape, fits, all_fit}
 use Rattle.a68_read.proofs.Joins.{back, back3, stay}
 use Rattle.a68_read.proofs.Forms as forms
 use Rattle.a68_productions.specs.Choices as choices
-use Rattle.a68_tree.specs.declared.sym.Sym.TheVariants.{Is}
+use Rattle.a68_symbols.specs.declared.sym.Sym.TheVariants.{Is}
 use Rattle.a68_lookahead.specs.Symbols.{starts}
 
 else_part_by : (K : Shape) (l : Layer) (S : List Layer) (c1 c2 : Bool) → fits g.ElsePart K (l ∷ S) → all_fit (if c1 then (g.Begin ∷ g.Take t.Elif ∷ g.SerialNode ∷ g.Take t.Then ∷ g.SerialNode ∷ g.ElsePart ∷ g.Close k.Conditional ∷ []) else (if c2 then (g.Take t.Else ∷ g.SerialNode ∷ []) else (([])))) K (l ∷ S)

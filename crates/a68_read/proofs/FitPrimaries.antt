@@ -1,9 +1,9 @@
 -- Where a goal fits, what it is made of fits: secondaries and primaries.
 use Rattle.std.proofs.Common.{Bool, true, false, List, [], ◌∷◌, refl, if◌then◌else◌}
 use Rattle.a68_tree.specs.declared.kind.NodeKind.TheVariants as k
-use Rattle.a68_tree.specs.declared.sym.Token.TheVariants as t
-use Rattle.a68_tree.specs.declared.sym.Bracket.TheVariants as b
-use Rattle.a68_tree.specs.declared.sym.Sym.{Sym}
+use Rattle.a68_symbols.specs.declared.sym.Token.TheVariants as t
+use Rattle.a68_symbols.specs.declared.sym.Bracket.TheVariants as b
+use Rattle.a68_symbols.specs.declared.sym.Sym.{Sym}
 use Rattle.a68_tree.specs.Grammar as gr
 use Rattle.a68_nodes.specs.Stack.{Layer}
 use Rattle.a68_unit_productions.specs.declared.goal.Goal.TheVariants as g
@@ -13,7 +13,7 @@ use Rattle.a68_read.specs.Fits.{Shape, fits, all_fit}
 use Rattle.a68_read.proofs.Joins.{back, back3, stay}
 use Rattle.a68_read.proofs.Forms as forms
 use Rattle.a68_unit_productions.specs.Primaries as primaries
-use Rattle.a68_tree.specs.declared.sym.Sym.TheVariants.{Opens, Is}
+use Rattle.a68_symbols.specs.declared.sym.Sym.TheVariants.{Opens, Is}
 use Rattle.a68_lookahead.specs.Symbols.{starts, starts_pair, is_denotation, is_declarer, ends_trimmer}
 
 secondary_by : (K : Shape) (S : List Layer) (c1 c2 c3 : Bool) → fits g.Secondary K S → all_fit (if c1 then (g.Take t.Tag ∷ g.Take t.Of ∷ g.Begin ∷ g.Secondary ∷ g.Leave ∷ g.Wrap k.Selection ∷ []) else (if c2 then (g.Take t.Loc ∷ g.DeclarerNode ∷ g.Wrap k.Generator ∷ []) else (if c3 then (g.Take t.Heap ∷ g.DeclarerNode ∷ g.Wrap k.Generator ∷ []) else ((g.Base ∷ g.PrimaryTail ∷ []))))) K S

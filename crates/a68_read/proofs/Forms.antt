@@ -2,8 +2,8 @@
 use Rattle.std.proofs.Common.{sym, subst}
 use Rattle.a68_tree.specs.declared.kind.NodeKind.{NodeKind}
 use Rattle.a68_tree.specs.declared.kind.NodeKind.TheVariants as k
-use Rattle.a68_tree.specs.declared.sym.Token.TheVariants as t
-use Rattle.a68_tree.specs.declared.sym.Bracket.TheVariants as b
+use Rattle.a68_symbols.specs.declared.sym.Token.TheVariants as t
+use Rattle.a68_symbols.specs.declared.sym.Bracket.TheVariants as b
 use Rattle.a68_tree.specs.Forest.{Forest, end, mark, group, part, joined}
 use Rattle.a68_tree.specs.Grammar as gr
 use Rattle.a68_tree.specs.Grammar.{IsSign, IsEnquiry, IsSerial, IsUnit, IsUnits, IsSpec, IsChoices, IsDeclaration, IsTags, IsSecondary, IsOperands, IsPrimary, IsIndex, IsIndexes, IsDeclarer, IsDeclarers, IsBound, IsBounds, IsYield, IsPlan}

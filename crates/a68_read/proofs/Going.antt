@@ -2,7 +2,7 @@
 use Rattle.std.proofs.Common.{◌≡◌, ℕ, ◌+◌, ◌<◌, Bool, true, false, Option, Some, List, [], ◌∷◌, ◌++◌, reverse, refl, sym, ap, subst, ◌∙◌, arith, nat_lt, not, ◌&&◌, ◌||◌, if◌then◌else◌}
 use Rattle.std.proofs.lemmas.Bool.{false≢true, ltb-true}
 use Rattle.std.proofs.lemmas.List.{reverse-append}
-use Rattle.a68_tree.specs.declared.sym.Sym.{Sym}
+use Rattle.a68_symbols.specs.declared.sym.Sym.{Sym}
 use Rattle.a68_nodes.specs.Views.{DraftState}
 use Rattle.a68_unit_productions.specs.declared.goal.Goal.{Goal}
 use Rattle.a68_unit_productions.specs.declared.goal.Goal.TheVariants as g

@@ -1,6 +1,6 @@
 -- What is put in pieces, where a text is left.
 use Rattle.std.proofs.Common.{List, ◌∷◌}
-use Rattle.a68_tree.specs.declared.sym.Sym.{Sym}
+use Rattle.a68_symbols.specs.declared.sym.Sym.{Sym}
 use Rattle.a68_tree.specs.Forest.{Forest, end, joined}
 use Rattle.a68_nodes.specs.Stack.{Layer, put}
 use Rattle.a68_read.specs.Awaits.{Awaited}

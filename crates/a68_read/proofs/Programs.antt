@@ -6,7 +6,7 @@ use Rattle.a68_unit_productions.specs.declared.goal.Goal.{Goal}
 use Rattle.a68_read.specs.declared.unread.Unread.{Unread}
 use Rattle.a68_read.specs.declared.unread.Unread.TheVariants.{Memory, NoTree}
 use Rattle.a68_tree.specs.declared.kind.NodeKind.{NodeKind}
-use Rattle.a68_tree.specs.declared.sym.Sym.{Sym}
+use Rattle.a68_symbols.specs.declared.sym.Sym.{Sym}
 use Rattle.a68_tree.specs.Forest.{Forest, end, part, spells}
 use Rattle.a68_tree.specs.Grammar.{IsEnclosed}
 use Rattle.a68_tree.specs.Nodes.{Entry, with_node}

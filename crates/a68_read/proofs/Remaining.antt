@@ -1,7 +1,7 @@
 -- A goal that is neither a form nor to take a symbol is to do something.
 use Rattle.std.proofs.Common.{◌≡◌, Bool, true, false, Option, None, Some, List, refl}
 use Rattle.std.proofs.lemmas.Bool.{true≢false}
-use Rattle.a68_tree.specs.declared.sym.Sym.{Sym}
+use Rattle.a68_symbols.specs.declared.sym.Sym.{Sym}
 use Rattle.a68_unit_productions.specs.declared.goal.Goal.{Goal}
 use Rattle.a68_unit_productions.specs.declared.goal.Goal.TheVariants as g
 use Rattle.a68_productions.specs.Expand.{expand}

@@ -1,7 +1,7 @@
 -- One goal after another: where a goal fits and stands for what is at the front of a text, so do the goals that it is
 -- made of.
 use Rattle.std.proofs.Common.{Option, Some, None, List, [], ◌∷◌}
-use Rattle.a68_tree.specs.declared.sym.Sym.{Sym}
+use Rattle.a68_symbols.specs.declared.sym.Sym.{Sym}
 use Rattle.a68_nodes.specs.Stack.{Layer}
 use Rattle.a68_unit_productions.specs.declared.goal.Goal.{Goal}
 use Rattle.a68_unit_productions.specs.declared.goal.Goal.TheVariants as g

@@ -1,10 +1,10 @@
 -- What a symbol that is taken does, and where none stands.
 use Rattle.std.proofs.Common.{◌≡◌, List, [], ◌∷◌, None, Some, refl, sym, ap, subst}
 use Rattle.a68_tree.specs.declared.kind.NodeKind.{NodeKind}
-use Rattle.a68_tree.specs.declared.sym.Bracket.{Bracket}
-use Rattle.a68_tree.specs.declared.sym.Token.{Token}
-use Rattle.a68_tree.specs.declared.sym.Sym.{Sym}
-use Rattle.a68_tree.specs.declared.sym.Sym.TheVariants.{Opens, Closes, Is}
+use Rattle.a68_symbols.specs.declared.sym.Bracket.{Bracket}
+use Rattle.a68_symbols.specs.declared.sym.Token.{Token}
+use Rattle.a68_symbols.specs.declared.sym.Sym.{Sym}
+use Rattle.a68_symbols.specs.declared.sym.Sym.TheVariants.{Opens, Closes, Is}
 use Rattle.a68_tree.specs.Forest.{Forest, end, mark, group, sign, spells}
 use Rattle.a68_tree.specs.Grammar.{IsEnclosed, IsMonadic, IsSign, IsDenotation, IsPlain}
 use Rattle.a68_nodes.specs.Stack.{Layer, inside, put}

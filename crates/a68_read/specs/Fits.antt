@@ -3,10 +3,10 @@
 use Rattle.std.specs.Prelude.{◌≡◌, Bool, true, false, List, [], ◌∷◌, None, Some}
 use Rattle.a68_tree.specs.declared.kind.NodeKind.{NodeKind}
 use Rattle.a68_tree.specs.declared.kind.NodeKind.TheVariants as k
-use Rattle.a68_tree.specs.declared.sym.Bracket.{Bracket}
-use Rattle.a68_tree.specs.declared.sym.Bracket.TheVariants as b
-use Rattle.a68_tree.specs.declared.sym.Token.{Token}
-use Rattle.a68_tree.specs.declared.sym.Token.TheVariants as t
+use Rattle.a68_symbols.specs.declared.sym.Bracket.{Bracket}
+use Rattle.a68_symbols.specs.declared.sym.Bracket.TheVariants as b
+use Rattle.a68_symbols.specs.declared.sym.Token.{Token}
+use Rattle.a68_symbols.specs.declared.sym.Token.TheVariants as t
 use Rattle.a68_tree.specs.Forest.{Forest, end, mark, group, part, sign, aside, shared, forget, Single, Several}
 use Rattle.a68_tree.specs.Grammar.{IsMonadic, IsSign, IsDenotation, IsPlain, IsEnclosed, IsElse, IsElseBrief, IsOut, IsOutBrief, IsOutC, IsOutCBrief, IsFrom, IsBy, IsTo, IsWhile, IsChoices, IsSpec, IsSerial, IsUnits, IsUnit, IsRoutine, IsResult, IsParams, IsTags, IsTertiary, IsOperands, IsSecondary, IsPrimary, IsIndexes, IsIndex, IsTrimmer, IsAt, IsDeclarer, IsYield, IsDeclarers, IsBounds, IsBound, IsDeclaration, IsDefinitions, IsPlan}
 use Rattle.a68_nodes.specs.Stack.{Layer, node, inside, put}

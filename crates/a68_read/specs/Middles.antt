@@ -2,9 +2,9 @@
 -- Forms that stand within those of the grammar: what is left of a form behind its first pieces.
 use Rattle.a68_tree.specs.declared.kind.NodeKind.{NodeKind}
 use Rattle.a68_tree.specs.declared.kind.NodeKind.TheVariants as k
-use Rattle.a68_tree.specs.declared.sym.Bracket.TheVariants as b
-use Rattle.a68_tree.specs.declared.sym.Token.{Token}
-use Rattle.a68_tree.specs.declared.sym.Token.TheVariants as t
+use Rattle.a68_symbols.specs.declared.sym.Bracket.TheVariants as b
+use Rattle.a68_symbols.specs.declared.sym.Token.{Token}
+use Rattle.a68_symbols.specs.declared.sym.Token.TheVariants as t
 use Rattle.a68_tree.specs.Forest.{Forest, end, mark, group, part, sign, shared, forget, joined}
 use Rattle.a68_tree.specs.Grammar.{IsEnclosed, IsElseBrief, IsOut, IsOutBrief, IsOutC, IsOutCBrief, IsChoices, IsSerial, IsUnits2, IsUnit, IsRoutine, IsParams, IsTags, IsTertiary, IsOperands, IsDeclarer, IsDenotation, IsYield, IsDeclarers, IsDefinitions, IsSign}
 use Rattle.a68_unit_productions.specs.declared.goal.Defining.{Defining}

@@ -2,9 +2,9 @@
 -- What is known while a text is read.
 use Rattle.std.specs.Prelude.{◌≡◌, List, [], ◌∷◌, Option, Some, None, Result, Ok, Err}
 use Rattle.a68_tree.specs.declared.kind.NodeKind.{NodeKind}
-use Rattle.a68_tree.specs.declared.sym.Sym.{Sym}
-use Rattle.a68_tree.specs.declared.sym.Sym.TheVariants.{Is}
-use Rattle.a68_tree.specs.declared.sym.Token.{Token}
+use Rattle.a68_symbols.specs.declared.sym.Sym.{Sym}
+use Rattle.a68_symbols.specs.declared.sym.Sym.TheVariants.{Is}
+use Rattle.a68_symbols.specs.declared.sym.Token.{Token}
 use Rattle.a68_tree.specs.Forest.{Forest, end, part, spells}
 use Rattle.a68_tree.specs.Grammar.{IsEnclosed}
 use Rattle.a68_tree.specs.Nodes.{Entry, with_node}

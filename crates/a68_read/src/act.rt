@@ -6,7 +6,8 @@ ghost use Rattle.a68_read.specs.Readings.{IsDone};
 
 use a68_base::NoMemory;
 use a68_nodes::Drafting;
-use a68_tree::{NodeKind, Sym};
+use a68_symbols::Sym;
+use a68_tree::NodeKind;
 use a68_unit_productions::Goal;
 use std::alloc::Global;
 
@@ -37,7 +38,7 @@ fn join(alloc: Global, rest: &[Sym], drafting: &mut Drafting) -> Result<(), NoMe
     Ok(())
 }
 
-/// IsDone with what was read what the goal is to do.
+/// Does with what was read what the goal is to do.
 pub fn act(alloc: Global, goal: Goal, rest: &[Sym], drafting: &mut Drafting) -> Result<(), NoMemory>
     requires { is_acting goal ≡ true }
     ensures { OnOk result (IsDone goal rest.now rest.now drafting.old drafting.new) }

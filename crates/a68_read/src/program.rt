@@ -7,7 +7,7 @@ use crate::ready::ready;
 use crate::take::take;
 use crate::unread::Unread;
 use a68_nodes::{Draft, Drafting};
-use a68_tree::Sym;
+use a68_symbols::Sym;
 use a68_unit_productions::Goal;
 use std::alloc::Global;
 

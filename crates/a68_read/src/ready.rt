@@ -1,6 +1,6 @@
 //! What is to be done before the next symbol is taken.
 ghost use Rattle.std.specs.Prelude.{◌≡◌, ◌++◌, List, reverse, true, OnOk, IfOk, IfSome};
-ghost use Rattle.a68_tree.specs.declared.sym.Sym.{Sym};
+ghost use Rattle.a68_symbols.specs.declared.sym.Sym.{Sym};
 ghost use Rattle.a68_read.specs.Weights.{is_taking};
 ghost use Rattle.a68_read.specs.Readings.{Reading, TakesFirst};
 
@@ -9,7 +9,7 @@ use crate::kinds::is_taking;
 use a68_base::NoMemory;
 use a68_nodes::Drafting;
 use a68_productions::expand;
-use a68_tree::Sym;
+use a68_symbols::Sym;
 use a68_unit_productions::Goal;
 use std::alloc::Global;
 

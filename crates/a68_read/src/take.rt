@@ -9,7 +9,7 @@ ghost use Rattle.a68_read.specs.Readings.{Lacks, LacksAny, FirstOf, Takes};
 use crate::unread::Unread;
 use a68_lookahead::{is_denotation, is_monadic, is_operator, is_plain};
 use a68_nodes::Drafting;
-use a68_tree::{Bracket, Sym, Token};
+use a68_symbols::{Bracket, Sym, Token};
 use a68_unit_productions::Goal;
 
 /// What stands behind that symbol, where the text begins with it.

@@ -1,5 +1,6 @@
 -- The rules that a node breaks by itself (Report, 3.3.1, 4.5, 5.2.2, 5.3, 5.4.2, 5.4.3, 7.2; P1 and P2 are own).
 use Rattle.std.specs.Prelude.{◌+◌, ◌||◌, ℕ, List, [], ◌∷◌, length, nat_eq, nat_lt, slice_index_or, Option, Some, None, Bool, true, false, if◌then◌else◌}
+use Rattle.a68_ranges.specs.declared.tags.TheConstants as tags
 use Rattle.a68_definitions.specs.Tags.{called_by, called_tag}
 use Rattle.a68_modes.specs.Nodes.{shape_at}
 use Rattle.a68_modes.specs.declared.shape.Shape.{Shape}
@@ -89,7 +90,7 @@ routine_rule nodes count _ = None
 
 -- whole takes two units, print and write one
 abbrev pub call_rule : List Shape → (count : ℕ) → (called : Option ℕ) → Finding → Option NodeRule
-call_rule nodes count (Some place) found = if nat_eq place 8 then counted count 3 else counted count 2
+call_rule nodes count (Some place) found = if nat_eq place tags.WHOLE then counted count 3 else counted count 2
 call_rule nodes count None found = routine_rule nodes count found
 
 abbrev pub unit_rule : (count : ℕ) → Shape → Option NodeRule

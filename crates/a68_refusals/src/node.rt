@@ -1,7 +1,9 @@
 //! The rules that a node breaks by itself.
-ghost use Rattle.std.specs.Prelude.{◌≡◌, ◌<◌, ◌+◌, ℕ, IfSome, length, slice_index_or};
+ghost use Rattle.std.specs.Prelude.{◌≡◌, ◌<◌, ◌+◌, ℕ, List, length, slice_index_or};
 ghost use Rattle.a68_definitions.specs.Defined.{AllBelow};
+ghost use Rattle.a68_fields.specs.Fields.{AreFieldsOf};
 ghost use Rattle.a68_modes.specs.Nodes.{shape_at};
+ghost use Rattle.a68_modes.specs.declared.shape.Shape.{Shape};
 ghost use Rattle.a68_positions.specs.Below.{IsPositionBelow};
 ghost use Rattle.a68_ranges.specs.Nodes.{name_at, parts_at};
 ghost use Rattle.a68_refusals.specs.Rules as specs;
@@ -11,11 +13,13 @@ ghost use Rattle.a68_yields.specs.Parts as parts;
 use crate::rule::NodeRule;
 use a68_declarers::place_of as start_of;
 use a68_definitions::{Tags, called_by, called_tag, part_number, parts_of};
+use a68_fields::FieldTable;
 use a68_modes::{ModeId, Modes, Shape};
 use a68_positions::Position;
+use a68_ranges::tags;
 use a68_tree::{NodeId, NodeKind, Tree};
 use a68_yields::{
-    Finding, Rowed, Structured, Yielding, as_row, as_structure, field_mode, is_unknown, yield_of,
+    Finding, Rowed, Structured, Yielding, as_row, as_structure, is_unknown, yield_of,
 };
 
 // Gives the name of a node.
@@ -63,25 +67,36 @@ fn tag_rule(definition: Option<NodeId>, called: Option<u32>, own: Position) -> O
 
 // ---- selections
 
-fn field_rule(modes: &Modes, field: u32, structured: Option<Structured>) -> Option<NodeRule>
-    requires { IfSome structured (λ s. s.node < length modes.now) }
-    ensures { result ≡ specs.field_rule modes.now field structured }
+fn lacking_rule(fields: &FieldTable, field: u32, node: ModeId) -> Option<NodeRule>
+    ensures { (nodes : List Shape) → AreFieldsOf nodes fields.now → result ≡ specs.no_field (parts.field_mode field (parts.fields_of (shape_at nodes node))) }
 {
-    match structured {
-        None => None,
-        Some(it) => match field_mode(modes, it.node, field) {
-            None => Some(NodeRule::N4),
-            Some(_) => None,
-        },
+    match fields.find(node, field) {
+        None => Some(NodeRule::N4),
+        Some(_) => None,
     }
 }
 
-fn selection_rule(modes: &Modes, field: u32, found: Finding) -> Option<NodeRule>
-    requires { IsFindingBelow (length modes.now) found }
+fn field_rule(fields: &FieldTable, field: u32, structured: Option<Structured>) -> Option<NodeRule>
+    ensures { (nodes : List Shape) → AreFieldsOf nodes fields.now → result ≡ specs.field_rule nodes field structured }
+{
+    match structured {
+        None => None,
+        Some(it) => lacking_rule(fields, field, it.node),
+    }
+}
+
+fn selection_rule(
+    modes: &Modes,
+    fields: &FieldTable,
+    field: u32,
+    found: Finding,
+) -> Option<NodeRule>
+    requires found { IsFindingBelow (length modes.now) found }
+    requires fields { AreFieldsOf modes.now fields.now }
     ensures { result ≡ specs.selection_rule modes.now field found }
 {
     match found {
-        Finding::Mode(Some(mode)) => field_rule(modes, field, as_structure(modes, mode)),
+        Finding::Mode(Some(mode)) => field_rule(fields, field, as_structure(modes, mode)),
         _ => None,
     }
 }
@@ -194,7 +209,7 @@ fn call_rule(modes: &Modes, count: usize, called: Option<u32>, found: Finding) -
 {
     match called {
         Some(place) => {
-            if place == 8 {
+            if place == tags::WHOLE {
                 counted(count, 3)
             } else {
                 counted(count, 2)
@@ -250,6 +265,7 @@ pub fn own_rule(
     tags: &Tags,
     defined: &[ModeId],
     modes: &Modes,
+    fields: &FieldTable,
     yields: &[Yielding],
     node: NodeId,
     found: Finding,
@@ -260,12 +276,13 @@ pub fn own_rule(
     requires some { 0 < length modes.now }
     requires found { IsFindingBelow (length modes.now) found }
     requires own { IsPositionBelow (length modes.now) own }
+    requires fields { AreFieldsOf modes.now fields.now }
     ensures { result ≡ specs.own_rule tree.now tags.now defined.now modes.now yields.now node found own kind }
 {
     let parts = parts_of(tree, node);
     match kind {
         NodeKind::Tag => tag_rule(tags.at(node), called_tag(tree, tags, node), own),
-        NodeKind::Selection => selection_rule(modes, name_of(tree, node), found),
+        NodeKind::Selection => selection_rule(modes, fields, name_of(tree, node), found),
         NodeKind::Monadic | NodeKind::Dyadic => formula_rule(yields, parts, found),
         NodeKind::Identity => identity_rule(yields, parts, found),
         NodeKind::Slice => slice_rule(modes, parts.len(), found),

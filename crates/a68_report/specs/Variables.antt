@@ -3,6 +3,7 @@ use Rattle.std.specs.Prelude.{ℕ, pos, Bool, true, false, ◌&&◌, nat_eq, nat
 use Rattle.std.specs.Option.{option_and_then, option_map_or}
 use Rattle.std.specs.declared.option.Option.{Option}
 use Rattle.std.specs.declared.result.Result.{Result}
+use Rattle.a68_modes.specs.declared.standard.TheConstants as standard
 use Rattle.a68_annot.specs.declared.annotated.Annotated.{Annotated}
 use Rattle.a68_annot.specs.declared.note.Note.{Note}
 use Rattle.a68_modes.specs.Nodes.{shape_at}
@@ -39,11 +40,11 @@ value_of kept slot = option_and_then (λ (name : Name). plain_in (slice_get kept
 
 -- the mode of a value of INT, BOOL, CHAR or BITS, by its number; VOID of every other
 abbrev pub mode_of : Plain → ℕ
-mode_of (value.Int v) = 1
-mode_of (value.Bool v) = 2
-mode_of (value.Char v) = 3
-mode_of (value.Bits v) = 4
-mode_of _ = 0
+mode_of (value.Int v) = standard.INT
+mode_of (value.Bool v) = standard.BOOL
+mode_of (value.Char v) = standard.CHAR
+mode_of (value.Bits v) = standard.BITS
+mode_of _ = standard.VOID
 
 -- an INT as `whole (v, 0)` writes it, the others as `print` does
 abbrev pub written : Plain → Result (List ℕ) FaultKind
@@ -65,7 +66,7 @@ line tag mode value = tag ++ codes " = " ++ value_text mode value ++ 10 ∷ []
 
 -- the mode to which names of a mode refer, where it is INT, BOOL, CHAR or BITS
 abbrev pub told_mode : Shape → Option ℕ
-told_mode (Ref mode) = if nat_le 1 mode && nat_le mode 4 then Some mode else None
+told_mode (Ref mode) = if nat_le standard.INT mode && nat_le mode standard.BITS then Some mode else None
 told_mode _ = None
 
 abbrev pub is_variable : NodeKind → Bool

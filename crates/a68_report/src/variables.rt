@@ -9,7 +9,7 @@ ghost use Rattle.a68_report.specs.Variables as spec;
 use crate::put::put;
 use a68_annot::Annotated;
 use a68_base::{NoMemory, Text};
-use a68_modes::{ModeId, Modes, Shape};
+use a68_modes::{ModeId, Modes, Shape, standard};
 use a68_ops::{OpStop, item_text, whole};
 use a68_tree::{NodeId, NodeKind, Tree};
 use a68_values::{Cells, Held, Kept, Name, Plain, Slots, Value, ValueNode};
@@ -23,11 +23,11 @@ fn mode_of(held: Plain) -> ModeId
     ensures { result ≡ spec.mode_of held }
 {
     match held {
-        Plain::Int(_) => 1,
-        Plain::Bool(_) => 2,
-        Plain::Char(_) => 3,
-        Plain::Bits(_) => 4,
-        _ => 0,
+        Plain::Int(_) => standard::INT,
+        Plain::Bool(_) => standard::BOOL,
+        Plain::Char(_) => standard::CHAR,
+        Plain::Bits(_) => standard::BITS,
+        _ => standard::VOID,
     }
 }
 
@@ -137,7 +137,7 @@ fn told_by(shape: &Shape) -> Option<ModeId>
 {
     match shape {
         Shape::Ref(mode) => {
-            if *mode >= 1 && *mode <= 4 {
+            if *mode >= standard::INT && *mode <= standard::BITS {
                 Some(*mode)
             } else {
                 None

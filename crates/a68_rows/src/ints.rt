@@ -1,5 +1,5 @@
 //! The integers that values are.
-ghost use Rattle.std.specs.Prelude.{◌≡◌, map, Ok, Err, IfOk, IsErrOf};
+ghost use Rattle.std.specs.Prelude.{◌≡◌, ◌≤◌, map, length, Ok, Err, IsOk, IfOk, IsErrOf};
 ghost use Rattle.std.specs.List.{list_all, list_any};
 ghost use Rattle.a68_acts.specs.Rowing as rowing;
 ghost use Rattle.a68_ops.specs.Yields as yields;
@@ -8,7 +8,11 @@ ghost use Rattle.a68_values.specs.declared.act.FaultKind.{FaultKind};
 use a68_base::NoMemory;
 use a68_ops::{OpStop, is_unset};
 use a68_values::{FaultKind, Plain, Value, ValueNode};
+use smallvec::SmallVec;
 use std::alloc::Global;
+
+/// Integers. Most rows have no more than two dimensions, so that their subscripts and their bounds take no memory.
+pub type Ints = SmallVec<i64, 4>;
 
 // Is one of these values unset?
 fn some_unset(values: &[Value]) -> bool
@@ -40,10 +44,11 @@ fn integer(value: &Value) -> i64
     }
 }
 
-fn integers(alloc: Global, values: &[Value]) -> Result<Vec<i64>, NoMemory>
-    ensures { IfOk result (λ ints. ints.items ≡ map rowing.integer values.now) }
+fn integers(alloc: Global, values: &[Value]) -> Result<Ints, NoMemory>
+    ensures ints { IfOk result (λ ints. ints.items ≡ map rowing.integer values.now) }
+    ensures few { length values.now ≤ 4 → IsOk result }
 {
-    let mut ints = Vec::with_capacity(alloc, values.len())?;
+    let mut ints = SmallVec::new(alloc);
     for value in values {
         ints.push(integer(value))?;
     }
@@ -51,9 +56,10 @@ fn integers(alloc: Global, values: &[Value]) -> Result<Vec<i64>, NoMemory>
 }
 
 /// The integers that these values are. The fault Unset comes exactly where one is unset, and else Kind exactly where one
-/// is of another kind.
-pub fn ints_of(alloc: Global, values: &[Value]) -> Result<Vec<i64>, OpStop>
+/// is of another kind. Up to four take no memory.
+pub fn ints_of(alloc: Global, values: &[Value]) -> Result<Ints, OpStop>
     ensures ints { IfOk result (λ ints. Ok ints.items ≡ rowing.ints_of values.now) }
+    ensures few { length values.now ≤ 4 → IsErrOf result OpStop.NoMemory → ⊥ }
     ensures fault { (kind : FaultKind) → IsErrOf result (OpStop.Fault kind) → Err kind ≡ rowing.ints_of values.now }
 {
     if some_unset(values) {

@@ -10,7 +10,7 @@ mod texts;
 
 pub use bounds::{bound_of, bounded, bounded_by};
 pub use displays::{displayed, rowed, vacuous, widened};
-pub use ints::ints_of;
+pub use ints::{Ints, ints_of};
 pub use naming::{names_field, names_row, rowed_name, with_dimension};
 pub use slices::{names_part, sliced};
 pub use texts::{extends, updating_text};

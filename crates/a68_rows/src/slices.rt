@@ -1,16 +1,20 @@
 //! Slices.
-ghost use Rattle.std.specs.Prelude.{◌≡◌, ◌≤◌, ◌∷◌, [], List, drop, length, Ok, IfOk, IfSome, MatchOption, OnOk};
+ghost use Rattle.std.specs.Prelude.{◌≡◌, ◌≤◌, ◌∷◌, [], List, drop, length, map, Ok, IsOk, IfOk, IfSome, MatchOption, OnOk};
+ghost use Rattle.std.specs.List.{list_all};
 ghost use Rattle.a68_acts.specs.Rowing as rowing;
 ghost use Rattle.a68_layout.specs.Views as views;
+ghost use Rattle.a68_layout.specs.declared.types.Trim.TheVariants.{At};
 ghost use Rattle.a68_layout.specs.declared.types.TrimForm.{TrimForm};
+ghost use Rattle.a68_rows.specs.Subscripts as subscripts;
 
-use crate::ints::ints_of;
+use crate::ints::{Ints, ints_of};
 use crate::naming::names_row;
 use a68_acts::{Doing, Next, Want};
 use a68_base::NoMemory;
-use a68_layout::{LayoutStop, Trim, TrimForm, TrimForms, Trims, part_of, view};
+use a68_layout::{LayoutStop, Trim, TrimForm, TrimForms, Trims, element, part_of, view};
 use a68_ops::OpStop;
 use a68_values::{Bounds, Descriptor, FaultKind, Name, Plain, Value, ValueNode, Values};
+use smallvec::SmallVec;
 use std::alloc::Global;
 
 // The integer at a place, where one is to be taken and is there, and the place behind it.
@@ -135,7 +139,7 @@ fn sliced_set(
 {
     match ints_of(alloc, indexes) {
         Ok(ints) => {
-            let trims = trims_of(alloc, forms, &ints)?;
+            let trims = trims_of(alloc, forms, ints.as_slice())?;
             let doing = sliced_by(alloc, primary, trims)?;
             Ok(doing)
         }
@@ -174,7 +178,90 @@ fn names_seen(alloc: Global, scope: u32, part: Descriptor) -> Result<Doing, NoMe
     Ok(doing)
 }
 
-/// The name of the element or of the part of a row that these tell, of this scope.
+fn is_subscript(trim: &Trim) -> bool
+    ensures { result ≡ subscripts.is_subscript trim.now }
+{
+    matches!(trim, Trim::At(_))
+}
+
+// Are all these subscripts?
+fn are_subscripts(trims: &[Trim]) -> bool
+    ensures { result ≡ list_all subscripts.is_subscript trims.now }
+{
+    trims.iter().all(|trim| is_subscript(trim))
+}
+
+// The integer that a subscript is, and 0 of a trimmer.
+fn subscript(trim: &Trim) -> i64
+    ensures { result ≡ subscripts.subscript trim.now }
+{
+    match trim {
+        Trim::At(at) => *at,
+        _ => 0,
+    }
+}
+
+// The integers that subscripts are. Up to four take no memory.
+fn subscripts_of(alloc: Global, trims: &[Trim]) -> Result<Ints, NoMemory>
+    ensures ints { IfOk result (λ ints. ints.items ≡ map subscripts.subscript trims.now) }
+    ensures few { length trims.now ≤ 4 → IsOk result }
+{
+    let mut ints = SmallVec::new(alloc);
+    for trim in trims {
+        ints.push(subscript(trim))?;
+    }
+    Ok(ints)
+}
+
+// The name of the element of a row that these subscripts tell, of this scope. It takes no memory.
+fn names_element(scope: u32, descriptor: &Descriptor, at: &[i64]) -> Doing
+    ensures { result ≡ rowing.names_part scope (views.view descriptor.now (map (λ i. At i) at.now)) }
+{
+    match element(descriptor, at) {
+        Ok(cell) => Doing::Yields(Value::of(Plain::Name(Name { cell, scope }))),
+        Err(kind) => Doing::Meets(kind),
+    }
+}
+
+// The name of the part of a row that these tell, of this scope.
+fn names_trimmed(
+    alloc: Global,
+    scope: u32,
+    descriptor: &Descriptor,
+    trims: &[Trim],
+) -> Result<Doing, NoMemory>
+    ensures { IfOk result (λ doing. doing ≡ rowing.names_part scope (views.view descriptor.now trims.now)) }
+{
+    match view(alloc, descriptor, trims) {
+        Ok(part) => {
+            let doing = names_seen(alloc, scope, part)?;
+            Ok(doing)
+        }
+        Err(LayoutStop::Fault(kind)) => Ok(Doing::Meets(kind)),
+        Err(LayoutStop::NoMemory) => Err(NoMemory),
+    }
+}
+
+// The name of the element or of the part of a row that these tell, of this scope.
+fn names_by(
+    alloc: Global,
+    scope: u32,
+    descriptor: &Descriptor,
+    trims: &[Trim],
+) -> Result<Doing, NoMemory>
+    ensures { IfOk result (λ doing. doing ≡ rowing.names_part scope (views.view descriptor.now trims.now)) }
+{
+    if !are_subscripts(trims) {
+        let doing = names_trimmed(alloc, scope, descriptor, trims)?;
+        return Ok(doing);
+    }
+    let at = subscripts_of(alloc, trims)?;
+    let doing = names_element(scope, descriptor, at.as_slice());
+    Ok(doing)
+}
+
+/// The name of the element or of the part of a row that these tell, of this scope. An element that up to four subscripts
+/// tell takes no memory.
 pub fn names_part(
     alloc: Global,
     scope: u32,
@@ -183,12 +270,6 @@ pub fn names_part(
 ) -> Result<Doing, NoMemory>
     ensures { IfOk result (λ doing. doing ≡ rowing.names_part scope (views.view descriptor.now trims.now)) }
 {
-    match view(alloc, descriptor, &trims.items) {
-        Ok(part) => {
-            let doing = names_seen(alloc, scope, part)?;
-            Ok(doing)
-        }
-        Err(LayoutStop::Fault(kind)) => Ok(Doing::Meets(kind)),
-        Err(LayoutStop::NoMemory) => Err(NoMemory),
-    }
+    let doing = names_by(alloc, scope, descriptor, &trims.items)?;
+    Ok(doing)
 }

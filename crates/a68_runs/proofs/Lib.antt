@@ -1,3 +1,4 @@
 pub mod Listing
+pub mod Opening
 pub mod Running
 pub mod Specifying

@@ -105,7 +105,7 @@ from_there (Some f) hops (bound.Written id) = refl
 from_there (Some f) hops (bound.Meant n) = refl
 from_there (Some f) hops (bound.Defined k id) = ap (λ (n : ℕ). bound.Defined n id) (further_twice f hops k)
 
-all_from_there : (frames : Option ℕ) (hops : ℕ) (bs : List Bound) → map (seen_from (Some (outwards frames hops))) bs ≡ map (seen_from frames) (map (from_definition hops) bs)
+pub all_from_there : (frames : Option ℕ) (hops : ℕ) (bs : List Bound) → map (seen_from (Some (outwards frames hops))) bs ≡ map (seen_from frames) (map (from_definition hops) bs)
 all_from_there frames hops [] = refl
 all_from_there frames hops (b ∷ bs) =
     ap (λ (x : Bound). x ∷ map (seen_from (Some (outwards frames hops))) bs) (from_there frames hops b)
@@ -121,7 +121,7 @@ all_here (bound.Written id ∷ bs) = ap (λ (l : List Bound). bound.Written id �
 all_here (bound.Meant n ∷ bs) = ap (λ (l : List Bound). bound.Meant n ∷ l) (all_here bs)
 all_here (bound.Defined k id ∷ bs) = ap (λ (l : List Bound). bound.Defined k id ∷ l) (all_here bs)
 
-word_is : (a : Annotated) (inner : ℕ → List Bound) (o : Option Note) (note : Note) (d : ℕ) (ids : List ℕ) → o ≡ Some note → note.definition ≡ Some d
+pub word_is : (a : Annotated) (inner : ℕ → List Bound) (o : Option Note) (note : Note) (d : ℕ) (ids : List ℕ) → o ≡ Some note → note.definition ≡ Some d
     → made.word_bounds a inner o ids ≡ map (from_definition note.step.hops) (inner (made.last_id (made.parts_at a d)))
 word_is a inner o note d ids e f =
     ap (λ (m : Option Note). made.word_bounds a inner m ids) e

@@ -3,6 +3,7 @@
 use Rattle.std.specs.Prelude.{◌≡◌, ◌<◌, ℕ, Bool, true, false, List, length, None, Some, get_or, slice_get, not, if◌then◌else◌}
 use Rattle.std.specs.Option.{option_and_then}
 use Rattle.std.specs.declared.option.Option.{Option}
+use Rattle.a68_modes.specs.declared.standard.TheConstants as standard
 use Rattle.a68_annot.specs.declared.annotated.Annotated.{Annotated}
 use Rattle.a68_annot.specs.declared.note.Note.{Note}
 use Rattle.a68_elab.specs.Made.{behind_proc, behind_ref, rowed_to}
@@ -38,10 +39,10 @@ behind modes goal mode coercion.Deproc path =
     let m = behind_proc (shape_at modes mode) in
     Some (record { mode = m; left = not (is_void (shape_at modes m)) })
 behind modes goal mode (coercion.Unite from) path = Some (record { mode = from; left = true })
-behind modes goal mode coercion.Widen path = Some (record { mode = 11; left = true })
+behind modes goal mode coercion.Widen path = Some (record { mode = standard.ROW_OF_BOOL; left = true })
 behind modes goal mode coercion.RowUp path = option_and_then (value_of modes) (rowed_to modes goal path)
 behind modes goal mode coercion.RowUpName path = option_and_then (value_of modes) (rowed_to modes goal path)
-behind modes goal mode coercion.Drop path = Some (record { mode = 0; left = false })
+behind modes goal mode coercion.Drop path = Some (record { mode = standard.VOID; left = false })
 
 abbrev pub one_more : List Shape → (goal : ℕ) → Between → Coercion → List Coercion → Option Between
 one_more modes goal at c path = if at.left then behind modes goal at.mode c path else None

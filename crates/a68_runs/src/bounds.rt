@@ -1,11 +1,11 @@
 //! The bounds of actual declarers.
-ghost use Rattle.std.specs.Prelude.{◌≡◌, ◌<◌, ◌∷◌, ◌++◌, [], length, map, take, nat_eq, slice_get, IfOk, OnOk};
+ghost use Rattle.std.specs.Prelude.{◌≡◌, ◌<◌, ◌≤◌, ◌+◌, ◌∷◌, ◌++◌, [], length, map, take, nat_eq, slice_get, if◌then◌else◌, Some, IfOk, OnOk, MatchOption};
 ghost use Rattle.std.specs.List.{list_all};
-ghost use Rattle.std.specs.Option.{option_map_or};
 ghost use Rattle.a68_elab.specs.Made as made;
 ghost use Rattle.a68_layout.specs.Rooms.{bounds_needed};
 ghost use Rattle.a68_modes.specs.Nodes.{shape_at};
 ghost use Rattle.a68_runs.specs.Bounds as bounds_so_far;
+ghost use Rattle.a68_runs.specs.Opens.{all_of, listed, looks_of, marks_within, those_of};
 ghost use Rattle.a68_elab.specs.Runs as runs;
 ghost use Rattle.a68_tree.specs.Trees.{AllBetween};
 
@@ -18,6 +18,7 @@ use a68_modes::ModeId;
 use a68_parts::{behind_ref, is_one_of, kind_at, last_id, mode_at, parts_at};
 use a68_tree::{NodeId, NodeKind};
 use std::alloc::Global;
+use std::marker::Model;
 
 // The most bounds that are listed: one more than there may be instructions.
 const MOST_BOUNDS: usize = MOST_INSTRUCTIONS + 1;
@@ -153,23 +154,86 @@ fn add_string(bounds: &mut Vec<Bound>) -> Result<(), NoMemory>
     Ok(())
 }
 
-// Adds those of the dimensions of a row, and then those of its elements.
-#[cycle(bounds)]
+/// A declarer whose bounds are yet to be added, within which others lie at most so deep; and how many frames further out
+/// it stands, where it does not stand here.
+#[derive(Clone, Copy)]
+pub struct Open {
+    pub depth: u32,
+    pub frames: Option<u32>,
+    pub id: NodeId,
+}
+
+/// Declarers whose bounds are yet to be added. They are kept in a list, so that no more of the stack is needed however many
+/// lie within one another. Contracts see the next one first.
+#[derive(Drop)]
+pub struct Opens {
+    items: Vec<Open>,
+}
+
+impl Model for Opens {
+    ghost use Rattle.std.specs.Prelude.{List, reverse};
+    ghost use Rattle.a68_runs.specs.declared.bounds.Open.{Open};
+
+    ghost Value = { List Open };
+
+    ghost view = { λ opens. reverse opens.items.items };
+}
+
+impl Opens {
+    // None.
+    fn new(alloc: Global) -> Opens
+        ensures { result ≡ [] }
+    {
+        Opens {
+            items: Vec::new(alloc),
+        }
+    }
+
+    // A declarer put in front of the others.
+    fn push(&mut self, next: Open) -> Result<(), NoMemory>
+        ensures { OnOk result (self.new ≡ next ∷ self.old) }
+    {
+        self.items.push(next)?;
+        Ok(())
+    }
+
+    // Takes the next one off.
+    fn pop(&mut self) -> Option<Open>
+        ensures { MatchOption result ((self.old ≡ []) × (self.new ≡ [])) (λ next. self.old ≡ next ∷ self.new) }
+    {
+        self.items.pop()
+    }
+
+    // These declarers, in order, put in front of the others.
+    fn put(&mut self, found: Vec<Open>) -> Result<(), NoMemory>
+        ensures { OnOk result (self.new ≡ found.items ++ self.old) }
+    {
+        let mut left = found;
+        while let Some(next) = left.pop() {
+            self.push(next)?;
+        }
+        Ok(())
+    }
+}
+
+// Adds the bounds of the dimensions of a row; the declarer of its elements is yet to be looked at.
 fn add_rows(
     program: &Annotated,
-    modes: &Measured,
     depth: u32,
     frames: Option<u32>,
     parts: &[NodeId],
+    opens: &mut Opens,
     bounds: &mut Vec<Bound>,
 ) -> Result<(), NoMemory>
-    requires { modes.now ≡ program.now.modes }
-    ensures { OnOk result (bounds_so_far.AreAdded frames bounds.old.items bounds.new.items
-        (made.row_bounds program.now (made.bounds_within depth program.now) parts.now)) }
+    ensures all { OnOk result (bounds.new.items ++ all_of program.now opens.new
+        ≡ bounds.old.items ++ map (bounds_so_far.seen_from frames) (made.row_bounds program.now (made.bounds_within depth program.now) parts.now) ++ all_of program.now opens.old) }
+    ensures looks { OnOk result (looks_of program.now opens.new
+        ≤ length (made.row_bounds program.now (marks_within depth program.now) parts.now) + looks_of program.now opens.old) }
 {
     for part in parts {
         if !is_bound(program, *part) {
-            add_bounds(program, modes, depth, frames, *part, bounds)?;
+            let id = *part;
+            opens.push(Open { depth, frames, id })?;
             return Ok(());
         }
         add_dimension(program, frames, *part, bounds)?;
@@ -177,100 +241,129 @@ fn add_rows(
     Ok(())
 }
 
-// Adds those of the declarer that stands last before a field, if any.
-#[cycle(bounds)]
+// Adds the declarer that stands last before a part, if any, where the part is a field.
 fn add_last(
     program: &Annotated,
-    modes: &Measured,
     depth: u32,
     frames: Option<u32>,
     last: Option<NodeId>,
-    bounds: &mut Vec<Bound>,
+    part: NodeId,
+    found: &mut Vec<Open>,
 ) -> Result<(), NoMemory>
-    requires { modes.now ≡ program.now.modes }
-    ensures { OnOk result (bounds_so_far.AreAdded frames bounds.old.items bounds.new.items
-        (option_map_or (made.bounds_within depth program.now) last [])) }
+    ensures { OnOk result (found.new.items ≡ found.old.items ++ (if made.is_field (made.kind_at program.now part) then listed depth frames last else [])) }
 {
-    if let Some(declarer) = last {
-        add_bounds(program, modes, depth, frames, declarer, bounds)?;
+    if !is_field(program, part) {
+        return Ok(());
+    }
+    if let Some(id) = last {
+        found.push(Open { depth, frames, id })?;
     }
     Ok(())
 }
 
-// Adds those of each field.
-#[cycle(bounds)]
-fn add_fields(
+// The declarer that stands last before the next part: a part is one, or a field.
+fn next_last(program: &Annotated, last: Option<NodeId>, part: NodeId) -> Option<NodeId>
+    ensures { result ≡ (if made.is_field (made.kind_at program.now part) then last else Some part) }
+{
+    if is_field(program, part) {
+        last
+    } else {
+        Some(part)
+    }
+}
+
+// Finds the declarer of each field, to be added to none.
+fn find_fields(
     program: &Annotated,
-    modes: &Measured,
     depth: u32,
     frames: Option<u32>,
     parts: &[NodeId],
-    bounds: &mut Vec<Bound>,
+    found: &mut Vec<Open>,
 ) -> Result<(), NoMemory>
-    requires { modes.now ≡ program.now.modes }
-    ensures { OnOk result (bounds_so_far.AreAdded frames bounds.old.items bounds.new.items
-        (made.field_bounds program.now (made.bounds_within depth program.now) [] parts.now)) }
+    requires { found.old.items ≡ [] }
+    ensures all { OnOk result (all_of program.now found.new.items
+        ≡ map (bounds_so_far.seen_from frames) (made.field_bounds program.now (made.bounds_within depth program.now) [] parts.now)) }
+    ensures looks { OnOk result (looks_of program.now found.new.items ≡ length (made.field_bounds program.now (marks_within depth program.now) [] parts.now)) }
 {
     let mut last = None;
     for part in parts {
-        if !is_field(program, *part) {
-            last = Some(*part);
-            continue;
-        }
-        add_last(program, modes, depth, frames, last, bounds)?;
+        add_last(program, depth, frames, last, *part, found)?;
+        last = next_last(program, last, *part);
     }
     Ok(())
 }
 
-// Adds those of a declarer that is no row: those of the definition of a mode word, or those of its fields.
-#[cycle(bounds)]
-fn add_word(
+// Opens the declarers of the fields.
+fn open_fields(
+    alloc: Global,
     program: &Annotated,
-    modes: &Measured,
+    depth: u32,
+    frames: Option<u32>,
+    parts: &[NodeId],
+    opens: &mut Opens,
+) -> Result<(), NoMemory>
+    ensures all { OnOk result (all_of program.now opens.new
+        ≡ map (bounds_so_far.seen_from frames) (made.field_bounds program.now (made.bounds_within depth program.now) [] parts.now) ++ all_of program.now opens.old) }
+    ensures looks { OnOk result (looks_of program.now opens.new
+        ≡ length (made.field_bounds program.now (marks_within depth program.now) [] parts.now) + looks_of program.now opens.old) }
+{
+    let mut found = Vec::new(alloc);
+    find_fields(program, depth, frames, parts, &mut found)?;
+    opens.put(found)?;
+    Ok(())
+}
+
+// Opens what is within a declarer that is no row: that of the definition of a mode word, or those of its fields.
+fn open_word(
+    alloc: Global,
+    program: &Annotated,
     depth: u32,
     frames: Option<u32>,
     id: NodeId,
     parts: &[NodeId],
-    bounds: &mut Vec<Bound>,
+    opens: &mut Opens,
 ) -> Result<(), NoMemory>
-    requires there { id < length program.now.tree.nodes }
-    requires modes { modes.now ≡ program.now.modes }
-    ensures { OnOk result (bounds_so_far.AreAdded frames bounds.old.items bounds.new.items
-        (made.word_bounds program.now (made.bounds_within depth program.now) (slice_get program.now.notes id) parts.now)) }
+    requires { id < length program.now.tree.nodes }
+    ensures all { OnOk result (all_of program.now opens.new
+        ≡ map (bounds_so_far.seen_from frames) (made.word_bounds program.now (made.bounds_within depth program.now) (slice_get program.now.notes id) parts.now) ++ all_of program.now opens.old) }
+    ensures looks { OnOk result (looks_of program.now opens.new
+        ≡ length (made.word_bounds program.now (marks_within depth program.now) (slice_get program.now.notes id) parts.now) + looks_of program.now opens.old) }
 {
     let note = program.note(id);
     match note.definition {
         Some(definition) => {
-            let declarer = last_id(parts_at(program, definition));
+            let id = last_id(parts_at(program, definition));
             let out = outwards(frames, note.step.hops);
-            add_bounds(program, modes, depth, Some(out), declarer, bounds)?;
+            let frames = Some(out);
+            opens.push(Open { depth, frames, id })?;
             Ok(())
         }
-        None => add_fields(program, modes, depth, frames, parts, bounds),
+        None => {
+            open_fields(alloc, program, depth, frames, parts, opens)?;
+            Ok(())
+        }
     }
 }
 
-// Adds the bounds of a declarer, within which others lie at most so deep. Where there are too many already none are added,
-// nor where its mode has no rows: so a structure of two of a mode, many within one another, is quick.
-#[cycle(bounds)]
-fn add_bounds(
+// Adds the bounds of a declarer up to those of the declarers within it, which are yet to be looked at. Where its mode has
+// no rows there are none: so a structure of two of a mode, many within one another, is quick.
+fn look_at(
+    alloc: Global,
     program: &Annotated,
     modes: &Measured,
-    depth: u32,
-    frames: Option<u32>,
-    id: NodeId,
+    next: Open,
+    opens: &mut Opens,
     bounds: &mut Vec<Bound>,
 ) -> Result<(), NoMemory>
     requires { modes.now ≡ program.now.modes }
-    ensures { OnOk result (bounds_so_far.AreAdded frames bounds.old.items bounds.new.items (made.bounds_within depth program.now id)) }
+    ensures all { OnOk result (bounds.new.items ++ all_of program.now opens.new ≡ bounds.old.items ++ those_of program.now next ++ all_of program.now opens.old) }
+    ensures looks { OnOk result (looks_of program.now opens.new < length (marks_within next.depth program.now next.id) + looks_of program.now opens.old) }
 {
+    let Open { depth, frames, id } = next;
     if depth == 0 {
         return Ok(());
     }
     if id >= program.tree.len() {
-        return Ok(());
-    }
-    if bounds.len() >= MOST_BOUNDS {
         return Ok(());
     }
     if has_no_rows(program, modes, id) {
@@ -280,9 +373,31 @@ fn add_bounds(
     if is_string(program, id) {
         add_string(bounds)?;
     } else if begins_with_bound(program, parts) {
-        add_rows(program, modes, depth - 1, frames, parts, bounds)?;
+        add_rows(program, depth - 1, frames, parts, opens, bounds)?;
     } else {
-        add_word(program, modes, depth - 1, frames, id, parts, bounds)?;
+        open_word(alloc, program, depth - 1, frames, id, parts, opens)?;
+    }
+    Ok(())
+}
+
+// Adds the bounds of a declarer. Where there are too many already, no more are looked for.
+fn add_bounds(
+    alloc: Global,
+    program: &Annotated,
+    modes: &Measured,
+    first: Open,
+    bounds: &mut Vec<Bound>,
+) -> Result<(), NoMemory>
+    requires { modes.now ≡ program.now.modes }
+    ensures { OnOk result (bounds_so_far.AreAdded first.frames bounds.old.items bounds.new.items (made.bounds_within first.depth program.now first.id)) }
+{
+    let mut opens = Opens::new(alloc);
+    opens.push(first)?;
+    while let Some(next) = opens.pop() {
+        if bounds.len() >= MOST_BOUNDS {
+            return Ok(());
+        }
+        look_at(alloc, program, modes, next, &mut opens, bounds)?;
     }
     Ok(())
 }
@@ -299,7 +414,10 @@ fn add_first(
 {
     if parts.len() > 0 && is_declarer(program, parts[0]) {
         let modes = Measured::new(alloc, &program.modes, mode_at(program, parts[0]))?;
-        add_bounds(program, &modes, program.tree.len(), None, parts[0], bounds)?;
+        let depth = program.tree.len();
+        let frames = None;
+        let id = parts[0];
+        add_bounds(alloc, program, &modes, Open { depth, frames, id }, bounds)?;
     }
     Ok(())
 }

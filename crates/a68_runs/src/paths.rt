@@ -7,7 +7,7 @@ ghost use Rattle.a68_runs.specs.Running as running;
 
 use crate::outcomes::is_there;
 use a68_annot::Note;
-use a68_modes::{Coercion, ModeId, Modes};
+use a68_modes::{Coercion, ModeId, Modes, standard};
 use a68_parts::{behind_proc, behind_ref, rowed_to};
 
 /// What stands between two coercions: the mode behind the first, and whether a value is left.
@@ -62,12 +62,12 @@ fn behind(
             left: true,
         }),
         Coercion::Widen => Some(Between {
-            mode: 11,
+            mode: standard::ROW_OF_BOOL,
             left: true,
         }),
         Coercion::RowUp | Coercion::RowUpName => row_before(modes, goal, path),
         Coercion::Drop => Some(Between {
-            mode: 0,
+            mode: standard::VOID,
             left: false,
         }),
     }

@@ -5,6 +5,7 @@ ghost use Rattle.a68_elab.specs.Constants as constants;
 ghost use Rattle.a68_elab.specs.Made as made;
 ghost use Rattle.a68_elab.specs.Runs as runs;
 ghost use Rattle.a68_parts.specs.Loops.{AreWithin};
+ghost use Rattle.a68_parts.specs.Selecting.{AreSelected, selected};
 ghost use Rattle.a68_runs.specs.Running.{AreRuns, AreThere, IsThere};
 ghost use Rattle.a68_modes.specs.Nodes.{HoldsNodes, shape_at};
 ghost use Rattle.a68_tree.specs.Trees.{AllBetween};
@@ -24,10 +25,11 @@ use a68_code::operands_of;
 use a68_denote::{bits_of, int_of};
 use a68_modes::{ModeId, Shape};
 use a68_parts::{
-    LoopParts, before_out, begins_in_heap, begins_with_declarer, behind_heap, called, field_in,
-    fields_at, first_goal, is_one_of, is_quoted, items_at, loop_parts, only_id, out_of, printers,
-    truths, wholes,
+    LoopParts, before_out, begins_in_heap, begins_with_declarer, behind_heap, called, fields_at,
+    first_goal, is_one_of, is_quoted, items_at, loop_parts, only_id, out_of, printers,
+    selected_fields, truths, wholes,
 };
+use a68_signs::operators;
 use a68_tree::{Node, NodeId, NodeKind};
 use std::alloc::Global;
 
@@ -45,14 +47,14 @@ fn has_value(text: &[u8]) -> bool
 fn applies(row: u32) -> bool
     ensures { result ≡ runs.applies row }
 {
-    1 <= row && row <= 38
+    operators::PLUSAB <= row && row <= operators::UPB
 }
 
 // Does an operator leave a value, by its row: is it neither UP nor DOWN?
 fn gives(row: u32) -> bool
     ensures { result ≡ runs.gives row }
 {
-    !(row == 35 || row == 36)
+    !(row == operators::UP || row == operators::DOWN)
 }
 
 // Does a formula run: a standard operator, on as many values as it takes?
@@ -138,12 +140,14 @@ fn call_leaves(program: &Annotated, id: NodeId, yields: bool, parts: &[NodeId]) 
     }
 }
 
-// Is a field of that tag there?
-fn selects(program: &Annotated, name: u32, parts: &[NodeId]) -> bool
+// Is the field there that a selection takes, which has that place?
+fn selects(program: &Annotated, name: u32, place: usize, parts: &[NodeId]) -> bool
+    requires { place ≡ made.field_in name (made.fields_at program.now.modes (made.first_goal program.now parts.now)) }
     ensures { result ≡ runs.selects program.now name parts.now }
 {
+    let _name = name;
     let fields = fields_at(&program.modes, first_goal(program, parts));
-    field_in(name, fields) < fields.len()
+    place < fields.len()
 }
 
 // What a collateral clause of a mode leaves: nothing of VOID, else a structure or a row of the values of its parts.
@@ -284,7 +288,9 @@ fn leaves_as(
     id: NodeId,
     node: &Node,
     note: &Note,
+    place: usize,
 ) -> Result<Option<bool>, NoMemory>
+    requires place { place ≡ selected program.now node.now }
     requires between { AllBetween id (length program.now.tree.nodes) node.now.parts }
     requires named { node.now.name < length program.now.tree.spellings }
     ensures { IfOk result (λ left. left ≡ runs.leaves_as program.now node.now note.now node.now.kind) }
@@ -327,7 +333,8 @@ fn leaves_as(
         NodeKind::Vacuum => if_so(is_row(program, note.goal), true),
         NodeKind::Slice => if_so(slice_runs(program, parts), true),
         NodeKind::Selection => if_so(
-            selects(program, node.name, parts) && is_outcome(true, last_outcome(program, parts)),
+            selects(program, node.name, place, parts)
+                && is_outcome(true, last_outcome(program, parts)),
             true,
         ),
         NodeKind::Serial => if_so(are_phrases(program, asked, parts), asked),
@@ -364,12 +371,14 @@ fn left_by(
     id: NodeId,
     node: &Node,
     note: &Note,
+    place: usize,
 ) -> Result<Option<bool>, NoMemory>
+    requires place { place ≡ selected program.now node.now }
     requires between { AllBetween id (length program.now.tree.nodes) node.now.parts }
     requires named { node.now.name < length program.now.tree.spellings }
     ensures { IfOk result (λ left. left ≡ runs.left_by program.now node.now note.now) }
 {
-    let left = leaves_as(alloc, program, id, node, note)?;
+    let left = leaves_as(alloc, program, id, node, note, place)?;
     Ok(behind_path(program, note, left))
 }
 
@@ -385,15 +394,37 @@ fn agrees(outcome: Option<bool>, left: Option<bool>) -> bool
 
 // Does a node run?
 #[tactic(auto, unfolding(a68_elab::specs::Runs::runs))]
-fn is_run(alloc: Global, program: &Annotated, id: NodeId) -> Result<bool, NoMemory>
-    requires { id < length program.now.tree.nodes }
+fn is_run(
+    alloc: Global,
+    program: &Annotated,
+    places: &[usize],
+    id: NodeId,
+) -> Result<bool, NoMemory>
+    requires there { id < length program.now.tree.nodes }
+    requires places { AreSelected program.now places.now }
     ensures runs { IfOk result (λ is_run. is_run ≡ runs.runs program.now id) }
     ensures there { IsThere program.now id }
 {
     let node = program.tree.node(id);
     let note = program.note(id);
-    let left = left_by(alloc, program, id, node, note)?;
+    let left = left_by(alloc, program, id, node, note, places[id as usize])?;
     Ok(agrees(outcome_by(program, node, note), left))
+}
+
+// Lists which nodes run, of which the selections take the fields of these places.
+fn list_runs(alloc: Global, program: &Annotated, places: &[usize]) -> Result<Vec<bool>, NoMemory>
+    requires { AreSelected program.now places.now }
+    ensures runs { IfOk result (λ list. AreRuns program.now list.items) }
+    ensures there { IfOk result (λ list. AreThere program.now (length program.now.tree.nodes)) }
+    ensures nodes { HoldsNodes program.now.modes }
+{
+    let _nodes = program.modes.len();
+    let mut list = Vec::new(alloc);
+    for id in 0..program.tree.len() {
+        let is_run = is_run(alloc, program, places, id)?;
+        list.push(is_run)?;
+    }
+    Ok(list)
 }
 
 /// Which nodes run: whether each of them leaves what is asked of it, by their numbers.
@@ -403,10 +434,7 @@ pub fn which_run(alloc: Global, program: &Annotated) -> Result<Vec<bool>, NoMemo
     ensures nodes { HoldsNodes program.now.modes }
 {
     let _nodes = program.modes.len();
-    let mut list = Vec::new(alloc);
-    for id in 0..program.tree.len() {
-        let is_run = is_run(alloc, program, id)?;
-        list.push(is_run)?;
-    }
+    let places = selected_fields(alloc, program)?;
+    let list = list_runs(alloc, program, &places)?;
     Ok(list)
 }

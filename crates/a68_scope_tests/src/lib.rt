@@ -9,3 +9,5 @@ mod operators;
 mod shapes;
 #[cfg(test)]
 mod table;
+#[cfg(test)]
+mod tables;

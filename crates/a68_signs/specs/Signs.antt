@@ -4,6 +4,8 @@ use Rattle.std.specs.Prelude.{ℕ, zero, suc, Bool, ◌||◌, List, [], ◌∷�
 use Rattle.std.specs.Option.{is_some, option_map, option_map_or}
 use Rattle.std.specs.declared.option.Option.{Option}
 use Rattle.a68_base.specs.Tables.{is_listed}
+use Rattle.a68_modes.specs.declared.standard.TheConstants as m
+use Rattle.a68_signs.specs.declared.operators.TheConstants as o
 use Rattle.a68_signs.specs.declared.signs.Operator.{Operator}
 
 -- Signs that mean the same, their priority, and the operators that they have, by the modes of their operands. Of monadic
@@ -13,9 +15,8 @@ pub record SignGroup : Type 0 where
   pub priority : ℕ
   pub operators : List Operator
 
--- The operator of a row that takes these two modes and yields the third. Modes are standard ones: 0 VOID, 1 INT, 2 BOOL,
--- 3 CHAR, 4 BITS, 5 SEMA, 7 [] CHAR, 9 REF INT, 10 REF STRING. A monadic operator has 0 on the left; LWB and UPB have 0 on
--- the right, which there stands for every row.
+-- The operator of a row that takes these two modes and yields the third. A monadic operator has VOID on the left; LWB and
+-- UPB have VOID on the right, which there stands for every row.
 abbrev pub op : (row left right result : ℕ) → Operator
 op row left right result = record { row = row; left = left; right = right; result = result }
 
@@ -26,53 +27,79 @@ entry signs priority operators = record { signs = signs; priority = priority; op
 -- CHAR stand in the place of the Report's STRING. SHL and SHR have the names of the Report; `%*:=` is MODAB.
 abbrev pub dyadic_entries : List SignGroup
 dyadic_entries =
-    entry (codes "+:=" ∷ codes "PLUSAB" ∷ []) 1 (op 1 9 1 9 ∷ op 1 10 7 10 ∷ op 1 10 3 10 ∷ []) ∷
-    entry (codes "-:=" ∷ codes "MINUSAB" ∷ []) 1 (op 2 9 1 9 ∷ []) ∷
-    entry (codes "*:=" ∷ codes "TIMESAB" ∷ []) 1 (op 3 9 1 9 ∷ op 3 10 1 10 ∷ []) ∷
-    entry (codes "%:=" ∷ codes "OVERAB" ∷ []) 1 (op 4 9 1 9 ∷ []) ∷
-    entry (codes "%*:=" ∷ codes "MODAB" ∷ []) 1 (op 5 9 1 9 ∷ []) ∷
-    entry (codes "+=:" ∷ codes "PLUSTO" ∷ []) 1 (op 6 7 10 10 ∷ op 6 3 10 10 ∷ []) ∷
-    entry (codes "OR" ∷ []) 2 (op 7 2 2 2 ∷ op 7 4 4 4 ∷ []) ∷
-    entry (codes "AND" ∷ codes "&" ∷ []) 3 (op 8 2 2 2 ∷ op 8 4 4 4 ∷ []) ∷
+    entry (codes "+:=" ∷ codes "PLUSAB" ∷ []) 1
+    (op o.PLUSAB m.REF_INT m.INT m.REF_INT ∷ op o.PLUSAB m.REF_STRING m.ROW_OF_CHAR m.REF_STRING ∷
+    op o.PLUSAB m.REF_STRING m.CHAR m.REF_STRING ∷ []) ∷
+    entry (codes "-:=" ∷ codes "MINUSAB" ∷ []) 1 (op o.MINUSAB m.REF_INT m.INT m.REF_INT ∷ []) ∷
+    entry (codes "*:=" ∷ codes "TIMESAB" ∷ []) 1
+    (op o.TIMESAB m.REF_INT m.INT m.REF_INT ∷ op o.TIMESAB m.REF_STRING m.INT m.REF_STRING ∷ []) ∷
+    entry (codes "%:=" ∷ codes "OVERAB" ∷ []) 1 (op o.OVERAB m.REF_INT m.INT m.REF_INT ∷ []) ∷
+    entry (codes "%*:=" ∷ codes "MODAB" ∷ []) 1 (op o.MODAB m.REF_INT m.INT m.REF_INT ∷ []) ∷
+    entry (codes "+=:" ∷ codes "PLUSTO" ∷ []) 1
+    (op o.PLUSTO m.ROW_OF_CHAR m.REF_STRING m.REF_STRING ∷ op o.PLUSTO m.CHAR m.REF_STRING m.REF_STRING ∷ []) ∷
+    entry (codes "OR" ∷ []) 2 (op o.OR m.BOOL m.BOOL m.BOOL ∷ op o.OR m.BITS m.BITS m.BITS ∷ []) ∷
+    entry (codes "AND" ∷ codes "&" ∷ []) 3 (op o.AND m.BOOL m.BOOL m.BOOL ∷ op o.AND m.BITS m.BITS m.BITS ∷ []) ∷
     entry (codes "=" ∷ codes "EQ" ∷ []) 4
-    (op 9 1 1 2 ∷ op 9 2 2 2 ∷ op 9 3 3 2 ∷ op 9 4 4 2 ∷ op 9 7 7 2 ∷ op 9 7 3 2 ∷ op 9 3 7 2 ∷ []) ∷
+    (op o.EQ m.INT m.INT m.BOOL ∷ op o.EQ m.BOOL m.BOOL m.BOOL ∷ op o.EQ m.CHAR m.CHAR m.BOOL ∷
+    op o.EQ m.BITS m.BITS m.BOOL ∷ op o.EQ m.ROW_OF_CHAR m.ROW_OF_CHAR m.BOOL ∷
+    op o.EQ m.ROW_OF_CHAR m.CHAR m.BOOL ∷ op o.EQ m.CHAR m.ROW_OF_CHAR m.BOOL ∷ []) ∷
     entry (codes "/=" ∷ codes "NE" ∷ []) 4
-    (op 10 1 1 2 ∷ op 10 2 2 2 ∷ op 10 3 3 2 ∷ op 10 4 4 2 ∷ op 10 7 7 2 ∷ op 10 7 3 2 ∷ op 10 3 7 2 ∷ []) ∷
-    entry (codes "<" ∷ codes "LT" ∷ []) 5 (op 11 1 1 2 ∷ op 11 7 7 2 ∷ op 11 7 3 2 ∷ op 11 3 7 2 ∷ op 11 3 3 2 ∷ []) ∷
+    (op o.NE m.INT m.INT m.BOOL ∷ op o.NE m.BOOL m.BOOL m.BOOL ∷ op o.NE m.CHAR m.CHAR m.BOOL ∷
+    op o.NE m.BITS m.BITS m.BOOL ∷ op o.NE m.ROW_OF_CHAR m.ROW_OF_CHAR m.BOOL ∷
+    op o.NE m.ROW_OF_CHAR m.CHAR m.BOOL ∷ op o.NE m.CHAR m.ROW_OF_CHAR m.BOOL ∷ []) ∷
+    entry (codes "<" ∷ codes "LT" ∷ []) 5
+    (op o.LT m.INT m.INT m.BOOL ∷ op o.LT m.ROW_OF_CHAR m.ROW_OF_CHAR m.BOOL ∷
+    op o.LT m.ROW_OF_CHAR m.CHAR m.BOOL ∷ op o.LT m.CHAR m.ROW_OF_CHAR m.BOOL ∷
+    op o.LT m.CHAR m.CHAR m.BOOL ∷ []) ∷
     entry (codes "<=" ∷ codes "LE" ∷ []) 5
-    (op 12 1 1 2 ∷ op 12 7 7 2 ∷ op 12 7 3 2 ∷ op 12 3 7 2 ∷ op 12 3 3 2 ∷ op 12 4 4 2 ∷ []) ∷
+    (op o.LE m.INT m.INT m.BOOL ∷ op o.LE m.ROW_OF_CHAR m.ROW_OF_CHAR m.BOOL ∷
+    op o.LE m.ROW_OF_CHAR m.CHAR m.BOOL ∷ op o.LE m.CHAR m.ROW_OF_CHAR m.BOOL ∷ op o.LE m.CHAR m.CHAR m.BOOL ∷
+    op o.LE m.BITS m.BITS m.BOOL ∷ []) ∷
     entry (codes ">=" ∷ codes "GE" ∷ []) 5
-    (op 13 1 1 2 ∷ op 13 7 7 2 ∷ op 13 7 3 2 ∷ op 13 3 7 2 ∷ op 13 3 3 2 ∷ op 13 4 4 2 ∷ []) ∷
-    entry (codes ">" ∷ codes "GT" ∷ []) 5 (op 14 1 1 2 ∷ op 14 7 7 2 ∷ op 14 7 3 2 ∷ op 14 3 7 2 ∷ op 14 3 3 2 ∷ []) ∷
-    entry (codes "+" ∷ []) 6 (op 15 1 1 1 ∷ op 15 7 7 7 ∷ op 15 7 3 7 ∷ op 15 3 7 7 ∷ op 15 3 3 7 ∷ []) ∷
-    entry (codes "-" ∷ []) 6 (op 16 1 1 1 ∷ []) ∷
-    entry (codes "*" ∷ []) 7 (op 17 1 1 1 ∷ op 17 7 1 7 ∷ op 17 3 1 7 ∷ op 17 1 7 7 ∷ op 17 1 3 7 ∷ []) ∷
-    entry (codes "OVER" ∷ codes "%" ∷ []) 7 (op 18 1 1 1 ∷ []) ∷
-    entry (codes "MOD" ∷ codes "%*" ∷ []) 7 (op 19 1 1 1 ∷ []) ∷
-    entry (codes "ELEM" ∷ []) 7 (op 20 1 4 2 ∷ []) ∷
-    entry (codes "**" ∷ []) 8 (op 21 1 1 1 ∷ []) ∷
-    entry (codes "SHL" ∷ []) 8 (op 22 4 1 4 ∷ []) ∷
-    entry (codes "SHR" ∷ []) 8 (op 23 4 1 4 ∷ []) ∷
-    entry (codes "LWB" ∷ []) 8 (op 24 1 0 1 ∷ []) ∷
-    entry (codes "UPB" ∷ []) 8 (op 25 1 0 1 ∷ []) ∷
+    (op o.GE m.INT m.INT m.BOOL ∷ op o.GE m.ROW_OF_CHAR m.ROW_OF_CHAR m.BOOL ∷
+    op o.GE m.ROW_OF_CHAR m.CHAR m.BOOL ∷ op o.GE m.CHAR m.ROW_OF_CHAR m.BOOL ∷ op o.GE m.CHAR m.CHAR m.BOOL ∷
+    op o.GE m.BITS m.BITS m.BOOL ∷ []) ∷
+    entry (codes ">" ∷ codes "GT" ∷ []) 5
+    (op o.GT m.INT m.INT m.BOOL ∷ op o.GT m.ROW_OF_CHAR m.ROW_OF_CHAR m.BOOL ∷
+    op o.GT m.ROW_OF_CHAR m.CHAR m.BOOL ∷ op o.GT m.CHAR m.ROW_OF_CHAR m.BOOL ∷
+    op o.GT m.CHAR m.CHAR m.BOOL ∷ []) ∷
+    entry (codes "+" ∷ []) 6
+    (op o.PLUS m.INT m.INT m.INT ∷ op o.PLUS m.ROW_OF_CHAR m.ROW_OF_CHAR m.ROW_OF_CHAR ∷
+    op o.PLUS m.ROW_OF_CHAR m.CHAR m.ROW_OF_CHAR ∷ op o.PLUS m.CHAR m.ROW_OF_CHAR m.ROW_OF_CHAR ∷
+    op o.PLUS m.CHAR m.CHAR m.ROW_OF_CHAR ∷ []) ∷
+    entry (codes "-" ∷ []) 6 (op o.MINUS m.INT m.INT m.INT ∷ []) ∷
+    entry (codes "*" ∷ []) 7
+    (op o.TIMES m.INT m.INT m.INT ∷ op o.TIMES m.ROW_OF_CHAR m.INT m.ROW_OF_CHAR ∷
+    op o.TIMES m.CHAR m.INT m.ROW_OF_CHAR ∷ op o.TIMES m.INT m.ROW_OF_CHAR m.ROW_OF_CHAR ∷
+    op o.TIMES m.INT m.CHAR m.ROW_OF_CHAR ∷ []) ∷
+    entry (codes "OVER" ∷ codes "%" ∷ []) 7 (op o.OVER m.INT m.INT m.INT ∷ []) ∷
+    entry (codes "MOD" ∷ codes "%*" ∷ []) 7 (op o.MOD m.INT m.INT m.INT ∷ []) ∷
+    entry (codes "ELEM" ∷ []) 7 (op o.ELEM m.INT m.BITS m.BOOL ∷ []) ∷
+    entry (codes "**" ∷ []) 8 (op o.POWER m.INT m.INT m.INT ∷ []) ∷
+    entry (codes "SHL" ∷ []) 8 (op o.SHL m.BITS m.INT m.BITS ∷ []) ∷
+    entry (codes "SHR" ∷ []) 8 (op o.SHR m.BITS m.INT m.BITS ∷ []) ∷
+    entry (codes "LWB" ∷ []) 8 (op o.LWB_OF m.INT m.VOID m.INT ∷ []) ∷
+    entry (codes "UPB" ∷ []) 8 (op o.UPB_OF m.INT m.VOID m.INT ∷ []) ∷
     []
 
 -- Signs before one operand (Report, 10.2.1, 10.2.3.1 to 10.2.3.8 and 10.2.4).
 abbrev pub monadic_entries : List SignGroup
 monadic_entries =
-    entry (codes "+" ∷ []) 10 (op 26 0 1 1 ∷ []) ∷
-    entry (codes "-" ∷ []) 10 (op 27 0 1 1 ∷ []) ∷
-    entry (codes "NOT" ∷ []) 10 (op 28 0 2 2 ∷ op 28 0 4 4 ∷ []) ∷
-    entry (codes "ABS" ∷ []) 10 (op 29 0 1 1 ∷ op 29 0 2 1 ∷ op 29 0 3 1 ∷ op 29 0 4 1 ∷ []) ∷
-    entry (codes "SIGN" ∷ []) 10 (op 30 0 1 1 ∷ []) ∷
-    entry (codes "ODD" ∷ []) 10 (op 31 0 1 2 ∷ []) ∷
-    entry (codes "REPR" ∷ []) 10 (op 32 0 1 3 ∷ []) ∷
-    entry (codes "BIN" ∷ []) 10 (op 33 0 1 4 ∷ []) ∷
-    entry (codes "LEVEL" ∷ []) 10 (op 34 0 1 5 ∷ op 34 0 5 1 ∷ []) ∷
-    entry (codes "UP" ∷ []) 10 (op 35 0 5 0 ∷ []) ∷
-    entry (codes "DOWN" ∷ []) 10 (op 36 0 5 0 ∷ []) ∷
-    entry (codes "LWB" ∷ []) 10 (op 37 0 0 1 ∷ []) ∷
-    entry (codes "UPB" ∷ []) 10 (op 38 0 0 1 ∷ []) ∷
+    entry (codes "+" ∷ []) 10 (op o.POSITIVE m.VOID m.INT m.INT ∷ []) ∷
+    entry (codes "-" ∷ []) 10 (op o.NEGATIVE m.VOID m.INT m.INT ∷ []) ∷
+    entry (codes "NOT" ∷ []) 10 (op o.NOT m.VOID m.BOOL m.BOOL ∷ op o.NOT m.VOID m.BITS m.BITS ∷ []) ∷
+    entry (codes "ABS" ∷ []) 10
+    (op o.ABS m.VOID m.INT m.INT ∷ op o.ABS m.VOID m.BOOL m.INT ∷ op o.ABS m.VOID m.CHAR m.INT ∷
+    op o.ABS m.VOID m.BITS m.INT ∷ []) ∷
+    entry (codes "SIGN" ∷ []) 10 (op o.SIGN m.VOID m.INT m.INT ∷ []) ∷
+    entry (codes "ODD" ∷ []) 10 (op o.ODD m.VOID m.INT m.BOOL ∷ []) ∷
+    entry (codes "REPR" ∷ []) 10 (op o.REPR m.VOID m.INT m.CHAR ∷ []) ∷
+    entry (codes "BIN" ∷ []) 10 (op o.BIN m.VOID m.INT m.BITS ∷ []) ∷
+    entry (codes "LEVEL" ∷ []) 10 (op o.LEVEL m.VOID m.INT m.SEMA ∷ op o.LEVEL m.VOID m.SEMA m.INT ∷ []) ∷
+    entry (codes "UP" ∷ []) 10 (op o.UP m.VOID m.SEMA m.VOID ∷ []) ∷
+    entry (codes "DOWN" ∷ []) 10 (op o.DOWN m.VOID m.SEMA m.VOID ∷ []) ∷
+    entry (codes "LWB" ∷ []) 10 (op o.LWB m.VOID m.VOID m.INT ∷ []) ∷
+    entry (codes "UPB" ∷ []) 10 (op o.UPB m.VOID m.VOID m.INT ∷ []) ∷
     []
 
 -- the entries of the signs for so many operands, 1 or 2

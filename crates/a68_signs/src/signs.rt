@@ -4,12 +4,14 @@ ghost use Rattle.std.specs.Option.{option_map};
 ghost use Rattle.a68_signs.specs.Entries.{entry_value};
 ghost use Rattle.a68_signs.specs.Signs as signs;
 
+use crate::operators;
 use a68_base::is_listed;
+use a68_modes::standard;
 
 /// An operator of the standard environ: its row in the table, and the modes of its operands and of its yield.
 ///
-/// The modes are numbers of standard modes. A monadic operator has 0 on the left. In the rows of LWB and UPB `right` is
-/// 0, which there stands for every row.
+/// The row is one of [`operators`], the modes are standard ones. A monadic operator has VOID on the left. In the rows of LWB
+/// and UPB `right` is VOID, which there stands for every row.
 #[derive(Clone, Copy, Debug, PartialEq, Eq)]
 pub struct Operator {
     pub row: u32,
@@ -27,12 +29,12 @@ struct SignGroup {
 }
 
 macro_rules! op {
-    ($row:literal, $left:literal, $right:literal, $result:literal) => {
+    ($row:ident, $left:ident, $right:ident, $result:ident) => {
         Operator {
-            row: $row,
-            left: $left,
-            right: $right,
-            result: $result,
+            row: operators::$row,
+            left: standard::$left,
+            right: standard::$right,
+            result: standard::$result,
         }
     };
 }
@@ -42,181 +44,191 @@ const DYADIC: &[SignGroup] = &[
     SignGroup {
         signs: &["+:=", "PLUSAB"],
         priority: 1,
-        operators: &[op!(1, 9, 1, 9), op!(1, 10, 7, 10), op!(1, 10, 3, 10)],
+        operators: &[
+            op!(PLUSAB, REF_INT, INT, REF_INT),
+            op!(PLUSAB, REF_STRING, ROW_OF_CHAR, REF_STRING),
+            op!(PLUSAB, REF_STRING, CHAR, REF_STRING),
+        ],
     },
     SignGroup {
         signs: &["-:=", "MINUSAB"],
         priority: 1,
-        operators: &[op!(2, 9, 1, 9)],
+        operators: &[op!(MINUSAB, REF_INT, INT, REF_INT)],
     },
     SignGroup {
         signs: &["*:=", "TIMESAB"],
         priority: 1,
-        operators: &[op!(3, 9, 1, 9), op!(3, 10, 1, 10)],
+        operators: &[
+            op!(TIMESAB, REF_INT, INT, REF_INT),
+            op!(TIMESAB, REF_STRING, INT, REF_STRING),
+        ],
     },
     SignGroup {
         signs: &["%:=", "OVERAB"],
         priority: 1,
-        operators: &[op!(4, 9, 1, 9)],
+        operators: &[op!(OVERAB, REF_INT, INT, REF_INT)],
     },
     SignGroup {
         signs: &["%*:=", "MODAB"],
         priority: 1,
-        operators: &[op!(5, 9, 1, 9)],
+        operators: &[op!(MODAB, REF_INT, INT, REF_INT)],
     },
     SignGroup {
         signs: &["+=:", "PLUSTO"],
         priority: 1,
-        operators: &[op!(6, 7, 10, 10), op!(6, 3, 10, 10)],
+        operators: &[
+            op!(PLUSTO, ROW_OF_CHAR, REF_STRING, REF_STRING),
+            op!(PLUSTO, CHAR, REF_STRING, REF_STRING),
+        ],
     },
     SignGroup {
         signs: &["OR"],
         priority: 2,
-        operators: &[op!(7, 2, 2, 2), op!(7, 4, 4, 4)],
+        operators: &[op!(OR, BOOL, BOOL, BOOL), op!(OR, BITS, BITS, BITS)],
     },
     SignGroup {
         signs: &["AND", "&"],
         priority: 3,
-        operators: &[op!(8, 2, 2, 2), op!(8, 4, 4, 4)],
+        operators: &[op!(AND, BOOL, BOOL, BOOL), op!(AND, BITS, BITS, BITS)],
     },
     SignGroup {
         signs: &["=", "EQ"],
         priority: 4,
         operators: &[
-            op!(9, 1, 1, 2),
-            op!(9, 2, 2, 2),
-            op!(9, 3, 3, 2),
-            op!(9, 4, 4, 2),
-            op!(9, 7, 7, 2),
-            op!(9, 7, 3, 2),
-            op!(9, 3, 7, 2),
+            op!(EQ, INT, INT, BOOL),
+            op!(EQ, BOOL, BOOL, BOOL),
+            op!(EQ, CHAR, CHAR, BOOL),
+            op!(EQ, BITS, BITS, BOOL),
+            op!(EQ, ROW_OF_CHAR, ROW_OF_CHAR, BOOL),
+            op!(EQ, ROW_OF_CHAR, CHAR, BOOL),
+            op!(EQ, CHAR, ROW_OF_CHAR, BOOL),
         ],
     },
     SignGroup {
         signs: &["/=", "NE"],
         priority: 4,
         operators: &[
-            op!(10, 1, 1, 2),
-            op!(10, 2, 2, 2),
-            op!(10, 3, 3, 2),
-            op!(10, 4, 4, 2),
-            op!(10, 7, 7, 2),
-            op!(10, 7, 3, 2),
-            op!(10, 3, 7, 2),
+            op!(NE, INT, INT, BOOL),
+            op!(NE, BOOL, BOOL, BOOL),
+            op!(NE, CHAR, CHAR, BOOL),
+            op!(NE, BITS, BITS, BOOL),
+            op!(NE, ROW_OF_CHAR, ROW_OF_CHAR, BOOL),
+            op!(NE, ROW_OF_CHAR, CHAR, BOOL),
+            op!(NE, CHAR, ROW_OF_CHAR, BOOL),
         ],
     },
     SignGroup {
         signs: &["<", "LT"],
         priority: 5,
         operators: &[
-            op!(11, 1, 1, 2),
-            op!(11, 7, 7, 2),
-            op!(11, 7, 3, 2),
-            op!(11, 3, 7, 2),
-            op!(11, 3, 3, 2),
+            op!(LT, INT, INT, BOOL),
+            op!(LT, ROW_OF_CHAR, ROW_OF_CHAR, BOOL),
+            op!(LT, ROW_OF_CHAR, CHAR, BOOL),
+            op!(LT, CHAR, ROW_OF_CHAR, BOOL),
+            op!(LT, CHAR, CHAR, BOOL),
         ],
     },
     SignGroup {
         signs: &["<=", "LE"],
         priority: 5,
         operators: &[
-            op!(12, 1, 1, 2),
-            op!(12, 7, 7, 2),
-            op!(12, 7, 3, 2),
-            op!(12, 3, 7, 2),
-            op!(12, 3, 3, 2),
-            op!(12, 4, 4, 2),
+            op!(LE, INT, INT, BOOL),
+            op!(LE, ROW_OF_CHAR, ROW_OF_CHAR, BOOL),
+            op!(LE, ROW_OF_CHAR, CHAR, BOOL),
+            op!(LE, CHAR, ROW_OF_CHAR, BOOL),
+            op!(LE, CHAR, CHAR, BOOL),
+            op!(LE, BITS, BITS, BOOL),
         ],
     },
     SignGroup {
         signs: &[">=", "GE"],
         priority: 5,
         operators: &[
-            op!(13, 1, 1, 2),
-            op!(13, 7, 7, 2),
-            op!(13, 7, 3, 2),
-            op!(13, 3, 7, 2),
-            op!(13, 3, 3, 2),
-            op!(13, 4, 4, 2),
+            op!(GE, INT, INT, BOOL),
+            op!(GE, ROW_OF_CHAR, ROW_OF_CHAR, BOOL),
+            op!(GE, ROW_OF_CHAR, CHAR, BOOL),
+            op!(GE, CHAR, ROW_OF_CHAR, BOOL),
+            op!(GE, CHAR, CHAR, BOOL),
+            op!(GE, BITS, BITS, BOOL),
         ],
     },
     SignGroup {
         signs: &[">", "GT"],
         priority: 5,
         operators: &[
-            op!(14, 1, 1, 2),
-            op!(14, 7, 7, 2),
-            op!(14, 7, 3, 2),
-            op!(14, 3, 7, 2),
-            op!(14, 3, 3, 2),
+            op!(GT, INT, INT, BOOL),
+            op!(GT, ROW_OF_CHAR, ROW_OF_CHAR, BOOL),
+            op!(GT, ROW_OF_CHAR, CHAR, BOOL),
+            op!(GT, CHAR, ROW_OF_CHAR, BOOL),
+            op!(GT, CHAR, CHAR, BOOL),
         ],
     },
     SignGroup {
         signs: &["+"],
         priority: 6,
         operators: &[
-            op!(15, 1, 1, 1),
-            op!(15, 7, 7, 7),
-            op!(15, 7, 3, 7),
-            op!(15, 3, 7, 7),
-            op!(15, 3, 3, 7),
+            op!(PLUS, INT, INT, INT),
+            op!(PLUS, ROW_OF_CHAR, ROW_OF_CHAR, ROW_OF_CHAR),
+            op!(PLUS, ROW_OF_CHAR, CHAR, ROW_OF_CHAR),
+            op!(PLUS, CHAR, ROW_OF_CHAR, ROW_OF_CHAR),
+            op!(PLUS, CHAR, CHAR, ROW_OF_CHAR),
         ],
     },
     SignGroup {
         signs: &["-"],
         priority: 6,
-        operators: &[op!(16, 1, 1, 1)],
+        operators: &[op!(MINUS, INT, INT, INT)],
     },
     SignGroup {
         signs: &["*"],
         priority: 7,
         operators: &[
-            op!(17, 1, 1, 1),
-            op!(17, 7, 1, 7),
-            op!(17, 3, 1, 7),
-            op!(17, 1, 7, 7),
-            op!(17, 1, 3, 7),
+            op!(TIMES, INT, INT, INT),
+            op!(TIMES, ROW_OF_CHAR, INT, ROW_OF_CHAR),
+            op!(TIMES, CHAR, INT, ROW_OF_CHAR),
+            op!(TIMES, INT, ROW_OF_CHAR, ROW_OF_CHAR),
+            op!(TIMES, INT, CHAR, ROW_OF_CHAR),
         ],
     },
     SignGroup {
         signs: &["OVER", "%"],
         priority: 7,
-        operators: &[op!(18, 1, 1, 1)],
+        operators: &[op!(OVER, INT, INT, INT)],
     },
     SignGroup {
         signs: &["MOD", "%*"],
         priority: 7,
-        operators: &[op!(19, 1, 1, 1)],
+        operators: &[op!(MOD, INT, INT, INT)],
     },
     SignGroup {
         signs: &["ELEM"],
         priority: 7,
-        operators: &[op!(20, 1, 4, 2)],
+        operators: &[op!(ELEM, INT, BITS, BOOL)],
     },
     SignGroup {
         signs: &["**"],
         priority: 8,
-        operators: &[op!(21, 1, 1, 1)],
+        operators: &[op!(POWER, INT, INT, INT)],
     },
     SignGroup {
         signs: &["SHL"],
         priority: 8,
-        operators: &[op!(22, 4, 1, 4)],
+        operators: &[op!(SHL, BITS, INT, BITS)],
     },
     SignGroup {
         signs: &["SHR"],
         priority: 8,
-        operators: &[op!(23, 4, 1, 4)],
+        operators: &[op!(SHR, BITS, INT, BITS)],
     },
     SignGroup {
         signs: &["LWB"],
         priority: 8,
-        operators: &[op!(24, 1, 0, 1)],
+        operators: &[op!(LWB_OF, INT, VOID, INT)],
     },
     SignGroup {
         signs: &["UPB"],
         priority: 8,
-        operators: &[op!(25, 1, 0, 1)],
+        operators: &[op!(UPB_OF, INT, VOID, INT)],
     },
 ];
 
@@ -225,72 +237,72 @@ const MONADIC: &[SignGroup] = &[
     SignGroup {
         signs: &["+"],
         priority: 10,
-        operators: &[op!(26, 0, 1, 1)],
+        operators: &[op!(POSITIVE, VOID, INT, INT)],
     },
     SignGroup {
         signs: &["-"],
         priority: 10,
-        operators: &[op!(27, 0, 1, 1)],
+        operators: &[op!(NEGATIVE, VOID, INT, INT)],
     },
     SignGroup {
         signs: &["NOT"],
         priority: 10,
-        operators: &[op!(28, 0, 2, 2), op!(28, 0, 4, 4)],
+        operators: &[op!(NOT, VOID, BOOL, BOOL), op!(NOT, VOID, BITS, BITS)],
     },
     SignGroup {
         signs: &["ABS"],
         priority: 10,
         operators: &[
-            op!(29, 0, 1, 1),
-            op!(29, 0, 2, 1),
-            op!(29, 0, 3, 1),
-            op!(29, 0, 4, 1),
+            op!(ABS, VOID, INT, INT),
+            op!(ABS, VOID, BOOL, INT),
+            op!(ABS, VOID, CHAR, INT),
+            op!(ABS, VOID, BITS, INT),
         ],
     },
     SignGroup {
         signs: &["SIGN"],
         priority: 10,
-        operators: &[op!(30, 0, 1, 1)],
+        operators: &[op!(SIGN, VOID, INT, INT)],
     },
     SignGroup {
         signs: &["ODD"],
         priority: 10,
-        operators: &[op!(31, 0, 1, 2)],
+        operators: &[op!(ODD, VOID, INT, BOOL)],
     },
     SignGroup {
         signs: &["REPR"],
         priority: 10,
-        operators: &[op!(32, 0, 1, 3)],
+        operators: &[op!(REPR, VOID, INT, CHAR)],
     },
     SignGroup {
         signs: &["BIN"],
         priority: 10,
-        operators: &[op!(33, 0, 1, 4)],
+        operators: &[op!(BIN, VOID, INT, BITS)],
     },
     SignGroup {
         signs: &["LEVEL"],
         priority: 10,
-        operators: &[op!(34, 0, 1, 5), op!(34, 0, 5, 1)],
+        operators: &[op!(LEVEL, VOID, INT, SEMA), op!(LEVEL, VOID, SEMA, INT)],
     },
     SignGroup {
         signs: &["UP"],
         priority: 10,
-        operators: &[op!(35, 0, 5, 0)],
+        operators: &[op!(UP, VOID, SEMA, VOID)],
     },
     SignGroup {
         signs: &["DOWN"],
         priority: 10,
-        operators: &[op!(36, 0, 5, 0)],
+        operators: &[op!(DOWN, VOID, SEMA, VOID)],
     },
     SignGroup {
         signs: &["LWB"],
         priority: 10,
-        operators: &[op!(37, 0, 0, 1)],
+        operators: &[op!(LWB, VOID, VOID, INT)],
     },
     SignGroup {
         signs: &["UPB"],
         priority: 10,
-        operators: &[op!(38, 0, 0, 1)],
+        operators: &[op!(UPB, VOID, VOID, INT)],
     },
 ];
 

@@ -1,4 +1,5 @@
 pub mod Filled
+pub mod Lasts
 pub mod Parts
 pub mod Skipping
 pub mod Taking

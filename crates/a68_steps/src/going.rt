@@ -354,6 +354,7 @@ fn fetches_member(
 // The steps of assigning the member of a union, and the cell that names it last, put in front of the steps; or the fault
 // that is met.
 fn assigns_member(
+    alloc: Global,
     modes: &Modes,
     cell: u32,
     mode: ModeId,
@@ -372,7 +373,7 @@ fn assigns_member(
         held: Held::Member { mode, base },
     };
     steps.push(named)?;
-    assign_steps(modes, mode, end, value, steps)?;
+    assign_steps(alloc, modes, mode, end, value, steps)?;
     Ok(None)
 }
 
@@ -402,7 +403,7 @@ fn replied(
         }
         (Step::Assigned, Reply::Go) => Ok(None),
         (Step::AssignUnion { cell, mode, value }, Reply::Base(base)) => {
-            let why = assigns_member(modes, cell, mode, base, value, steps)?;
+            let why = assigns_member(alloc, modes, cell, mode, base, value, steps)?;
             Ok(why)
         }
         (Step::FetchRow { of, cell: _ }, Reply::Held(Held::Rows(descriptor))) => {

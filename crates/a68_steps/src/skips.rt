@@ -1,9 +1,10 @@
 //! The values of SKIP.
-ghost use Rattle.std.specs.Prelude.{◌≡◌, ◌++◌, [], map, IfOk, OnOk};
+ghost use Rattle.std.specs.Prelude.{◌≡◌, ◌++◌, ◌∷◌, [], length, map, Some, IfOk, OnOk};
 ghost use Rattle.a68_acts.specs.Operations as operations;
 ghost use Rattle.a68_acts.specs.Operations.{skip_within};
 ghost use Rattle.a68_acts.specs.Rowing.{no_bounds};
-ghost use Rattle.a68_values.specs.Content.{row, contents_of};
+ghost use Rattle.a68_values.specs.Content.{plain, row, structure, contents_of};
+ghost use Rattle.a68_values.specs.declared.plain.Plain.TheVariants.{Unset};
 
 use a68_acts::Doing;
 use a68_base::NoMemory;
@@ -39,34 +40,76 @@ pub fn no_elements(alloc: Global, dims: u32) -> Result<Value, NoMemory>
     })
 }
 
-// The value of SKIP of a mode, where structures are looked at down to this depth.
+// What is put behind the values stands in functions of their own, so that a structure within many others needs little of
+// the stack.
+
+// An unset value put behind the values.
+#[inline(never)]
+fn add_unset(items: &mut Vec<Value>) -> Result<(), NoMemory>
+    ensures { OnOk result (items.new.items ≡ items.old.items ++ plain Unset ∷ []) }
+{
+    items.push(Value::of(Plain::Unset))?;
+    Ok(())
+}
+
+// A row of so many dimensions without elements put behind the values.
+#[inline(never)]
+fn add_empty(alloc: Global, dims: u32, items: &mut Vec<Value>) -> Result<(), NoMemory>
+    ensures { OnOk result (items.new.items ≡ items.old.items ++ row (no_bounds dims) (contents_of []) ∷ []) }
+{
+    let value = no_elements(alloc, dims)?;
+    items.push(value)?;
+    Ok(())
+}
+
+// A structure of these parts put behind the values.
+#[inline(never)]
+fn add_structure(parts: Vec<Value>, items: &mut Vec<Value>) -> Result<(), NoMemory>
+    ensures { OnOk result (items.new.items ≡ items.old.items ++ structure (contents_of parts.items) ∷ []) }
+{
+    let node = ValueNode::Structure(Values { items: parts });
+    items.push(Value { node })?;
+    Ok(())
+}
+
+// The value of SKIP of a mode put behind the values. Structures are looked at down to this depth.
 #[cycle(skip)]
-fn skip_in(alloc: Global, modes: &Modes, depth: u32, mode: ModeId) -> Result<Value, NoMemory>
-    ensures { IfOk result (λ value. value ≡ skip_within depth modes.now mode) }
+fn add_skip(
+    alloc: Global,
+    modes: &Modes,
+    depth: u32,
+    mode: ModeId,
+    items: &mut Vec<Value>,
+) -> Result<(), NoMemory>
+    ensures { OnOk result (items.new.items ≡ items.old.items ++ skip_within depth modes.now mode ∷ []) }
 {
     if depth == 0 {
-        return Ok(Value::of(Plain::Unset));
+        add_unset(items)?;
+        return Ok(());
     }
     if mode >= modes.len() {
-        return Ok(Value::of(Plain::Unset));
+        add_unset(items)?;
+        return Ok(());
     }
     match modes.shape(mode) {
         Shape::Struct(fields) => {
-            let mut items = Vec::new(alloc);
-            skip_fields(alloc, modes, depth - 1, &fields.items, &mut items)?;
-            Ok(Value {
-                node: ValueNode::Structure(Values { items }),
-            })
+            let mut parts = Vec::new(alloc);
+            skip_fields(alloc, modes, depth - 1, &fields.items, &mut parts)?;
+            add_structure(parts, items)?;
+            Ok(())
         }
         Shape::Rows { dims, .. } => {
-            let value = no_elements(alloc, *dims)?;
-            Ok(value)
+            add_empty(alloc, *dims, items)?;
+            Ok(())
         }
         Shape::Same(mode) => {
-            let value = skip_in(alloc, modes, depth - 1, *mode)?;
-            Ok(value)
+            add_skip(alloc, modes, depth - 1, *mode, items)?;
+            Ok(())
         }
-        _ => Ok(Value::of(Plain::Unset)),
+        _ => {
+            add_unset(items)?;
+            Ok(())
+        }
     }
 }
 
@@ -82,10 +125,18 @@ fn skip_fields(
     ensures { OnOk result (items.new.items ≡ map (λ field. skip_within depth modes.now field.1) fields.now) }
 {
     for field in fields {
-        let value = skip_in(alloc, modes, depth, field.1)?;
-        items.push(value)?;
+        add_skip(alloc, modes, depth, field.1, items)?;
     }
     Ok(())
+}
+
+// The value of SKIP of a mode.
+fn skip_of(alloc: Global, modes: &Modes, mode: ModeId) -> Result<Option<Value>, NoMemory>
+    ensures { IfOk result (λ value. value ≡ Some (skip_within (length modes.now) modes.now mode)) }
+{
+    let mut items = Vec::new(alloc);
+    add_skip(alloc, modes, modes.len(), mode, &mut items)?;
+    Ok(items.pop())
 }
 
 // The value of SKIP of a mode that is not plain.
@@ -95,8 +146,10 @@ fn skipped_parts(alloc: Global, modes: &Modes, mode: ModeId) -> Result<Doing, No
     if end_of(modes, mode, 0).is_none() {
         return Ok(Doing::Meets(FaultKind::Cells));
     }
-    let value = skip_in(alloc, modes, modes.len(), mode)?;
-    Ok(Doing::Yields(value))
+    match skip_of(alloc, modes, mode)? {
+        Some(value) => Ok(Doing::Yields(value)),
+        None => Ok(Doing::Meets(FaultKind::Kind)),
+    }
 }
 
 /// The value of SKIP.

@@ -36,6 +36,7 @@ pub fn fetched_parts(
 
 // The steps of assigning a value to a name, which is the yield, put where there are none.
 fn give_steps(
+    alloc: Global,
     modes: &Modes,
     mode: ModeId,
     name: Name,
@@ -49,7 +50,7 @@ fn give_steps(
     ensures { OnOk result (steps.new ≡ fetching.assign_steps modes.now mode name.cell value (Step.Leave (plain (Plain.Name name)) ∷ [])) }
 {
     steps.push(Step::Leave(Value::of(Plain::Name(name))))?;
-    assign_steps(modes, mode, end, value, steps)?;
+    assign_steps(alloc, modes, mode, end, value, steps)?;
     Ok(())
 }
 
@@ -72,7 +73,7 @@ pub fn assigned_parts(
         return Ok(Doing::Meets(FaultKind::Cells));
     };
     let mut steps = Steps::new(alloc);
-    give_steps(modes, mode, name, end, value, &mut steps)?;
+    give_steps(alloc, modes, mode, name, end, value, &mut steps)?;
     let doing = goes(alloc, modes, steps, Left::new(alloc))?;
     Ok(doing)
 }

@@ -8,5 +8,6 @@ pub mod Naming
 pub mod Numbered
 pub mod One
 pub mod Quotes
+pub mod Reading
 pub mod Starts
 pub mod Turns

@@ -13,8 +13,8 @@ use Rattle.a68_symbols.specs.declared.symbol.Spelling.{Spelling}
 use Rattle.a68_symbols.specs.contracts.symbol.SymbolKind.{the_type}
 use Rattle.a68_symbols.specs.contracts.symbol.SpellingPartialEq.TheImpl as spelling_eq
 use Rattle.a68_symbols.specs.declared.symbol.Symbol.{Symbol}
-use Rattle.a68_symbols.specs.Names.{Spelled, spelled_of, IsSound}
-use Rattle.a68_symbols.proofs.Numbered.{get_cases}
+use Rattle.a68_symbols.specs.Names.{Spelled, HaveKinds, spelled_of, IsSound}
+use Rattle.a68_symbols.proofs.Numbered.{get_cases, get_last}
 
 abbrev pub same : Spelling → Spelling → Bool
 same = spelling_eq.eq-value.it
@@ -95,10 +95,31 @@ at_most_one : (b : Bool) → (if b then 1 else 0) ≤ 1
 at_most_one true = omega arith
 at_most_one false = omega arith
 
+-- a spelling that was there keeps its kind
+kept : (old more : List Spelled) (n : ℕ) (kind : SymbolKind) → option_map (λ (x : Spelled). x.kind) (slice_get old n) ≡ Some kind
+    → option_map (λ (x : Spelled). x.kind) (slice_get (old ++ more) n) ≡ Some kind
+kept [] more n kind e = cc
+kept (x ∷ old) more zero kind e = e
+kept (x ∷ old) more (suc n) kind e = kept old more n kind e
+
+-- the kinds, once a symbol and perhaps its spelling are added
+pub kinds_more : (xs xs' : List Symbol) (old new : List Spelled) (s : Symbol) (key : Spelled) → key.kind ≡ s.kind → HaveKinds xs old → xs' ≡ xs ++ s ∷ []
+    → ((slice_get old s.name ≡ Some key) × (new ≡ old)) ⊎ ((s.name ≡ length old) × (new ≡ old ++ key ∷ []) × ((j : ℕ) → slice_get old j ≡ Some key → ⊥)) → HaveKinds xs' new
+kinds_more xs xs' old new s key kind before grown how i r e = elim (get_cases xs s i r (rw grown at e)) [
+  | inl earlier ↦ elim how [
+    | inl there ↦ rw there.1 (before i r earlier)
+    | inr added ↦ rw added.1 (kept old (key ∷ []) r.name r.kind (before i r earlier))
+  ]
+  | inr last ↦ elim how [
+    | inl there ↦ rw (last.1, there.1, there.0, kind) refl
+    | inr added ↦ rw (last.1, added.1, added.0, get_last old key, kind) refl
+  ]
+]
+
 -- one symbol more, with a spelling that is there or new
 pub sound_more : (xs xs' : List Symbol) (ks ks' : List Spelling) (s : Symbol) (is_new : Bool) → IsSound xs ks → length xs < 262144 → xs' ≡ xs ++ s ∷ []
-    → length ks' ≡ length ks + (if is_new then 1 else 0) → s.name < length ks' → IsSound xs' ks'
-sound_more xs xs' ks ks' s is_new i room grown long within =
+    → length ks' ≡ length ks + (if is_new then 1 else 0) → s.name < length ks' → HaveKinds xs' (map spelled_of ks') → IsSound xs' ks'
+sound_more xs xs' ks ks' s is_new i room grown long within kinds =
     let one = at_most_one is_new in
     let more : length xs' ≡ length xs + 1 = ap length grown ∙ length-append xs (s ∷ []) in
     record {
@@ -108,4 +129,5 @@ sound_more xs xs' ks ks' s is_new i room grown long within =
         | inl old ↦ omega (arith, i.named k r old, long)
         | inr last ↦ rw last.1 within
       ];
+      kinds = kinds;
     }

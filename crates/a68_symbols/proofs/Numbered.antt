@@ -13,7 +13,7 @@ get_left [] ys i x e = cc
 get_left (a ∷ xs) ys zero x e = e
 get_left (a ∷ xs) ys (suc i) x e = get_left xs ys i x e
 
-get_last : {A : Type 0} (xs : List A) (y : A) → slice_get (xs ++ y ∷ []) (length xs) ≡ Some y
+pub get_last : {A : Type 0} (xs : List A) (y : A) → slice_get (xs ++ y ∷ []) (length xs) ≡ Some y
 get_last [] y = refl
 get_last (a ∷ xs) y = get_last xs y
 

@@ -1,10 +1,12 @@
 pub mod Bytes
 pub mod Forms
 pub mod Gives
+pub mod Kept
 pub mod Limits
 pub mod Marks
 pub mod Names
 pub mod Runs
+pub mod Spellings
 pub mod Steps
 pub mod Symbols
 pub mod Words

@@ -1,5 +1,6 @@
 -- The names of symbols: numbers of their spellings, in the order in which these are first seen.
-use Rattle.std.specs.Prelude.{◌≡◌, ℕ, ◌-◌, ◌<◌, ◌≤◌, ◌↔◌, ◌⊎◌, List, [], ◌∷◌, ◌++◌, length, take, drop, slice_get, Some}
+use Rattle.std.specs.Prelude.{◌≡◌, ℕ, ◌-◌, ◌<◌, ◌≤◌, ◌↔◌, ◌⊎◌, List, [], ◌∷◌, ◌++◌, length, take, drop, map, slice_get, Some}
+use Rattle.std.specs.Option.{option_map}
 use Rattle.a68_base.specs.declared.refusal.Span.{Span}
 use Rattle.a68_symbols.specs.declared.symbol.SymbolKind.{SymbolKind}
 use Rattle.a68_symbols.specs.declared.symbol.SymbolKind.TheVariants.{Word, Tag, Number, BitsNumber, Quoted, Mark}
@@ -25,16 +26,22 @@ no_symbols = record { symbols = []; spellings = [] }
 abbrev pub HaveNames : List Symbol → ℕ → Type 0
 HaveNames symbols count = (i : ℕ) (s : Symbol) → slice_get symbols i ≡ Some s → s.name < count
 
--- What a list of symbols keeps: no more symbols than a text may have, no more spellings than symbols, and a spelling for
--- each symbol.
-pub record IsSound (symbols : List Symbol) (spellings : List Spelling) : Type 0 where
-  pub few : length symbols ≤ most_symbols
-  pub fewer : length spellings ≤ length symbols
-  pub named : HaveNames symbols (length spellings)
+-- each symbol is of the kind that its spelling has
+abbrev pub HaveKinds : List Symbol → List Spelled → Type 0
+HaveKinds symbols spellings =
+    (i : ℕ) (s : Symbol) → slice_get symbols i ≡ Some s → option_map (λ (x : Spelled). x.kind) (slice_get spellings s.name) ≡ Some s.kind
 
 -- a spelling as the code has it
 abbrev pub spelled_of : Spelling → Spelled
 spelled_of s = record { kind = s.kind; bytes = s.bytes.items }
+
+-- What a list of symbols keeps: no more symbols than a text may have, no more spellings than symbols, and a spelling of its
+-- kind for each symbol.
+pub record IsSound (symbols : List Symbol) (spellings : List Spelling) : Type 0 where
+  pub few : length symbols ≤ most_symbols
+  pub fewer : length spellings ≤ length symbols
+  pub named : HaveNames symbols (length spellings)
+  pub kinds : HaveKinds symbols (map spelled_of spellings)
 
 -- what spells a stretch: all of a string; of any other symbol what is no layout
 abbrev pub spelling_of : SymbolKind → List ℕ → List ℕ

@@ -4,6 +4,7 @@ ghost use Rattle.a68_symbols.specs.Limits.{most_symbols};
 ghost use Rattle.a68_symbols.specs.Names.{Adds, spelling_of};
 
 use crate::bytes::without_layout;
+use crate::spelling::syms_spelled;
 use crate::symbol::{Spelling, Symbol, SymbolKind, Symbols};
 use a68_base::{NoMemory, Span};
 use indexmap::IndexSet;
@@ -80,12 +81,17 @@ impl Collector {
         Ok(())
     }
 
-    /// The symbols, with their spellings in order.
+    /// The symbols, with their spellings in order; each spelling is looked up in the table of symbols once.
     pub fn finish(self, alloc: Global) -> Result<Symbols, NoMemory>
         ensures { IfOk result (λ found. found ≡ self) }
     {
         let Collector { items, spellings } = self;
-        let spellings = spellings.into_iter().collect(alloc)?;
-        Ok(Symbols { items, spellings })
+        let spellings: Vec<Spelling> = spellings.into_iter().collect(alloc)?;
+        let syms = syms_spelled(alloc, &spellings)?;
+        Ok(Symbols {
+            items,
+            spellings,
+            syms,
+        })
     }
 }

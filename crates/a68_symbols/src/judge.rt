@@ -1,7 +1,6 @@
 //! What a stretch gives.
-ghost use Rattle.std.specs.Prelude.{◌≡◌, map, IfOk};
+ghost use Rattle.std.specs.Prelude.{◌≡◌, IfOk};
 ghost use Rattle.a68_symbols.specs.Gives as specs;
-ghost use Rattle.a68_symbols.specs.Words as words;
 
 use crate::SymbolKind;
 use crate::bytes::without_layout;
@@ -11,14 +10,10 @@ use a68_base::{NoMemory, Rule, is_listed};
 use a68_denote::{bits_of, int_of};
 use std::alloc::Global;
 
-// The words of the parts of the language that are left out.
-fn left_out() -> &'static [&'static str]
-    ensures { map (λ word. word.now) result.now ≡ words.left_out }
-{
-    &[
-        "REAL", "COMPL", "BYTES", "FORMAT", "SHORT", "EMPTY", "LONG", "GO", "GOTO", "EXIT",
-    ]
-}
+/// The words of the parts of the language that are left out (own).
+pub const LEFT_OUT: [&str; 10] = [
+    "REAL", "COMPL", "BYTES", "FORMAT", "SHORT", "EMPTY", "LONG", "GO", "GOTO", "EXIT",
+];
 
 // What a word gives. An opener that is a word by itself has no end.
 fn judge_word(word: &[u8]) -> Given
@@ -26,7 +21,7 @@ fn judge_word(word: &[u8]) -> Given
 {
     if is_opener(word) {
         Given::Broken(Rule::S1)
-    } else if is_listed(left_out(), word) {
+    } else if is_listed(&LEFT_OUT, word) {
         Given::Broken(Rule::S3)
     } else {
         Given::Symbol(SymbolKind::Word)

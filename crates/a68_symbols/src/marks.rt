@@ -15,7 +15,8 @@ fn is_nomad(byte: u8) -> bool
     b"<>/=*".contains(&byte)
 }
 
-fn is_monad(byte: u8) -> bool
+/// Is it a mark that may stand before an operand alone?
+pub fn is_monad(byte: u8) -> bool
     ensures { result ≡ marks.is_monad byte }
 {
     b"+-&%^!?".contains(&byte)

@@ -2,7 +2,9 @@
 ghost use Rattle.std.specs.Prelude.{◌≡◌, ◌<◌, length, slice_get};
 ghost use Rattle.std.specs.Option.{option_map};
 ghost use Rattle.a68_symbols.specs.Names.{HaveNames};
+ghost use Rattle.a68_symbols.specs.Spellings.{syms_of};
 
+use crate::sym::Sym;
 use a68_base::Span;
 use std::marker::Model;
 
@@ -43,17 +45,20 @@ pub struct Spelling {
 pub struct Symbols {
     pub(crate) items: Vec<Symbol>,
     pub(crate) spellings: Vec<Spelling>,
+    // The symbols of the grammar that have these spellings.
+    pub(crate) syms: Vec<Sym>,
 }
 
 impl Model for Symbols {
     ghost use Rattle.std.specs.Prelude.{map};
-    ghost use Rattle.a68_symbols.specs.Names.{Named, IsSound, spelled_of};
+    ghost use Rattle.a68_symbols.specs.Names.{Named, spelled_of};
+    ghost use Rattle.a68_symbols.specs.Kept.{IsKept};
 
     ghost Value = { Named };
 
     ghost view = { λ s. record { symbols = s.items.items; spellings = map spelled_of s.spellings.items } };
 
-    ghost invariant = { λ s. IsSound s.items.items s.spellings.items };
+    ghost invariant = { λ s. IsKept s.items.items s.spellings.items s.syms.items };
 }
 
 impl Symbols {
@@ -79,6 +84,16 @@ impl Symbols {
         ensures named { result.name < length self.now.spellings }
     {
         self.items[i as usize]
+    }
+
+    /// The symbol of that number, from 0, as the grammar tells it apart. Until words have classes, each word that is not
+    /// reserved is one that no rule takes.
+    pub fn sym_at(&self, i: u32) -> Sym
+        requires { i < length self.now.symbols }
+        ensures { slice_get (syms_of self.now) i ≡ Some result }
+    {
+        let symbol = self.items[i as usize];
+        self.syms[symbol.name as usize]
     }
 
     /// The bytes that spell the symbols of that name: those of the symbol without layout, and of a string all of them.

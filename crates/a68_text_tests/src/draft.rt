@@ -2,7 +2,8 @@
 use crate::table::{agrees, holds};
 use a68_base::{NoMemory, find};
 use a68_nodes::{Draft, Drafting};
-use a68_tree::{NodeKind, Sym, Token};
+use a68_symbols::{Sym, Token};
+use a68_tree::NodeKind;
 use std::alloc::Global;
 use std::panic::Expect;
 use std::process::Abort;

@@ -14,6 +14,8 @@ mod symbols;
 #[cfg(test)]
 mod table;
 #[cfg(test)]
+mod tables;
+#[cfg(test)]
 mod turn;
 #[cfg(test)]
 mod words;

@@ -1,6 +1,7 @@
 //! What runs of texts that read an input owe.
 ghost use Rattle.std.specs.Prelude.{◌≤◌, ◌<◌, ◌^◌, length, IfOk};
-ghost use Rattle.a68_input.specs.Lines.{AreLines};
+ghost use Rattle.a68_base.specs.declared.limits.TheConstants.{MOST_READ};
+ghost use Rattle.a68_input.specs.Lines.{AreLines, KeepLimits};
 ghost use Rattle.a68_top.specs.Commands.{HasRunJoined, HasRunOn};
 ghost use Rattle.a68_top.specs.Outcome.{IsAnswer};
 ghost use Rattle.a68_workers.specs.Workers.{most_workers};
@@ -28,6 +29,8 @@ fn joined<R: Threads + Wait + Sync, G: Gate>(
     means: Means,
     gate: &G,
 ) -> Result<Owed, NoMemory>
+    requires text { length text.now ≤ MOST_READ }
+    requires kept { KeepLimits lines.now }
     requires fuel { (1 ≤ means.fuel) × (means.fuel ≤ most_fuel) }
     requires workers { (1 ≤ means.workers) × (means.workers ≤ most_workers) }
     ensures status { IfOk result (λ due. IsAnswer due.finish.status) }
@@ -57,6 +60,7 @@ pub fn ran_on<R: Threads + Wait + Sync, G: Gate>(
     means: Means,
     gate: &G,
 ) -> Result<Owed, NoMemory>
+    requires text { length text.now ≤ MOST_READ }
     requires length { length input.now < 2 ^ 32 }
     requires fuel { (1 ≤ means.fuel) × (means.fuel ≤ most_fuel) }
     requires workers { (1 ≤ means.workers) × (means.workers ≤ most_workers) }

@@ -258,6 +258,7 @@ fn due_on<R: Threads + Wait + Sync, F: Shelf, G: Gate>(
     shelf: &mut F,
     gate: &G,
 ) -> Result<Owed, Early>
+    requires text { length text.now ≤ MOST_READ }
     requires may_ask { F.may_ask input.now }
     requires fuel { (1 ≤ means.fuel) × (means.fuel ≤ most_fuel) }
     requires workers { (1 ≤ means.workers) × (means.workers ≤ most_workers) }

@@ -96,3 +96,73 @@ fn flexible_rows_within_one_another_are_made(rt: HostRuntime) {
     let events = answers(&rt, rt.alloc(), given, 0, ("                  +0", ""));
     drop(events);
 }
+
+const LETTERS: [&str; 10] = ["A", "B", "C", "D", "E", "F", "G", "H", "I", "J"];
+
+// The mode word of a number: four letters, one for each digit.
+fn push_word(text: &mut String, number: u32) -> Result<(), AllocError> {
+    text.push_str(LETTERS[(number / 1_000 % 10) as usize])?;
+    text.push_str(LETTERS[(number / 100 % 10) as usize])?;
+    text.push_str(LETTERS[(number / 10 % 10) as usize])?;
+    text.push_str(LETTERS[(number % 10) as usize])?;
+    Ok(())
+}
+
+// A text that declares so many modes, each with the one before it between two pieces, and two names of the last.
+fn within(
+    alloc: Global,
+    first: &str,
+    before: &str,
+    behind: &str,
+    count: u32,
+    last: &str,
+) -> Result<String, AllocError> {
+    let mut text = String::from_str(alloc, "( MODE AAAA = ")?;
+    text.push_str(first)?;
+    for i in 1..count {
+        text.push_str(", ")?;
+        push_word(&mut text, i)?;
+        text.push_str(" = ")?;
+        text.push_str(before)?;
+        push_word(&mut text, i - 1)?;
+        text.push_str(behind)?;
+    }
+    text.push_str("; ")?;
+    push_word(&mut text, count.saturating_sub(1))?;
+    text.push_str(last)?;
+    Ok(text)
+}
+
+// A value of six hundred structures, one within another, assigned to a name.
+#[test]
+fn structures_within_one_another_are_assigned(rt: HostRuntime) {
+    let last = " x, y; x := y; print(5) )";
+    let text = within(rt.alloc(), "STRUCT (INT a)", "STRUCT (", " a)", 600, last).expect(
+        &rt, "memory",
+    );
+    let given = of_words(&["run", "f"], text.as_str());
+    let events = answers(&rt, rt.alloc(), given, 0, ("                  +5", ""));
+    drop(events);
+}
+
+// A value of six hundred flexible rows, one within another, of one element each, assigned to a name.
+#[test]
+fn flexible_rows_within_one_another_are_assigned(rt: HostRuntime) {
+    let last = " x, y; x := y; print(UPB x) )";
+    let text = within(rt.alloc(), "FLEX [1:1] INT", "FLEX [1:1] ", "", 600, last).expect(
+        &rt, "memory",
+    );
+    let given = of_words(&["run", "f"], text.as_str());
+    let events = answers(&rt, rt.alloc(), given, 0, ("                  +1", ""));
+    drop(events);
+}
+
+// Two thousand commas between the brackets of a row that an INT becomes: it has 2,001 dimensions, of one subscript each.
+#[test]
+fn rows_of_many_dimensions_are_made_of_one_value(rt: HostRuntime) {
+    let last = "] INT a = 7; print(2001 UPB a) )";
+    let text = repeated(rt.alloc(), "( [", ",", 2_000, last).expect(&rt, "memory");
+    let given = of_words(&["run", "f"], text.as_str());
+    let events = answers(&rt, rt.alloc(), given, 0, ("                  +1", ""));
+    drop(events);
+}

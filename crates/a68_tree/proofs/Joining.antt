@@ -1,7 +1,7 @@
 -- One forest behind another.
 use Rattle.std.proofs.Common.{◌≡◌, List, ◌∷◌, refl, ap}
-use Rattle.a68_tree.specs.declared.sym.Sym.{Sym}
-use Rattle.a68_tree.specs.declared.sym.Sym.TheVariants.{Opens, Closes, Is}
+use Rattle.a68_symbols.specs.declared.sym.Sym.{Sym}
+use Rattle.a68_symbols.specs.declared.sym.Sym.TheVariants.{Opens, Closes, Is}
 use Rattle.a68_tree.specs.Forest.{Forest, end, mark, group, part, sign, aside, shared, forget, spells, joined}
 
 pub joined_assoc : (f g h : Forest) → joined (joined f g) h ≡ joined f (joined g h)

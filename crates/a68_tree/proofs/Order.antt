@@ -7,8 +7,8 @@ use Rattle.a68_symbols.specs.declared.symbol.Symbol.{Symbol}
 use Rattle.a68_tree.specs.declared.kind.NodeKind.{NodeKind}
 use Rattle.a68_tree.specs.declared.kind.NodeKind.TheVariants.{Sign}
 use Rattle.a68_tree.specs.declared.node.Node.{Node}
-use Rattle.a68_tree.specs.declared.sym.Sym.{Sym}
-use Rattle.a68_tree.specs.declared.sym.Sym.TheVariants.{Closes, Is}
+use Rattle.a68_symbols.specs.declared.sym.Sym.{Sym}
+use Rattle.a68_symbols.specs.declared.sym.Sym.TheVariants.{Closes, Is}
 use Rattle.a68_tree.specs.Forest.{Forest, end, mark, group, part, sign, aside, shared, forget, spells}
 use Rattle.a68_tree.specs.Nodes.{Entry, signs, signed, nodes, numbers, with_under, entry_of, with_node, turned, turned_entry, node_of}
 use Rattle.a68_tree.specs.Trees.{AllBetween, entries}

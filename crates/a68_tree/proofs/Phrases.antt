@@ -1,8 +1,8 @@
 -- The definitions of a phrase are one or several.
 use Rattle.std.proofs.Common.{◌⊎◌, inl, inr}
 use Rattle.a68_tree.specs.declared.kind.NodeKind.{NodeKind}
-use Rattle.a68_tree.specs.declared.sym.Token.{Token}
-use Rattle.a68_tree.specs.declared.sym.Token.TheVariants as t
+use Rattle.a68_symbols.specs.declared.sym.Token.{Token}
+use Rattle.a68_symbols.specs.declared.sym.Token.TheVariants as t
 use Rattle.a68_tree.specs.Forest.{Forest, mark, part, aside, joined, Single, single_part, single_mark, single_aside, Some, some_part, some_mark, some_aside, some_forget, Several, several_parts, several_mark, several_aside}
 use Rattle.a68_tree.specs.Grammar as g
 use Rattle.a68_tree.specs.Grammar.{IsModes, IsPriorities, IsOps, IsPlanned, IsIdentities, IsProcs, IsVariables, IsDeclared, IsDefinitions}

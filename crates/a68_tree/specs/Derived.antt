@@ -3,7 +3,7 @@ use Rattle.std.specs.Prelude.{◌≡◌, List, [], map}
 use Rattle.a68_symbols.specs.declared.symbol.Symbol.{Symbol}
 use Rattle.a68_tree.specs.declared.kind.NodeKind.{NodeKind}
 use Rattle.a68_tree.specs.declared.node.Node.{Node}
-use Rattle.a68_tree.specs.declared.sym.Sym.{Sym}
+use Rattle.a68_symbols.specs.declared.sym.Sym.{Sym}
 use Rattle.a68_tree.specs.Forest.{Forest, spells}
 use Rattle.a68_tree.specs.Grammar.{IsEnclosed}
 use Rattle.a68_tree.specs.Nodes.{node_of}

@@ -1,10 +1,10 @@
 -- What stands under a node, with its brackets in pairs, and the symbols that it spells (own).
 use Rattle.std.specs.Prelude.{List, ◌∷◌}
 use Rattle.a68_tree.specs.declared.kind.NodeKind.{NodeKind}
-use Rattle.a68_tree.specs.declared.sym.Bracket.{Bracket}
-use Rattle.a68_tree.specs.declared.sym.Token.{Token}
-use Rattle.a68_tree.specs.declared.sym.Sym.{Sym}
-use Rattle.a68_tree.specs.declared.sym.Sym.TheVariants.{Opens, Closes, Is}
+use Rattle.a68_symbols.specs.declared.sym.Bracket.{Bracket}
+use Rattle.a68_symbols.specs.declared.sym.Token.{Token}
+use Rattle.a68_symbols.specs.declared.sym.Sym.{Sym}
+use Rattle.a68_symbols.specs.declared.sym.Sym.TheVariants.{Opens, Closes, Is}
 
 -- What stands under a node in order of text: symbols, bracketed stretches, nodes, signs of a formula; a node set aside,
 -- which is no part here; the place where the nodes that are set aside are parts; and the place from which on they are

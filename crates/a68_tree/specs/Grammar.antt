@@ -2,10 +2,10 @@
 -- `part k.X u` is a node of kind X with u under it. A name in small letters, as `serial_one`, is that of a case.
 use Rattle.a68_tree.specs.declared.kind.NodeKind.{NodeKind}
 use Rattle.a68_tree.specs.declared.kind.NodeKind.TheVariants as k
-use Rattle.a68_tree.specs.declared.sym.Bracket.{Bracket}
-use Rattle.a68_tree.specs.declared.sym.Bracket.TheVariants as b
-use Rattle.a68_tree.specs.declared.sym.Token.{Token}
-use Rattle.a68_tree.specs.declared.sym.Token.TheVariants as t
+use Rattle.a68_symbols.specs.declared.sym.Bracket.{Bracket}
+use Rattle.a68_symbols.specs.declared.sym.Bracket.TheVariants as b
+use Rattle.a68_symbols.specs.declared.sym.Token.{Token}
+use Rattle.a68_symbols.specs.declared.sym.Token.TheVariants as t
 use Rattle.a68_tree.specs.Forest.{Forest, end, mark, group, part, sign, aside, shared, forget, joined, Single, Several}
 
 -- ---- single symbols
@@ -73,25 +73,25 @@ mutual
     else_b : {a : Forest} → IsSerial a → IsElseBrief (mark t.Bar (part k.Serial a end))
     elif_b : {a d e : Forest} → IsEnquiry a → IsSerial d → IsElseBrief e → IsElseBrief (part k.Conditional (mark t.BarColon (part k.Serial a (mark t.Bar (part k.Serial d e)))) end)
 
-  -- [OUSE ..] [OUT Serial]
+  -- {OUSE Serial IN unit ',' units} [OUT Serial]
   pub data IsOut : Forest → Type 0 where
     no_out : IsOut end
     out_serial : {a : Forest} → IsSerial a → IsOut (mark t.Out (part k.Out (part k.Serial a end) end))
     out_again : {a f e : Forest} → IsEnquiry a → IsUnits2 f → IsOut e → IsOut (part k.Out (part k.Case (mark t.Ouse (part k.Serial a (mark t.In (joined f e)))) end) end)
 
-  -- [OUSE ..] [OUT Serial]
+  -- {'|:' Serial '|' unit ',' units} ['|' Serial]
   pub data IsOutBrief : Forest → Type 0 where
     no_outbrief : IsOutBrief end
     outbrief_serial : {a : Forest} → IsSerial a → IsOutBrief (mark t.Bar (part k.Out (part k.Serial a end) end))
     outbrief_again : {a f e : Forest} → IsEnquiry a → IsUnits2 f → IsOutBrief e → IsOutBrief (part k.Out (part k.Case (mark t.BarColon (part k.Serial a (mark t.Bar (joined f e)))) end) end)
 
-  -- [OUSE ..] [OUT Serial]
+  -- {OUSE Serial IN choices} [OUT Serial]
   pub data IsOutC : Forest → Type 0 where
     no_outc : IsOutC end
     outc_serial : {a : Forest} → IsSerial a → IsOutC (mark t.Out (part k.Out (part k.Serial a end) end))
     outc_again : {a f e : Forest} → IsEnquiry a → IsChoices f → IsOutC e → IsOutC (part k.Out (part k.Conformity (mark t.Ouse (part k.Serial a (mark t.In (joined f e)))) end) end)
 
-  -- [OUSE ..] [OUT Serial]
+  -- {'|:' Serial '|' choices} ['|' Serial]
   pub data IsOutCBrief : Forest → Type 0 where
     no_outcbrief : IsOutCBrief end
     outcbrief_serial : {a : Forest} → IsSerial a → IsOutCBrief (mark t.Bar (part k.Out (part k.Serial a end) end))
@@ -102,18 +102,22 @@ mutual
     for_ : {f : Forest} → IsFrom f → IsFor (mark t.For (part k.For (mark t.Tag end) f))
     no_for : {f : Forest} → IsFrom f → IsFor f
 
+  -- [FROM unit] [BY unit] [TO unit] [WHILE Serial] DO Serial OD
   pub data IsFrom : Forest → Type 0 where
     from_ : {j : NodeKind} {u f : Forest} → IsUnit j u → IsBy f → IsFrom (mark t.From (part k.From (part j u end) f))
     no_from : {f : Forest} → IsBy f → IsFrom f
 
+  -- [BY unit] [TO unit] [WHILE Serial] DO Serial OD
   pub data IsBy : Forest → Type 0 where
     by_ : {j : NodeKind} {u f : Forest} → IsUnit j u → IsTo f → IsBy (mark t.By (part k.By (part j u end) f))
     no_by : {f : Forest} → IsTo f → IsBy f
 
+  -- [TO unit] [WHILE Serial] DO Serial OD
   pub data IsTo : Forest → Type 0 where
     to_ : {j : NodeKind} {u f : Forest} → IsUnit j u → IsWhile f → IsTo (mark t.To (part k.To (part j u end) f))
     no_to : {f : Forest} → IsWhile f → IsTo f
 
+  -- [WHILE Serial] DO Serial OD
   pub data IsWhile : Forest → Type 0 where
     while_ : {a d : Forest} → IsEnquiry a → IsSerial d → IsWhile (mark t.While (part k.While (part k.Serial a end) (group b.Do (part k.Serial d end) end)))
     no_while : {d : Forest} → IsSerial d → IsWhile (group b.Do (part k.Serial d end) end)

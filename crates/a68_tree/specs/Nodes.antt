@@ -5,8 +5,8 @@ use Rattle.a68_symbols.specs.declared.symbol.Symbol.{Symbol}
 use Rattle.a68_tree.specs.declared.kind.NodeKind.{NodeKind}
 use Rattle.a68_tree.specs.declared.kind.NodeKind.TheVariants.{Identity, Sign}
 use Rattle.a68_tree.specs.declared.node.Node.{Node}
-use Rattle.a68_tree.specs.declared.sym.Sym.{Sym}
-use Rattle.a68_tree.specs.declared.sym.Sym.TheVariants.{Closes, Is}
+use Rattle.a68_symbols.specs.declared.sym.Sym.{Sym}
+use Rattle.a68_symbols.specs.declared.sym.Sym.TheVariants.{Closes, Is}
 use Rattle.a68_tree.specs.Forest.{Forest, end, mark, group, part, sign, aside, shared, forget, spells}
 
 -- A node, by how many symbols are left where it begins, behind it, and at the symbol that names it; and the numbers of

@@ -4,7 +4,7 @@ ghost use Rattle.a68_symbols.specs.declared.symbol.Symbol.{Symbol};
 ghost use Rattle.a68_tree.specs.declared.node.Node.{Node};
 ghost use Rattle.a68_tree.specs.Forest.{Forest, Single, Several};
 ghost use Rattle.a68_tree.specs.Grammar.{IsDefinitions};
-ghost use Rattle.a68_tree.specs.declared.sym.Sym.{Sym};
+ghost use Rattle.a68_symbols.specs.declared.sym.Sym.{Sym};
 ghost use Rattle.a68_tree.specs.Derived.{IsDerived};
 ghost use Rattle.a68_tree.specs.Trees.{AllBetween};
 

@@ -2,10 +2,10 @@
 -- What is to be read: serial clauses, units and formulas.
 use Rattle.std.specs.Prelude.{List, [], ◌∷◌, if◌then◌else◌}
 use Rattle.a68_tree.specs.declared.kind.NodeKind.TheVariants as k
-use Rattle.a68_tree.specs.declared.sym.Bracket.TheVariants as b
-use Rattle.a68_tree.specs.declared.sym.Token.TheVariants as t
-use Rattle.a68_tree.specs.declared.sym.Sym.{Sym}
-use Rattle.a68_tree.specs.declared.sym.Sym.TheVariants.{Opens, Is}
+use Rattle.a68_symbols.specs.declared.sym.Bracket.TheVariants as b
+use Rattle.a68_symbols.specs.declared.sym.Token.TheVariants as t
+use Rattle.a68_symbols.specs.declared.sym.Sym.{Sym}
+use Rattle.a68_symbols.specs.declared.sym.Sym.TheVariants.{Opens, Is}
 use Rattle.a68_lookahead.specs.Ahead.{routine_ahead, phrase_ahead}
 use Rattle.a68_lookahead.specs.Symbols.{starts, is_monadic, is_operator}
 use Rattle.a68_unit_productions.specs.declared.goal.Goal.{Goal}

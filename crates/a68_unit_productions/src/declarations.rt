@@ -4,16 +4,17 @@ ghost use Rattle.a68_unit_productions.specs.Declarations as spec;
 
 use crate::goal::{Defining, Goal};
 use a68_lookahead::{is_operator, starts, starts_pair};
-use a68_tree::{Bracket, NodeKind, Sym, Token};
+use a68_symbols::{Bracket, Sym, Token};
+use a68_tree::NodeKind;
 
-/// One definition, or several as a node Joined.
+/// `definition {',' definition}`: one, or several as a node Joined.
 pub fn declaration() -> &'static [Goal]
     ensures { result.now ≡ spec.declaration }
 {
     &[Goal::Begin, Goal::Forget, Goal::Definitions, Goal::Join]
 }
 
-/// A declaration and those that commas join to it.
+/// `(MODE | PRIO | OP | PROC | [LOC | HEAP] declarer) definition {',' ..}`: a declaration, and those that commas join to it.
 pub fn definitions(text: &[Sym]) -> &'static [Goal]
     ensures { result.now ≡ spec.definitions text.now }
 {
@@ -63,7 +64,7 @@ pub fn definitions(text: &[Sym]) -> &'static [Goal]
     }
 }
 
-/// Behind OP.
+/// `[plan] sign '=' ..`, behind OP.
 pub fn operator_form(text: &[Sym]) -> &'static [Goal]
     ensures { result.now ≡ spec.operator_form text.now }
 {
@@ -83,7 +84,7 @@ pub fn operator_form(text: &[Sym]) -> &'static [Goal]
     }
 }
 
-/// Behind PROC.
+/// `tag ('=' | ':=') routine`, behind PROC.
 pub fn procedure_form(text: &[Sym]) -> &'static [Goal]
     ensures { result.now ≡ spec.procedure_form text.now }
 {
@@ -100,7 +101,7 @@ pub fn procedure_form(text: &[Sym]) -> &'static [Goal]
     }
 }
 
-/// Behind the declarer.
+/// `tag '=' unit | tag [':=' unit]`, behind the declarer.
 pub fn named(text: &[Sym]) -> &'static [Goal]
     ensures { result.now ≡ spec.named text.now }
 {
@@ -152,7 +153,8 @@ pub fn initial(text: &[Sym]) -> &'static [Goal]
     }
 }
 
-/// A definition, as a node.
+/// `word '=' declarer | sign '=' (digit | routine | unit) | tag ('=' | ':=') routine | tag '=' unit | tag [':=' unit]`, by what
+/// is defined, as a node.
 pub fn definition(defining: Defining) -> &'static [Goal]
     ensures { result.now ≡ spec.definition defining }
 {
@@ -305,7 +307,7 @@ fn goes_on(defining: Defining, text: &[Sym]) -> bool
     }
 }
 
-/// Behind the comma: a definition of the same declaration, or another declaration.
+/// `definition | declaration`, behind the comma: a definition of the same declaration, or another declaration.
 pub fn more(defining: Defining, text: &[Sym]) -> &'static [Goal]
     ensures { result.now ≡ spec.more defining text.now }
 {

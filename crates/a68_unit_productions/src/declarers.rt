@@ -4,16 +4,18 @@ ghost use Rattle.a68_unit_productions.specs.Declarers as spec;
 
 use crate::goal::Goal;
 use a68_lookahead::{ends_bound, starts};
-use a68_tree::{Bracket, NodeKind, Sym, Token};
+use a68_symbols::{Bracket, Sym, Token};
+use a68_tree::NodeKind;
 
-/// A declarer, as a node.
+/// `declarer`, as a node.
 pub fn declarer_node() -> &'static [Goal]
     ensures { result.now ≡ spec.declarer_node }
 {
     &[Goal::Begin, Goal::Declarer, Goal::Close(NodeKind::Declarer)]
 }
 
-/// A declarer.
+/// `word | REF declarer | [FLEX] '[' bounds ']' declarer | STRUCT '(' fields ')' | UNION '(' declarer ',' declarers ')' |
+/// PROC plan | INT | ..`
 pub fn declarer(text: &[Sym]) -> &'static [Goal]
     ensures { result.now ≡ spec.declarer text.now }
 {
@@ -144,7 +146,7 @@ pub fn bound(text: &[Sym]) -> &'static [Goal]
     }
 }
 
-/// Behind the first unit.
+/// `[':' unit]`, behind the first unit.
 pub fn bound_tail(text: &[Sym]) -> &'static [Goal]
     ensures { result.now ≡ spec.bound_tail text.now }
 {
@@ -191,7 +193,7 @@ pub fn field_tail(text: &[Sym]) -> &'static [Goal]
     }
 }
 
-/// Behind the comma.
+/// `tag .. | declarer tag ..`, behind the comma.
 pub fn field_more(text: &[Sym]) -> &'static [Goal]
     ensures { result.now ≡ spec.field_more text.now }
 {

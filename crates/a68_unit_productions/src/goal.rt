@@ -1,6 +1,7 @@
 //! Goals: what is still to be read, or to be done with what was read.
 
-use a68_tree::{Bracket, NodeKind, Token};
+use a68_symbols::{Bracket, Token};
+use a68_tree::NodeKind;
 
 /// What a definition defines, by the form of its declaration.
 #[derive(Clone, Copy)]

@@ -4,9 +4,10 @@ ghost use Rattle.a68_unit_productions.specs.Primaries as spec;
 
 use crate::goal::Goal;
 use a68_lookahead::{ends_trimmer, is_declarer, is_denotation, starts, starts_pair};
-use a68_tree::{Bracket, NodeKind, Sym, Token};
+use a68_symbols::{Bracket, Sym, Token};
+use a68_tree::NodeKind;
 
-/// A selection, a generator or a primary.
+/// `tag OF secondary | (LOC | HEAP) declarer | primary`
 pub fn secondary(text: &[Sym]) -> &'static [Goal]
     ensures { result.now ≡ spec.secondary text.now }
 {
@@ -36,7 +37,7 @@ pub fn secondary(text: &[Sym]) -> &'static [Goal]
     }
 }
 
-/// A primary that is neither a slice nor a call.
+/// `enclosed | (declarer | VOID) enclosed | tag | denotation`: a primary that is neither a slice nor a call.
 pub fn base(text: &[Sym]) -> &'static [Goal]
     ensures { result.now ≡ spec.base text.now }
 {
@@ -128,7 +129,7 @@ pub fn index(text: &[Sym]) -> &'static [Goal]
     }
 }
 
-/// Behind the first unit.
+/// `[':' trimmer]`, behind the first unit.
 pub fn index_tail(text: &[Sym]) -> &'static [Goal]
     ensures { result.now ≡ spec.index_tail text.now }
 {

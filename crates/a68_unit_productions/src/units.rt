@@ -4,9 +4,10 @@ ghost use Rattle.a68_unit_productions.specs.Units as spec;
 
 use crate::goal::Goal;
 use a68_lookahead::{is_monadic, is_operator, phrase_ahead, routine_ahead, starts};
-use a68_tree::{Bracket, NodeKind, Sym, Token};
+use a68_symbols::{Bracket, Sym, Token};
+use a68_tree::NodeKind;
 
-/// A serial clause, as a node.
+/// `serial`, as a node.
 pub fn serial_node() -> &'static [Goal]
     ensures { result.now ≡ spec.serial_node }
 {
@@ -57,7 +58,7 @@ pub fn units_tail(text: &[Sym]) -> &'static [Goal]
     }
 }
 
-/// A unit, as a node.
+/// `SKIP | routine | tertiary [':=' unit | (IS | ISNT) tertiary]`, as a node.
 pub fn unit(text: &[Sym]) -> &'static [Goal]
     ensures { result.now ≡ spec.unit text.now }
 {
@@ -78,7 +79,7 @@ pub fn unit(text: &[Sym]) -> &'static [Goal]
     }
 }
 
-/// Behind a tertiary.
+/// `[':=' unit | (IS | ISNT) tertiary]`, behind a tertiary.
 pub fn unit_tail(text: &[Sym]) -> &'static [Goal]
     ensures { result.now ≡ spec.unit_tail text.now }
 {
@@ -172,7 +173,7 @@ pub fn parameter_tail(text: &[Sym]) -> &'static [Goal]
     }
 }
 
-/// Behind the comma.
+/// `tag .. | declarer tag ..`, behind the comma.
 pub fn parameter_more(text: &[Sym]) -> &'static [Goal]
     ensures { result.now ≡ spec.parameter_more text.now }
 {
@@ -183,7 +184,7 @@ pub fn parameter_more(text: &[Sym]) -> &'static [Goal]
     }
 }
 
-/// A nihil, a formula or a secondary.
+/// `NIL | sign operands | secondary [sign operands]`
 pub fn tertiary(text: &[Sym]) -> &'static [Goal]
     ensures { result.now ≡ spec.tertiary text.now }
 {
@@ -196,7 +197,7 @@ pub fn tertiary(text: &[Sym]) -> &'static [Goal]
     }
 }
 
-/// Behind the first operand.
+/// `[sign operands]`, behind the first operand.
 pub fn tertiary_tail(text: &[Sym]) -> &'static [Goal]
     ensures { result.now ≡ spec.tertiary_tail text.now }
 {

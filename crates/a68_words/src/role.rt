@@ -25,13 +25,11 @@ pub enum Role {
     Op,
     /// `=` alone.
     Equals,
-    /// Any other reserved word.
-    Reserved,
     /// A standard operator word.
     Standard,
     /// A word that is neither reserved nor a standard operator word.
     Bold,
-    /// Any other symbol.
+    /// Any other symbol, reserved words among them.
     Other,
 }
 

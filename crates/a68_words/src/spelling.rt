@@ -1,109 +1,62 @@
 //! The roles of symbols by their spellings.
-ghost use Rattle.std.specs.Prelude.{◌≡◌, map, ◌<◌, ◌^◌, length, IfOk};
+ghost use Rattle.std.specs.Prelude.{◌≡◌, ◌<◌, ◌^◌, length, IfOk};
 ghost use Rattle.a68_words.specs.Spellings as spellings;
 
 use crate::role::Role;
-use a68_base::{NoMemory, find};
+use a68_base::NoMemory;
 use a68_signs::is_sign;
-use a68_symbols::{SymbolKind, Symbols};
+use a68_symbols::{Bracket, Sym, Symbols, Token};
 use std::alloc::Global;
 
-// The reserved words.
-fn reserved() -> &'static [(&'static str, Role)]
-    ensures { map (λ row. (row.0.now, row.1)) result.now ≡ spellings.reserved }
+// A word that is not reserved: the operators of the standard environ that are words are those of the table of signs.
+fn word_role(spelling: &[u8]) -> Role
+    ensures { result ≡ spellings.word_role spelling.now }
 {
-    &[
-        ("BEGIN", Role::Open),
-        ("IF", Role::Open),
-        ("CASE", Role::Open),
-        ("DO", Role::Do),
-        ("END", Role::Close),
-        ("FI", Role::Close),
-        ("ESAC", Role::Close),
-        ("OD", Role::Close),
-        ("THEN", Role::Separator),
-        ("ELIF", Role::Separator),
-        ("ELSE", Role::Separator),
-        ("IN", Role::Separator),
-        ("OUSE", Role::Separator),
-        ("OUT", Role::Separator),
-        ("FROM", Role::Separator),
-        ("BY", Role::Separator),
-        ("TO", Role::Separator),
-        ("WHILE", Role::Separator),
-        ("MODE", Role::Mode),
-        ("PRIO", Role::Prio),
-        ("OP", Role::Op),
-        ("PROC", Role::Reserved),
-        ("REF", Role::Reserved),
-        ("FLEX", Role::Reserved),
-        ("STRUCT", Role::Reserved),
-        ("UNION", Role::Reserved),
-        ("LOC", Role::Reserved),
-        ("HEAP", Role::Reserved),
-        ("INT", Role::Reserved),
-        ("BOOL", Role::Reserved),
-        ("CHAR", Role::Reserved),
-        ("BITS", Role::Reserved),
-        ("SEMA", Role::Reserved),
-        ("STRING", Role::Reserved),
-        ("VOID", Role::Reserved),
-        ("FOR", Role::Reserved),
-        ("PAR", Role::Reserved),
-        ("OF", Role::Reserved),
-        ("IS", Role::Reserved),
-        ("ISNT", Role::Reserved),
-        ("AT", Role::Reserved),
-        ("SKIP", Role::Reserved),
-        ("NIL", Role::Reserved),
-        ("TRUE", Role::Reserved),
-        ("FALSE", Role::Reserved),
-    ]
-}
-
-// The marks that open, close, separate and define.
-fn marks() -> &'static [(&'static str, Role)]
-    ensures { map (λ row. (row.0.now, row.1)) result.now ≡ spellings.marks }
-{
-    &[
-        ("(", Role::Round),
-        ("[", Role::Open),
-        (")", Role::Close),
-        ("]", Role::Close),
-        (",", Role::Comma),
-        (";", Role::Separator),
-        ("|", Role::Separator),
-        ("|:", Role::Separator),
-        ("=", Role::Equals),
-    ]
-}
-
-fn word_role(s: &[u8]) -> Role
-    ensures { result ≡ spellings.word_role s.now }
-{
-    match find(reserved(), s) {
-        Some(role) => role,
-        None if is_sign(s) => Role::Standard,
-        None => Role::Bold,
+    if is_sign(spelling) {
+        Role::Standard
+    } else {
+        Role::Bold
     }
 }
 
-fn mark_role(s: &[u8]) -> Role
-    ensures { result ≡ spellings.mark_role s.now }
+// A symbol that is neither a bracket nor a word that a text may define.
+fn token_role(token: Token) -> Role
+    ensures { result ≡ spellings.token_role token }
 {
-    match find(marks(), s) {
-        Some(role) => role,
-        None => Role::Other,
-    }
-}
-
-fn role_of(kind: SymbolKind, spelling: &[u8]) -> Role
-    ensures { result ≡ spellings.role_of kind spelling.now }
-{
-    match kind {
-        SymbolKind::Word => word_role(spelling),
-        SymbolKind::Mark => mark_role(spelling),
+    match token {
+        Token::Comma => Role::Comma,
+        Token::Semicolon
+        | Token::Bar
+        | Token::BarColon
+        | Token::Then
+        | Token::Elif
+        | Token::Else
+        | Token::In
+        | Token::Ouse
+        | Token::Out
+        | Token::From
+        | Token::By
+        | Token::To
+        | Token::While => Role::Separator,
+        Token::Mode => Role::Mode,
+        Token::Prio => Role::Prio,
+        Token::Op => Role::Op,
+        Token::Equals => Role::Equals,
         _ => Role::Other,
+    }
+}
+
+// What a symbol does to levels and classes. A word that is not reserved is known by its spelling.
+fn role_of(sym: Sym, spelling: &[u8]) -> Role
+    ensures { result ≡ spellings.role_of sym spelling.now }
+{
+    match sym {
+        Sym::Opens(Bracket::Round) => Role::Round,
+        Sym::Opens(Bracket::Do) => Role::Do,
+        Sym::Opens(_) => Role::Open,
+        Sym::Closes(_) => Role::Close,
+        Sym::Is(Token::Word) => word_role(spelling),
+        Sym::Is(token) => token_role(token),
     }
 }
 
@@ -115,7 +68,7 @@ pub fn roles(alloc: Global, symbols: &Symbols) -> Result<Vec<Role>, NoMemory>
     let mut list = Vec::new(alloc);
     for i in 0..symbols.len() {
         let symbol = symbols.at(i);
-        list.push(role_of(symbol.kind, symbols.spelling(symbol.name)))?;
+        list.push(role_of(symbols.sym_at(i), symbols.spelling(symbol.name)))?;
     }
     Ok(list)
 }

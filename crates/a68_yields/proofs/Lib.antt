@@ -1,4 +1,5 @@
 pub mod Within
+pub mod Fielding
 pub mod Collecting
 pub mod Looking
 pub mod Telling

@@ -1,6 +1,8 @@
 -- What each node of a tree may yield, by what its parts may yield, whatever is asked of it (Report, 3.2.1, 3.3, 3.4, 5.2 to 5.5, 8).
 use Rattle.std.specs.Prelude.{◌≡◌, ◌||◌, ◌+◌, ◌-◌, ℕ, suc, List, [], ◌∷◌, codes, length, nat_eq, nat_lt, replicate, slice_index_or, slice_set, Option, Some, None, Bool, true, false, if◌then◌else◌}
 use Rattle.std.specs.Str.{bytes_eq}
+use Rattle.a68_modes.specs.declared.standard.TheConstants as standard
+use Rattle.a68_ranges.specs.declared.tags.TheConstants as tags
 use Rattle.a68_coerce.specs.declared.leaf.Leaf.TheVariants as leaf
 use Rattle.a68_declare.specs.Outcome.{ByNode}
 use Rattle.a68_definitions.specs.Defined.{part_from_end, part_number}
@@ -59,22 +61,22 @@ is_item (a ∷ b ∷ c ∷ d ∷ []) = nat_eq b 34
 is_item _ = false
 
 abbrev pub quoted_mode : List ℕ → ℕ
-quoted_mode s = if is_item s then 3 else 7
+quoted_mode s = if is_item s then standard.CHAR else standard.ROW_OF_CHAR
 
 abbrev pub is_truth : List ℕ → Bool
 is_truth s = bytes_eq s (codes "TRUE") || bytes_eq s (codes "FALSE")
 
 abbrev pub denoted_mode : List ℕ → ℕ
-denoted_mode s = if begins_quote s then quoted_mode s else (if is_truth s then 2 else (if has_r s then 4 else 1))
+denoted_mode s = if begins_quote s then quoted_mode s else (if is_truth s then standard.BOOL else (if has_r s then standard.BITS else standard.INT))
 
 abbrev pub denoted : Option (List ℕ) → Told
 denoted None = unknown
 denoted (Some s) = a_unit (denoted_mode s)
 
--- ---- tags: those of the standard environ are INT, but newline and space, whose mode has the number 6; print, write and whole have none
+-- ---- tags: those of the standard environ are INT, but newline and space; print, write and whole have none
 
 abbrev pub standard_tag : (place : ℕ) → Told
-standard_tag place = if nat_lt place 4 then a_unit 1 else (if nat_lt place 6 then a_unit 6 else unknown)
+standard_tag place = if nat_lt place tags.NEWLINE then a_unit standard.INT else (if nat_lt place tags.PRINT then a_unit standard.LAYOUT else unknown)
 
 abbrev pub tag : (nodes : ℕ) → (defined : List ℕ) → Option ℕ → Told
 tag nodes defined None = unknown
@@ -145,7 +147,7 @@ unit_of None = unknown
 
 -- print and write yield VOID, whole [] CHAR (10.3.2.1, 10.3.3)
 abbrev pub called : List Shape → Option ℕ → Finding → Told
-called nodes (Some place) found = if nat_eq place 8 then a_unit 7 else a_unit 0
+called nodes (Some place) found = if nat_eq place tags.WHOLE then a_unit standard.ROW_OF_CHAR else a_unit standard.VOID
 called nodes None (finding.Mode (Some m)) = unit_of (routine_result (shape_at nodes m))
 called nodes None _ = unknown
 

@@ -14,7 +14,7 @@ mod yielding;
 pub use found::part_found;
 pub use laws::{yields_are_one, yields_are_sound, yields_keep_nodes};
 pub use leaves::leaves_of;
-pub use parts::{Rowed, Structured, as_row, as_structure, field_mode};
+pub use parts::{Rowed, Structured, as_row, as_structure};
 pub use sought::{Expectation, Sought, is_subscript};
 pub use table::{Yields, find_yields};
 pub use told::is_unknown;

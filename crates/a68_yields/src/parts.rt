@@ -1,11 +1,13 @@
 //! Rows, structures and routines as slices, selections and calls see them.
-ghost use Rattle.std.specs.Prelude.{◌≡◌, ◌<◌, ◌&&◌, not, ℕ, IfOk, IfSome, length, map};
-ghost use Rattle.std.specs.List.{All};
+ghost use Rattle.std.specs.Prelude.{◌≡◌, ◌<◌, ◌&&◌, not, ℕ, List, IfOk, IfSome, length};
+ghost use Rattle.a68_fields.specs.Fields.{AreFieldsOf};
 ghost use Rattle.a68_modes.specs.Nodes.{ShapeIsWithin, shape_at};
+ghost use Rattle.a68_modes.specs.declared.shape.Shape.{Shape};
 ghost use Rattle.a68_yields.specs.Parts as specs;
 ghost use Rattle.a68_yields.specs.Parts.{IsNamedPart, IsModeOfPart, IsRowPart};
 
 use a68_base::NoMemory;
+use a68_fields::FieldTable;
 use a68_mode_table::ModeTable;
 use a68_modes::{ModeId, Modes, Shape};
 use std::alloc::Global;
@@ -108,28 +110,13 @@ pub fn as_structure(modes: &Modes, mode: ModeId) -> Option<Structured>
     }
 }
 
-// Finds the mode of the first of these fields that has the tag.
-fn field_of(tag: u32, fields: &[(u32, ModeId)]) -> Option<ModeId>
-    ensures field { result ≡ specs.field_mode tag fields.now }
-    ensures within { (n : ℕ) → All (λ m. m < n) (map (λ field. field.1) fields.now) → IfSome result (λ m. m < n) }
+/// Finds the mode of the first field of that tag of a structure.
+pub fn field_mode(fields: &FieldTable, node: ModeId, tag: u32) -> Option<ModeId>
+    ensures { (nodes : List Shape) → AreFieldsOf nodes fields.now → result ≡ specs.field_mode tag (specs.fields_of (shape_at nodes node)) }
 {
-    for (name, mode) in fields {
-        if *name == tag {
-            return Some(*mode);
-        }
-    }
-    None
-}
-
-/// Finds the mode of the field of that tag of a structure.
-pub fn field_mode(modes: &Modes, node: ModeId, tag: u32) -> Option<ModeId>
-    requires { node < length modes.now }
-    ensures field { result ≡ specs.field_mode tag (specs.fields_of (shape_at modes.now node)) }
-    ensures there { IfSome result (λ m. m < length modes.now) }
-{
-    match modes.shape(node) {
-        Shape::Struct(fields) => field_of(tag, &fields.items),
-        _ => None,
+    match fields.find(node, tag) {
+        Some(field) => Some(field.mode),
+        None => None,
     }
 }
 

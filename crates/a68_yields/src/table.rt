@@ -1,6 +1,7 @@
 //! The yields of all nodes, and what is found at them.
 ghost use Rattle.std.specs.Prelude.{◌≡◌, ◌≤◌, ◌<◌, ◌+◌, List, IfOk, OnOk, length, replicate, slice_set};
 ghost use Rattle.a68_definitions.specs.Defined.{AllBelow};
+ghost use Rattle.a68_fields.specs.Fields.{AreFieldsOf, KeepFields};
 ghost use Rattle.a68_identify.specs.Operators.{NumbersAreThere};
 ghost use Rattle.a68_modes.specs.declared.shape.Shape.{Shape};
 ghost use Rattle.a68_ranges.specs.Tables.{AreRanges};
@@ -16,6 +17,7 @@ use a68_base::NoMemory;
 use a68_coerce::Leaf;
 use a68_declare::NodeModes;
 use a68_definitions::{Tags, parts_of};
+use a68_fields::FieldTable;
 use a68_mode_table::ModeTable;
 use a68_modes::ModeId;
 use a68_ranges::Ranges;
@@ -34,6 +36,7 @@ fn granted(
     ensures is { IfOk result (IsToldYield modes.old told modes.new) }
     ensures below { IfOk result (IsYieldingBelow (length modes.new) nodes node) }
     ensures longer { OnOk result (length modes.old ≤ length modes.new) }
+    ensures fields { OnOk result (KeepFields modes.old modes.new) }
 {
     let _place = (nodes, node);
     match told {
@@ -74,6 +77,7 @@ fn look_at(
     of: &NodeModes,
     defined: &[ModeId],
     modes: &mut ModeTable,
+    fields: &FieldTable,
     yields: &mut [Yielding],
     findings: &mut [Finding],
     node: NodeId,
@@ -82,18 +86,29 @@ fn look_at(
     requires ranges { AreRanges tree.now ranges.now }
     requires of { NumbersAreThere tree.now modes.old of.now }
     requires defined { AllBelow (length modes.old) defined.now }
+    requires fields { AreFieldsOf modes.old fields.now }
     requires tables { AreTablesBelow (length modes.old) (length tree.now.nodes) yields.old findings.old }
     ensures yields { OnOk result ((start : List Shape) → AreYieldsFrom (record { tree = tree.now; tags = tags.now; of = of.now; defined = defined.now }) start (node + 1) modes.old yields.old findings.old
         → AreYieldsFrom (record { tree = tree.now; tags = tags.now; of = of.now; defined = defined.now }) start node modes.new yields.new findings.new) }
     ensures of { OnOk result (NumbersAreThere tree.now modes.new of.now) }
     ensures defined { OnOk result (AllBelow (length modes.new) defined.now) }
+    ensures fields { OnOk result (AreFieldsOf modes.new fields.now) }
     ensures tables { OnOk result (AreTablesBelow (length modes.new) (length tree.now.nodes) yields.new findings.new) }
 {
     let _modes = modes.modes();
     let _parts = parts_of(tree, node);
     let sought = sought_at(tree, tags, node);
     let found = found_at(alloc, tree, ranges, modes, of, yields, node, sought)?;
-    let told = yields_of(tree, tags, defined, modes.modes(), yields, node, found);
+    let told = yields_of(
+        tree,
+        tags,
+        defined,
+        modes.modes(),
+        fields,
+        yields,
+        node,
+        found,
+    );
     let yielding = granted(alloc, modes, tree.len(), node, told)?;
     note_yield(yields, node, yielding);
     note_finding(findings, node, found);
@@ -109,12 +124,14 @@ fn look_at_all(
     of: &NodeModes,
     defined: &[ModeId],
     modes: &mut ModeTable,
+    fields: &FieldTable,
     yields: &mut [Yielding],
     findings: &mut [Finding],
 ) -> Result<(), NoMemory>
     requires ranges { AreRanges tree.now ranges.now }
     requires of { NumbersAreThere tree.now modes.old of.now }
     requires defined { AllBelow (length modes.old) defined.now }
+    requires fields { AreFieldsOf modes.old fields.now }
     requires no_yields { yields.old ≡ replicate (length tree.now.nodes) Yielding.Unknown }
     requires no_findings { findings.old ≡ replicate (length tree.now.nodes) Finding.Nothing }
     ensures yields { OnOk result (AreYields (record { tree = tree.now; tags = tags.now; of = of.now; defined = defined.now }) modes.old modes.new yields.new findings.new) }
@@ -126,7 +143,7 @@ fn look_at_all(
     while left > 0 {
         left -= 1;
         look_at(
-            alloc, tree, ranges, tags, of, defined, modes, yields, findings, left,
+            alloc, tree, ranges, tags, of, defined, modes, fields, yields, findings, left,
         )?;
     }
     Ok(())
@@ -158,6 +175,7 @@ pub fn find_yields(
     ensures defined { OnOk result (AllBelow (length modes.new) defined.now) }
     ensures tables { IfOk result (λ found. AreTablesBelow (length modes.new) (length tree.now.nodes) found.yields.items found.findings.items) }
 {
+    let fields = FieldTable::of(alloc, modes.modes())?;
     let mut yields = vec![in alloc; Yielding::Unknown; tree.len() as usize]?;
     let mut findings = vec![in alloc; Finding::Nothing; tree.len() as usize]?;
     look_at_all(
@@ -168,6 +186,7 @@ pub fn find_yields(
         of,
         defined,
         modes,
+        &fields,
         &mut yields,
         &mut findings,
     )?;

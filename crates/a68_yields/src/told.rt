@@ -2,6 +2,7 @@
 ghost use Rattle.std.specs.Prelude.{◌≡◌, ◌<◌, ◌^◌, length};
 ghost use Rattle.a68_declare.specs.Outcome.{ByNode};
 ghost use Rattle.a68_definitions.specs.Defined.{AllBelow};
+ghost use Rattle.a68_fields.specs.Fields.{AreFieldsOf};
 ghost use Rattle.a68_ranges.specs.Nodes.{kind_at, spelling_at};
 ghost use Rattle.a68_yields.specs.Leaves as leaves;
 ghost use Rattle.a68_yields.specs.Below.{IsFindingBelow};
@@ -12,8 +13,10 @@ use crate::sought::is_subscript;
 use crate::yielding::{Finding, Yielding, yield_of};
 use a68_coerce::Leaf;
 use a68_definitions::{Tags, called_by, kind_of, part_from_end, part_number, parts_of};
+use a68_fields::FieldTable;
 use a68_identify::Identified;
-use a68_modes::{ModeId, Modes};
+use a68_modes::{ModeId, Modes, standard};
+use a68_ranges::tags;
 use a68_tree::{NodeId, NodeKind, Tree};
 
 /// A yield; or a unit of the mode of a part, which may have to join the modes first.
@@ -72,13 +75,17 @@ pub fn denoted_mode(spelling: &[u8]) -> ModeId
     ensures { result ≡ specs.denoted_mode spelling.now }
 {
     if begins_quote(spelling) {
-        if is_item(spelling) { 3 } else { 7 }
+        if is_item(spelling) {
+            standard::CHAR
+        } else {
+            standard::ROW_OF_CHAR
+        }
     } else if is_truth(spelling) {
-        2
+        standard::BOOL
     } else if has_r(spelling) {
-        4
+        standard::BITS
     } else {
-        1
+        standard::INT
     }
 }
 
@@ -92,10 +99,10 @@ fn denoted(tree: &Tree, node: NodeId) -> Told
 fn standard_tag(place: u32) -> Told
     ensures { result ≡ specs.standard_tag place }
 {
-    if place < 4 {
-        a_unit(1)
-    } else if place < 6 {
-        a_unit(6)
+    if place < tags::NEWLINE {
+        a_unit(standard::INT)
+    } else if place < tags::PRINT {
+        a_unit(standard::LAYOUT)
     } else {
         unknown()
     }
@@ -184,13 +191,14 @@ fn field_part(structured: Structured, field: Option<ModeId>) -> Told
     }
 }
 
-fn selected(modes: &Modes, tag: u32, found: Finding) -> Told
-    requires { IsFindingBelow (length modes.now) found }
+fn selected(modes: &Modes, fields: &FieldTable, tag: u32, found: Finding) -> Told
+    requires found { IsFindingBelow (length modes.now) found }
+    requires fields { AreFieldsOf modes.now fields.now }
     ensures { result ≡ specs.selected modes.now tag found }
 {
     match found {
         Finding::Mode(Some(mode)) => match as_structure(modes, mode) {
-            Some(structured) => field_part(structured, field_mode(modes, structured.node, tag)),
+            Some(structured) => field_part(structured, field_mode(fields, structured.node, tag)),
             None => unknown(),
         },
         _ => unknown(),
@@ -249,8 +257,8 @@ fn called(modes: &Modes, place: Option<u32>, found: Finding) -> Told
     ensures { result ≡ specs.called modes.now place found }
 {
     match place {
-        Some(8) => a_unit(7),
-        Some(_) => a_unit(0),
+        Some(tags::WHOLE) => a_unit(standard::ROW_OF_CHAR),
+        Some(_) => a_unit(standard::VOID),
         None => match found {
             Finding::Mode(Some(mode)) => unit_of(result_of(modes, mode)),
             _ => unknown(),
@@ -286,6 +294,7 @@ pub fn yields_of(
     tags: &Tags,
     defined: &[ModeId],
     modes: &Modes,
+    fields: &FieldTable,
     yields: &[Yielding],
     node: NodeId,
     found: Finding,
@@ -293,6 +302,7 @@ pub fn yields_of(
     requires there { node < length tree.now.nodes }
     requires found { IsFindingBelow (length modes.now) found }
     requires defined { AllBelow (length modes.now) defined.now }
+    requires fields { AreFieldsOf modes.now fields.now }
     ensures { (of : ByNode) → result ≡ specs.told (record { tree = tree.now; tags = tags.now; of = of; defined = defined.now }) modes.now yields.now node found (kind_at tree.now node) }
 {
     match kind_of(tree, node) {
@@ -313,7 +323,7 @@ pub fn yields_of(
         }
         NodeKind::Identity => a_unit(2),
         NodeKind::Assignation => found_unit(found),
-        NodeKind::Selection => selected(modes, tree.node(node).name, found),
+        NodeKind::Selection => selected(modes, fields, tree.node(node).name, found),
         NodeKind::Slice => sliced(tree, modes, parts_of(tree, node), found),
         NodeKind::Call => called(modes, called_by(tree, tags, node), found),
         NodeKind::Monadic | NodeKind::Dyadic => formula(modes, defined, found),

@@ -4,8 +4,10 @@ mod Specified
 use Rattle.a68_constructs.proofs.+units.Answers.Chosen as chosen
 use Rattle.a68_constructs.proofs.+units.Answers.Repeated as repeated
 use Rattle.a68_constructs.proofs.+units.Answers.Specified as specified
-use Rattle.std.proofs.Common.{◌≡◌, ℕ, Bool, List, Option, ◌+◌, ◌-◌, ◌++◌, [], ◌∷◌, length, true, refl, sym, ◌∙◌, ap, subst, drop, take, get_or, arith, length-drop}
-use Rattle.std.specs.Option.{option_map_or}
+use Rattle.std.proofs.Common.{slice_get, ◌≡◌, ℕ, Bool, List, Option, ◌+◌, ◌-◌, ◌++◌, [], ◌∷◌, length, true, refl, sym, ◌∙◌, ap, subst, drop, take, get_or, arith, length-drop}
+use Rattle.std.specs.Option.{option_map, option_map_or}
+use Rattle.std.proofs.lemmas.Option.{same_Some}
+use Rattle.a68_parts.proofs.Selecting.{taken_is}
 use Rattle.std.proofs.lemmas.List.{drop_all, nil_from_length, take_all}
 use Rattle.a68_annot.specs.declared.annotated.Annotated.{Annotated}
 use Rattle.a68_code.specs.declared.does.Does.TheVariants as does
@@ -69,7 +71,7 @@ rows::unit-returns t c =
 pub rows::unit-construct-requires : goal.rows::unit-construct-requires
 rows::unit-construct-requires t c =
     let begins = all-before c.args.program.now.of.now.tree.nodes c.args.id c.node-node.result.now c.node-node.ensures.is in
-    (omega arith, (c.requires, (c.node-node.ensures.behind, (c.node-node.ensures.named, begins))))
+    (omega arith, (c.requires, (c.node-node.ensures.is, (c.node-node.ensures.behind, (c.node-node.ensures.named, begins)))))
 
 pub calls::applied-returns-in-Ok : goal.calls::applied-returns-in-Ok
 calls::applied-returns-in-Ok t c =
@@ -379,19 +381,24 @@ pub parts::selection-returns-in-Ok : goal.parts::selection-returns-in-Ok
 parts::selection-returns-in-Ok t c =
     let v = c.args.program.now in
     let a = v.of.now in
-    let u = made.last_tree (trees_at (behind c.args.id (tree_of v)) c.args.parts.now) in
+    let parts = c.args.node.now.parts in
+    let same : c.parts-parts.result.now ≡ parts = same_Some _ _ (sym c.parts-parts.ensures.is ∙ ap (option_map (λ (n : Node). n.parts)) c.requires.is) in
+    let u = made.last_tree (trees_at (behind c.args.id (tree_of v)) parts) in
+    let taken : c.field.result ≡ made.field_in c.args.node.now.name (made.fields_at a.modes (made.first_goal a parts)) =
+    same_Some _ _ (sym c.field.ensures ∙ taken_is a (slice_get a.tree.nodes c.args.id) c.args.node.now c.requires.is c.requires.selects) in
     let place = c.args.place in
     let mode = c.mode_in_front-mode.result in
+    let front : mode ≡ made.first_goal a parts = c.mode_in_front-mode.ensures ∙ ap (made.first_goal a) same in
     let w0 = c.args.out.now in
     let w1 = c.last.new.out in
     let w2 = c.emit.new.self in
     let at = length w0.list in
+    let last = subst (λ (ps : List ℕ). Writes w0.stop w1.stop w0.list w1.list (stretch (made.last_tree (trees_at (behind c.args.id (tree_of v)) ps)) at)) same c.last.ensures in
     let all = writes-as w0.stop w2.stop w0.list w2.list _ _ (select_whole place mode c.in-Ok.field at u)
-    (and_behind w0.stop w1.stop w2.stop w0.list w1.list w2.list (stretch u at) (λ n. instr place (does.Select mode c.in-Ok.field) ∷ []) c.last.ensures c.emit.ensures) in
-    let field_is : c.in-Ok.field ≡ made.field_in c.args.name (made.fields_at a.modes mode) = c.in-Ok.ensures.1 ∙ c.field.ensures in
+    (and_behind w0.stop w1.stop w2.stop w0.list w1.list w2.list (stretch u at) (λ n. instr place (does.Select mode c.in-Ok.field) ∷ []) last c.emit.ensures) in
+    let field_is : c.in-Ok.field ≡ made.field_in c.args.node.now.name (made.fields_at a.modes mode) = c.in-Ok.ensures.1 ∙ taken ∙ ap (λ (m : ℕ). made.field_in c.args.node.now.name (made.fields_at a.modes m)) (sym front) in
     let by_field = subst (λ (k : ℕ). Writes w0.stop w2.stop w0.list w2.list (stretch (operation place (select mode k) serial (made.only u)) at)) field_is all in
-    subst (λ (m : ℕ). Writes w0.stop w2.stop w0.list w2.list (stretch (operation place (select m (made.field_in c.args.name (made.fields_at a.modes m))) serial (made.only u)) at))
-    c.mode_in_front-mode.ensures by_field
+    subst (λ (m : ℕ). Writes w0.stop w2.stop w0.list w2.list (stretch (operation place (select m (made.field_in c.args.node.now.name (made.fields_at a.modes m))) serial (made.only u)) at)) front by_field
 
 pub rows::serial-returns-then-parts-eq0 : goal.rows::serial-returns-then-parts-eq0
 rows::serial-returns-then-parts-eq0 t c = rw (nil_from_length c.args.parts.now (omega arith)) c.meaningless.ensures

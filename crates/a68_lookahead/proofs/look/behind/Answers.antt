@@ -1,7 +1,7 @@
 use Rattle.std.proofs.Common.{◌+◌, ◌∙◌, List, ap, sym, subst, arith}
 use Rattle.a68_lookahead.specs.Ahead.{behind}
 use Rattle.a68_lookahead.specs.declared.look.Look.{Look}
-use Rattle.a68_tree.specs.declared.sym.Sym.{Sym}
+use Rattle.a68_symbols.specs.declared.sym.Sym.{Sym}
 use Rattle.a68_lookahead.proofs.Looking.{goes, found, missed, Within, step_within}
 use Rattle.a68_lookahead.proofs.look.behind.Goals as goal
 

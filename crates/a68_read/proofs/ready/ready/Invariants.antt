@@ -1,5 +1,5 @@
 use Rattle.std.proofs.Common.{List, reverse}
-use Rattle.a68_tree.specs.declared.sym.Sym.{Sym}
+use Rattle.a68_symbols.specs.declared.sym.Sym.{Sym}
 use Rattle.a68_read.specs.Weights.{weights}
 use Rattle.a68_read.specs.Readings.{Reading}
 use Rattle.a68_read.proofs.ready.ready.Given as goal

@@ -1,5 +1,4 @@
-use Rattle.std.proofs.Common.{ap, sym, ◌∙◌}
-use Rattle.a68_acts.specs.Fetching.{assign_row}
+use Rattle.std.proofs.Common.{ap, sym}
 use Rattle.a68_acts.specs.declared.step.Step.TheVariants.{AssignRow}
 use Rattle.a68_steps.proofs.Filled.{parts_in-contents}
 use Rattle.a68_steps.proofs.fetching.assign_row.Goals as goal

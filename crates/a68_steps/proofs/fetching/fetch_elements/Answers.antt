@@ -1,7 +1,7 @@
-use Rattle.std.proofs.Common.{◌≡◌, ◌+◌, ◌-◌, ◌<◌, ◌≤◌, ℕ, length, drop, ap, sym, ◌∙◌, arith}
+use Rattle.std.proofs.Common.{◌≡◌, ◌+◌, ◌-◌, ◌<◌, length, drop, ap, sym, ◌∙◌, arith}
 use Rattle.std.specs.Prelude.{slice_index_or}
 use Rattle.a68_acts.specs.Fetching as fetching
-use Rattle.a68_layout.specs.Widths.{most_cells, width_of}
+use Rattle.a68_layout.specs.Widths.{width_of}
 use Rattle.a68_steps.proofs.Filled.{whole-width, fetched-one}
 use Rattle.a68_steps.proofs.fetching.fetch_elements.Goals as goal
 

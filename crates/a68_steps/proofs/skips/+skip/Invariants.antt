@@ -2,8 +2,8 @@ use Rattle.std.proofs.Common.{◌≡◌, ◌+◌, ◌*◌, take, map}
 use Rattle.a68_acts.specs.Operations.{skip_within}
 use Rattle.a68_steps.proofs.skips.+skip.Given as goal
 
-abbrev pub decreases-skip_in : goal.decreases-skip_in
-decreases-skip_in l = 2 * l.depth
+abbrev pub decreases-add_skip : goal.decreases-add_skip
+decreases-add_skip l = 2 * l.depth
 
 abbrev pub decreases-skip_fields : goal.decreases-skip_fields
 decreases-skip_fields l = 2 * l.depth + 1

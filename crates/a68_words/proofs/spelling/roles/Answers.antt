@@ -6,7 +6,7 @@ use Rattle.a68_words.proofs.spelling.roles.Goals as goal
 
 pub loop-i-preserved : goal.loop-i-preserved
 loop-i-preserved c =
-    one_role _ _ _ _ _ _ c.at-symbol.ensures.symbol c.spelling.ensures c.loop-i.invariant (rw (← c.role_of.ensures) c.in_ok-push.ensures.items)
+    one_role _ _ _ _ _ _ _ c.at-symbol.ensures.symbol c.sym_at.ensures c.spelling.ensures c.loop-i.invariant (rw (← c.role_of.ensures) c.in_ok-push.ensures.items)
 
 pub returns-clause-roles : goal.returns-clause-roles
 returns-clause-roles c =

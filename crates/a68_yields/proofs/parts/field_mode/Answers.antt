@@ -1,7 +1,11 @@
-use Rattle.std.proofs.Common.{◌∙◌, length, sym}
-use Rattle.a68_yields.proofs.Within.{shape_within}
+use Rattle.std.proofs.Common.{◌∙◌, ap}
+use Rattle.std.specs.Option.{option_map}
+use Rattle.a68_fields.specs.declared.table.Field.{Field}
+use Rattle.a68_yields.proofs.Fielding.{field_found}
 use Rattle.a68_yields.proofs.parts.field_mode.Goals as goal
 
-pub returns-in-Struct-clause-there : goal.returns-in-Struct-clause-there
-returns-in-Struct-clause-there c = c.field_of.ensures.within (length c.args.modes.now) (rw (c.deref.ensures.value, c.fields.view_is)
-    (shape_within c.args.modes.now c.shape.ensures.nodes c.args.node _ c.requires (sym c.shape.ensures.shape ∙ c.in-Struct.is)))
+pub returns-in-Some : goal.returns-in-Some
+returns-in-Some c nodes are = ap (option_map (λ (f : Field). f.mode)) c.in-Some.ensures ∙ field_found nodes c.args.fields.now are c.args.node c.args.tag
+
+pub returns-in-None : goal.returns-in-None
+returns-in-None c nodes are = ap (option_map (λ (f : Field). f.mode)) c.in-None.ensures ∙ field_found nodes c.args.fields.now are c.args.node c.args.tag

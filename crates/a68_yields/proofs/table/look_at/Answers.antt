@@ -1,5 +1,6 @@
 use Rattle.std.proofs.Common.{◌≡◌, ◌<◌, ◌≤◌, length, arith, add-one, sym}
 use Rattle.a68_declare.proofs.Standing.{thirteen}
+use Rattle.a68_fields.proofs.Keeping.{fields_stay}
 use Rattle.a68_ranges.specs.Nodes.{kind_at, parts_at}
 use Rattle.a68_tree.specs.Trees.{AllBetween}
 use Rattle.a68_yields.proofs.Looking.{sought_below}
@@ -40,3 +41,6 @@ pub returns-clause-tables : goal.returns-clause-tables
 returns-clause-tables c = rw (c.note_yield.ensures, c.note_finding.ensures)
     (tables_more (length c.args.modes.now) (length c.granted.new.modes) (length c.args.tree.now.nodes) c.args.node c.args.yields.now c.args.findings.now c.in_ok-yielding.yielding c.in_ok-found.found
     c.in_ok-yielding.ensures.longer c.requires.tables (rw (← c.len.ensures) c.in_ok-yielding.ensures.below) c.in_ok-found.ensures.there)
+
+pub returns-clause-fields : goal.returns-clause-fields
+returns-clause-fields c = fields_stay c.args.modes.now c.granted.new.modes c.args.fields.now c.in_ok-yielding.ensures.fields c.requires.fields

@@ -9,5 +9,6 @@ loop-left-init c = record {
   yields = none_yet c.len-left.ensures refl c.requires.no_yields c.requires.no_findings;
   of = c.requires.of;
   defined = c.requires.defined;
+  fields = c.requires.fields;
   tables = tables_begun (length c.args.modes.now) (length c.args.tree.now.nodes) c.args.yields.now c.args.findings.now c.requires.no_yields c.requires.no_findings;
 }

@@ -1,5 +1,6 @@
 use Rattle.std.proofs.Common.{◌≤◌, length}
 use Rattle.a68_definitions.specs.Defined.{AllBelow}
+use Rattle.a68_fields.specs.Fields.{AreFieldsOf}
 use Rattle.a68_identify.specs.Operators.{NumbersAreThere}
 use Rattle.a68_yields.specs.Below.{AreTablesBelow}
 use Rattle.a68_yields.specs.Yields.{AreYieldsFrom}
@@ -11,6 +12,7 @@ invariant-loop-left l = record {
   yields : AreYieldsFrom (record { tree = l.tree; tags = l.tags; of = l.of; defined = l.defined }) l.initial.modes l.left l.modes l.yields l.findings;
   of : NumbersAreThere l.tree l.modes l.of;
   defined : AllBelow (length l.modes) l.defined;
+  fields : AreFieldsOf l.modes l.fields;
   tables : AreTablesBelow (length l.modes) (length l.tree.nodes) l.yields l.findings;
 }
 

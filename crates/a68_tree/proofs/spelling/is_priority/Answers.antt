@@ -1,5 +1,0 @@
-use Rattle.std.proofs.Common.{rules}
-use Rattle.a68_tree.proofs.spelling.is_priority.Goals as goal
-
-pub returns : goal.returns
-returns c = search rules
