@@ -1,4 +1,4 @@
--- Choices by a number, link by link, and their ends.
+-- Choices by a number or by a mode, link by link, and their ends.
 use Rattle.std.proofs.Common.{◌≡◌, ◌⊎◌, inl, inr, ◌<◌, ℕ, ◌+◌, Bool, List, [], ◌∷◌, ◌++◌, length, drop, get_or, true, refl, sym, ◌∙◌, ap, subst, arith, append_assoc, length-append, None, Some, slice_get}
 use Rattle.std.proofs.lemmas.Option.{same_Some}
 use Rattle.std.specs.Option.{option_map}
@@ -11,7 +11,7 @@ use Rattle.a68_base.specs.declared.refusal.Stop.TheVariants.{NoMemory}
 use Rattle.a68_code.specs.declared.code.Instr.{Instr}
 use Rattle.a68_code.specs.declared.does.Does.TheVariants as does
 use Rattle.a68_constructs.proofs.Numbering.{aim_arms, case_framed, case_names, count_places, last_behind, places_arms, put_places}
-use Rattle.a68_constructs.specs.Endings.{AllEnd, Ends, GoesOn, IsAwaited, IsBareCase, IsFront, case_front, case_tree}
+use Rattle.a68_constructs.specs.Endings.{AllEnd, Ends, GoesOn, IsAwaited, IsBareChoice, IsChoice, IsFront, by_mode, case_front, choice_tree}
 use Rattle.a68_constructs.specs.Loops.{asked}
 use Rattle.a68_constructs.specs.declared.endings.Ending.{Ending}
 use Rattle.a68_elab.proofs.Nodes.{behind_is}
@@ -163,22 +163,29 @@ out_is a s id unit node note e f run is_out bare parts lt =
     ∙ ap (λ (path : List Coercion). coerced a.modes node.span.from note.goal note.mode path (made a b g node (seen a s note) node.kind)) bare
     ∙ ap (λ (k : NodeKind). made a b g node (seen a s note) k) is_out ∙ ap (λ (ids : List ℕ). only_of (trees_at g ids)) parts ∙ behind_is id unit (tree_in a s) lt
 
--- what stands for a choice by a number without coercions
-pub case_node_is : (a : Annotated) (s : Sight) (id : ℕ) (node : Node) (note : Note) → IsBareCase a id → slice_get a.tree.nodes id ≡ Some node → slice_get a.notes id ≡ Some note
-    → tree_in a s id ≡ case_tree a (tree_in a s) id node.span.from note.goal node.parts
-case_node_is a s id node note is e f =
+-- what stands for a choice without coercions
+pub choice_is : (a : Annotated) (s : Sight) (id : ℕ) (node : Node) (note : Note) → IsBareChoice a id → slice_get a.tree.nodes id ≡ Some node → slice_get a.notes id ≡ Some note
+    → tree_in a s id ≡ choice_tree a (tree_in a s) (by_mode node.kind) id node.span.from note.goal node.parts
+choice_is a s id node note is e f =
     let same : is.node ≡ node = same_Some is.node node (sym is.is ∙ e) in
     let same_note : is.note ≡ note = same_Some is.note note (sym is.noted ∙ f) in
     let bare : note.path ≡ [] = ap (λ (n : Note). n.path) (sym same_note) ∙ is.bare in
-    let is_case : node.kind ≡ kind.Case = ap (λ (n : Node). n.kind) (sym same) ∙ is.case in
+    let is_choice : IsChoice node.kind = subst (λ (n : Node). IsChoice n.kind) same is.choice in
     let g = behind id (tree_in a s) in
     let b = defined_bound a s in
     tree_run a s id node note e f is.run
-    ∙ ap (λ (path : List Coercion). coerced a.modes node.span.from note.goal note.mode path (made a b g node (seen a s note) node.kind)) bare
-    ∙ ap (λ (k : NodeKind). made a b g node (seen a s note) k) is_case
+    ∙ ap (λ (path : List Coercion). coerced a.modes node.span.from note.goal note.mode path (made a b g node (seen a s note) node.kind)) bare ∙ of_kind is_choice
+  where
+    of_kind : IsChoice node.kind → made a (defined_bound a s) (behind id (tree_in a s)) node (seen a s note) node.kind ≡ choice_tree a (tree_in a s) (by_mode node.kind) id node.span.from note.goal node.parts
+    of_kind (inl k) =
+        ap (λ (k : NodeKind). made a (defined_bound a s) (behind id (tree_in a s)) node (seen a s note) k) k
+        ∙ ap (λ (k : NodeKind). choice_tree a (tree_in a s) (by_mode k) id node.span.from note.goal node.parts) (sym k)
+    of_kind (inr k) =
+        ap (λ (k : NodeKind). made a (defined_bound a s) (behind id (tree_in a s)) node (seen a s note) k) k
+        ∙ ap (λ (k : NodeKind). choice_tree a (tree_in a s) (by_mode k) id node.span.from note.goal node.parts) (sym k)
 
-pub case_some : (a : Annotated) (id : ℕ) (node : Node) → IsBareCase a id → slice_get a.tree.nodes id ≡ Some node → 0 < length node.parts
-case_some a id node is e = subst (λ (n : Node). 0 < length n.parts) (same_Some is.node node (sym is.is ∙ e)) is.some
+pub choice_some : (a : Annotated) (id : ℕ) (node : Node) → IsBareChoice a id → slice_get a.tree.nodes id ≡ Some node → 0 < length node.parts
+choice_some a id node is e = subst (λ (n : Node). 0 < length n.parts) (same_Some is.node node (sym is.is ∙ e)) is.some
 
 -- a chain goes on
 pub goes_on : (es es' : List Ending) (e : Ending) (whole tree : Tree) (s1 s2 s3 : Option Stop) (l1 l2 l3 : List Instr) → IsFront whole tree e s1 l1 s2 l2

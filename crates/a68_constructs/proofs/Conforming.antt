@@ -23,7 +23,9 @@ use Rattle.a68_emit.proofs.Sizes.{size_specs, size_stretch}
 use Rattle.a68_emit.specs.Chains.{shuts}
 use Rattle.a68_emit.specs.Conforming.{IsUnaimed, conform_list, spec_body, spec_jumps, spec_size}
 use Rattle.a68_emit.specs.Listing.{instr, opens, size, spec_places, spec_sizes, spec_stretches, stretch}
+use Rattle.a68_constructs.specs.Endings.{IsFront, member_front}
 use Rattle.a68_constructs.specs.Loops.{asked}
+use Rattle.a68_constructs.specs.declared.endings.Ending.{Ending}
 use Rattle.a68_emit.specs.Numbers.{put_all}
 use Rattle.a68_emit.specs.Stretches.{leave, member_places, wholes_of}
 use Rattle.a68_emit.specs.Writing.{aim_all, places, ran_out, Writes}
@@ -104,92 +106,79 @@ count_members (m ∷ ms) specs ps none = let e = count_members ms specs ps none 
 
 -- ---- the whole
 
--- what was written once all is patched
-conform_patched : (l0 l3 l4 l5 : List Instr) (place union end none : ℕ) (members zs starts jumps : List ℕ) (yields : Bool) (specs : Specs) (o : Tree) →
-    let m = length l0 + 1 in
-    let x = m + spec_sizes specs in
-    l3 ≡ l0 ++ (instr place (does.Member union zs (wholes_of members specs)) ∷ (spec_stretches place 0 yields specs m ++ stretch o x)) → length zs ≡ length members + 1
-    → starts ≡ spec_places specs m → none ≡ x → jumps ≡ spec_jumps specs m
-    → end ≡ x + size o → l4 ≡ aim_all l3 jumps end → l5 ≡ put_all l4 (length l0) 0 (member_places members specs starts none) → l5 ≡ l0 ++ conform_list place union members yields specs o (length l0)
-conform_patched l0 l3 l4 l5 place union end none members zs starts jumps yields specs o is nz es en ej ee e4 e5 =
-    let m = length l0 + 1 in
-    let x = m + spec_sizes specs in
-    let rest = stretch o x in
-    let wholes = wholes_of members specs in
-    let cz = instr place (does.Member union zs wholes) in
-    let front = l0 ++ (cz ∷ []) in
-    let after = spec_stretches place (x + size o) yields specs m ++ rest in
-    let apart : (l : List Instr) → l0 ++ (cz ∷ l) ≡ front ++ l = λ l. sym (append_assoc l0 (cz ∷ []) l) in
-    let long : m ≡ length front = sym (length-append l0 (cz ∷ [])) in
-    let four : l4 ≡ l0 ++ (cz ∷ after) =
-    e4 ∙ ap (λ (l : List Instr). aim_all l jumps end) (is ∙ apart (spec_stretches place 0 yields specs m ++ rest))
-    ∙ ap (λ (js : List ℕ). aim_all (front ++ (spec_stretches place 0 yields specs m ++ rest)) js end) ej
-    ∙ ap (λ (k : ℕ). aim_all (front ++ (spec_stretches place 0 yields specs m ++ rest)) (spec_jumps specs m) k) ee
-    ∙ aim_specs place (x + size o) yields specs front rest m long ∙ sym (apart after) in
-    let last = member_places members specs (spec_places specs m) x in
-    let same : member_places members specs starts none ≡ last =
-    ap (λ (ps : List ℕ). member_places members specs ps none) es ∙ ap (λ (k : ℕ). member_places members specs (spec_places specs m) k) en in
-    let many : length zs ≡ length last = nz ∙ sym (count_members members specs (spec_places specs m) x) in
-    e5 ∙ ap (λ (l : List Instr). put_all l (length l0) 0 (member_places members specs starts none)) four ∙ ap (λ (ps : List ℕ). put_all (l0 ++ (cz ∷ after)) (length l0) 0 ps) same
-    ∙ put_places (λ l. does.Member union l wholes) (member_names union wholes) l0 after place (length l0) last [] zs refl many
-
-conform_places : (l0 : List Instr) (place union : ℕ) (members zs : List ℕ) (yields : Bool) (specs : Specs) (o : Tree) →
-    let m = length l0 + 1 in
-    let x = m + spec_sizes specs in
-    places (instr place (does.Member union zs (wholes_of members specs)) ∷ (spec_stretches place 0 yields specs m ++ stretch o x)) ≡ places (conform_list place union members yields specs o (length l0))
-conform_places l0 place union members zs yields specs o =
-    let m = length l0 + 1 in
-    let x = m + spec_sizes specs in
-    let rest = stretch o x in
-    let e = x + size o in
-    ap (λ (l : List ℕ). place ∷ l) (places-append (spec_stretches place 0 yields specs m) rest ∙ ap (λ (l : List ℕ). l ++ places rest) (places_specs place 0 e yields specs m)
-    ∙ sym (places-append (spec_stretches place e yields specs m) rest))
-
--- behind the enquiry: Member, the specifications, and what is patched
-pub conform_writes : (s0 s1 s2 s3 s4 s5 : Option Stop) (l0 l1 l2 l3 l4 l5 : List Instr) (place union member end none : ℕ) (members starts jumps : List ℕ) (yields : Bool) (specs : Specs) (o : Tree) (d : Does)
+-- Member and its places, the specifications and their parts
+pub member_writes : (s0 s1 s2 s3 : Option Stop) (l0 l1 l2 l3 : List Instr) (place union member none : ℕ) (members starts : List ℕ) (yields : Bool) (specs : Specs) (d : Does)
     → member ≡ length l0 → IsUnaimed union (length members + 1) (wholes_of members specs) d → Writes s0 s1 l0 l1 (instr place d ∷ []) → Writes s1 s2 l1 l2 (spec_stretches place 0 yields specs (length l1))
-    → (s2 ≡ None → starts ≡ spec_places specs (length l1)) → (s2 ≡ None → jumps ≡ spec_jumps specs (length l1)) → none ≡ length l2 → Writes s2 s3 l2 l3 (stretch o (length l2))
-    → end ≡ length l3 → l4 ≡ aim_all l3 jumps end → s4 ≡ s3 → ((l5 ≡ put_all l4 member 0 (member_places members specs starts none)) × (s5 ≡ s4)) ⊎ (s5 ≡ ran_out s4)
-    → Writes s0 s5 l0 l5 (conform_list place union members yields specs o (length l0))
-conform_writes s0 s1 s2 s3 s4 s5 l0 l1 l2 l3 l4 l5 place union member end none members starts jumps yields specs o d em un w1' w2 es ej en w3 ee e4 t4 e5 =
-    let zs = un.zeros in
+    → (s2 ≡ None → starts ≡ spec_places specs (length l1)) → none ≡ length l2
+    → ((l3 ≡ put_all l2 member 0 (member_places members specs starts none)) × (s3 ≡ s2)) ⊎ (s3 ≡ ran_out s2)
+    → Writes s0 s3 l0 l3 (member_front place union members yields specs (length l0))
+member_writes s0 s1 s2 s3 l0 l1 l2 l3 place union member none members starts yields specs d em un w1' w2 es en e3 =
     let wholes = wholes_of members specs in
     let m = length l0 + 1 in
     let x = m + spec_sizes specs in
-    let cz = instr place (does.Member union zs wholes) in
+    let cz = instr place (does.Member union un.zeros wholes) in
     let each = spec_stretches place 0 yields specs m in
-    let written = cz ∷ (each ++ stretch o x) in
     let w1 : Writes s0 s1 l0 l1 (cz ∷ []) = writes-as s0 s1 l0 l1 _ _ (ap (λ (y : Does). instr place y ∷ []) un.is) w1' in
     let long_each : length each ≡ spec_sizes specs = size_specs place 0 yields specs m in
     let w02 : Writes s0 s2 l0 l2 (cz ∷ each) = and_behind s0 s1 s2 l0 l1 l2 (cz ∷ []) (λ n. spec_stretches place 0 yields specs n) w1 w2 in
-    let w03' = and_behind s0 s2 s3 l0 l2 l3 (cz ∷ each) (λ n. stretch o n) w02 w3 in
+    let none1 : s2 ≡ None → s1 ≡ None = λ n. had_not s1 s2 l1 l2 _ w2 n in
+    let first : s2 ≡ None → length l1 ≡ m = λ n. ap (λ (l : List Instr). length l) (is_written s0 s1 l0 l1 (cz ∷ []) w1 (none1 n)) ∙ length-append l0 (cz ∷ []) in
     let same : length l0 + length (cz ∷ each) ≡ x = omega (arith, long_each) in
-    let w03 : Writes s0 s3 l0 l3 written = subst (λ (n : ℕ). Writes s0 s3 l0 l3 ((cz ∷ each) ++ stretch o n)) same w03' in
-    let none2 : s3 ≡ None → s2 ≡ None = λ n. had_not s2 s3 l2 l3 _ w3 n in
-    let none1 : s3 ≡ None → s1 ≡ None = λ n. had_not s1 s2 l1 l2 _ w2 (none2 n) in
-    let first : s3 ≡ None → length l1 ≡ m = λ n. ap (λ (l : List Instr). length l) (is_written s0 s1 l0 l1 (cz ∷ []) w1 (none1 n)) ∙ length-append l0 (cz ∷ []) in
-    let second : s3 ≡ None → length l2 ≡ x = λ n. ap (λ (l : List Instr). length l) (is_written s0 s2 l0 l2 (cz ∷ each) w02 (none2 n)) ∙ length-append l0 (cz ∷ each) ∙ same in
-    let third : s3 ≡ None → length l3 ≡ x + size o =
-    λ n. let is = is_written s2 s3 l2 l3 (stretch o (length l2)) w3 n in let so = size_stretch o (length l2) in
-    omega (arith, ap (λ (l : List Instr). length l) is, length-append l2 (stretch o (length l2)), so, second n) in
-    let starts_are : s3 ≡ None → starts ≡ spec_places specs m = λ n. es (none2 n) ∙ ap (λ (k : ℕ). spec_places specs k) (first n) in
-    let jumps_are : s3 ≡ None → jumps ≡ spec_jumps specs m = λ n. ej (none2 n) ∙ ap (λ (k : ℕ). spec_jumps specs k) (first n) in
-    done e5 zs un.many w03 starts_are (λ n. en ∙ second n) jumps_are (λ n. ee ∙ third n)
+    let second : s2 ≡ None → length l2 ≡ x = λ n. ap (λ (l : List Instr). length l) (is_written s0 s2 l0 l2 (cz ∷ each) w02 n) ∙ length-append l0 (cz ∷ each) ∙ same in
+    let starts_are : s2 ≡ None → starts ≡ spec_places specs m = λ n. es n ∙ ap (λ (k : ℕ). spec_places specs k) (first n) in
+    let places_are : s2 ≡ None → member_places members specs starts none ≡ member_places members specs (spec_places specs m) x =
+    λ n. ap (λ (ps : List ℕ). member_places members specs ps none) (starts_are n) ∙ ap (λ (k : ℕ). member_places members specs (spec_places specs m) k) (en ∙ second n) in
+    done e3 un.zeros un.many w02 places_are
   where
-    done : ((l5 ≡ put_all l4 member 0 (member_places members specs starts none)) × (s5 ≡ s4)) ⊎ (s5 ≡ ran_out s4) → (zs : List ℕ) → length zs ≡ length members + 1
-        → Writes s0 s3 l0 l3 (instr place (does.Member union zs (wholes_of members specs)) ∷ (spec_stretches place 0 yields specs (length l0 + 1) ++ stretch o (length l0 + 1 + spec_sizes specs)))
-        → (s3 ≡ None → starts ≡ spec_places specs (length l0 + 1)) → (s3 ≡ None → none ≡ length l0 + 1 + spec_sizes specs) → (s3 ≡ None → jumps ≡ spec_jumps specs (length l0 + 1))
-        → (s3 ≡ None → end ≡ length l0 + 1 + spec_sizes specs + size o) → Writes s0 s5 l0 l5 (conform_list place union members yields specs o (length l0))
-    done (inl k) zs nz v st ne ju en =
-        subst (λ (z : Option Stop). Writes s0 z l0 l5 (conform_list place union members yields specs o (length l0))) (sym (k.1 ∙ t4))
-        (patched s0 s3 l0 l3 l5 _ _ v (conform_places l0 place union members zs yields specs o)
-        (λ n is. conform_patched l0 l3 l4 l5 place union end none members zs starts jumps yields specs o is nz (st n) (ne n) (ju n) (en n) e4
-        (k.0 ∙ ap (λ (c : ℕ). put_all l4 c 0 (member_places members specs starts none)) em)))
-    done (inr k) zs nz v st ne ju en =
-        patched s0 s5 l0 l3 l5 _ _ (kept_writes s0 s3 s5 l0 l3 _ (inr (k ∙ ap ran_out t4)) v) (conform_places l0 place union members zs yields specs o) (λ n is. absurd (never_none s4 s5 k n))
+    done : ((l3 ≡ put_all l2 member 0 (member_places members specs starts none)) × (s3 ≡ s2)) ⊎ (s3 ≡ ran_out s2) → (zs : List ℕ) → length zs ≡ length members + 1
+        → Writes s0 s2 l0 l2 (instr place (does.Member union zs (wholes_of members specs)) ∷ spec_stretches place 0 yields specs (length l0 + 1))
+        → (s2 ≡ None → member_places members specs starts none ≡ member_places members specs (spec_places specs (length l0 + 1)) (length l0 + 1 + spec_sizes specs))
+        → Writes s0 s3 l0 l3 (member_front place union members yields specs (length l0))
+    done (inl k) zs nz v ps =
+        let wholes = wholes_of members specs in
+        let after = spec_stretches place 0 yields specs (length l0 + 1) in
+        let last = member_places members specs (spec_places specs (length l0 + 1)) (length l0 + 1 + spec_sizes specs) in
+        let many : length zs ≡ length last = nz ∙ sym (count_members members specs (spec_places specs (length l0 + 1)) (length l0 + 1 + spec_sizes specs)) in
+        subst (λ (z : Option Stop). Writes s0 z l0 l3 (member_front place union members yields specs (length l0))) (sym k.1)
+        (patched s0 s2 l0 l2 l3 _ _ v refl
+        (λ n is. k.0 ∙ ap (λ (l : List Instr). put_all l member 0 (member_places members specs starts none)) is
+        ∙ ap (λ (c : ℕ). put_all (l0 ++ (instr place (does.Member union zs wholes) ∷ after)) c 0 (member_places members specs starts none)) em
+        ∙ ap (λ (l : List ℕ). put_all (l0 ++ (instr place (does.Member union zs wholes) ∷ after)) (length l0) 0 l) (ps n)
+        ∙ put_places (λ l. does.Member union l wholes) (member_names union wholes) l0 after place (length l0) last [] zs refl many))
+    done (inr k) zs nz v ps = patched s0 s3 l0 l2 l3 _ _ (kept_writes s0 s2 s3 l0 l2 _ (inr k) v) refl (λ n is. absurd (never_none s2 s3 k n))
+
+-- the other part behind it, and the jumps to the end
+specs_aimed : (s0 s1 s2 : Option Stop) (l0 l1 l2 : List Instr) (place union : ℕ) (members jumps : List ℕ) (yields : Bool) (specs : Specs) (o : Tree)
+    → Writes s0 s1 l0 l1 (member_front place union members yields specs (length l0)) → (s1 ≡ None → jumps ≡ spec_jumps specs (length l0 + 1)) → Writes s1 s2 l1 l2 (stretch o (length l1))
+    → Writes s0 s2 l0 (aim_all l2 jumps (length l2)) (conform_list place union members yields specs o (length l0))
+specs_aimed s0 s1 s2 l0 l1 l2 place union members jumps yields specs o w1 ej w2 =
+    let m = length l0 + 1 in
+    let x = m + spec_sizes specs in
+    let c = instr place (does.Member union (member_places members specs (spec_places specs m) x) (wholes_of members specs)) in
+    let each = spec_stretches place 0 yields specs m in
+    let rest = stretch o x in
+    let front = l0 ++ (c ∷ []) in
+    let long_each : length each ≡ spec_sizes specs = size_specs place 0 yields specs m in
+    let same : length l0 + length (c ∷ each) ≡ x = omega (arith, long_each) in
+    let w02 : Writes s0 s2 l0 l2 ((c ∷ each) ++ rest) =
+    subst (λ (n : ℕ). Writes s0 s2 l0 l2 ((c ∷ each) ++ stretch o n)) same (and_behind s0 s1 s2 l0 l1 l2 (c ∷ each) (λ n. stretch o n) w1 w2) in
+    let none1 : s2 ≡ None → s1 ≡ None = λ n. had_not s1 s2 l1 l2 _ w2 n in
+    let so = size_stretch o x in
+    let end : s2 ≡ None → length l2 ≡ x + size o =
+    λ n. omega (arith, ap (λ (l : List Instr). length l) (is_written s0 s2 l0 l2 ((c ∷ each) ++ rest) w02 n), length-append l0 ((c ∷ each) ++ rest), length-append (c ∷ each) rest, so, long_each) in
+    let apart : (l : List Instr) → l0 ++ (c ∷ l) ≡ front ++ l = λ l. sym (append_assoc l0 (c ∷ []) l) in
+    let long : m ≡ length front = sym (length-append l0 (c ∷ [])) in
+    let same_places : places ((c ∷ each) ++ rest) ≡ places (conform_list place union members yields specs o (length l0)) =
+    ap (λ (l : List ℕ). place ∷ l) (places-append each rest ∙ ap (λ (l : List ℕ). l ++ places rest) (places_specs place 0 (x + size o) yields specs m)
+    ∙ sym (places-append (spec_stretches place (x + size o) yields specs m) rest)) in
+    patched s0 s2 l0 l2 (aim_all l2 jumps (length l2)) ((c ∷ each) ++ rest) (conform_list place union members yields specs o (length l0)) w02 same_places
+    (λ n is.
+    ap (λ (l : List Instr). aim_all l jumps (length l2)) (is ∙ apart (each ++ rest)) ∙ ap (λ (js : List ℕ). aim_all (front ++ (each ++ rest)) js (length l2)) (ej (none1 n))
+    ∙ ap (λ (k : ℕ). aim_all (front ++ (each ++ rest)) (spec_jumps specs m) k) (end n) ∙ aim_specs place (x + size o) yields specs front rest m long
+    ∙ sym (apart (spec_stretches place (x + size o) yields specs m ++ rest)))
 
 -- the enquiry before it, and its frame about both
-pub conform_framed : (s0 s1 s2 s3 : Option Stop) (l0 l1 l2 l3 : List Instr) (begin slots place union : ℕ) (members : List ℕ) (yields : Bool) (q : Tree) (specs : Specs) (o : Tree)
+conform_framed : (s0 s1 s2 s3 : Option Stop) (l0 l1 l2 l3 : List Instr) (begin slots place union : ℕ) (members : List ℕ) (yields : Bool) (q : Tree) (specs : Specs) (o : Tree)
     → Writes s0 s1 l0 l1 (asked (while_in begin slots q) (length l0)) → Writes s1 s2 l1 l2 (conform_list place union members yields specs o (length l1)) → Writes s2 s3 l2 l3 (shuts slots yields place)
     → Writes s0 s3 l0 l3 (stretch (framed begin place slots yields (conformity place union members yields q specs o)) (length l0))
 conform_framed s0 s1 s2 s3 l0 l1 l2 l3 begin slots place union members yields q specs o w1 w2 w3 =
@@ -206,6 +195,18 @@ conform_framed s0 s1 s2 s3 l0 l1 l2 l3 begin slots place union members yields q 
     writes-as s0 s3 l0 l3 _ _
     (append_assoc op (stretch q k) (list (k + size q) ++ sh) ∙ ap (λ (l : List Instr). op ++ l) (sym (append_assoc (stretch q k) (list (k + size q)) sh))
     ∙ framed_list begin place slots yields (conformity place union members yields q specs o) (length l0)) w03
+
+-- once the other part is written and the end has come, the whole choice is written
+pub conform_front_is : (s0 s1 s2 : Option Stop) (l0 l1 l2 : List Instr) (e : Ending) (begin union : ℕ) (members : List ℕ) (q : Tree) (specs : Specs) (o : Tree)
+    → Writes s0 s1 l0 l1 (asked (while_in begin e.slots q) (length l0)) → Writes s1 s2 l1 l2 (member_front e.place union members e.yields specs (length l1))
+    → (s2 ≡ None → e.jumps.items ≡ spec_jumps specs (length l1 + 1))
+    → IsFront (framed begin e.place e.slots e.yields (conformity e.place union members e.yields q specs o)) o e s0 l0 s2 l2
+conform_front_is s0 s1 s2 l0 l1 l2 e begin union members q specs o w1 w2 ej =
+    record {
+      all = λ s l v s' l' c.
+          conform_framed s0 s1 s s' l0 l1 (aim_all l e.jumps.items (length l)) l' begin e.slots e.place union members e.yields q specs o w1
+          (specs_aimed s1 s2 s l1 l2 l e.place union members e.jumps.items e.yields specs o w2 ej v) c;
+    }
 
 -- ---- the loop that writes the specifications
 

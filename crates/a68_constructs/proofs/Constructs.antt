@@ -5,6 +5,7 @@ use Rattle.std.proofs.lemmas.List.{take_all}
 use Rattle.std.specs.Option.{is_some, option_map, option_map_or}
 use Rattle.std.specs.Prelude.{not, ◌&&◌, if◌then◌else◌}
 use Rattle.std.specs.declared.option.Option.{Option}
+use Rattle.a68_base.specs.declared.refusal.Stop.{Stop}
 use Rattle.a68_annot.specs.declared.annotated.Annotated.{Annotated}
 use Rattle.a68_annot.specs.declared.note.Note.{Note}
 use Rattle.a68_tree.specs.declared.node.Node.{Node}
@@ -28,6 +29,7 @@ use Rattle.a68_constructs.specs.Sources.{assigned_tree}
 use Rattle.a68_emit.specs.Stretches.{does_of}
 use Rattle.a68_emit.proofs.Linking.{parts_are}
 use Rattle.a68_emit.proofs.Sizes.{size_stretch}
+use Rattle.a68_emit.specs.Writing.{Writes}
 use Rattle.a68_modes.specs.Nodes.{shape_at, is_void}
 use Rattle.a68_modes.specs.declared.coercion.Coercion.{Coercion}
 use Rattle.a68_modes.specs.declared.coercion.Coercion.TheVariants as coercion
@@ -415,3 +417,9 @@ pub test_is : (a : Annotated) (f : ℕ → Tree) (test : Option ℕ) (part : ℕ
 test_is a f test part ids e there =
     let parts : made.parts_at a part ≡ ids = parts_are (slice_get a.tree.nodes part) ids there in
     ap (λ (o : Option ℕ). made.test_of a f o) e ∙ ap (λ (l : List ℕ). made.enquiry_at a f (made.only_id l)) parts
+
+-- ---- a writer that has stopped writes nothing
+
+pub stopped_writes : (s : Option Stop) (l l' written : List Instr) → is_some s ≡ true → Writes s s l l' written
+stopped_writes None l l' written e = absurd (false≢true e)
+stopped_writes (Some stop) l l' written e = refl

@@ -1,22 +1,23 @@
 -- Inner: the headline does not rest on this file.
--- Choices by a number, each the other part of the one before it, whose ends are yet to come.
-use Rattle.std.specs.Prelude.{◌≡◌, ◌<◌, ◌+◌, ℕ, List, [], ◌∷◌, length, drop, not, true, Some, slice_get, IfSome}
+-- Choices by a number or by a mode, each the other part of the one before it, whose ends are yet to come.
+use Rattle.std.specs.Prelude.{◌≡◌, ◌⊎◌, ◌<◌, ◌+◌, ℕ, Bool, List, [], ◌∷◌, length, drop, not, true, false, Some, slice_get, IfSome}
 use Rattle.std.specs.Option.{option_map_or}
 use Rattle.std.specs.declared.option.Option.{Option}
 use Rattle.a68_annot.specs.declared.annotated.Annotated.{Annotated}
 use Rattle.a68_base.specs.declared.refusal.Stop.{Stop}
 use Rattle.a68_code.specs.declared.code.Instr.{Instr}
 use Rattle.a68_code.specs.declared.does.Does.TheVariants as does
-use Rattle.a68_elab.specs.Made.{case_of, left_out, out_of}
+use Rattle.a68_elab.specs.Made.{case_of, conformity_of, left_out, out_of}
 use Rattle.a68_elab.specs.Programs.{behind}
-use Rattle.a68_elab.specs.Trees.{Tree, Trees, count}
+use Rattle.a68_elab.specs.Trees.{Specs, Tree, Trees, count}
 use Rattle.a68_emit.specs.Chains.{TreeIsWritten, shuts}
-use Rattle.a68_emit.specs.Listing.{arm_places, arm_stretches, instr, sizes, stretch}
-use Rattle.a68_emit.specs.Stretches.{with_last}
+use Rattle.a68_emit.specs.Listing.{arm_places, arm_stretches, instr, sizes, spec_places, spec_sizes, spec_stretches, stretch}
+use Rattle.a68_emit.specs.Stretches.{member_places, wholes_of, with_last}
 use Rattle.a68_emit.specs.Writing.{aim_all, Writes}
 use Rattle.a68_annot.specs.declared.note.Note.{Note}
 use Rattle.a68_constructs.specs.declared.choices.Tail.{Tail}
 use Rattle.a68_elab.specs.Runs.{runs}
+use Rattle.a68_tree.specs.declared.kind.NodeKind.{NodeKind}
 use Rattle.a68_tree.specs.declared.kind.NodeKind.TheVariants as kind
 use Rattle.a68_tree.specs.declared.node.Node.{Node}
 use Rattle.a68_constructs.specs.declared.endings.Ending.{Ending}
@@ -51,6 +52,15 @@ pub record GoesOn (tree tree' : Tree) (es : List Ending) (stop : Option Stop) (l
 abbrev pub case_tree : Annotated → (ℕ → Tree) → (id place goal : ℕ) → List ℕ → Tree
 case_tree a f id place goal parts = case_of a (behind id f) place goal (not (is_void (shape_at a.modes goal))) parts
 
+-- the tree of a choice by a mode
+abbrev pub conformity_tree : Annotated → (ℕ → Tree) → (id place goal : ℕ) → List ℕ → Tree
+conformity_tree a f id place goal parts = conformity_of a (behind id f) place goal (not (is_void (shape_at a.modes goal))) parts
+
+-- the tree of either
+abbrev pub choice_tree : Annotated → (ℕ → Tree) → (by_mode : Bool) → (id place goal : ℕ) → List ℕ → Tree
+choice_tree a f true id place goal parts = conformity_tree a f id place goal parts
+choice_tree a f false id place goal parts = case_tree a f id place goal parts
+
 -- what is left of it behind its front, and what stands for that
 abbrev pub tail_behind : Annotated → (id place goal : ℕ) → List ℕ → Tail
 tail_behind a id place goal parts = record { id = id; other = out_of a (drop 1 parts); place = place; goal = goal }
@@ -62,13 +72,22 @@ out_tree f t = option_map_or f t.other (left_out t.place t.goal)
 abbrev pub TailIsWithin : Annotated → Tail → Type 0
 TailIsWithin a t = IfSome t.other (λ p. (t.id < p) × (p < length a.tree.nodes))
 
--- a node is a choice by a number that is written as it stands
-pub record IsBareCase (a : Annotated) (id : ℕ) : Type 0 where
+-- is a node a choice by a mode?
+abbrev pub by_mode : NodeKind → Bool
+by_mode kind.Conformity = true
+by_mode k = false
+
+-- a node is a choice by a number or by a mode
+abbrev pub IsChoice : NodeKind → Type 0
+IsChoice k = (k ≡ kind.Case) ⊎ (k ≡ kind.Conformity)
+
+-- such a choice that is written as it stands
+pub record IsBareChoice (a : Annotated) (id : ℕ) : Type 0 where
   pub node : Node
   pub note : Note
   pub is : slice_get a.tree.nodes id ≡ Some node
   pub noted : slice_get a.notes id ≡ Some note
-  pub case : node.kind ≡ kind.Case
+  pub choice : IsChoice node.kind
   pub bare : note.path ≡ []
   pub run : runs a id ≡ true
   pub some : 0 < length node.parts
@@ -77,3 +96,8 @@ pub record IsBareCase (a : Annotated) (id : ℕ) : Type 0 where
 abbrev pub case_front : (place : ℕ) → Trees → (at : ℕ) → List Instr
 case_front place parts at =
     instr place (does.Case (with_last (arm_places parts (at + 1)) (at + 1 + sizes parts + count parts))) ∷ arm_stretches place 0 parts (at + 1)
+
+-- Member with its places, the specifications with their parts and Jump 0, up to where the other part begins
+abbrev pub member_front : (place union : ℕ) (members : List ℕ) (yields : Bool) → Specs → (at : ℕ) → List Instr
+member_front place union members yields specs at =
+    instr place (does.Member union (member_places members specs (spec_places specs (at + 1)) (at + 1 + spec_sizes specs)) (wholes_of members specs)) ∷ spec_stretches place 0 yields specs (at + 1)

@@ -1,4 +1,4 @@
-//! Choices, by a truth value or by a number.
+//! Choices, by a truth value or by a number, and their chains, in which choices by a mode may stand.
 ghost use Rattle.std.specs.Option.{option_map_or};
 ghost use Rattle.std.specs.Prelude.{◌≡◌, ◌<◌, ◌≤◌, ◌+◌, ◌∷◌, ◌++◌, [], not, length, IfSome, IsTrue};
 ghost use Rattle.a68_elab.specs.Made as made;
@@ -7,12 +7,13 @@ ghost use Rattle.a68_elab.specs.Programs.{behind};
 ghost use Rattle.a68_emit.specs.Chains.{IsOpen, TreeIsWritten, LinkIsWithin, enquiry_tree, jump_of, link_list, link_tree, other_tree};
 ghost use Rattle.a68_emit.specs.Listing.{arm_places, arm_stretches, instr, size, stretch};
 ghost use Rattle.a68_emit.specs.Numbers.{arm_jumps};
-ghost use Rattle.a68_constructs.specs.Endings.{GoesOn, IsBareCase, IsFront, TailIsWithin, case_front, case_tree, out_tree, tail_behind};
+ghost use Rattle.a68_constructs.specs.Endings.{GoesOn, IsBareChoice, IsChoice, IsFront, TailIsWithin, by_mode, case_front, case_tree, choice_tree, out_tree, tail_behind};
 ghost use Rattle.a68_emit.specs.Views.{tree_of};
 ghost use Rattle.a68_emit.specs.Writers.{Wrote};
 ghost use Rattle.a68_modes.specs.Nodes.{shape_at, is_void};
 ghost use Rattle.a68_tree.specs.Trees.{AllBetween};
 
+use crate::conformity::conform_front;
 use crate::endings::{Ending, end_all, keep_ending};
 use crate::rows::{unit, write_part};
 use crate::turns::enquire;
@@ -192,7 +193,7 @@ fn write_arms(
     keep(starts, other, out);
 }
 
-/// What is yet to be written of a choice by a number: the other part, if there is one, behind the node of the choice; the
+/// What is yet to be written of a choice by a number or by a mode: the other part, if there is one, behind the node of the choice; the
 /// byte at which that begins, and the mode that is asked of it.
 #[derive(Clone, Copy)]
 pub struct Tail {
@@ -285,12 +286,22 @@ fn is_bare_out(node: &Node, note: &Note) -> bool
     matches!(node.kind, NodeKind::Out) && note.path.items.is_empty()
 }
 
-// Is it a choice by a number, without coercions?
-fn is_bare_case(node: &Node, note: &Note) -> bool
-    ensures kind { IsTrue result → node.now.kind ≡ NodeKind.Case }
+// Is it a choice by a mode?
+fn is_by_mode(node: &Node) -> bool
+    ensures { result ≡ by_mode node.now.kind }
+{
+    matches!(node.kind, NodeKind::Conformity)
+}
+
+// Is it a choice by a number or by a mode, without coercions?
+fn is_bare_choice(node: &Node, note: &Note) -> bool
+    ensures kind { IsTrue result → IsChoice node.now.kind }
     ensures path { IsTrue result → note.now.path ≡ [] }
 {
-    matches!(node.kind, NodeKind::Case) && note.path.items.is_empty()
+    match node.kind {
+        NodeKind::Case | NodeKind::Conformity => note.path.items.is_empty(),
+        _ => false,
+    }
 }
 
 // What an other part consists of, where it is a unit that is written as it stands.
@@ -314,14 +325,14 @@ fn unit_within(program: &View, id: NodeId) -> Option<NodeId>
     Some(parts[0])
 }
 
-// Is a node a choice by a number that is written as it stands?
-fn is_case(program: &View, id: NodeId) -> bool
+// Is a node a choice by a number or by a mode that is written as it stands?
+fn is_choice(program: &View, id: NodeId) -> bool
     requires { id < length program.now.of.now.tree.nodes }
-    ensures { IsTrue result → IsBareCase program.now.of.now id }
+    ensures { IsTrue result → IsBareChoice program.now.of.now id }
 {
     let node = program.of.node(id);
     let note = program.of.note(id);
-    if !is_bare_case(node, note) {
+    if !is_bare_choice(node, note) {
         return false;
     }
     if !program.of.runs(id) {
@@ -334,10 +345,10 @@ fn is_case(program: &View, id: NodeId) -> bool
 }
 
 // The node of the next choice of a chain, where there is one.
-fn next_case(program: &View, tail: &Tail) -> Option<NodeId>
+fn next_choice(program: &View, tail: &Tail) -> Option<NodeId>
     requires { TailIsWithin program.now.of.now tail.now }
     ensures tree { IfSome result (λ next. out_tree (tree_of program.now) tail.now ≡ tree_of program.now next) }
-    ensures case { IfSome result (IsBareCase program.now.of.now) }
+    ensures choice { IfSome result (IsBareChoice program.now.of.now) }
     ensures within { IfSome result (λ next. (tail.now.id < next) × (next < length program.now.of.now.tree.nodes)) }
 {
     let Some(other) = tail.other else {
@@ -346,15 +357,38 @@ fn next_case(program: &View, tail: &Tail) -> Option<NodeId>
     let Some(unit) = unit_within(program, other) else {
         return None;
     };
-    if !is_case(program, unit) {
+    if !is_choice(program, unit) {
         return None;
     }
     Some(unit)
 }
 
+// The front of a choice by a mode, or of one by a number, and what is to be done at its end.
+#[cycle(units)]
+fn front_of(
+    alloc: Global,
+    program: &View,
+    by_mode: bool,
+    id: NodeId,
+    parts: &[NodeId],
+    place: u32,
+    goal: ModeId,
+    out: &mut Writer,
+) -> Ending
+    requires some { 0 < length parts.now }
+    requires between { AllBetween id (length program.now.of.now.tree.nodes) parts.now }
+    ensures { IsFront (choice_tree program.now.of.now (tree_of program.now) by_mode id place goal parts.now)
+        (out_tree (tree_of program.now) (tail_behind program.now.of.now id place goal parts.now)) result out.old.stop out.old.list out.new.stop out.new.list }
+{
+    if by_mode {
+        return conform_front(alloc, program, id, parts, place, goal, out);
+    }
+    write_front(alloc, program, id, parts, place, goal, out)
+}
+
 // Writes a choice of a chain up to where its other part begins, and keeps what is to be done at its end.
 #[cycle(units)]
-fn write_case(
+fn write_choice(
     alloc: Global,
     program: &View,
     id: NodeId,
@@ -362,7 +396,7 @@ fn write_case(
     out: &mut Writer,
 ) -> Tail
     requires there { id < length program.now.of.now.tree.nodes }
-    requires case { IsBareCase program.now.of.now id }
+    requires choice { IsBareChoice program.now.of.now id }
     ensures within { TailIsWithin program.now.of.now result }
     ensures node { result.id ≡ id }
     ensures on { GoesOn (tree_of program.now id) (out_tree (tree_of program.now) result) endings.old.items out.old.stop out.old.list endings.new.items out.new.stop out.new.list }
@@ -370,14 +404,16 @@ fn write_case(
     let node = program.of.node(id);
     let note = program.of.note(id);
     let parts = program.of.parts(id);
-    let ending = write_front(alloc, program, id, parts, node.span.from, note.goal, out);
+    let place = node.span.from;
+    let by_mode = is_by_mode(node);
+    let ending = front_of(alloc, program, by_mode, id, parts, place, note.goal, out);
     keep_ending(endings, ending, out);
-    tail_of(program, id, parts, node.span.from, note.goal)
+    tail_of(program, id, parts, place, note.goal)
 }
 
 // Writes the choices of a chain one behind the other, whose ends are yet to come, and tells what is left of the last one.
 #[cycle(units)]
-fn write_cases(
+fn write_choices(
     alloc: Global,
     program: &View,
     first: Tail,
@@ -392,18 +428,20 @@ fn write_cases(
 {
     let mut tail = first;
     'tails: loop {
-        match next_case(program, &tail) {
-            Some(next) => tail = write_case(alloc, program, next, endings, out),
+        match next_choice(program, &tail) {
+            Some(next) => tail = write_choice(alloc, program, next, endings, out),
             None => return tail,
         }
     }
 }
 
-// A chain of choices by a number: no more of the stack is needed however long it is.
+/// A chain of choices by a number or by a mode, of which the first is of these parts: no more of the stack is needed
+/// however long it is.
 #[cycle(units)]
-fn case_chain(
+pub fn choice_chain(
     alloc: Global,
     program: &View,
+    by_mode: bool,
     id: NodeId,
     parts: &[NodeId],
     place: u32,
@@ -412,13 +450,13 @@ fn case_chain(
 )
     requires some { 0 < length parts.now }
     requires between { AllBetween id (length program.now.of.now.tree.nodes) parts.now }
-    ensures { Wrote out.old out.new (stretch (case_tree program.now.of.now (tree_of program.now) id place goal parts.now) (length out.old.list)) }
+    ensures { Wrote out.old out.new (stretch (choice_tree program.now.of.now (tree_of program.now) by_mode id place goal parts.now) (length out.old.list)) }
 {
     let mut endings = Vec::new(alloc);
-    let ending = write_front(alloc, program, id, parts, place, goal, out);
+    let ending = front_of(alloc, program, by_mode, id, parts, place, goal, out);
     keep_ending(&mut endings, ending, out);
     let first = tail_of(program, id, parts, place, goal);
-    let last = write_cases(alloc, program, first, &mut endings, out);
+    let last = write_choices(alloc, program, first, &mut endings, out);
     otherwise(
         alloc, program, last.id, last.other, last.place, last.goal, out,
     );
@@ -445,5 +483,5 @@ pub fn case(
         meaningless(out);
         return;
     }
-    case_chain(alloc, program, id, parts, place, goal, out);
+    choice_chain(alloc, program, false, id, parts, place, goal, out);
 }

@@ -1,26 +1,27 @@
 //! The instructions of conformity clauses. Above each function stands what it writes: `[x]` is what the part x writes.
-ghost use Rattle.std.specs.Option.{option_map_or};
-ghost use Rattle.std.specs.Prelude.{◌≡◌, ◌<◌, ◌+◌, ◌∷◌, ◌++◌, [], not, length, IfSome};
+ghost use Rattle.std.specs.Prelude.{◌≡◌, ◌<◌, ◌+◌, ◌∷◌, ◌++◌, [], not, length};
 ghost use Rattle.a68_acts.specs.Members.{members_of};
+ghost use Rattle.a68_constructs.specs.Endings.{IsFront, conformity_tree, member_front, out_tree, tail_behind};
 ghost use Rattle.a68_elab.specs.Made as made;
 ghost use Rattle.a68_elab.specs.Made.{specs_of};
 ghost use Rattle.a68_elab.specs.Programs.{behind};
-ghost use Rattle.a68_emit.specs.Conforming.{conform_list, spec_body, spec_jumps, spec_size};
+ghost use Rattle.a68_emit.specs.Conforming.{spec_body, spec_jumps, spec_size};
 ghost use Rattle.a68_emit.specs.Listing.{instr, spec_places, spec_stretches, stretch};
 ghost use Rattle.a68_emit.specs.Views.{tree_of};
 ghost use Rattle.a68_emit.specs.Writers.{Wrote};
 ghost use Rattle.a68_modes.specs.Nodes.{shape_at, is_void};
 ghost use Rattle.a68_tree.specs.Trees.{AllBetween};
 
-use crate::choices::otherwise;
+use crate::choices::choice_chain;
+use crate::endings::Ending;
 use crate::rows::write_part;
 use crate::turns::enquire;
 use a68_code::Does;
 use a68_emit::{
-    View, Writer, aim_member, goal_at, has_tag, keep, meaningless, members_of, shut, unaimed,
+    View, Writer, aim_member, goal_at, has_tag, keep, meaningless, members_of, unaimed,
 };
 use a68_modes::ModeId;
-use a68_parts::{before_out, out_of};
+use a68_parts::before_out;
 use a68_tree::NodeId;
 use std::alloc::Global;
 
@@ -117,23 +118,24 @@ fn write_specs(
     }
 }
 
-// Member and its places, the specifications with their parts and Jump e, the other [part], e:
+// Member and its places, the specifications with their parts and Jump 0: and keeps the numbers of the jumps.
 #[cycle(units)]
 fn conform(
     alloc: Global,
     program: &View,
     id: NodeId,
     specs: &[NodeId],
-    other: Option<NodeId>,
     union: ModeId,
     place: u32,
-    goal: ModeId,
+    yields: bool,
+    jumps: &mut Vec<u32>,
     out: &mut Writer,
 )
     requires between { AllBetween id (length program.now.of.now.tree.nodes) specs.now }
-    requires other { IfSome other (λ p. (id < p) × (p < length program.now.of.now.tree.nodes)) }
-    ensures { Wrote out.old out.new (conform_list place union (members_of (shape_at program.now.of.now.modes union)) (not (is_void (shape_at program.now.of.now.modes goal)))
-        (specs_of program.now.of.now (behind id (tree_of program.now)) specs.now) (option_map_or (tree_of program.now) other (made.left_out place goal)) (length out.old.list)) }
+    requires no_jumps { jumps.old.items ≡ [] }
+    ensures writes { Wrote out.old out.new (member_front place union (members_of (shape_at program.now.of.now.modes union)) yields
+        (specs_of program.now.of.now (behind id (tree_of program.now)) specs.now) (length out.old.list)) }
+    ensures jumps { out.new.stop ≡ None → jumps.new.items ≡ spec_jumps (specs_of program.now.of.now (behind id (tree_of program.now)) specs.now) (length out.old.list + 1) }
 {
     let members = members_of(program.of.modes(), union);
     let Ok(does) = unaimed(alloc, program, id, specs, union, members) else {
@@ -143,8 +145,6 @@ fn conform(
     let member = out.len();
     out.emit(place, does);
     let mut starts = Vec::new(alloc);
-    let mut jumps = Vec::new(alloc);
-    let yields = !program.of.is_void(goal);
     write_specs(
         alloc,
         program,
@@ -153,16 +153,50 @@ fn conform(
         yields,
         place,
         &mut starts,
-        &mut jumps,
+        jumps,
         out,
     );
     let none = out.len();
-    otherwise(alloc, program, id, other, place, goal, out);
-    let end = out.len();
-    out.patch_all(&jumps, end);
     aim_member(
         alloc, program, id, specs, members, member, &starts, none, out,
     );
+}
+
+/// [enquiry] Member .. up to where the other part begins, and tells what is to be done at the end. With slots Enter stands
+/// before it.
+#[cycle(units)]
+pub fn conform_front(
+    alloc: Global,
+    program: &View,
+    id: NodeId,
+    parts: &[NodeId],
+    place: u32,
+    goal: ModeId,
+    out: &mut Writer,
+) -> Ending
+    requires some { 0 < length parts.now }
+    requires between { AllBetween id (length program.now.of.now.tree.nodes) parts.now }
+    ensures { IsFront (conformity_tree program.now.of.now (tree_of program.now) id place goal parts.now)
+        (out_tree (tree_of program.now) (tail_behind program.now.of.now id place goal parts.now)) result out.old.stop out.old.list out.new.stop out.new.list }
+{
+    let enquiry = parts[0];
+    let begin = program.of.node(enquiry).span.from;
+    let slots = program.of.note(enquiry).slots;
+    let phrases = program.of.parts(enquiry);
+    enquire(alloc, program, enquiry, phrases, begin, slots, out);
+    let specs = before_out(program.of.annotated(), id, &parts[1..]);
+    let union = goal_at(program, enquiry);
+    let yields = !program.of.is_void(goal);
+    let mut jumps = Vec::new(alloc);
+    conform(
+        alloc, program, id, specs, union, place, yields, &mut jumps, out,
+    );
+    Ending {
+        jumps,
+        place,
+        slots,
+        yields,
+    }
 }
 
 /// [enquiry] Member .., with slots Enter before it and Leave behind it.
@@ -185,15 +219,5 @@ pub fn conformity(
         meaningless(out);
         return;
     }
-    let enquiry = parts[0];
-    let rest = &parts[1..];
-    let begin = program.of.node(enquiry).span.from;
-    let slots = program.of.note(enquiry).slots;
-    let phrases = program.of.parts(enquiry);
-    enquire(alloc, program, enquiry, phrases, begin, slots, out);
-    let specs = before_out(program.of.annotated(), id, rest);
-    let other = out_of(program.of.annotated(), id, rest);
-    let union = goal_at(program, enquiry);
-    conform(alloc, program, id, specs, other, union, place, goal, out);
-    shut(place, slots, !program.of.is_void(goal), out);
+    choice_chain(alloc, program, true, id, parts, place, goal, out);
 }

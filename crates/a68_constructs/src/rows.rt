@@ -28,12 +28,16 @@ use a68_modes::ModeId;
 use a68_tree::{Node, NodeId, NodeKind};
 use std::alloc::Global;
 
-/// Writes a unit and its coercions: [construct] coercions; or a misfit, where it does not leave what is asked of it.
+/// Writes a unit and its coercions: [construct] coercions; or a misfit, where it does not leave what is asked of it. Once
+/// writing has stopped, nothing is looked at any more.
 #[cycle(units)]
 pub fn unit(alloc: Global, program: &View, id: NodeId, out: &mut Writer)
     requires { id < length program.now.of.now.tree.nodes }
     ensures { Wrote out.old out.new (stretch (tree_of program.now id) (length out.old.list)) }
 {
+    if out.has_stopped() {
+        return;
+    }
     let node = program.of.node(id);
     let note = program.of.note(id);
     if !program.of.runs(id) {

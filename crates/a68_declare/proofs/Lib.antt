@@ -12,3 +12,4 @@ pub mod Rawing
 pub mod Fixing
 pub mod One
 pub mod Single
+pub mod Falling

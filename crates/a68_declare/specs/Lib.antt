@@ -2,3 +2,4 @@ pub mod Clean
 pub mod Broken
 pub mod Numbering
 pub mod Outcome
+pub mod Slopes

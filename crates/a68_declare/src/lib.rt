@@ -8,6 +8,7 @@ mod image;
 mod laws;
 mod modes;
 mod numbering;
+mod slopes;
 mod unions;
 
 pub use call::declare;

@@ -1,5 +1,5 @@
 //! Writing instructions.
-ghost use Rattle.std.specs.Option.{option_map_or};
+ghost use Rattle.std.specs.Option.{is_some, option_map_or};
 ghost use Rattle.std.specs.Prelude.{◌≡◌, ◌≤◌, ◌⊎◌, ◌∷◌, [], length, IfOk};
 ghost use Rattle.a68_builder.specs.Aiming.{aimed_at};
 ghost use Rattle.a68_emit.specs.Listing.{instr};
@@ -32,6 +32,13 @@ impl Writer {
         ensures few { result ≤ most }
     {
         self.list.len()
+    }
+
+    /// Has it stopped? Then nothing more is written.
+    pub fn has_stopped(&self) -> bool
+        ensures { result ≡ is_some self.now.stop }
+    {
+        self.stop.is_some()
     }
 
     /// Writes an instruction behind all others.

@@ -16,7 +16,7 @@ use a68_base::NoMemory;
 use a68_code::Code;
 use a68_outside::Gate;
 use a68_values::Kept;
-use a68_workers::{GivenRun, HeldWorld, run_alone};
+use a68_workers::{GivenRun, HeldWorld, run_alone, run_while_alone};
 use a68_world::World;
 use std::alloc::Global;
 use std::marker::{Brand, Send, Sync};
@@ -84,7 +84,7 @@ fn run_carried<J: GivenRun + Send + Sync, R: Threads + Wait + Sync, G: Gate>(
 
 /// Runs a world to its end by 1 to 64 workers, as `run_all` does: the same code and fuel, and a journal that begins with the
 /// one handed in. Several workers carry strands outside the slot in which the world lies, and run their silent instructions
-/// there. What they leave undone one does.
+/// there. What they leave undone one does, and so what the first strand does before it makes others.
 pub fn run_leased<R: Threads + Wait + Sync, G: Gate>(
     rt: &R,
     alloc: Global,
@@ -103,8 +103,12 @@ pub fn run_leased<R: Threads + Wait + Sync, G: Gate>(
     if workers == 1 {
         return run_alone(alloc, world, gate);
     }
-    let world = run_carried::<Brand, R, G>(rt, alloc, world, workers, gate)?;
-    run_alone(alloc, world, gate)
+    let begun = run_while_alone(alloc, world, gate)?;
+    if begun.end().is_some() {
+        return Ok(begun);
+    }
+    let carried = run_carried::<Brand, R, G>(rt, alloc, begun, workers, gate)?;
+    run_alone(alloc, carried, gate)
 }
 
 // What is kept of a run that has ended.

@@ -169,3 +169,42 @@ fn waits_for_units(rt: HostRuntime) {
     holds(&rt, world.end() == Some(End::Done), "the end");
     drop(world);
 }
+
+// What the first strand does by itself: whether it is alone, and how many events there are then.
+fn goes_alone(rt: &impl Abort, alloc: Global, world: &mut World) -> (bool, u64) {
+    let alone = world.is_alone();
+    world.go_alone(alloc).expect(rt, "memory");
+    (alone, world.events())
+}
+
+// Beside units that have yet to close the first strand takes no turn by itself; behind the last of them it does.
+#[test]
+fn goes_on_alone_behind_its_units(rt: HostRuntime) {
+    let alloc = rt.alloc();
+    let code = valid_code(
+        &rt,
+        alloc,
+        "Fork 4 6, Turn, Turn, End, Skip 0, Close, Skip 0, Close",
+    );
+    let mut world = World::start(alloc, code, 9).expect(&rt, "memory");
+    let _ = world.turn(alloc, 0);
+    holds(
+        &rt,
+        goes_alone(&rt, alloc, &mut world) == (false, 1),
+        "two units",
+    );
+    let _ = world.turn(alloc, 1);
+    holds(
+        &rt,
+        goes_alone(&rt, alloc, &mut world) == (false, 2),
+        "one unit",
+    );
+    let _ = world.turn(alloc, 2);
+    holds(
+        &rt,
+        goes_alone(&rt, alloc, &mut world) == (true, 5),
+        "no unit",
+    );
+    holds(&rt, world.end() == Some(End::Done), "the end");
+    drop(world);
+}

@@ -1,8 +1,8 @@
 -- The rows on the way back along a path of rowings.
-use Rattle.std.proofs.Common.{◌≡◌, ◌+◌, ◌-◌, ◌<◌, ◌≤◌, ℕ, zero, suc, Bool, true, false, List, [], ◌∷◌, length, drop, get_or, refl, sym, ◌∙◌, ap, subst, arith, None, Some}
-use Rattle.std.proofs.lemmas.Bool.{false≢true, ne_eqb}
+use Rattle.std.proofs.Common.{◌≡◌, ◌⊎◌, inl, inr, ◌+◌, ◌-◌, ◌<◌, ◌≤◌, ℕ, zero, suc, Bool, true, false, List, [], ◌∷◌, length, drop, get_or, refl, sym, ◌∙◌, ap, subst, arith, None, Some}
+use Rattle.std.proofs.lemmas.Bool.{cases_eq, cases_lt, false≢true, ne_eqb}
 use Rattle.std.proofs.lemmas.Bool.Decides.{nat_tests}
-use Rattle.std.proofs.lemmas.List.{drop_all, drop_more}
+use Rattle.std.proofs.lemmas.List.{drop_all, drop_more, length-drop}
 use Rattle.std.proofs.lemmas.Option.{same_Some}
 use Rattle.std.specs.Option.{option_and_then}
 use Rattle.std.specs.Prelude.{if◌then◌else◌, IfSome}
@@ -10,10 +10,10 @@ use Rattle.std.specs.declared.option.Option.{Option}
 use Rattle.a68_elab.specs.Made.{found_from, is_row_of, rowed_to, unrowed, unrowed_by}
 use Rattle.a68_modes.specs.Nodes.{shape_at}
 use Rattle.a68_modes.specs.declared.coercion.Coercion.{Coercion}
-use Rattle.a68_modes.specs.declared.coercion.Coercion.TheVariants.{RowUp}
+use Rattle.a68_modes.specs.declared.coercion.Coercion.TheVariants.{Deproc, Deref, Drop, RowUp, RowUpName, Unite, Widen}
 use Rattle.a68_modes.specs.declared.shape.Shape.{Shape}
 use Rattle.a68_modes.specs.declared.shape.Shape.TheVariants.{Rows}
-use Rattle.a68_parts.specs.Rowing.{IsRows, first_row}
+use Rattle.a68_parts.specs.Rowing.{AreRowings, IsRows, Tells, before, first_row}
 
 -- ---- the first of some modes
 
@@ -139,3 +139,62 @@ pub near_is : (modes : List Shape) (dims of : ℕ) (o : Option ℕ) → o ≡ fo
     → IfSome o (λ m. (m < length modes) × (is_row_of dims of (shape_at modes m) ≡ true))
 near_is modes dims of None e = tt
 near_is modes dims of (Some m) e = near_found modes dims of m (sym e)
+
+-- ---- all last rowings that are known
+
+-- so many rowings lead from modes that are there, and so do fewer
+abbrev pub AllReach : List Shape → (goal : ℕ) → List Coercion → (dims of count : ℕ) → Type 0
+AllReach modes goal path dims of count = (k : ℕ) → k ≤ count → Reaches modes goal path dims of k (dims - k)
+
+pub all_none_yet : (modes : List Shape) (goal : ℕ) (path : List Coercion) (dims of : ℕ) → IsRows dims of (shape_at modes goal) → AllReach modes goal path dims of 0
+all_none_yet modes goal path dims of row = λ k less.
+    let none : k ≡ 0 = omega (arith, less) in
+    let same : dims - k ≡ dims = omega (arith, none) in
+    rw (same, none) (none_yet modes goal path dims of row)
+
+pub all_more : (modes : List Shape) (goal : ℕ) (path : List Coercion) (dims of count : ℕ) → AllReach modes goal path dims of count → Reaches modes goal path dims of (count + 1) (dims - (count + 1))
+    → AllReach modes goal path dims of (count + 1)
+all_more modes goal path dims of count all one = λ k less. go k less (cases_eq k (count + 1))
+  where
+    go : (k : ℕ) → k ≤ count + 1 → (k ≡ count + 1) ⊎ (k ≡ count + 1 → ⊥) → Reaches modes goal path dims of k (dims - k)
+    go k less (inl e) = subst (λ (n : ℕ). Reaches modes goal path dims of n (dims - n)) (sym e) one
+    go k less (inr ne) = all k (omega (arith, less, ne))
+
+-- the place before so many coercions as are left behind a place is that place, as far as there are any
+same_place : (at : ℕ) (path : List Coercion) → drop (length path - length (drop at path)) path ≡ drop at path
+same_place at path = go (cases_lt at (length path))
+  where
+    go : (at < length path) ⊎ (length path ≤ at) → drop (length path - length (drop at path)) path ≡ drop at path
+    go (inl less) = let long = length-drop at path in let back : length path - length (drop at path) ≡ at = omega (arith, long, less) in ap (λ (n : ℕ). drop n path) back
+    go (inr past) = let long = length-drop at path in drop_all (length path - length (drop at path)) path (omega (arith, long, past)) ∙ sym (drop_all at path past)
+
+-- what they tell at each place of the path
+pub all_tell : (modes : List Shape) (goal : ℕ) (path : List Coercion) (dims of count : ℕ) → count ≤ length path → AllReach modes goal path dims of count
+    → AreRowings modes goal path (record { count = count; dims = dims; of = of })
+all_tell modes goal path dims of count within all = λ at less.
+    let n = length (drop at path) in
+    let r = all n less in
+    let same : drop (length path - n) path ≡ drop at path = same_place at path in
+    sym (r.first ∙ ap (λ (p : List Coercion). rowed_to modes goal p) same)
+
+-- ---- one coercion before others
+
+before_is : (modes : List Shape) (goal : ℕ) (path : List Coercion) (c : Coercion) → before modes (rowed_to modes goal path) c ≡ rowed_to modes goal (c ∷ path)
+before_is modes goal path Deref = refl
+before_is modes goal path Deproc = refl
+before_is modes goal path (Unite m) = refl
+before_is modes goal path Widen = refl
+before_is modes goal path RowUp = refl
+before_is modes goal path RowUpName = refl
+before_is modes goal path Drop = refl
+
+-- one more is looked at, from the end of a path
+pub back_one : (modes : List Shape) (goal : ℕ) (path : List Coercion) (behind : ℕ) (d : Coercion) → behind < length path
+    → before modes (rowed_to modes goal (drop (length path - behind) path)) (get_or path (length path - 1 - behind) d) ≡ rowed_to modes goal (drop (length path - (behind + 1)) path)
+back_one modes goal path behind d less =
+    let i = length path - 1 - behind in
+    let here : length path - (behind + 1) ≡ i = omega arith in
+    let next : i + 1 ≡ length path - behind = omega (arith, less) in
+    let split : drop (length path - (behind + 1)) path ≡ get_or path i d ∷ drop (length path - behind) path =
+    ap (λ (n : ℕ). drop n path) here ∙ drop_more path i d (omega (arith, less)) ∙ ap (λ (n : ℕ). get_or path i d ∷ drop n path) next in
+    before_is modes goal (drop (length path - behind) path) (get_or path i d) ∙ sym (ap (λ (p : List Coercion). rowed_to modes goal p) split)

@@ -14,4 +14,4 @@ pub use nodes::{
     before_out, begins_in_heap, begins_with_declarer, behind_heap, behind_proc, behind_ref, called,
     is_one_of, items_at, kind_at, last_id, mode_at, out_of, parts_at, printers, wholes,
 };
-pub use rowing::rowed_to;
+pub use rowing::{Rowings, last_rowings, rowed_by, rowed_to};

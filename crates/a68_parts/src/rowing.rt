@@ -1,8 +1,9 @@
 //! Rowing: the modes between a value and the row that it becomes.
-ghost use Rattle.std.specs.Prelude.{◌≡◌, ◌<◌, ◌≤◌, ◌-◌, true, length, drop, IfSome, IsTrue};
+ghost use Rattle.std.specs.Prelude.{◌≡◌, ◌<◌, ◌≤◌, ◌-◌, true, length, IfSome, IsTrue};
 ghost use Rattle.a68_elab.specs.Made as made;
 ghost use Rattle.a68_modes.specs.Nodes.{shape_at};
 ghost use Rattle.a68_parts.specs.Rowing as running;
+ghost use Rattle.a68_parts.specs.Rowing.{AreRowings};
 
 use crate::nodes::behind_ref;
 use a68_modes::{Coercion, ModeId, Modes, Shape};
@@ -104,11 +105,13 @@ fn before(modes: &Modes, mode: Option<ModeId>, coercion: Coercion) -> Option<Mod
     }
 }
 
-// What the last coercions of a path lead back to: so many of them, and the mode.
+/// What is known of the end of a path of coercions that leads to a row: the last coercions, so many, are rowings from rows
+/// that are there, each of a dimension fewer. The last row has so many dimensions, and its elements this mode.
 #[derive(Clone, Copy)]
-struct Back {
-    count: usize,
-    mode: Option<ModeId>,
+pub struct Rowings {
+    pub count: usize,
+    pub dims: u32,
+    pub of: ModeId,
 }
 
 // Is it a rowing of a value?
@@ -142,58 +145,81 @@ fn first_row(modes: &Modes, goal: ModeId, of: ModeId, count: usize, dims: u32) -
     }
 }
 
-// The last rowings of a path that leads to a row, as far as the rows with fewer dimensions are there. The rows between are
-// not looked for among all modes, since each stands mostly in front of the one with a dimension more.
-fn rows_back(modes: &Modes, goal: ModeId, dims: u32, of: ModeId, path: &[Coercion]) -> Back
+// How many last rowings of a path that leads to a row start from rows that are there. These rows are not looked for among
+// all modes, since each stands mostly in front of the one with a dimension more.
+fn rows_back(modes: &Modes, goal: ModeId, dims: u32, of: ModeId, path: &[Coercion]) -> usize
     requires { running.IsRows dims of (shape_at modes.now goal) }
-    ensures within { result.count ≤ length path.now }
-    ensures mode { result.mode ≡ made.rowed_to modes.now goal (drop (length path.now - result.count) path.now) }
+    ensures within { result ≤ length path.now }
+    ensures rows { AreRowings modes.now goal path.now (record { count = result; dims = dims; of = of }) }
 {
     let mut at = goal;
     let mut left = dims;
     for count in 0..path.len() {
         if left < 2 || !is_row_up(path[path.len() - 1 - count]) {
-            let mode = first_row(modes, goal, of, count, left);
-            return Back { count, mode };
+            return count;
         }
         let Some(next) = near(modes, at, left - 1, of) else {
-            let mode = first_row(modes, goal, of, count, left);
-            return Back { count, mode };
+            return count;
         };
         at = next;
         left -= 1;
     }
-    let count = path.len();
-    let mode = first_row(modes, goal, of, count, left);
-    Back { count, mode }
+    path.len()
 }
 
-// What the last rowings of a path lead back to.
-fn reached(modes: &Modes, goal: ModeId, path: &[Coercion]) -> Back
+/// What is known of the end of a path that leads to a mode.
+pub fn last_rowings(modes: &Modes, goal: ModeId, path: &[Coercion]) -> Rowings
     ensures within { result.count ≤ length path.now }
-    ensures mode { result.mode ≡ made.rowed_to modes.now goal (drop (length path.now - result.count) path.now) }
+    ensures rows { AreRowings modes.now goal path.now result }
 {
-    let none = Back {
+    let none = Rowings {
         count: 0,
-        mode: Some(goal),
+        dims: 0,
+        of: 0,
     };
     if goal >= modes.len() {
         return none;
     }
     match modes.shape(goal) {
-        Shape::Rows { dims, of, .. } => rows_back(modes, goal, *dims, *of, path),
+        Shape::Rows { dims, of, .. } => {
+            let count = rows_back(modes, goal, *dims, *of, path);
+            Rowings {
+                count,
+                dims: *dims,
+                of: *of,
+            }
+        }
         _ => none,
     }
+}
+
+// The mode that so many last rowings reach.
+fn row_behind(modes: &Modes, goal: ModeId, rowings: Rowings, count: usize) -> Option<ModeId>
+    ensures { result ≡ running.first_row modes.now goal rowings.of count (rowings.dims - count) }
+{
+    let dims = (rowings.dims as usize).saturating_sub(count);
+    first_row(modes, goal, rowings.of, count, dims as u32)
 }
 
 /// The mode that a rowing reaches, behind which these coercions lead to a mode; none where it is not there.
 pub fn rowed_to(modes: &Modes, goal: ModeId, path: &[Coercion]) -> Option<ModeId>
     ensures { result ≡ made.rowed_to modes.now goal path.now }
 {
-    let reached = reached(modes, goal, path);
-    let mut mode = reached.mode;
-    for behind in reached.count..path.len() {
+    let rowings = last_rowings(modes, goal, path);
+    let mut mode = row_behind(modes, goal, rowings, rowings.count);
+    for behind in rowings.count..path.len() {
         mode = before(modes, mode, path[path.len() - 1 - behind]);
     }
     mode
+}
+
+/// The same, where it is known of the whole path, of which these coercions are the end, with which rowings it ends.
+pub fn rowed_by(modes: &Modes, goal: ModeId, path: &[Coercion], rowings: Rowings) -> Option<ModeId>
+    requires { running.Tells modes.now goal path.now rowings }
+    ensures { result ≡ made.rowed_to modes.now goal path.now }
+{
+    if path.len() <= rowings.count {
+        return row_behind(modes, goal, rowings, path.len());
+    }
+    rowed_to(modes, goal, path)
 }

@@ -1,5 +1,5 @@
 -- Runs whose strands are turned by picks.
-use Rattle.std.proofs.Common.{◌≡◌, ◌∙◌, ◌⊎◌, inl, inr, ℕ, zero, suc, ◌+◌, ◌<◌, ◌≤◌, ◌++◌, Bool, true, false, List, [], ◌∷◌, length, refl, ap, sym, subst, arith, true≢false, append-nil, length-append, get_or, take, take_all}
+use Rattle.std.proofs.Common.{◌≡◌, ◌∙◌, ◌⊎◌, inl, inr, ℕ, zero, suc, ◌+◌, ◌-◌, max, append_assoc, ◌<◌, ◌≤◌, ◌++◌, Bool, true, false, List, [], ◌∷◌, length, refl, ap, sym, subst, arith, true≢false, append-nil, length-append, get_or, take, take_all}
 use Rattle.std.proofs.lemmas.Bool.{cases_lt}
 use Rattle.std.proofs.lemmas.Option.{slice_get-get_or}
 use Rattle.std.specs.Prelude.{MatchBool, None, Some, IfSome, slice_get}
@@ -8,7 +8,7 @@ use Rattle.std.specs.declared.option.Option.{Option}
 use Rattle.a68_base.specs.declared.limits.TheConstants.{MOST_FUEL}
 use Rattle.a68_code.specs.declared.code.Code.{Code}
 use Rattle.a68_exec.specs.Runs.{World, opening}
-use Rattle.a68_replay.specs.Following.{Follows, HasAllHome, HasNoPick, TakesPick, picks_so_far}
+use Rattle.a68_replay.specs.Following.{AreOwn, Follows, GoesOwn, HasAllHome, HasNoPick, TakesPick, own_picks, picks_so_far}
 use Rattle.a68_replay.specs.Replays.{HasNoTurn, IsShort, LeadTo, Replays, behind_fault, unready}
 use Rattle.a68_replay.specs.Schedules.{last_pick, strands_of}
 use Rattle.a68_replay.specs.declared.picks.TheConstants.{MOST_PICKS}
@@ -23,6 +23,7 @@ use Rattle.a68_values.specs.declared.kept.Kept.{Kept}
 use Rattle.a68_world.proofs.Kin.{turn_open}
 use Rattle.a68_world.proofs.Places.{get_one, is_there, is_within, length_map}
 use Rattle.a68_world.proofs.Showing.{turn_there}
+use Rattle.a68_world.specs.Alone.{ActsAlone, AllOwn, GoneAlone}
 use Rattle.a68_world.specs.Run.{AllHome, EndsWithoutTurn, IsNumber, IsSoundRun, Run, RunBegins, world}
 use Rattle.a68_world.specs.Turns.{Acts, EndsAt, EndsHere, FinishesRun, HadEnded, IsNotReady, IsOf, SetsEnd}
 use Rattle.a68_world.specs.declared.status.StrandState.{StrandState}
@@ -213,6 +214,131 @@ module _ (old : Run) (picks : List ℕ) (i : ℕ) (now : Run) (f : IsFollowing o
 
   pub follows_all : length picks ≤ i → Follows old picks now None
   follows_all low = (f.same, f.picked ∙ take_all i picks low, f.home)
+
+-- ---- the first strand by itself
+
+own_more : (a b : ℕ) → own_picks (a + b) ≡ own_picks a ++ own_picks b
+own_more zero b = let none : 0 + b ≡ b = omega arith in ap own_picks none
+own_more (suc a) b = let one : suc a + b ≡ suc (a + b) = omega arith in ap own_picks one ∙ ap (λ (l : List ℕ). 0 ∷ l) (own_more a b)
+
+-- the entries of acts of the first strand alone
+own_strands : (entries : List Entry) → AllOwn entries → strands_of entries ≡ own_picks (length entries)
+own_strands [] own = refl
+own_strands (e ∷ entries) own = ap (λ (k : ℕ). k ∷ strands_of entries) own.0 ∙ ap (λ (l : List ℕ). 0 ∷ l) (own_strands entries own.1)
+
+long-own : (n : ℕ) → length (own_picks n) ≡ n
+long-own zero = refl
+long-own (suc n) = let more = long-own n in omega (arith, more)
+
+-- an end that needs no turn is no pick
+ends_no_pick : (new : Run) → ((e : End) → new.end ≡ Some e → EndsWithoutTurn new.code (world new) (Some e)) → (o : Option End) → new.end ≡ o → option_map_or last_pick o [] ≡ []
+ends_no_pick new ends None is = refl
+ends_no_pick new ends (Some e) is = no_pick new.code (world new) (Some e) (ends e is)
+
+module _ (old new : Run) (at until : ℕ) (home : HasAllHome old) (count : at ≡ length (picks_so_far old)) (within : at ≤ until) where
+  gone_same : (next : ℕ) → next ≡ max at (length old.entries) → new ≡ old → GoesOwn old at until new next
+  gone_same next is same =
+      let here : next ≡ at = omega (arith, is, count, entries_few old) in
+      let none : next - at ≡ 0 = omega (arith, here) in
+      record {
+        same = subst (λ (r : Run). IsOf old r) (sym same) (refl, refl);
+        low = omega (arith, here);
+        high = omega (arith, here, within);
+        picked = ap picks_so_far same ∙ sym (append-nil (picks_so_far old)) ∙ ap (λ (n : ℕ). picks_so_far old ++ own_picks n) (sym none);
+        home = subst (λ (r : Run). HasAllHome r) (sym same) home;
+      }
+
+  gone_on : (next : ℕ) → next ≡ max at (length new.entries) → old.lost ≡ false → length new.entries ≤ until → ActsAlone old new → GoesOwn old at until new next
+  gone_on next is kept high a =
+      let before : picks_so_far old ≡ strands_of old.entries = unended_picks old a.unended in
+      let here : at ≡ length old.entries = count ∙ ap (λ (l : List ℕ). length l) before ∙ length_map (λ (e : Entry). e.strand) old.entries in
+      let long : length new.entries ≡ length old.entries + length a.more = ap (λ (l : List Entry). length l) a.entries ∙ length-append old.entries a.more in
+      let end : next ≡ at + length a.more = omega (arith, is, here, long) in
+      let steps : length a.more ≡ next - at = omega (arith, end) in
+      record {
+        same = a.same;
+        low = omega (arith, end);
+        high = omega (arith, end, here, long, high);
+        picked = ap (λ (l : List ℕ). strands_of new.entries ++ l) (ends_no_pick new a.ends new.end refl) ∙ append-nil (strands_of new.entries) ∙ ap strands_of a.entries ∙ strands_more old.entries a.more
+            ∙ ap (λ (l : List ℕ). strands_of old.entries ++ l) (own_strands a.more a.own ∙ ap own_picks steps) ∙ ap (λ (l : List ℕ). l ++ own_picks (next - at)) (sym before);
+        home = λ lost. subst (λ (l : List StrandState). AllHome l) (sym a.stays) (home kept);
+      }
+
+pub goes_own : (old new : Run) (at until next : ℕ) → HasAllHome old → at ≡ length (picks_so_far old) → at ≤ until → next ≡ max at (length new.entries) → old.lost ≡ false
+    → (length old.entries ≤ until → length new.entries ≤ until) → GoneAlone old new → GoesOwn old at until new next
+goes_own old new at until next home count within is kept high (inl same) = gone_same old new at until home count within next (is ∙ ap (λ (r : Run). max at (length r.entries)) same) same
+goes_own old new at until next home count within is kept high (inr a) = gone_on old new at until home count within next is kept (high (omega (arith, count, entries_few old, within))) a
+
+pub stays_own : (old : Run) (at until : ℕ) → HasAllHome old → at ≤ until → GoesOwn old at until old at
+stays_own old at until home within =
+    let none : 0 ≡ at - at = omega arith in
+    record { same = (refl, refl); low = omega arith; high = within; picked = sym (append-nil (picks_so_far old)) ∙ ap (λ (n : ℕ). picks_so_far old ++ own_picks n) none; home = home }
+
+own_taken : (picks : List ℕ) (at n : ℕ) → at + n ≤ length picks → ((k : ℕ) → at ≤ k → k < at + n → get_or picks k 0 ≡ 0) → take (at + n) picks ≡ take at picks ++ own_picks n
+own_taken picks at zero low own = let none : at + 0 ≡ at = omega arith in ap (λ (k : ℕ). take k picks) none ∙ sym (append-nil (take at picks))
+own_taken picks at (suc n) low own =
+    let here : at + n < length picks = omega (arith, low) in
+    let one : at + suc n ≡ suc (at + n) = omega arith in
+    let last : n + 1 ≡ suc n = omega arith in
+    let next = take_next picks (at + n) (get_or picks (at + n) 0) (slice_get-get_or picks (at + n) 0 here) in
+    let front = own_taken picks at n (omega (arith, low)) (λ k a b. own k a (omega (arith, b))) in
+    ap (λ (k : ℕ). take k picks) one ∙ next ∙ ap (λ (x : ℕ). take (at + n) picks ++ x ∷ []) (own (at + n) (omega arith) (omega arith)) ∙ ap (λ (l : List ℕ). l ++ 0 ∷ []) front
+    ∙ append_assoc (take at picks) (own_picks n) (0 ∷ []) ∙ ap (λ (l : List ℕ). take at picks ++ l) (sym (own_more n 1) ∙ ap own_picks last)
+
+-- the picks up to a place have been followed, and those from there up to another one are of the first strand
+pub record IsAt (old : Run) (picks : List ℕ) (at until : ℕ) (now : Run) : Type 0 where
+  pub follows : IsFollowing old picks at now
+  pub low : at ≤ length picks
+  pub high : until ≤ length picks
+  pub own : (k : ℕ) → at ≤ k → k < until → get_or picks k 0 ≡ 0
+
+pub at_first : (old : Run) (picks : List ℕ) → RunBegins old.code MOST_FUEL old → IsAt old picks 0 0 old
+at_first old picks b = record { follows = follows_first old picks b; low = omega arith; high = omega arith; own = λ k low high. absurd (omega (arith, high)) }
+
+take_long : (picks : List ℕ) (n : ℕ) → n ≤ length picks → length (take n picks) ≡ n
+take_long [] zero low = refl
+take_long [] (suc n) low = absurd (omega (arith, low))
+take_long (p ∷ picks) zero low = refl
+take_long (p ∷ picks) (suc n) low = let more = take_long picks n (omega (arith, low)) in omega (arith, more)
+
+pub count_at : (old : Run) (picks : List ℕ) (at until : ℕ) (now : Run) → IsAt old picks at until now → at ≡ length (picks_so_far now)
+count_at old picks at until now i = sym (ap (λ (l : List ℕ). length l) i.follows.picked ∙ take_long picks at i.low)
+
+-- behind the picks of the first strand that it has taken
+pub at_own : (old : Run) (picks : List ℕ) (at until next : ℕ) (now new : Run) → IsAt old picks at until now → at ≤ until → GoesOwn now at until new next → IsAt old picks next until new
+at_own old picks at until next now new i low g =
+    let whole : at + (next - at) ≡ next = omega (arith, g.low) in
+    record {
+      follows = record {
+        same = (g.same.0 ∙ i.follows.same.0, g.same.1 ∙ i.follows.same.1);
+        picked = g.picked ∙ ap (λ (l : List ℕ). l ++ own_picks (next - at)) i.follows.picked
+            ∙ sym (own_taken picks at (next - at) (omega (arith, whole, g.high, i.high)) (λ k a b. i.own k a (omega (arith, b, whole, g.high)))) ∙ ap (λ (k : ℕ). take k picks) whole;
+        home = g.home;
+      };
+      low = omega (arith, g.high, i.high);
+      high = i.high;
+      own = λ k a b. i.own k (omega (arith, a, g.low)) b;
+    }
+
+-- where it has taken none it is where it was
+pub at_still : (old : Run) (picks : List ℕ) (at until next : ℕ) (now new : Run) → IsAt old picks at until now → at ≤ until → GoesOwn now at until new next → next ≤ at → IsAt old picks at until new
+at_still old picks at until next now new i low g none =
+    let same : next ≡ at = omega (arith, none, g.low) in
+    subst (λ (k : ℕ). IsAt old picks k until new) same (at_own old picks at until next now new i low g)
+
+-- the picks of the first strand are looked for anew
+pub at_anew : (old : Run) (picks : List ℕ) (at before until : ℕ) (now : Run) → IsAt old picks at before now → AreOwn picks at until → IsAt old picks at until now
+at_anew old picks at before until now i own = record { follows = i.follows; low = i.low; high = own.high; own = own.own }
+
+-- behind one more pick
+pub at_next : (old : Run) (picks : List ℕ) (at until : ℕ) (now new : Run) (turned : Bool) → IsAt old picks at until now → turned ≡ true → at < length picks
+    → MatchBool turned (TakesPick now (get_or picks at 0) new) (HasNoPick now (get_or picks at 0) new) → IsAt old picks (at + 1) until new
+at_next old picks at until now new turned i t low h = record {
+  follows = follows_next old picks at now i.follows new turned t low h;
+  low = omega (arith, low);
+  high = i.high;
+  own = λ k a b. i.own k (omega (arith, a)) b;
+}
 
 -- ---- what comes of it
 

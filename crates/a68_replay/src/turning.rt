@@ -1,7 +1,7 @@
 //! Runs that follow a schedule.
 ghost use Rattle.std.specs.Prelude.{◌≡◌, ◌≤◌, ◌<◌, ◌^◌, length, IfOk, MatchBool};
 ghost use Rattle.a68_code.specs.Valid.{IsValid};
-ghost use Rattle.a68_replay.specs.Following.{Follows, HasAllHome, HasNoPick, TakesPick, picks_so_far};
+ghost use Rattle.a68_replay.specs.Following.{AreOwn, Follows, GoesOwn, HasAllHome, HasNoPick, TakesPick, picks_so_far};
 ghost use Rattle.a68_replay.specs.Replays.{Replays};
 ghost use Rattle.a68_world.specs.Run.{RunBegins};
 
@@ -41,17 +41,55 @@ fn turn_picked(alloc: Global, world: &mut World, strand: u32) -> Result<bool, No
     }
 }
 
+// The place behind the picks of the first strand that stand from this one on, one behind the other.
+fn own_until(picks: &[u32], from: usize) -> usize
+    requires { from ≤ length picks.now }
+    ensures { AreOwn picks.now from result }
+{
+    let mut until = from;
+    while until < picks.len() && picks[until] == 0 {
+        until += 1;
+    }
+    until
+}
+
+// The first strand goes on by itself where no other ever turns again, while it is picked: up to this place. Tells the place up
+// to which the picks have been followed then.
+fn go_own(alloc: Global, world: &mut World, at: usize, until: usize) -> Result<usize, NoMemory>
+    requires home { HasAllHome world.old }
+    requires count { at ≡ length (picks_so_far world.old) }
+    requires within { (at ≤ until) × (until ≤ MOST_PICKS) }
+    ensures { IfOk result (GoesOwn world.old at until world.new) }
+{
+    if until - at < 2 || world.lost() {
+        return Ok(at);
+    }
+    world.go_alone_to(alloc, until as u32)?;
+    Ok(at.max(world.events() as usize))
+}
+
 // Turns the strands that are picked, one after the other, and gives the place of the first pick that has no turn.
 fn follow(alloc: Global, world: &mut World, picks: &[u32]) -> Result<Option<u32>, NoMemory>
     requires few { length picks.now ≤ MOST_PICKS }
     requires begins { RunBegins world.old.code MOST_FUEL world.old }
     ensures { IfOk result (Follows world.old picks.now world.new) }
 {
-    for i in 0..picks.len() {
-        let turned = turn_picked(alloc, world, picks[i])?;
-        if !turned {
-            return Ok(Some(i as u32));
+    let mut at = 0;
+    let mut until = 0;
+    while at < picks.len() {
+        if until <= at {
+            until = own_until(picks, at);
         }
+        let next = go_own(alloc, world, at, until)?;
+        if next > at {
+            at = next;
+            continue;
+        }
+        let turned = turn_picked(alloc, world, picks[at])?;
+        if !turned {
+            return Ok(Some(at as u32));
+        }
+        at += 1;
     }
     Ok(None)
 }

@@ -3,12 +3,13 @@ ghost use Rattle.std.specs.Option.{option_and_then};
 ghost use Rattle.std.specs.Prelude.{◌≡◌};
 ghost use Rattle.a68_elab.specs.Made as made;
 ghost use Rattle.a68_elab.specs.Runs as runs;
+ghost use Rattle.a68_parts.specs.Rowing.{Tells};
 ghost use Rattle.a68_runs.specs.Running as running;
 
 use crate::outcomes::is_there;
 use a68_annot::Note;
 use a68_modes::{Coercion, ModeId, Modes, standard};
-use a68_parts::{behind_proc, behind_ref, rowed_to};
+use a68_parts::{Rowings, behind_proc, behind_ref, last_rowings, rowed_by};
 
 /// What stands between two coercions: the mode behind the first, and whether a value is left.
 #[derive(Clone, Copy)]
@@ -29,10 +30,11 @@ fn value_of(modes: &Modes, mode: ModeId) -> Option<Between>
 }
 
 // A row, behind which a path leads to a mode.
-fn row_before(modes: &Modes, goal: ModeId, path: &[Coercion]) -> Option<Between>
+fn row_before(modes: &Modes, goal: ModeId, path: &[Coercion], rowings: Rowings) -> Option<Between>
+    requires { Tells modes.now goal path.now rowings }
     ensures { result ≡ option_and_then (running.value_of modes.now) (made.rowed_to modes.now goal path.now) }
 {
-    match rowed_to(modes, goal, path) {
+    match rowed_by(modes, goal, path, rowings) {
         Some(mode) => value_of(modes, mode),
         None => None,
     }
@@ -45,7 +47,9 @@ fn behind(
     mode: ModeId,
     coercion: Coercion,
     path: &[Coercion],
+    rowings: Rowings,
 ) -> Option<Between>
+    requires { Tells modes.now goal path.now rowings }
     ensures { result ≡ running.behind modes.now goal mode coercion path.now }
 {
     match coercion {
@@ -65,7 +69,7 @@ fn behind(
             mode: standard::ROW_OF_BOOL,
             left: true,
         }),
-        Coercion::RowUp | Coercion::RowUpName => row_before(modes, goal, path),
+        Coercion::RowUp | Coercion::RowUpName => row_before(modes, goal, path, rowings),
         Coercion::Drop => Some(Between {
             mode: standard::VOID,
             left: false,
@@ -80,30 +84,43 @@ fn one_more(
     at: Between,
     coercion: Coercion,
     path: &[Coercion],
+    rowings: Rowings,
 ) -> Option<Between>
+    requires { Tells modes.now goal path.now rowings }
     ensures { result ≡ running.one_more modes.now goal at coercion path.now }
 {
     if at.left {
-        behind(modes, goal, at.mode, coercion, path)
+        behind(modes, goal, at.mode, coercion, path, rowings)
     } else {
         None
     }
+}
+
+// What is left behind a path to a mode, of a unit of a mode that leaves a value or none.
+fn leaves_along(
+    modes: &Modes,
+    goal: ModeId,
+    mode: ModeId,
+    left: bool,
+    path: &[Coercion],
+) -> Option<bool>
+    ensures { result ≡ runs.path_leaves modes.now goal mode left path.now }
+{
+    let rowings = last_rowings(modes, goal, path);
+    let mut at = Between { mode, left };
+    for i in 0..path.len() {
+        let rest = &path[i + 1..];
+        match one_more(modes, goal, at, path[i], rest, rowings) {
+            Some(next) => at = next,
+            None => return None,
+        }
+    }
+    Some(at.left)
 }
 
 /// What is left behind the path of a unit that leaves a value or none; nothing where a coercion does not run.
 pub fn path_leaves(modes: &Modes, left: bool, note: &Note) -> Option<bool>
     ensures { result ≡ runs.path_leaves modes.now note.now.goal note.now.mode left note.now.path }
 {
-    let path = &note.path.items;
-    let mut at = Between {
-        mode: note.mode,
-        left,
-    };
-    for i in 0..path.len() {
-        match one_more(modes, note.goal, at, path[i], &path[i + 1..]) {
-            Some(next) => at = next,
-            None => return None,
-        }
-    }
-    Some(at.left)
+    leaves_along(modes, note.goal, note.mode, left, &note.path.items)
 }

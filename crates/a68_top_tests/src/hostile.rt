@@ -64,6 +64,18 @@ fn long_choices_are_compiled(rt: HostRuntime) {
     drop(events);
 }
 
+// A choice by a mode whose OUSE has 3,000 further ones, one within another: the value is an INT, and each takes a BOOL.
+#[test]
+fn long_choices_by_modes_are_compiled(rt: HostRuntime) {
+    let first = "( UNION (INT, BOOL) u := 1; CASE u IN (BOOL b): print(b)";
+    let link = " OUSE u IN (BOOL b): print(b)";
+    let last = " OUT print(\"out\") ESAC )";
+    let text = repeated(rt.alloc(), first, link, 3_000, last).expect(&rt, "memory");
+    let given = of_words(&["run", "f"], text.as_str());
+    let events = answers(&rt, rt.alloc(), given, 0, ("out", ""));
+    drop(events);
+}
+
 // 990 signs before one operand.
 #[test]
 fn many_signs_are_compiled(rt: HostRuntime) {

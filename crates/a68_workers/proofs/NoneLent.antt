@@ -87,7 +87,6 @@ turn_rests old new n (turned.Over e) h rest = over_rests old new n e h rest
 turn_rests old new n turned.NotReady h rest = same_run old new h.after rest
 turn_rests old new n turned.NoMemory f rest = memory-rests old new n f.after rest
 
--- nor do the acts of a strand that is alone
 sole-home : (k : ℕ) → slice_get (status.Home ∷ []) k ≡ Some status.Lent → ⊥
 sole-home zero e = cc
 sole-home (suc k) e = cc
@@ -95,9 +94,10 @@ sole-home (suc k) e = cc
 one-home : (run : Run) → run.status ≡ status.Home ∷ [] → IsAtRest run
 one-home run is k lent = sole-home k (ap (λ (l : List StrandState). slice_get l k) (sym is) ∙ lent)
 
+-- nor do the acts of a strand that is alone
 pub alone_rests : (old new : Run) → GoneAlone old new → IsAtRest old → IsAtRest new
 alone_rests old new (inl same) rest = same_run old new same rest
-alone_rests old new (inr a) rest = one-home new a.home
+alone_rests old new (inr a) rest = λ k lent. rest k (sym (ap (λ (l : List StrandState). slice_get l k) a.stays) ∙ lent)
 
 -- at the beginning none is lent
 pub begins_rests : (code : Code) (fuel : ℕ) (run : Run) → RunBegins code fuel run → IsAtRest run

@@ -1,11 +1,9 @@
 -- Turns of a strand that is alone come in turn.
-use Rattle.std.proofs.Common.{◌≡◌, ◌≢◌, ◌≤◌, ◌+◌, ◌++◌, inl, inr, ℕ, List, [], ◌∷◌, length, length-append, None, Some, refl, sym, ◌∙◌, ap, subst, arith, append_assoc}
-use Rattle.std.proofs.Math.ListN.{length-set}
-use Rattle.std.specs.Prelude.{slice_set}
+use Rattle.std.proofs.Common.{◌≡◌, ◌≢◌, ◌≤◌, ◌+◌, ◌++◌, inl, inr, ℕ, zero, suc, ◌<◌, true, List, [], ◌∷◌, length, length-append, None, Some, refl, sym, ◌∙◌, ap, subst, arith, append_assoc}
 use Rattle.std.specs.declared.option.Option.{Option}
 use Rattle.a68_code.specs.declared.code.Code.{Code}
-use Rattle.a68_exec.specs.Runs.{World, Machine, IfNext, acted, begun, woken}
-use Rattle.a68_instructions.specs.Machine.{State, replied, settle}
+use Rattle.a68_exec.specs.Runs.{World, Machine, IfNext, acted, is_closed}
+use Rattle.a68_instructions.specs.declared.ask.Stance.TheVariants.{Closed}
 use Rattle.a68_strand.specs.Cyclic.{HasTurn, Sooner, TakeTurns, IsTurnOf, EndsInTurn, last_of}
 use Rattle.a68_strand.specs.Ends.{CanActNow}
 use Rattle.a68_strand.proofs.Machines.{machine_join}
@@ -13,31 +11,15 @@ use Rattle.a68_values.specs.declared.act.Act.{Act}
 use Rattle.a68_values.specs.declared.act.Entry.{Entry}
 use Rattle.a68_values.specs.declared.kept.End.{End}
 use Rattle.a68_workers.specs.Runs.{GoesFrom, TookTurns}
-use Rattle.a68_workers.proofs.Turning.{goes_longer, silent_end, turn_is_there, within}
-use Rattle.a68_world.specs.Alone.{ActsAlone, GoneAlone, IsLonger}
+use Rattle.a68_workers.proofs.Turning.{goes_longer, silent_end}
+use Rattle.a68_world.specs.Alone.{ActsAlone, GoneAlone, IsLonger, OthersClosed}
 use Rattle.a68_world.specs.Run.{Run, world}
-use Rattle.a68_world.proofs.Places.{length_map}
-use Rattle.a68_world.proofs.Steady.{acted_is}
-
--- ---- there are no fewer strands behind an act
-
-grows-one : (code : Code) (w : World) (n : ℕ) (act : Act) (behind : World) → acted code w n ≡ Some (act, behind) → length w.strands ≤ length behind.strands
-grows-one code w n act behind next =
-    let a = acted_is code w n act behind next in
-    let all : List State = slice_set w.strands n (settle code (replied code a.st a.reply)) ++ begun code a.st a.want in
-    let long : length behind.strands ≡ length all = ap (λ (x : World). length x.strands) a.is ∙ length_map (woken code all) all in
-    let parts : length all ≡ length (slice_set w.strands n (settle code (replied code a.st a.reply))) + length (begun code a.st a.want) =
-    length-append (slice_set w.strands n (settle code (replied code a.st a.reply))) (begun code a.st a.want) in
-    omega (arith, long, parts, length-set w.strands n (settle code (replied code a.st a.reply)))
-
-grows-next : (code : Code) (w : World) (n : ℕ) (o : Option (Act × World)) (act : Act) (es : List Entry) (end : World) → acted code w n ≡ o
-    → ((b : World) → Machine code b es end → length b.strands ≤ length end.strands) → IfNext o act (λ b. Machine code b es end) → length w.strands ≤ length end.strands
-grows-next code w n None act es end is again runs = absurd runs
-grows-next code w n (Some next) act es end is again runs = omega (arith, grows-one code w n next.0 next.1 is, again next.1 runs.1)
-
-grows : (code : Code) (w : World) (es : List Entry) (end : World) → Machine code w es end → length w.strands ≤ length end.strands
-grows code w [] end runs = omega (arith, ap (λ (x : World). length x.strands) runs)
-grows code w (e ∷ es) end runs = grows-next code w e.strand (acted code w e.strand) e.act es end refl (λ b r. grows code b es end r) runs
+use Rattle.a68_world.proofs.Awaited.{closed_there}
+use Rattle.a68_world.proofs.Beside.{grows, grows_one}
+use Rattle.a68_world.proofs.Kin.{closed_stance}
+use Rattle.a68_world.proofs.Closing.{closed_on}
+use Rattle.a68_world.proofs.Places.{is_within}
+use Rattle.a68_world.proofs.Showing.{next_fault, no-turn, no_act, turn_there}
 
 -- ---- one strand has each turn
 
@@ -45,29 +27,51 @@ can-next : (o : Option (Act × World)) (a : Act) (P : World → Type 0) → IfNe
 can-next None a P p = absurd p
 can-next (Some m) a P p = λ e. absurd (cc)
 
-next-then : (o : Option (Act × World)) (a : Act) (P Q : World → Type 0) → ((v : World) → P v → Q v) → IfNext o a P → IfNext o a Q
-next-then None a P Q f p = p
-next-then (Some m) a P Q f p = (p.0, f m.1 p.1)
-
 not-sooner : (behind one other : ℕ) → one ≡ 0 → other ≡ 0 → Sooner behind one other → ⊥
 not-sooner behind one other e f (inl s) = absurd (omega (arith, s.0, e))
 not-sooner behind one other e f (inr s) = absurd (omega (arith, s.0, e, f))
 
-only-strand : (code : Code) (w : World) (n : ℕ) → length w.strands ≤ 1 → HasTurn code w n → n ≡ 0
-only-strand code w n few turn = let inside = within w.strands n (turn_is_there code w n turn) in omega (arith, inside, few)
+-- a strand that has closed has no turn
+closed-still : (code : Code) (w : World) (n : ℕ) → is_closed w.strands n ≡ true → HasTurn code w n → ⊥
+closed-still code w n closed turn =
+    let st = turn_there code w n turn in
+    let is : st.0.stance ≡ Closed = closed_stance st.0.stance (sym (closed_there w.strands n st.0 st.1) ∙ closed) in
+    no-turn code w n (no_act code w n st.0 Closed st.1 is) (next_fault w n st.0 Closed st.1 is) turn
 
-has-turn : (code : Code) (w : World) (before : Option ℕ) (n : ℕ) → length w.strands ≤ 1 → CanActNow code w n → IsTurnOf code w before n
-has-turn code w None n few can = only-strand code w n few (inl can)
-has-turn code w (Some b) n few can = record {
+-- where all others have closed, the first strand alone has a turn
+only-strand : (code : Code) (w : World) (n : ℕ) → OthersClosed w.strands → HasTurn code w n → n ≡ 0
+only-strand code w zero closed turn = refl
+only-strand code w (suc n) closed turn =
+    let st = turn_there code w (suc n) turn in
+    absurd (closed-still code w (suc n) (closed (suc n) (omega arith) (is_within w.strands (suc n) st.0 st.1)) turn)
+
+has-turn : (code : Code) (w : World) (before : Option ℕ) (n : ℕ) → OthersClosed w.strands → CanActNow code w n → IsTurnOf code w before n
+has-turn code w None n closed can = only-strand code w n closed (inl can)
+has-turn code w (Some b) n closed can = record {
   such = inl can;
-  first = λ other turn sooner. not-sooner b other n (only-strand code w other few turn) (only-strand code w n few (inl can)) sooner;
+  first = λ other turn sooner. not-sooner b other n (only-strand code w other closed turn) (only-strand code w n closed (inl can)) sooner;
 }
 
-turns-alone : (code : Code) (w : World) (before : Option ℕ) (es : List Entry) (end : World) → Machine code w es end → length end.strands ≡ 1 → TakeTurns code w before es
-turns-alone code w before [] end runs one = tt
-turns-alone code w before (e ∷ es) end runs one = (
-  has-turn code w before e.strand (omega (arith, grows code w (e ∷ es) end runs, one)) (can-next (acted code w e.strand) e.act (λ b. Machine code b es end) runs),
-  next-then (acted code w e.strand) e.act (λ b. Machine code b es end) (λ b. TakeTurns code b (Some e.strand) es) (λ b r. turns-alone code b (Some e.strand) es end r one) runs,
+-- they have closed behind an act too that makes none
+still-closed : (code : Code) (w : World) (n : ℕ) (act : Act) (behind : World) → acted code w n ≡ Some (act, behind) → OthersClosed w.strands → length behind.strands ≤ length w.strands → OthersClosed behind.strands
+still-closed code w n act behind e closed few k some within = closed_on code w n act behind e k (closed k some (omega (arith, few, within)))
+
+alone-next : (code : Code) (w : World) (n : ℕ) (o : Option (Act × World)) (act : Act) (es : List Entry) (end : World) → acted code w n ≡ o → OthersClosed w.strands → length end.strands ≤ length w.strands
+    → ((b : World) → Machine code b es end → OthersClosed b.strands → length end.strands ≤ length b.strands → TakeTurns code b (Some n) es) → IfNext o act (λ b. Machine code b es end)
+    → IfNext o act (λ b. TakeTurns code b (Some n) es)
+alone-next code w n None act es end e closed few again runs = runs
+alone-next code w n (Some next) act es end e closed few again runs =
+    let more = grows_one code w n next.0 next.1 e in
+    let rest = grows code next.1 es end runs.1 in (
+      runs.0,
+      again next.1 runs.1 (still-closed code w n next.0 next.1 e closed (omega (arith, few, rest))) (omega (arith, few, more)),
+    )
+
+turns-alone : (code : Code) (w : World) (before : Option ℕ) (es : List Entry) (end : World) → Machine code w es end → OthersClosed w.strands → length end.strands ≤ length w.strands → TakeTurns code w before es
+turns-alone code w before [] end runs closed few = tt
+turns-alone code w before (e ∷ es) end runs closed few = (
+  has-turn code w before e.strand closed (can-next (acted code w e.strand) e.act (λ b. Machine code b es end) runs),
+  alone-next code w e.strand (acted code w e.strand) e.act es end refl closed few (λ b r c f. turns-alone code b (Some e.strand) es end r c f) runs,
 )
 
 -- ---- turns behind others
@@ -92,7 +96,7 @@ took-acts old now new from took a =
       entries = a.entries ∙ ap (λ es. es ++ a.more) took.entries ∙ append_assoc old.entries took.more a.more;
       runs = machine_join old.code (world old) took.more (world now) a.more (world new) took.runs runs;
       turns = turns-join old.code (world old) (world now) (last_of None old.entries) took.more a.more took.turns took.runs
-          (turns-alone old.code (world now) (last_of (last_of None old.entries) took.more) a.more (world new) runs a.one);
+          (turns-alone old.code (world now) (last_of (last_of None old.entries) took.more) a.more (world new) runs a.closed (omega (arith, a.none_made)));
       ends = λ none e is. subst (λ c. EndsInTurn c (world new) (last_of None new.entries) e) (a.same.0 ∙ from.code) (silent_end new.code (world new) (last_of None new.entries) e (a.ends e is));
       still = λ e is. absurd (some_none e is (took.still e is));
     }

@@ -67,3 +67,26 @@ pub fn turn_rest<G: Gate>(alloc: Global, world: &mut World, gate: &G) -> Result<
     }
     Ok(())
 }
+
+/// Turns strands as `turn_rest` does as long as the first one is alone: up to its first act that makes others, or to the end of the
+/// run.
+pub fn turn_while_alone<G: Gate>(alloc: Global, world: &mut World, gate: &G) -> Result<(), NoMemory>
+    requires { IsAtRest world.old }
+    ensures goes_on { GoesFrom world.old world.new }
+    ensures rest { OnOk result (IsAtRest world.new) }
+{
+    let mut events: u64 = 0;
+    'alone: while world.is_alone() {
+        let Some(strand) = world.next(world.last()) else {
+            return Ok(());
+        };
+        let acted = turn_first(alloc, world, strand)?;
+        events = events.wrapping_add(1);
+        gate.pass(0, strand, events);
+        if !acted {
+            return Ok(());
+        }
+        go_alone(alloc, world)?;
+    }
+    Ok(())
+}

@@ -3,7 +3,7 @@ ghost use Rattle.std.specs.Prelude.{◌≡◌, ◌≢◌, ◌≤◌, None, IfOk}
 ghost use Rattle.a68_workers.specs.Runs.{GoesFrom, IsAtRest, TookTurns};
 ghost use Rattle.a68_workers.specs.Workers.{most_workers};
 
-use crate::alone::turn_rest;
+use crate::alone::{turn_rest, turn_while_alone};
 use crate::shared::run_shared;
 use a68_base::NoMemory;
 use a68_outside::Gate;
@@ -23,6 +23,26 @@ pub fn run_alone<G: Gate>(alloc: Global, mut world: World, gate: &G) -> Result<W
     ensures rest { IfOk result IsAtRest }
 {
     match turn_rest(alloc, &mut world, gate) {
+        Ok(()) => Ok(world),
+        Err(error) => {
+            drop(world);
+            Err(error)
+        }
+    }
+}
+
+/// Runs a world as `run_alone` does as long as its first strand is alone, so that workers are wanted for no program without a
+/// parallel clause. NoMemory where a turn finds no memory.
+pub fn run_while_alone<G: Gate>(
+    alloc: Global,
+    mut world: World,
+    gate: &G,
+) -> Result<World, NoMemory>
+    requires rest { IsAtRest world }
+    ensures goes_on { IfOk result (GoesFrom world) }
+    ensures rest { IfOk result IsAtRest }
+{
+    match turn_while_alone(alloc, &mut world, gate) {
         Ok(()) => Ok(world),
         Err(error) => {
             drop(world);

@@ -59,7 +59,7 @@ unit_open strands first (suc n) k low high e = by (is_closed strands first) refl
     by true f more =
         rw (more (past-first first k low (λ s. true≢false (sym f ∙ ap (is_closed strands) s ∙ e)))) (and-false (is_closed strands first))
 
-closed_there : (strands : List State) (k : ℕ) (st : State) → slice_get strands k ≡ Some st → is_closed strands k ≡ has_closed st.stance
+pub closed_there : (strands : List State) (k : ℕ) (st : State) → slice_get strands k ≡ Some st → is_closed strands k ≡ has_closed st.stance
 closed_there strands k st e = ap (λ o. option_map_or (λ (x : State). has_closed x.stance) o false) e
 
 -- one that waits for a unit which has not closed is not woken

@@ -1,5 +1,5 @@
 -- A turn in which a strand does its act.
-use Rattle.std.proofs.Common.{◌≡◌, ◌∙◌, ℕ, ◌<◌, ◌^◌, Bool, true, List, ◌++◌, length, get_or, MatchBool, refl, ap, sym, subst, arith}
+use Rattle.std.proofs.Common.{◌≡◌, ◌∙◌, ℕ, ◌<◌, ◌^◌, Bool, true, List, ◌++◌, length, map, get_or, MatchBool, refl, ap, sym, subst, arith}
 use Rattle.std.proofs.lemmas.Option.{slice_get-get_or}
 use Rattle.std.specs.Prelude.{None, Some, slice_get, slice_set}
 use Rattle.std.specs.Option.{option_map}
@@ -21,6 +21,7 @@ use Rattle.a68_values.specs.declared.kept.End.{End}
 use Rattle.a68_values.specs.declared.kept.End.TheVariants as ends
 use Rattle.a68_world.specs.Ending.{EndShown}
 use Rattle.a68_world.specs.Inside.{run_of, IsSound}
+use Rattle.a68_world.specs.Passed.{PassTurns}
 use Rattle.a68_world.specs.Seats.{Sits, place_in}
 use Rattle.a68_world.specs.Stepping.{DoneFor, ComesToAt, Meets, AreUnitsAt}
 use Rattle.a68_world.specs.Turns.{GoesOn, IsDue, IsOtherDue, Acts, EndsAt, FindsNoMemory}
@@ -33,6 +34,7 @@ use Rattle.a68_world.proofs.Behind as b
 use Rattle.a68_world.proofs.Behind.{Moved, Noted, now}
 use Rattle.a68_world.proofs.Outcomes.{EndsBy, home_waits, home_wakes, sits_told, told_acts, told_sound, untold_is, untold_sound}
 use Rattle.a68_world.specs.declared.status.StrandState.TheVariants as status
+use Rattle.a68_world.proofs.Closing.{closed_on, pass_turns}
 use Rattle.a68_world.proofs.Places.{set_again, length_map}
 use Rattle.a68_world.proofs.Showing.{asking, next_fault}
 use Rattle.a68_world.proofs.Standing.{due_other}
@@ -102,6 +104,25 @@ module _ (s : Inside) (n : ℕ) (sound : IsSound s) (goes : GoesOn (run_of s)) (
       → WakesBehind s.code n below placed seats lost → shown ≡ seats → length shown < 2 ^ 32
   few_told x y act store units placed shown seen seats below lost told is at stays w same =
       rw same (few-told x y act store units seats below lost told.there told.are told.comes (subst (λ l. StaysBelow s.waits_below l n below) (at ∙ is) stays)
+      (subst (λ l. WakesBehind s.code n below l seats lost) is w))
+
+  -- no strand that has passed shows a turn
+  passed-told : (x y : Seat) (act : Act) (store : Store) (units : List Seat) (seats : List Seat) (below : ℕ) (lost : Bool)
+      → slice_get s.seats.items n ≡ Some x → AreUnitsAt s.code s.store s.seats.items n units → ComesToAt s.code s.store x (deed.Told act) store y
+      → StaysBelow s.waits_below (slice_set s.seats.items n y ++ units) n below → WakesBehind s.code n below (slice_set s.seats.items n y ++ units) seats lost → PassTurns s.passed seats store
+  passed-told (seat.Home strand) (seat.Home t) act store units seats below lost there are comes stays w =
+      let m = moved strand act store units there are comes.act_done in
+      let wakes = home_wakes s n act store units m t comes.settled comes.number comes.room refl seats below lost stays w in
+      pass_turns s.code (map (woken s.code (b.all s n act store units m)) (b.all s n act store units m)) seats store s.passed wakes.seated
+      (λ k marked. closed_on s.code (now s) n act (b.behind s n act store units m) (b.next_is s n act store units m) k (sound.passed k marked))
+  passed-told (seat.Home strand) (seat.Away spent closed) act store units seats below lost there are comes stays w = absurd comes
+  passed-told (seat.Away spent closed) y act store units seats below lost there are comes stays w = absurd comes
+
+  pub passed_told : (x y : Seat) (act : Act) (store : Store) (units placed shown seen seats : List Seat) (below : ℕ) (lost : Bool)
+      → Told x y act store units → placed ≡ slice_set s.seats.items n y ++ units → seen ≡ placed → StaysBelow s.waits_below seen n below
+      → WakesBehind s.code n below placed seats lost → shown ≡ seats → PassTurns s.passed shown store
+  passed_told x y act store units placed shown seen seats below lost told is at stays w same =
+      rw same (passed-told x y act store units seats below lost told.there told.are told.comes (subst (λ l. StaysBelow s.waits_below l n below) (at ∙ is) stays)
       (subst (λ l. WakesBehind s.code n below l seats lost) is w))
 
   -- ---- there was no memory to tell it

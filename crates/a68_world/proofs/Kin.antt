@@ -14,7 +14,7 @@ use Rattle.a68_world.proofs.Places.{get_one}
 use Rattle.a68_world.proofs.Showing.{no-turn, no_act, next_fault, turn_there}
 use Rattle.a68_world.proofs.Steady.{Steady, steady_run}
 
-closed_stance : (m : Stance) → has_closed m ≡ true → m ≡ Closed
+pub closed_stance : (m : Stance) → has_closed m ≡ true → m ≡ Closed
 closed_stance Closed e = refl
 closed_stance Idle e = absurd (cc)
 closed_stance (Asking w wait) e = absurd (cc)

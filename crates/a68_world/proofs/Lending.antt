@@ -52,7 +52,7 @@ turn-open code w n turn = let st = turn_there code w n turn in by st.0 st.1 st.0
     by st there (Waits f c) e = ap (λ o. option_map_or (λ (x : State). has_closed x.stance) o false) there ∙ ap has_closed e
 
 -- one seat is another
-reseated : (code : Code) (strands : List State) (seats : List Seat) (n : ℕ) (y : Seat) → AreSeated code strands seats → SitsAt code strands n y → AreSeated code strands (slice_set seats n y)
+pub reseated : (code : Code) (strands : List State) (seats : List Seat) (n : ℕ) (y : Seat) → AreSeated code strands seats → SitsAt code strands n y → AreSeated code strands (slice_set seats n y)
 reseated code strands seats n y seated mine k x e = elim (set_parted seats n k y x e) [
   | inl is ↦ subst (λ j. SitsAt code strands j x) (sym is.0) (subst (λ z. SitsAt code strands n z) (sym is.1) mine)
   | inr old ↦ seated k x old.1
@@ -107,6 +107,7 @@ module _ (s : Inside) (sound : IsSound s) where
       room = sound.room;
       store = sound.store;
       seats = rw placed (reseated s.code (now s).strands s.seats.items n (seat.Away false false) sound.seats (sym (turn-open s.code (now s) n ready.turn)));
+      passed = sound.passed;
       waits = sound.waits;
     }
 
@@ -171,6 +172,7 @@ module _ (s : Inside) (sound : IsSound s) where
       room = sound.room;
       store = sound.store;
       seats = rw g.placed (reseated s.code (now s).strands s.seats.items strand.number y sound.seats g.sits);
+      passed = sound.passed;
       waits = sound.waits;
     }
 

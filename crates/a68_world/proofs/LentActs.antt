@@ -209,6 +209,7 @@ ended_sound s sound n e goes at = record {
   room = sound.room;
   store = sound.store;
   seats = sound.seats;
+  passed = sound.passed;
   waits = sound.waits;
 }
 
@@ -218,6 +219,7 @@ lost_sound s sound goes = record {
   room = sound.room;
   store = sound.store;
   seats = sound.seats;
+  passed = sound.passed;
   waits = sound.waits;
 }
 

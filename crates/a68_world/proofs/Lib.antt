@@ -2,6 +2,8 @@ pub mod Asked
 pub mod Awaited
 pub mod Beginning
 pub mod Behind
+pub mod Beside
+pub mod Closing
 pub mod Doing
 pub mod Entering
 pub mod Firsts
@@ -11,6 +13,7 @@ pub mod Kept
 pub mod Kin
 pub mod Lending
 pub mod LentActs
+pub mod Marking
 pub mod Outcomes
 pub mod Places
 pub mod Replays

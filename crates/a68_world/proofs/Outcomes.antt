@@ -40,6 +40,7 @@ use Rattle.a68_world.specs.declared.world.World.TheInside.{Inside}
 use Rattle.a68_world.proofs.Behind as b
 use Rattle.a68_world.proofs.Behind.{Moved, Noted, now, many_seats, all_sit}
 use Rattle.a68_world.proofs.Kept.{none_spent, world_behind, acts_keep, spent_keep}
+use Rattle.a68_world.proofs.Closing.{closed_on}
 use Rattle.a68_world.proofs.Places.{get_mapped, get_map, get_front, get_other, parted, set_same, is_there, is_within, length_map}
 use Rattle.a68_world.proofs.Rousing.{closed_same, all_closed_same, woke_first, not_due}
 use Rattle.a68_world.proofs.Showing.{AllAtHome, end_seen}
@@ -348,6 +349,7 @@ module _ (s : Inside) (n : ℕ) (act : Act) (store : Store) (units : List Seat) 
         room = noted.room;
         store = sym (ap (λ (x : World). x.store) told-world);
         seats = told-seated;
+        passed = λ k marked. ap (λ (x : World). is_closed x.strands k) told-world ∙ closed_on s.code (now s) n act (b.behind s n act store units m) (b.next_is s n act store units m) k (m.sound.passed k marked);
         waits = subst (λ (x : World). WaitBelow below x.strands) (sym told-world) waits-behind;
       }
 
@@ -465,5 +467,6 @@ module _ (s : Inside) (n : ℕ) (act : Act) (store : Store) (units : List Seat) 
       room = noted.room;
       store = sym (ap (λ (x : World). x.store) untold-world);
       seats = untold-seated;
+      passed = λ k marked. ap (λ (x : World). is_closed x.strands k) untold-world ∙ closed_on s.code (now s) n act (b.behind s n act store units m) (b.next_is s n act store units m) k (m.sound.passed k marked);
       waits = subst (λ l. WaitBelow s.waits_below l) (sym untold-strands) (b.wait_all s n act store units m s.waits_below (omega arith) (λ f c e. goes_waits (b.next s n act store units m).stance f c _ live e));
     }

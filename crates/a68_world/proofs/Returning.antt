@@ -13,6 +13,7 @@ use Rattle.a68_strand.specs.declared.strand.Strand.{Strand}
 use Rattle.a68_values.specs.declared.kept.End.{End}
 use Rattle.a68_world.specs.Inside.{run_of, IsSound}
 use Rattle.a68_world.specs.Leases.{BackOf, IsReplay, LendOf, Loses, TakesOut}
+use Rattle.a68_world.specs.Passed.{PassTurns}
 use Rattle.a68_world.specs.Run.{IsNumber, world}
 use Rattle.a68_world.specs.Seats.{status_of}
 use Rattle.a68_world.specs.Turns.{IsReady}
@@ -23,8 +24,9 @@ use Rattle.a68_world.specs.declared.status.StrandState.{StrandState}
 use Rattle.a68_world.specs.declared.status.StrandState.TheVariants as status
 use Rattle.a68_world.specs.declared.world.World.TheInside.{Inside}
 use Rattle.a68_world.proofs.Behind.{now, many_seats}
-use Rattle.a68_world.proofs.Lending.{Returned, back_is, back_sound, over_back, over_sound, returned, spent_back, spent_sound, taken_is, taken_sound}
+use Rattle.a68_world.proofs.Lending.{Returned, back_is, back_sound, over_back, over_sound, reseated, returned, spent_back, spent_sound, taken_is, taken_sound}
 use Rattle.a68_world.proofs.Outcomes.{EndsBy, number_of}
+use Rattle.a68_world.proofs.Closing.{pass_turns}
 use Rattle.a68_world.proofs.Steady.{steady_run}
 use Rattle.a68_world.proofs.Standing.{few_seats, none_from}
 
@@ -91,6 +93,11 @@ module _ (s : Inside) (strand : Strand) (n : ℕ) (x : Seat) (old : List Seat) (
 
   pub few_given : length seats.items < 2 ^ 32
   few_given = omega (arith, ap (λ (l : List Seat). length l) back-seat.placed, length-set s.seats.items strand.number back-seat.y, few_seats s sound)
+
+  pub passed_given : PassTurns s.passed seats.items s.store
+  passed_given =
+      pass_turns s.code (now s).strands seats.items s.store s.passed
+      (rw back-seat.placed (reseated s.code (now s).strands s.seats.items strand.number back-seat.y sound.seats back-seat.sits)) sound.passed
 
   -- the run had ended
   pub back_over : (e : End) (none : Bool) → s.end ≡ Some e → none ≡ false → IsSound (record s { seats = seats }) × BackOf (run_of s) strand none (run_of (record s { seats = seats }))

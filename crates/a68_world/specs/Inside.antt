@@ -1,6 +1,7 @@
 -- Inner: the headline does not rest on this file.
 -- The run as the code keeps it.
 use Rattle.std.specs.Prelude.{◌≡◌, ◌≤◌, map}
+use Rattle.a68_world.specs.Passed.{HavePassed}
 use Rattle.a68_world.specs.Run.{Run, IsSoundRun, world}
 use Rattle.a68_world.specs.Seats.{AreSeated, status_of}
 use Rattle.a68_world.specs.Waking.{WaitBelow}
@@ -16,4 +17,5 @@ pub record IsSound (s : Inside) : Type 0 where
   pub store : s.store ≡ (world (run_of s)).store
   -- each strand that is not spent stands as the machine has it
   pub seats : AreSeated s.code (world (run_of s)).strands s.seats.items
+  pub passed : HavePassed s.passed (world (run_of s)).strands
   pub waits : WaitBelow s.waits_below (world (run_of s)).strands

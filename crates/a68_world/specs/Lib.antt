@@ -4,6 +4,7 @@ pub mod Codes
 pub mod Ending
 pub mod Inside
 pub mod Leases
+pub mod Passed
 pub mod Run
 pub mod Scopes
 pub mod Seats

@@ -8,11 +8,13 @@ ghost use Rattle.a68_strand.specs.Cyclic.{IsFirstBehind};
 ghost use Rattle.a68_instructions.specs.Machine.{beginning};
 ghost use Rattle.a68_strand.specs.Strands.{HasSettled};
 ghost use Rattle.a68_world.specs.Ending.{EndShown};
+ghost use Rattle.a68_world.specs.Passed.{PassTurns};
 ghost use Rattle.a68_world.specs.Run.{IsSoundRun, RunBegins, most_fuel};
 ghost use Rattle.a68_world.specs.Seats.{AreFirstSeats, is_home, place_at};
 ghost use Rattle.a68_world.specs.Turns.{GoesOn, IsReady, EndsAt, IsDue, IsOtherDue, TurnOf, IsAble, FinishesRun, last_strand};
 
 use crate::deed::Deed;
+use crate::passed::pass_closed;
 use crate::seat::{Seat, are_home};
 use crate::stepping::act_at;
 use crate::turning::{end_at, end_shown, next_turn, turn_at};
@@ -21,6 +23,7 @@ use crate::waking::{waits_below, wake_behind};
 use crate::{Turned, World};
 use a68_base::NoMemory;
 use a68_code::Code;
+use a68_marks::Marks;
 use a68_store::Store;
 use a68_strand::Strand;
 use a68_values::{Act, Chain, End, Entries, Entry, Environ, Journal, Kept, Log};
@@ -88,11 +91,12 @@ pub fn is_full(journal: &Log, fuel: u32) -> bool
 }
 
 /// The end that is set behind an act of this strand: none where not every strand stands in the world.
-pub fn end_behind(seats: &[Seat], store: &Store, n: u32) -> Option<End>
+pub fn end_behind(seats: &[Seat], passed: &Marks, store: &Store, n: u32) -> Option<End>
     requires few { length seats.now < 2 ^ 32 }
+    requires passed { PassTurns passed.now seats.now store.now }
     ensures { MatchBool (list_all is_home seats.now) (EndShown seats.now store.now result) (result ≡ None) }
 {
-    let end = end_shown(seats, store, n);
+    let end = end_shown(seats, passed, store, n);
     if end.is_some() && !are_home(seats) {
         return None;
     }
@@ -120,13 +124,15 @@ impl World {
     {
         match parts(alloc, &code, fuel) {
             Ok((journal, store, seats)) => {
-                let end = end_shown(&seats, &store, 0);
+                let passed = Marks::new(alloc);
+                let end = end_shown(&seats, &passed, &store, 0);
                 Ok(World {
                     code,
                     fuel,
                     journal,
                     store,
                     seats,
+                    passed,
                     waits_below: 0,
                     lost: false,
                     end,
@@ -225,7 +231,8 @@ impl World {
                 let below = waits_below(self.waits_below, &self.seats, n);
                 self.lost = wake_behind(alloc, &self.code, &mut self.seats, at, below);
                 self.waits_below = below;
-                self.end = end_behind(&self.seats, &self.store, n);
+                self.end = end_behind(&self.seats, &self.passed, &self.store, n);
+                pass_closed(&mut self.passed, &self.seats, at);
                 Turned::Acted
             }
             Deed::Untold(act) => {
@@ -262,7 +269,7 @@ impl World {
         if self.end.is_some() {
             return None;
         }
-        next_turn(&self.seats, &self.store, after)
+        next_turn(&self.seats, &self.passed, &self.store, after)
     }
 
     /// The strand of the last entry of the journal, and 0 where there is none. It takes no memory.

@@ -10,6 +10,7 @@ ghost use Rattle.a68_world.specs.Turns.{EndsAt, GoesOn, IsDueAs, IsOtherDueAs};
 
 use crate::calls::{end_behind, is_full, note};
 use crate::deed::Deed;
+use crate::passed::pass_closed;
 use crate::seat::{Seat, lose, put_back, set_closed, take_out};
 use crate::stepping::act_lent;
 use crate::turning::{end_asked, turn_shown};
@@ -178,6 +179,7 @@ impl World {
                 let may = either(closed, waits);
                 self.lost = wake_if(alloc, may, &self.code, &mut self.seats, below);
                 self.waits_below = below;
+                pass_closed(&mut self.passed, &self.seats, strand.number() as usize);
                 Ok(reply)
             }
             // The strand is told by whoever has it.
@@ -219,7 +221,7 @@ impl World {
         if self.end.is_some() {
             return;
         }
-        let end = end_behind(&self.seats, &self.store, number);
+        let end = end_behind(&self.seats, &self.passed, &self.store, number);
         self.lost = lost_behind(self.lost, found, end.is_some());
         self.end = end;
     }

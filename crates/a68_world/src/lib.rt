@@ -5,6 +5,7 @@ mod alone;
 mod calls;
 mod deed;
 mod leases;
+mod passed;
 mod seat;
 mod status;
 mod stepping;

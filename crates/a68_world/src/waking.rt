@@ -18,8 +18,8 @@ fn closed_in(seat: &Seat) -> bool
     }
 }
 
-// Has the strand of this number closed?
-fn closed_at(seats: &[Seat], n: usize) -> bool
+/// Has the strand of this number closed?
+pub fn closed_at(seats: &[Seat], n: usize) -> bool
     ensures { result ≡ closed_at seats.now n }
 {
     match seats.get(n) {

@@ -1,6 +1,7 @@
 //! The world of a run.
 use crate::seat::Seat;
 use a68_code::Code;
+use a68_marks::Marks;
 use a68_store::Store;
 use a68_values::{End, Log};
 use std::marker::Model;
@@ -15,6 +16,8 @@ pub struct World {
     pub(crate) journal: Log,
     pub(crate) store: Store,
     pub(crate) seats: Vec<Seat>,
+    // Strands that have closed, which never turn again. One for whose mark there was no memory is missing.
+    pub(crate) passed: Marks,
     // The strands that wait for units have smaller numbers.
     pub(crate) waits_below: usize,
     // A turn has found no memory.

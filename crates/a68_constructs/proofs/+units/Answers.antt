@@ -30,7 +30,7 @@ use Rattle.a68_emit.specs.Writing.{Writes}
 use Rattle.a68_constructs.specs.Sources.{assigned_tree, named}
 use Rattle.a68_emit.specs.Views.{bound_of, tree_of}
 use Rattle.a68_modes.specs.declared.shape.Shape.{Shape}
-use Rattle.a68_constructs.proofs.Constructs.{coerced_list, coerced_meaningless, part-cons, one_part, some_parts, definition_whole, last_is, count_trees, new_does, new_list, count_bounds, bound-cons, none-behind, none-past, stands-behind, index-units-next, slice_list, plain_serial, framed_serial, declared_plain, declared_none, begun_none, begun_tree, declared_tree, assigned_list, applied_list, call_list, void_collateral, structure_collateral, row_collateral, other_collateral, select_whole, only_none}
+use Rattle.a68_constructs.proofs.Constructs.{coerced_list, coerced_meaningless, part-cons, one_part, some_parts, definition_whole, last_is, count_trees, new_does, new_list, count_bounds, bound-cons, none-behind, none-past, stands-behind, index-units-next, slice_list, plain_serial, framed_serial, declared_plain, declared_none, begun_none, begun_tree, declared_tree, assigned_list, applied_list, call_list, void_collateral, structure_collateral, row_collateral, other_collateral, select_whole, only_none, stopped_writes}
 use Rattle.a68_parts.proofs.Between.{between-each, between-above}
 use Rattle.a68_emit.proofs.Ordered.{all-before}
 use Rattle.a68_emit.proofs.Writing.{and_behind, nothing-written, writes-as}
@@ -39,6 +39,9 @@ use Rattle.std.specs.Prelude.{not, false, if◌then◌else◌}
 use Rattle.a68_acts.specs.Operations.{select}
 use Rattle.a68_tree.specs.declared.node.Node.{Node}
 use Rattle.a68_modes.specs.Nodes.{shape_at, is_void}
+
+pub rows::unit-returns-then-has_stopped : goal.rows::unit-returns-then-has_stopped
+rows::unit-returns-then-has_stopped t c = stopped_writes c.args.out.now.stop c.args.out.now.list c.args.out.now.list _ (sym c.has_stopped.ensures ∙ c.if-has_stopped.true)
 
 pub rows::unit-returns-then-not-runs : goal.rows::unit-returns-then-not-runs
 rows::unit-returns-then-not-runs t c =
@@ -492,26 +495,32 @@ choices::choose-returns-clause-jumps = chosen.choices::choose-returns-clause-jum
 pub choices::write_front-returns : goal.choices::write_front-returns
 choices::write_front-returns = chosen.choices::write_front-returns
 
-pub choices::write_case-write_front-ending-requires : goal.choices::write_case-write_front-ending-requires
-choices::write_case-write_front-ending-requires = chosen.choices::write_case-write_front-ending-requires
+pub choices::front_of-returns-then-by_mode : goal.choices::front_of-returns-then-by_mode
+choices::front_of-returns-then-by_mode = chosen.choices::front_of-returns-then-by_mode
 
-pub choices::write_case-returns-clause-on : goal.choices::write_case-returns-clause-on
-choices::write_case-returns-clause-on = chosen.choices::write_case-returns-clause-on
+pub choices::front_of-returns : goal.choices::front_of-returns
+choices::front_of-returns = chosen.choices::front_of-returns
 
-pub choices::write_cases-tails-init : goal.choices::write_cases-tails-init
-choices::write_cases-tails-init = chosen.choices::write_cases-tails-init
+pub choices::write_choice-front_of-ending-requires : goal.choices::write_choice-front_of-ending-requires
+choices::write_choice-front_of-ending-requires = chosen.choices::write_choice-front_of-ending-requires
 
-pub choices::write_cases-tails-preserved : goal.choices::write_cases-tails-preserved
-choices::write_cases-tails-preserved = chosen.choices::write_cases-tails-preserved
+pub choices::write_choice-returns-clause-on : goal.choices::write_choice-returns-clause-on
+choices::write_choice-returns-clause-on = chosen.choices::write_choice-returns-clause-on
 
-pub choices::case_chain-otherwise-requires : goal.choices::case_chain-otherwise-requires
-choices::case_chain-otherwise-requires = chosen.choices::case_chain-otherwise-requires
+pub choices::write_choices-tails-init : goal.choices::write_choices-tails-init
+choices::write_choices-tails-init = chosen.choices::write_choices-tails-init
 
-pub choices::case_chain-returns : goal.choices::case_chain-returns
-choices::case_chain-returns = chosen.choices::case_chain-returns
+pub choices::write_choices-tails-preserved : goal.choices::write_choices-tails-preserved
+choices::write_choices-tails-preserved = chosen.choices::write_choices-tails-preserved
 
-pub choices::case-case_chain-requires : goal.choices::case-case_chain-requires
-choices::case-case_chain-requires = chosen.choices::case-case_chain-requires
+pub choices::choice_chain-otherwise-requires : goal.choices::choice_chain-otherwise-requires
+choices::choice_chain-otherwise-requires = chosen.choices::choice_chain-otherwise-requires
+
+pub choices::choice_chain-returns : goal.choices::choice_chain-returns
+choices::choice_chain-returns = chosen.choices::choice_chain-returns
+
+pub choices::case-choice_chain-requires : goal.choices::case-choice_chain-requires
+choices::case-choice_chain-requires = chosen.choices::case-choice_chain-requires
 
 pub turns::count-returns : goal.turns::count-returns
 turns::count-returns = repeated.turns::count-returns
@@ -620,11 +629,17 @@ conformity::write_specs-returns-clause-jumps = specified.conformity::write_specs
 pub conformity::write_specs-loop-at-preserved : goal.conformity::write_specs-loop-at-preserved
 conformity::write_specs-loop-at-preserved = specified.conformity::write_specs-loop-at-preserved
 
-pub conformity::conform-returns : goal.conformity::conform-returns
-conformity::conform-returns = specified.conformity::conform-returns
+pub conformity::conform-returns-clause-writes : goal.conformity::conform-returns-clause-writes
+conformity::conform-returns-clause-writes = specified.conformity::conform-returns-clause-writes
 
-pub conformity::conformity-returns : goal.conformity::conformity-returns
-conformity::conformity-returns = specified.conformity::conformity-returns
+pub conformity::conform-returns-clause-jumps : goal.conformity::conform-returns-clause-jumps
+conformity::conform-returns-clause-jumps = specified.conformity::conform-returns-clause-jumps
+
+pub conformity::conform_front-returns : goal.conformity::conform_front-returns
+conformity::conform_front-returns = specified.conformity::conform_front-returns
+
+pub conformity::conformity-choice_chain-requires : goal.conformity::conformity-choice_chain-requires
+conformity::conformity-choice_chain-requires = specified.conformity::conformity-choice_chain-requires
 
 pub names::write_outside-returns : goal.names::write_outside-returns
 names::write_outside-returns t c =

@@ -185,16 +185,19 @@ abbrev pub decreases-choices::write_links-links : goal.decreases-choices::write_
 decreases-choices::write_links-links l = length l.program.of.now.tree.nodes - l.link.id
 
 abbrev pub decreases-choices::case : goal.decreases-choices::case
-decreases-choices::case l = 16 * (extra l.program.now + (length l.program.now.of.now.tree.nodes - l.id)) + 7
+decreases-choices::case l = 16 * (extra l.program.now + (length l.program.now.of.now.tree.nodes - l.id)) + 9
 
-abbrev pub decreases-choices::case_chain : goal.decreases-choices::case_chain
-decreases-choices::case_chain l = 16 * (extra l.program.now + (length l.program.now.of.now.tree.nodes - l.id)) + 6
+abbrev pub decreases-choices::choice_chain : goal.decreases-choices::choice_chain
+decreases-choices::choice_chain l = 16 * (extra l.program.now + (length l.program.now.of.now.tree.nodes - l.id)) + 8
 
-abbrev pub decreases-choices::write_cases : goal.decreases-choices::write_cases
-decreases-choices::write_cases l = 16 * (extra l.program.now + (length l.program.now.of.now.tree.nodes - l.first.id)) + 5
+abbrev pub decreases-choices::write_choices : goal.decreases-choices::write_choices
+decreases-choices::write_choices l = 16 * (extra l.program.now + (length l.program.now.of.now.tree.nodes - l.first.id)) + 7
 
-abbrev pub decreases-choices::write_case : goal.decreases-choices::write_case
-decreases-choices::write_case l = 16 * (extra l.program.now + (length l.program.now.of.now.tree.nodes - l.id)) + 5
+abbrev pub decreases-choices::write_choice : goal.decreases-choices::write_choice
+decreases-choices::write_choice l = 16 * (extra l.program.now + (length l.program.now.of.now.tree.nodes - l.id)) + 7
+
+abbrev pub decreases-choices::front_of : goal.decreases-choices::front_of
+decreases-choices::front_of l = 16 * (extra l.program.now + (length l.program.now.of.now.tree.nodes - l.id)) + 6
 
 abbrev pub decreases-choices::write_front : goal.decreases-choices::write_front
 decreases-choices::write_front l = 16 * (extra l.program.now + (length l.program.now.of.now.tree.nodes - l.id)) + 4
@@ -209,13 +212,13 @@ abbrev pub decreases-choices::write_arm : goal.decreases-choices::write_arm
 decreases-choices::write_arm l = 16 * (extra l.program.now + (length l.program.now.of.now.tree.nodes - l.id)) + 1
 
 -- the choices before this one are written
-abbrev pub invariant-choices::write_cases-tails : goal.invariant-choices::write_cases-tails
-invariant-choices::write_cases-tails l =
+abbrev pub invariant-choices::write_choices-tails : goal.invariant-choices::write_choices-tails
+invariant-choices::write_choices-tails l =
     TailIsWithin l.program.of.now l.tail × (l.fn.first.id ≤ l.tail.id)
     × GoesOn (out_tree (tree_of l.program) l.fn.first) (out_tree (tree_of l.program) l.tail) l.initial.endings.items l.initial.out.stop l.initial.out.list l.endings.items l.out.stop l.out.list
 
-abbrev pub decreases-choices::write_cases-tails : goal.decreases-choices::write_cases-tails
-decreases-choices::write_cases-tails l = length l.program.of.now.tree.nodes - l.tail.id
+abbrev pub decreases-choices::write_choices-tails : goal.decreases-choices::write_choices-tails
+decreases-choices::write_choices-tails l = length l.program.of.now.tree.nodes - l.tail.id
 
 -- the parts before this one are written
 abbrev pub invariant-choices::write_arms-loop-part : goal.invariant-choices::write_arms-loop-part
@@ -224,19 +227,22 @@ invariant-choices::write_arms-loop-part l =
     l.initial.out.stop l.out.stop l.initial.out.list l.out.list
 
 abbrev pub decreases-conformity::conformity : goal.decreases-conformity::conformity
-decreases-conformity::conformity l = 16 * (extra l.program.now + (length l.program.now.of.now.tree.nodes - l.id)) + 13
+decreases-conformity::conformity l = 16 * (extra l.program.now + (length l.program.now.of.now.tree.nodes - l.id)) + 9
+
+abbrev pub decreases-conformity::conform_front : goal.decreases-conformity::conform_front
+decreases-conformity::conform_front l = 16 * (extra l.program.now + (length l.program.now.of.now.tree.nodes - l.id)) + 5
 
 abbrev pub decreases-conformity::conform : goal.decreases-conformity::conform
-decreases-conformity::conform l = 16 * (extra l.program.now + (length l.program.now.of.now.tree.nodes - l.id)) + 12
+decreases-conformity::conform l = 16 * (extra l.program.now + (length l.program.now.of.now.tree.nodes - l.id)) + 4
 
 abbrev pub decreases-conformity::write_specs : goal.decreases-conformity::write_specs
-decreases-conformity::write_specs l = 16 * (extra l.program.now + (length l.program.now.of.now.tree.nodes - l.id)) + 11
+decreases-conformity::write_specs l = 16 * (extra l.program.now + (length l.program.now.of.now.tree.nodes - l.id)) + 3
 
 abbrev pub decreases-conformity::write_spec : goal.decreases-conformity::write_spec
-decreases-conformity::write_spec l = 16 * (extra l.program.now + (length l.program.now.of.now.tree.nodes - l.id)) + 10
+decreases-conformity::write_spec l = 16 * (extra l.program.now + (length l.program.now.of.now.tree.nodes - l.id)) + 2
 
 abbrev pub decreases-conformity::write_specified : goal.decreases-conformity::write_specified
-decreases-conformity::write_specified l = 16 * (extra l.program.now + (length l.program.now.of.now.tree.nodes - l.id)) + 9
+decreases-conformity::write_specified l = 16 * (extra l.program.now + (length l.program.now.of.now.tree.nodes - l.id)) + 1
 
 -- the specifications before this one are written
 abbrev pub invariant-conformity::write_specs-loop-at : goal.invariant-conformity::write_specs-loop-at

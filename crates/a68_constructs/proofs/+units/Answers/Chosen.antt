@@ -19,9 +19,9 @@ use Rattle.a68_emit.specs.declared.ends.Opened.{Opened}
 use Rattle.a68_emit.proofs.Chaining.{open_more}
 use Rattle.a68_constructs.proofs.Constructs.{rest_parts, count_trees}
 use Rattle.a68_parts.proofs.Between.{between-each}
-use Rattle.a68_constructs.proofs.Awaiting.{between-rest, case_node_is, case_some, front_as, front_is, front_writes, goes_as, goes_further, goes_on, goes_same, goes_to, node_parts, out_within, put_none}
+use Rattle.a68_constructs.proofs.Awaiting.{between-rest, choice_is, choice_some, front_as, front_is, front_writes, goes_as, goes_further, goes_on, goes_same, goes_to, node_parts, out_within, put_none}
 use Rattle.a68_constructs.proofs.Numbering.{ArmsAhead, arm_end, arm_writes, arms_on}
-use Rattle.a68_constructs.specs.Endings.{AllEnd, case_tree, out_tree, tail_behind}
+use Rattle.a68_constructs.specs.Endings.{AllEnd, by_mode, choice_tree, out_tree, tail_behind}
 use Rattle.a68_constructs.specs.declared.choices.Tail.{Tail}
 use Rattle.a68_constructs.specs.declared.endings.Ending.{Ending}
 use Rattle.a68_constructs.proofs.Jumping.{link_all, link_jump}
@@ -244,59 +244,68 @@ choices::write_front-returns t c =
     (front_is c.args.out.now.stop c.enquire.new.out.stop c.choose.new.out.stop c.args.out.now.list c.enquire.new.out.list c.choose.new.out.list _ node.span.from q (trees_at (behind id (tree_of v)) units)
     (out_tree (tree_of v) tail) c.enquire.ensures c.choose.ensures.writes c.choose.ensures.jumps)
 
-pub choices::write_case-write_front-ending-requires : goal.choices::write_case-write_front-ending-requires
-choices::write_case-write_front-ending-requires t c =
+pub choices::front_of-returns-then-by_mode : goal.choices::front_of-returns-then-by_mode
+choices::front_of-returns-then-by_mode t c = rw c.if-by_mode.true c.conform_front.ensures
+
+pub choices::front_of-returns : goal.choices::front_of-returns
+choices::front_of-returns t c = rw c.if-by_mode.false c.write_front.ensures
+
+pub choices::write_choice-front_of-ending-requires : goal.choices::write_choice-front_of-ending-requires
+choices::write_choice-front_of-ending-requires t c =
     let a = c.args.program.now.of.now in
     let node = c.node-node.result.now in
     let same = node_parts a c.args.id node c.parts-parts.result.now c.node-node.ensures.is c.parts-parts.ensures.is in
-    let some = subst (λ (ids : List ℕ). 0 < length ids) same (case_some a c.args.id node c.requires.case c.node-node.ensures.is) in
+    let some = subst (λ (ids : List ℕ). 0 < length ids) same (choice_some a c.args.id node c.requires.choice c.node-node.ensures.is) in
     (omega arith, (some, c.parts-parts.ensures.behind))
 
-pub choices::write_case-returns-clause-on : goal.choices::write_case-returns-clause-on
-choices::write_case-returns-clause-on t c =
-    let v = c.args.program.now in
-    let a = v.of.now in
-    let node = c.node-node.result.now in
-    let note = c.note-note.result.now in
-    let ids = c.parts-parts.result.now in
-    let parts = node_parts a c.args.id node ids c.node-node.ensures.is c.parts-parts.ensures.is in
-    let same = case_node_is a v.sight c.args.id node note c.requires.case c.node-node.ensures.is c.note-note.ensures
-    ∙ ap (λ (is : List ℕ). case_tree a (tree_of v) c.args.id node.span.from note.goal is) parts in
-    let on = goes_on _ _ _ _ _ _ _ _ _ _ _ c.write_front-ending.ensures c.keep_ending.ensures.kept c.keep_ending.ensures.list in
-    goes_to _ _ _ _ _ _ _ _ _ (ap (out_tree (tree_of v)) (sym c.tail_of.ensures.is)) (goes_as _ _ _ _ _ _ _ _ _ (sym same) on)
-
-pub choices::write_cases-tails-init : goal.choices::write_cases-tails-init
-choices::write_cases-tails-init t c = (c.requires, omega arith, goes_same _ _ _ _)
-
-pub choices::write_cases-tails-preserved : goal.choices::write_cases-tails-preserved
-choices::write_cases-tails-preserved t c =
-    let below = c.in-Some.ensures.within in
-    let so_far = c.tails.invariant.1 in
-    let here = c.write_case-tail.ensures.node in (
-      c.write_case-tail.ensures.within,
-      omega arith,
-      goes_further _ _ _ _ _ _ _ _ _ _ _ _ _ c.in-Some.ensures.tree c.tails.invariant.2 c.write_case-tail.ensures.on,
-    )
-
-pub choices::case_chain-otherwise-requires : goal.choices::case_chain-otherwise-requires
-choices::case_chain-otherwise-requires t c =
-    let behind = c.write_cases-last.ensures.behind in
-    let first = ap (λ (x : Tail). x.id) c.tail_of-first.ensures.is in
-    (omega (arith, behind, first), c.write_cases-last.ensures.within)
-
-pub choices::case_chain-returns : goal.choices::case_chain-returns
-choices::case_chain-returns t c =
+pub choices::write_choice-returns-clause-on : goal.choices::write_choice-returns-clause-on
+choices::write_choice-returns-clause-on t c =
     let v = c.args.program.now in
     let a = v.of.now in
     let f = tree_of v in
-    let whole = case_tree a f c.args.id c.args.place c.args.goal c.args.parts.now in
+    let id = c.args.id in
+    let node = c.node-node.result.now in
+    let note = c.note-note.result.now in
+    let ids = c.parts-parts.result.now in
+    let place = node.span.from in
+    let parts = node_parts a id node ids c.node-node.ensures.is c.parts-parts.ensures.is in
+    let same = choice_is a v.sight id node note c.requires.choice c.node-node.ensures.is c.note-note.ensures
+    ∙ ap (λ (is : List ℕ). choice_tree a f (by_mode node.kind) id place note.goal is) parts ∙ ap (λ (b : Bool). choice_tree a f b id place note.goal ids) (sym c.is_by_mode-by_mode.ensures) in
+    let on = goes_on _ _ _ _ _ _ _ _ _ _ _ c.front_of-ending.ensures c.keep_ending.ensures.kept c.keep_ending.ensures.list in
+    goes_to _ _ _ _ _ _ _ _ _ (ap (out_tree f) (sym c.tail_of.ensures.is)) (goes_as _ _ _ _ _ _ _ _ _ (sym same) on)
+
+pub choices::write_choices-tails-init : goal.choices::write_choices-tails-init
+choices::write_choices-tails-init t c = (c.requires, omega arith, goes_same _ _ _ _)
+
+pub choices::write_choices-tails-preserved : goal.choices::write_choices-tails-preserved
+choices::write_choices-tails-preserved t c =
+    let below = c.in-Some.ensures.within in
+    let so_far = c.tails.invariant.1 in
+    let here = c.write_choice-tail.ensures.node in (
+      c.write_choice-tail.ensures.within,
+      omega arith,
+      goes_further _ _ _ _ _ _ _ _ _ _ _ _ _ c.in-Some.ensures.tree c.tails.invariant.2 c.write_choice-tail.ensures.on,
+    )
+
+pub choices::choice_chain-otherwise-requires : goal.choices::choice_chain-otherwise-requires
+choices::choice_chain-otherwise-requires t c =
+    let behind = c.write_choices-last.ensures.behind in
+    let first = ap (λ (x : Tail). x.id) c.tail_of-first.ensures.is in
+    (omega (arith, behind, first), c.write_choices-last.ensures.within)
+
+pub choices::choice_chain-returns : goal.choices::choice_chain-returns
+choices::choice_chain-returns t c =
+    let v = c.args.program.now in
+    let a = v.of.now in
+    let f = tree_of v in
+    let whole = choice_tree a f c.args.by_mode c.args.id c.args.place c.args.goal c.args.parts.now in
     let w0 = c.args.out.now in
     let w3 = c.otherwise.new.out in
-    let start = goes_on _ _ _ _ _ _ _ _ _ _ _ c.write_front-ending.ensures c.keep_ending.ensures.kept c.keep_ending.ensures.list in
-    let all = goes_further _ _ _ _ _ _ _ _ _ _ _ _ _ (ap (out_tree f) (sym c.tail_of-first.ensures.is)) start c.write_cases-last.ensures.on in
+    let start = goes_on _ _ _ _ _ _ _ _ _ _ _ c.front_of-ending.ensures c.keep_ending.ensures.kept c.keep_ending.ensures.list in
+    let all = goes_further _ _ _ _ _ _ _ _ _ _ _ _ _ (ap (out_tree f) (sym c.tail_of-first.ensures.is)) start c.write_choices-last.ensures.on in
     let awaited = all.on whole w0.stop w0.list (λ s l w. subst (λ (es : List Ending). AllEnd es (TreeIsWritten whole w0.stop w0.list) s l) (sym c.new-endings.ensures.items) w) in
     c.end_all.ensures whole w0.stop w0.list
     (subst (λ (es : List Ending). AllEnd es (TreeIsWritten whole w0.stop w0.list) w3.stop w3.list) (sym c.deref.ensures.value) (awaited w3.stop w3.list c.otherwise.ensures))
 
-pub choices::case-case_chain-requires : goal.choices::case-case_chain-requires
-choices::case-case_chain-requires t c = (omega arith, (omega arith, c.requires))
+pub choices::case-choice_chain-requires : goal.choices::case-choice_chain-requires
+choices::case-choice_chain-requires t c = (omega arith, (omega arith, c.requires))

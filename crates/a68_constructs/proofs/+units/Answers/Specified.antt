@@ -1,32 +1,32 @@
 -- What conformity clauses have written.
-use Rattle.std.proofs.Common.{◌≡◌, ◌⊎◌, ℕ, Bool, List, Option, ◌+◌, ◌-◌, ◌++◌, [], ◌∷◌, length, true, sym, ◌∙◌, ap, subst, drop, take, get_or, arith, ◌<◌}
-use Rattle.std.specs.Option.{option_map_or}
-use Rattle.std.proofs.lemmas.List.{append-nil}
+use Rattle.std.proofs.Common.{◌≡◌, ◌⊎◌, ℕ, Bool, List, Option, ◌+◌, ◌-◌, ◌++◌, [], ◌∷◌, length, true, refl, sym, ◌∙◌, ap, subst, drop, take, get_or, arith, ◌<◌}
+use Rattle.std.proofs.lemmas.List.{append-nil, length-append, take_rest}
 use Rattle.a68_annot.specs.declared.annotated.Annotated.{Annotated}
 use Rattle.a68_code.specs.declared.does.Does.TheVariants as does
 use Rattle.a68_elab.specs.Made as made
-use Rattle.a68_elab.specs.Trees.{Tree, Specs, no_specs, spec}
-use Rattle.a68_elab.specs.Made.{trees_at, specs_of}
+use Rattle.a68_elab.specs.Trees.{Specs, Tree, conformity, no_specs, spec}
+use Rattle.a68_elab.specs.Made.{framed, trees_at, specs_of}
 use Rattle.a68_elab.specs.Programs.{behind}
 use Rattle.a68_emit.specs.Listing.{instr, stretch}
 use Rattle.a68_code.specs.declared.code.Instr.{Instr}
-use Rattle.a68_emit.specs.Writing.{aim_all, ran_out, Writes}
+use Rattle.a68_emit.specs.Writing.{ran_out, Writes}
 use Rattle.a68_emit.specs.Numbers.{put_all}
 use Rattle.a68_emit.specs.Views.{tree_of}
 use Rattle.a68_modes.specs.declared.shape.Shape.{Shape}
-use Rattle.a68_emit.specs.Chains.{shuts}
+use Rattle.a68_constructs.proofs.Awaiting.{between-rest, front_as, out_within, put_none}
 use Rattle.a68_constructs.proofs.Constructs.{rest_parts}
+use Rattle.a68_constructs.specs.Endings.{member_front, out_tree, tail_behind}
 use Rattle.a68_parts.proofs.Between.{between-each}
-use Rattle.a68_emit.proofs.Writing.{and_behind, nothing-written}
+use Rattle.a68_emit.proofs.Writing.{and_behind, had_not, is_written, nothing-written}
 use Rattle.a68_constructs.proofs.+units.Goals as goal
 use Rattle.std.specs.Prelude.{not, false, IfSome, if◌then◌else◌}
 use Rattle.a68_acts.specs.Operations.{is_union}
 use Rattle.a68_modes.specs.Nodes.{shape_at, is_void}
 use Rattle.a68_base.specs.declared.refusal.Stop.{Stop}
 use Rattle.a68_acts.specs.Members.{members_of}
-use Rattle.a68_constructs.proofs.Conforming.{SpecsAhead, conform_framed, conform_is, conform_writes, spec_ends, spec_writes, specs_on, tagged_writes}
+use Rattle.a68_constructs.proofs.Conforming.{SpecsAhead, conform_front_is, conform_is, member_writes, spec_ends, spec_writes, specs_on, tagged_writes}
 use Rattle.a68_emit.proofs.Taking.{specs_end, specs_more}
-use Rattle.a68_emit.specs.Conforming.{conform_list, takes_of}
+use Rattle.a68_emit.specs.Conforming.{spec_jumps, takes_of}
 use Rattle.a68_emit.specs.Stretches.{member_places}
 use mir.Val.{bool_byte}
 
@@ -139,41 +139,45 @@ conformity::write_specs-loop-at-preserved t c =
           w0.stop w1.stop w2.stop w0.list w1.list w2.list before c.write_spec.ensures.writes c.write_spec.ensures.starts c.write_spec.ensures.jumps,
     )
 
-pub conformity::conform-returns : goal.conformity::conform-returns
-conformity::conform-returns t c =
+pub conformity::conform-returns-clause-writes : goal.conformity::conform-returns-clause-writes
+conformity::conform-returns-clause-writes t c =
     let v = c.args.program.now in
     let a = v.of.now in
     let f = behind c.args.id (tree_of v) in
     let specs = specs_of a f c.args.specs.now in
     let union = c.args.union in
+    let yields = c.args.yields in
     let w0 = c.args.out.now in
     let w1 = c.emit.new.self in
     let w2 = c.write_specs.new.out in
-    let w3 = c.otherwise.new.out in
-    let w4 = c.patch_all.new.self in
-    let w5 = c.aim_member.new.out in
+    let w3 = c.aim_member.new.out in
     let member = c.len-member.result in
     let none = c.len-none.result in
-    let end = c.len-end.result in
     let starts = c.write_specs.new.starts.items in
-    let jumps = c.write_specs.new.jumps.items in
     let found = c.members_of-members.result.now in
-    let yields = c.is_void-yields.result in
     let members_are : found ≡ members_of (shape_at a.modes union) = c.members_of-members.ensures ∙ ap (λ (ms : List Shape). members_of (shape_at ms union)) c.modes.ensures in
-    let ends : w4.list ≡ aim_all w3.list jumps end = c.patch_all.ensures.list ∙ ap (λ (j : List ℕ). aim_all w3.list j end) c.deref.ensures.value in
-    let each : ((w5.list ≡ put_all w4.list member 0 (member_places found specs starts none)) × (w5.stop ≡ w4.stop)) ⊎ (w5.stop ≡ ran_out w4.stop) =
-    subst (λ (ps : List ℕ). ((w5.list ≡ put_all w4.list member 0 (member_places found specs ps none)) × (w5.stop ≡ w4.stop)) ⊎ (w5.stop ≡ ran_out w4.stop)) c.deref-2.ensures.value c.aim_member.ensures in
-    let all = conform_writes w0.stop w1.stop w2.stop w3.stop w4.stop w5.stop w0.list w1.list w2.list w3.list w4.list w5.list c.args.place union member end none found starts jumps (not yields) specs
-    (option_map_or (tree_of v) c.args.other (made.left_out c.args.place c.args.goal)) c.in-Ok.does
-    c.len-member.ensures.long c.in-Ok.ensures c.emit.ensures c.write_specs.ensures.writes c.write_specs.ensures.starts c.write_specs.ensures.jumps c.len-none.ensures.long c.otherwise.ensures c.len-end.ensures.long
-    ends c.patch_all.ensures.stop each in
-    let by_members = subst (λ (ms : List ℕ). Writes w0.stop w5.stop w0.list w5.list
-    (conform_list c.args.place union ms (not yields) specs (option_map_or (tree_of v) c.args.other (made.left_out c.args.place c.args.goal)) (length w0.list))) members_are all in
-    subst (λ (b : Bool). Writes w0.stop w5.stop w0.list w5.list
-    (conform_list c.args.place union (members_of (shape_at a.modes union)) (not b) specs (option_map_or (tree_of v) c.args.other (made.left_out c.args.place c.args.goal)) (length w0.list))) c.is_void-yields.ensures by_members
+    let each : ((w3.list ≡ put_all w2.list member 0 (member_places found specs starts none)) × (w3.stop ≡ w2.stop)) ⊎ (w3.stop ≡ ran_out w2.stop) =
+    subst (λ (ps : List ℕ). ((w3.list ≡ put_all w2.list member 0 (member_places found specs ps none)) × (w3.stop ≡ w2.stop)) ⊎ (w3.stop ≡ ran_out w2.stop)) c.deref.ensures.value c.aim_member.ensures in
+    let all = member_writes w0.stop w1.stop w2.stop w3.stop w0.list w1.list w2.list w3.list c.args.place union member none found starts yields specs c.in-Ok.does
+    c.len-member.ensures.long c.in-Ok.ensures c.emit.ensures c.write_specs.ensures.writes c.write_specs.ensures.starts c.len-none.ensures.long each in
+    subst (λ (ms : List ℕ). Writes w0.stop w3.stop w0.list w3.list (member_front c.args.place union ms yields specs (length w0.list))) members_are all
 
-pub conformity::conformity-returns : goal.conformity::conformity-returns
-conformity::conformity-returns t c =
+pub conformity::conform-returns-clause-jumps : goal.conformity::conform-returns-clause-jumps
+conformity::conform-returns-clause-jumps t c = λ none.
+    let v = c.args.program.now in
+    let f = behind c.args.id (tree_of v) in
+    let specs = specs_of v.of.now f c.args.specs.now in
+    let w0 = c.args.out.now in
+    let w1 = c.emit.new.self in
+    let w2 = c.write_specs.new.out in
+    let w3 = c.aim_member.new.out in
+    let none2 = put_none w2.stop w3.stop w2.list w3.list _ c.aim_member.ensures none in
+    let none1 = had_not w1.stop w2.stop w1.list w2.list _ c.write_specs.ensures.writes none2 in
+    let long = ap (λ (l : List Instr). length l) (is_written w0.stop w1.stop w0.list w1.list _ c.emit.ensures none1) ∙ length-append w0.list _ in
+    c.write_specs.ensures.jumps none2 ∙ ap (λ (k : ℕ). spec_jumps specs k) long
+
+pub conformity::conform_front-returns : goal.conformity::conform_front-returns
+conformity::conform_front-returns t c =
     let v = c.args.program.now in
     let a = v.of.now in
     let id = c.args.id in
@@ -186,28 +190,28 @@ conformity::conformity-returns t c =
     let enquiry = get_or ids 0 0 in
     let f = behind id (tree_of v) in
     let units = c.before_out-specs.result.now in
-    let other = c.out_of-other.result in
-    let union = c.goal_at-union.result in
-    let below = (between-each id (length a.tree.nodes) 0 ids c.requires (omega arith)).0 in
-    let w0 = c.args.out.now in
+    let tail = tail_behind a id place goal_mode ids in
+    let below = (between-each id (length a.tree.nodes) 0 ids c.requires.between (omega arith)).0 in
+    let q = made.phrases_of node.span.from (trees_at (behind enquiry (tree_of v)) c.parts-phrases.result.now) in
+    let rest = take (length ids - 1) (drop 1 ids) in
+    let rest_is : rest ≡ drop 1 ids = take_rest ids 1 in
+    let units_are : units ≡ made.before_out a rest = c.before_out-specs.ensures.parts ∙ ap (λ (x : Annotated). made.before_out x rest) c.annotated.ensures in
+    let other_is : tail.other ≡ made.out_of a rest = ap (made.out_of a) (sym rest_is) in
+    let other_within : IfSome tail.other (λ p. (id < p) × (p < length a.tree.nodes)) = out_within a id (length a.tree.nodes) (drop 1 ids) (between-rest id (length a.tree.nodes) ids c.requires.between) in
+    let union = made.goal_at a enquiry in
+    let members = members_of (shape_at a.modes union) in
+    let specs = specs_of a f units in
+    let out = out_tree (tree_of v) tail in
+    let same = conform_is a (tree_of v) id place goal_mode yields enquiry rest c.parts-phrases.result.now units tail.other node note c.node.ensures.is c.note.ensures c.parts-phrases.ensures.is
+    c.parts-phrases.ensures.behind below units_are other_is other_within in
+    let whole = ap (λ (l : List ℕ). made.conformity_of a f place goal_mode yields l) (sym (rest_parts ids c.requires.some)) in
+    let void = ap not c.is_void-yields.ensures in
     let w1 = c.enquire.new.out in
     let w2 = c.conform.new.out in
-    let w3 = c.shut.new.out in
-    let shut : Writes w2.stop w3.stop w2.list w3.list (shuts note.slots yields place) =
-    subst (λ (b : Bool). Writes w2.stop w3.stop w2.list w3.list (shuts note.slots (not b) place)) c.is_void.ensures c.shut.ensures in
-    let phrases = made.phrases_of node.span.from (trees_at (behind enquiry (tree_of v)) c.parts-phrases.result.now) in
-    let out = option_map_or (tree_of v) other (made.left_out place goal_mode) in
-    let chosen : Writes w1.stop w2.stop w1.list w2.list
-    (conform_list place (made.goal_at a enquiry) (members_of (shape_at a.modes (made.goal_at a enquiry))) yields (specs_of a f units) out (length w1.list)) =
-    subst (λ (u : ℕ). Writes w1.stop w2.stop w1.list w2.list (conform_list place u (members_of (shape_at a.modes u)) yields (specs_of a f units) out (length w1.list))) c.goal_at-union.ensures c.conform.ensures in
-    let all = conform_framed w0.stop w1.stop w2.stop w3.stop w0.list w1.list w2.list w3.list node.span.from note.slots place (made.goal_at a enquiry) (members_of (shape_at a.modes (made.goal_at a enquiry))) yields
-    phrases (specs_of a f units) out c.enquire.ensures chosen shut in
-    let rest = take (length ids - 1) (drop 1 ids) in
-    let units_are : units ≡ made.before_out a rest = c.before_out-specs.ensures.parts ∙ ap (λ (x : Annotated). made.before_out x rest) c.annotated.ensures in
-    let other_is : other ≡ made.out_of a rest = c.out_of-other.ensures.out ∙ ap (λ (x : Annotated). made.out_of x rest) c.annotated-2.ensures in
-    let other_within : IfSome other (λ p. (id < p) × (p < length a.tree.nodes)) =
-    subst (λ (x : Annotated). IfSome other (λ p. (id < p) × (p < length x.tree.nodes))) c.annotated-2.ensures c.out_of-other.ensures.within in
-    let same = conform_is a (tree_of v) id place goal_mode yields enquiry rest c.parts-phrases.result.now units other node note c.node.ensures.is c.note.ensures c.parts-phrases.ensures.is
-    c.parts-phrases.ensures.behind below units_are other_is other_within in
-    let whole = ap (λ (l : List ℕ). made.conformity_of a f place goal_mode yields l) (sym (rest_parts ids (omega arith))) in
-    subst (λ (u : Tree). Writes w0.stop w3.stop w0.list w3.list (stretch u (length w0.list))) (same ∙ whole) all
+    let written : Writes w1.stop w2.stop w1.list w2.list (member_front place union members (not c.is_void-yields.result) specs (length w1.list)) =
+    subst (λ (u : ℕ). Writes w1.stop w2.stop w1.list w2.list (member_front place u (members_of (shape_at a.modes u)) (not c.is_void-yields.result) specs (length w1.list))) c.goal_at-union.ensures c.conform.ensures.writes in
+    front_as _ _ _ _ _ _ _ _ _ (ap (λ (b : Bool). framed node.span.from place note.slots b (conformity place union members b q specs out)) void ∙ same ∙ whole) refl
+    (conform_front_is c.args.out.now.stop w1.stop w2.stop c.args.out.now.list w1.list w2.list _ node.span.from union members q specs out c.enquire.ensures written c.conform.ensures.jumps)
+
+pub conformity::conformity-choice_chain-requires : goal.conformity::conformity-choice_chain-requires
+conformity::conformity-choice_chain-requires t c = (omega arith, (omega arith, c.requires))

@@ -4,6 +4,13 @@ use Rattle.a68_emit.proofs.Writing.{coerced_once}
 use Rattle.a68_emit.proofs.coercions.coerce_along.Goals as goal
 use Rattle.a68_modes.specs.declared.coercion.Coercion.TheVariants.{Deproc}
 
+-- what is known of the whole path is known of its end
+pub coerce_once-mode-requires : goal.coerce_once-mode-requires
+coerce_once-mode-requires c =
+    let path = c.args.path.now in
+    let at = c.loop-at.at in
+    rw (take_all (length path - (at + 1)) (drop (at + 1) path) (omega (arith, length-drop (at + 1) path))) (c.last_rowings-rowings.ensures.rows (at + 1))
+
 pub loop-at-preserved : goal.loop-at-preserved
 loop-at-preserved c =
     let path = c.args.path.now in

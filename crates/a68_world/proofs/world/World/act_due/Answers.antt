@@ -9,7 +9,8 @@ use Rattle.a68_world.specs.declared.seat.Seat.{Seat}
 use Rattle.a68_world.specs.declared.seat.Seat.TheVariants as seat
 use Rattle.a68_world.specs.declared.status.StrandState.TheVariants as status
 use Rattle.a68_world.proofs.Behind.{Noted}
-use Rattle.a68_world.proofs.LentActs.{due_reached, fault_lent, lent_acts, lent_there, sits_turn}
+use Rattle.a68_world.proofs.LentActs.{due_reached, fault_lent, lent_acts, lent_there, run_lent, sits_turn}
+use Rattle.a68_world.proofs.Closing.{with_passed}
 use Rattle.a68_world.proofs.Places.{is_within}
 use Rattle.a68_world.proofs.Standing.{asking_as, due_other_as, few_asked_as, few_frames}
 use Rattle.a68_world.proofs.world.World.act_due.Goals as goal
@@ -78,8 +79,10 @@ invariant_of-self-in-Told c =
     c.seat_all.ensures ∙ ap (λ l. slice_set l c.number-in-Told.result c.set_closed.new.seat ++ units) c.units_for.ensures.same ∙ ap (λ k. slice_set s.seats.items k c.set_closed.new.seat ++ units) c.number-in-Told.ensures
     ∙ ap (λ z. slice_set s.seats.items n z ++ units) c.set_closed.ensures in
     let bounds = subst (λ k. BoundsBy (waits_by strand.about.waiting told) s.waits_below k c.bound_behind-below.result) c.number-in-Told-2.ensures (subst (λ b. BoundsBy b s.waits_below c.number-in-Told-2.result c.bound_behind-below.result) c.waits_by-waits.ensures c.bound_behind-below.ensures) in
+    with_passed (run_lent s c.self.invariant strand held c.in-Told.act told store units r c.note.new.journal c.wake_if-self-inside.new.seats c.bound_behind-below.result c.wake_if-self-inside.result) c.pass_closed.new.passed c.deref.result.now c.number-in-Told-3.result
     (lent_acts s c.self.invariant strand held c.in-Told.act told store units r closed c.either-may.result c.wake_if-self-inside.result c.seat_all.new.seats.items c.note.new.journal c.wake_if-self-inside.new.seats c.bound_behind-below.result
     c.closes_by-closed.ensures (c.either-may.ensures ∙ ap (λ b. b || c.waits_by-waits.result) c.closes_by-closed.ensures ∙ ap (λ b. closes_by strand.about.waiting told || b) c.waits_by-waits.ensures) noted placed bounds c.wake_if-self-inside.ensures).0
+    c.deref.ensures.value c.pass_closed.ensures
 
 pub returns-in-Told : goal.returns-in-Told
 returns-in-Told c =

@@ -8,7 +8,8 @@ use Rattle.a68_world.specs.declared.seat.Seat.{Seat}
 use Rattle.a68_world.specs.declared.seat.Seat.TheVariants as seat
 use Rattle.a68_world.specs.declared.status.StrandState.{StrandState}
 use Rattle.a68_world.proofs.Behind.{Noted}
-use Rattle.a68_world.proofs.Doing.{Told, seat_there, told_all, few_told, untold_all, refused_left, refused_ends, unfound_left, unfound_wants}
+use Rattle.a68_world.proofs.Doing.{Told, seat_there, told_all, few_told, passed_told, run_told, untold_all, refused_left, refused_ends, unfound_left, unfound_wants}
+use Rattle.a68_world.proofs.Closing.{with_passed}
 use Rattle.a68_world.proofs.Places.{is_within}
 use Rattle.a68_world.proofs.Standing.{due_other, seat_home, few_units, few_frames, asking_at}
 use Rattle.a68_world.proofs.world.World.do_act.Goals as goal
@@ -75,6 +76,8 @@ end_behind-self-inside-requires c =
     record {
       few = few_told s n c.self.invariant goes due x y c.in-Told.act store units c.seat_all.new.seats.items c.deref-in-Told.result.now c.deref.result.now c.wake_behind-self-inside.new.seats.items c.waits_below-below.result c.wake_behind-self-inside.result told placed c.deref.ensures.value c.waits_below-below.ensures
           c.wake_behind-self-inside.ensures c.deref-in-Told.ensures.value;
+      passed = passed_told s n c.self.invariant goes due x y c.in-Told.act store units c.seat_all.new.seats.items c.deref-in-Told.result.now c.deref.result.now c.wake_behind-self-inside.new.seats.items c.waits_below-below.result c.wake_behind-self-inside.result told placed c.deref.ensures.value c.waits_below-below.ensures
+          c.wake_behind-self-inside.ensures c.deref-in-Told.ensures.value;
     }
 
 pub invariant_of-self-in-Told : goal.invariant_of-self-in-Told
@@ -97,7 +100,8 @@ invariant_of-self-in-Told c =
     let lost = c.wake_behind-self-inside.result in
     let all = told_all s n c.self.invariant goes due x y c.in-Told.act store units c.seat_all.new.seats.items c.deref-in-Told.result.now c.deref.result.now c.note.new.journal seats c.waits_below-below.result lost c.end_behind-self-inside.result told noted placed c.deref.ensures.value c.waits_below-below.ensures
     c.wake_behind-self-inside.ensures c.deref-in-Told.ensures.value c.end_behind-self-inside.ensures in
-    all.0
+    with_passed (run_told s n c.self.invariant goes due c.note.new.journal store seats c.waits_below-below.result lost c.end_behind-self-inside.result) c.pass_closed.new.passed c.deref-in-Told-2.result.now n all.0 c.deref-in-Told-2.ensures.value
+    c.pass_closed.ensures
 
 pub returns-in-Told : goal.returns-in-Told
 returns-in-Told c =

@@ -12,5 +12,6 @@ invariant_of-self c = record {
   room = c.self.invariant.room;
   store = c.self.invariant.store;
   seats = c.self.invariant.seats;
+  passed = c.self.invariant.passed;
   waits = c.self.invariant.waits;
 }

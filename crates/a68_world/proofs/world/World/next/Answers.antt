@@ -1,8 +1,15 @@
+use Rattle.a68_world.proofs.Behind.{now}
+use Rattle.a68_world.proofs.Closing.{pass_turns}
 use Rattle.a68_world.proofs.Standing.{few_seats, able_first, able_exactly, none_from}
 use Rattle.a68_world.proofs.world.World.next.Goals as goal
 
 pub next_turn-requires : goal.next_turn-requires
-next_turn-requires c = record { few = rw c.deref.ensures.value (few_seats c.self.inside c.self.invariant) }
+next_turn-requires c =
+    let s = c.self.inside in
+    record {
+      few = rw c.deref.ensures.value (few_seats s c.self.invariant);
+      passed = rw c.deref.ensures.value (pass_turns s.code (now s).strands s.seats.items s.store s.passed c.self.invariant.seats c.self.invariant.passed);
+    }
 
 pub returns-clause-first : goal.returns-clause-first
 returns-clause-first c =

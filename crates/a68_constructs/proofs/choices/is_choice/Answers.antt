@@ -1,6 +1,6 @@
 use Rattle.std.proofs.Common.{◌∙◌, ◌<◌, length, subst, sym, arith}
 use Rattle.a68_constructs.proofs.Awaiting.{node_parts}
-use Rattle.a68_constructs.proofs.choices.is_case.Goals as goal
+use Rattle.a68_constructs.proofs.choices.is_choice.Goals as goal
 
 pub returns : goal.returns
 returns c = λ is. record {
@@ -8,8 +8,8 @@ returns c = λ is. record {
   note = c.note-note.result.now;
   is = c.node-node.ensures.is;
   noted = c.note-note.ensures;
-  case = c.is_bare_case.ensures.kind c.if-not-is_bare_case.false;
-  bare = c.is_bare_case.ensures.path c.if-not-is_bare_case.false;
+  choice = c.is_bare_choice.ensures.kind c.if-not-is_bare_choice.false;
+  bare = c.is_bare_choice.ensures.path c.if-not-is_bare_choice.false;
   run = sym c.runs.ensures ∙ c.if-not-runs.false;
   some = subst (λ ids. 0 < length ids) (sym (node_parts c.args.program.now.of.now c.args.id c.node-node.result.now c.parts.result.now c.node-node.ensures.is c.parts.ensures.is)) (omega arith);
 }
