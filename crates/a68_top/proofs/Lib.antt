@@ -2,6 +2,7 @@ pub mod Answering
 pub mod Compiled
 pub mod Ending
 pub mod Joined
+pub mod Kept
 pub mod One
 pub mod Refusing
 pub mod Second

@@ -1,7 +1,8 @@
 -- What a call did, by its status, whatever the shelf and the sinks did.
-use Rattle.std.specs.Prelude.{◌≡◌, ◌⊎◌, ℕ, List, [], ◌∷◌, IfSome, ⊤}
+use Rattle.std.specs.Prelude.{◌≡◌, ◌⊎◌, ℕ, List, [], ◌∷◌, None, Some, IfSome, ⊤}
 use Rattle.std.specs.declared.option.Option.{Option}
 use Rattle.std.specs.Io.KnownBytes.{append_known}
+use Rattle.a68_base.specs.declared.refusal.Refusal.{Refusal}
 use Rattle.a68_base.specs.declared.status.Status.{Status}
 use Rattle.a68_base.specs.declared.status.Status.TheVariants.{ReadFault, WriteFault, NoMemory}
 use Rattle.a68_outside.specs.Cause.{Rose}
@@ -81,6 +82,14 @@ pub record Empty (out notes : Sunk) (finish : Finish) : Type 0 where
   pub finish_is : finish ≡ bare NoMemory
   pub out_same : Untouched out
   pub notes_same : Untouched notes
+
+-- Status 1: the refusal alone is kept, and out has received nothing.
+pub record IsRefused (out : Sunk) (finish : Finish) : Type 0 where
+  pub refusal : Refusal
+  pub kept : finish.refusal ≡ Some refusal
+  pub made : finish.made ≡ None
+  pub ran : finish.ran ≡ None
+  pub out_nothing : Whole out []
 
 -- the statuses of an answer: no fault of the outside, and no want of memory
 abbrev pub IsAnswer : Status → Type 0

@@ -1,7 +1,7 @@
 //! The top call.
 ghost use Rattle.std.specs.Prelude.{◌≡◌, ◌≢◌, ◌<◌, ◌⊎◌, map, string_bytes, []};
 ghost use Rattle.a68_command.specs.Words.{MayAskFor, task_in, files_of};
-ghost use Rattle.a68_top.specs.Outcome.{FinishIs, sunk};
+ghost use Rattle.a68_top.specs.Outcome.{FinishIs, IsRefused, sunk};
 
 use crate::deliver::deliver;
 use crate::fetching::Early;
@@ -35,6 +35,9 @@ pub fn a68<R: Threads + Wait + Sync, F: Shelf, K: Sink, N: Sink, G: Gate>(
     ensures outcome { FinishIs result.status (task_in (map string_bytes words.now))
         (F.under shelf.old) (F.faults shelf.old) (F.faults shelf.new)
         (sunk K.faults K.received out.old out.new) (sunk N.faults N.received notes.old notes.new) result }
+
+    // A refusal has run nothing and printed nothing.
+    ensures refused { result.status ≡ Status.Refused → IsRefused (sunk K.faults K.received out.old out.new) result }
 
     // A fault of the outside is answered.
     ensures shelf_fault { F.faults shelf.old < F.faults shelf.new → (result.status ≡ Status.ReadFault) ⊎ (result.status ≡ Status.NoMemory) }
