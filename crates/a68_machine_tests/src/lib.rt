@@ -1,14 +1,10 @@
-//! Tests of stacks, stores, strands and runs, by hand.
+//! Tests of strands and runs, by hand.
 #![tactic(auto)]
 
 #[cfg(test)]
 mod leases;
 #[cfg(test)]
 mod parallel;
-#[cfg(test)]
-mod stack;
-#[cfg(test)]
-mod store;
 #[cfg(test)]
 mod strand;
 #[cfg(test)]

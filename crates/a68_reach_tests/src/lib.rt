@@ -1,10 +1,12 @@
-//! Tests of the words of the command line, and of calls over two files, by hand.
+//! Tests of the words of the command line, of listings, and of calls over two files, by hand.
 #![tactic(auto)]
 
 #[cfg(test)]
 mod calls;
 #[cfg(test)]
 mod inputs;
+#[cfg(test)]
+mod listings;
 #[cfg(test)]
 mod replays;
 #[cfg(test)]

@@ -6,8 +6,6 @@ mod calls;
 #[cfg(test)]
 mod hostile;
 #[cfg(test)]
-mod listings;
-#[cfg(test)]
 mod parallel;
 #[cfg(test)]
 mod races;

@@ -3,7 +3,7 @@
 
 ghost use Rattle.std.specs.Prelude.{◌≡◌, ◌∷◌, [], false, length};
 ghost use Rattle.a68_acts.specs.Store.{opening_store, standard_frame};
-ghost use Rattle.a68_machine_tests.specs.Stores.{entered, bound, forked};
+ghost use Rattle.a68_store_tests.specs.Stores.{entered, bound, forked};
 
 use crate::table::holds;
 use a68_acts::Want;

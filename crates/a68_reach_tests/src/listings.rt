@@ -1,5 +1,5 @@
 //! Texts laid out anew, by hand.
-use crate::calls::{Words, answers, of_words};
+use crate::calls::{Given, answers, of_texts};
 use std::panic::Expect;
 
 /// Brackets and what parts units, with their listings.
@@ -72,32 +72,28 @@ const REFUSED: &[(&str, &str)] = &[
     ("( a # c # b )", "a68: refused S6 at byte 10\n"),
 ];
 
-// A call of `list` with room for its listing.
-fn list(text: &str) -> Words<'_> {
-    Words {
-        room: 400,
-        ..of_words(&["list", "f"], text)
-    }
+fn list(text: &str) -> Given<'_> {
+    of_texts(&["list", "f"], text, b"")
 }
 
 #[test]
 fn texts_are_laid_out(rt: HostRuntime) {
     for (text, listing) in BRACKETS {
-        answers(&rt, rt.alloc(), list(text), 0, (listing, ""));
+        answers(&rt, rt.alloc(), list(text), 0, (listing, ""), text);
     }
 }
 
 #[test]
 fn symbols_are_spelled(rt: HostRuntime) {
     for (text, listing) in SPELLINGS {
-        answers(&rt, rt.alloc(), list(text), 0, (listing, ""));
-        answers(&rt, rt.alloc(), list(listing), 0, (listing, ""));
+        answers(&rt, rt.alloc(), list(text), 0, (listing, ""), text);
+        answers(&rt, rt.alloc(), list(listing), 0, (listing, ""), text);
     }
 }
 
 #[test]
 fn texts_without_a_tree_are_refused(rt: HostRuntime) {
     for (text, notes) in REFUSED {
-        answers(&rt, rt.alloc(), list(text), 1, ("", notes));
+        answers(&rt, rt.alloc(), list(text), 1, ("", notes), text);
     }
 }
