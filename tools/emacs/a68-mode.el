@@ -11,12 +11,12 @@
      (cons (regexp-opt '("BEGIN" "END" "IF" "THEN" "ELIF" "ELSE" "FI" "CASE" "IN" "OUSE" "OUT" "ESAC" "FOR" "FROM" "BY" "TO"
                          "WHILE" "DO" "OD" "PAR" "AT" "OF" "MODE" "PRIO" "OP" "PROC" "LOC" "HEAP") 'symbols)
            'font-lock-keyword-face)
-     (cons (regexp-opt '("INT" "BOOL" "CHAR" "BITS" "SEMA" "STRING" "VOID" "REF" "FLEX" "STRUCT" "UNION") 'symbols)
+     (cons (regexp-opt '("LONG" "INT" "BOOL" "CHAR" "BITS" "SEMA" "STRING" "VOID" "REF" "FLEX" "STRUCT" "UNION") 'symbols)
            'font-lock-type-face)
      (cons (regexp-opt '("TRUE" "FALSE" "NIL" "SKIP") 'symbols) 'font-lock-constant-face)
-     (cons (regexp-opt '("REAL" "COMPL" "BYTES" "FORMAT" "SHORT" "EMPTY" "LONG" "GO" "GOTO" "EXIT") 'symbols)
+     (cons (regexp-opt '("REAL" "COMPL" "BYTES" "FORMAT" "SHORT" "EMPTY" "GO" "GOTO" "EXIT") 'symbols)
            'font-lock-warning-face)
-     (cons (regexp-opt '("NOT" "ABS" "SIGN" "ODD" "REPR" "BIN" "LEVEL" "UP" "DOWN" "OVER" "MOD" "ELEM" "AND" "OR" "SHL" "SHR"
+     (cons (regexp-opt '("NOT" "ABS" "SIGN" "ODD" "REPR" "BIN" "LENG" "SHORTEN" "LEVEL" "UP" "DOWN" "OVER" "MOD" "ELEM" "AND" "OR" "SHL" "SHR"
                          "LWB" "UPB" "EQ" "NE" "LT" "LE" "GE" "GT" "IS" "ISNT" "PLUSAB" "MINUSAB" "TIMESAB" "OVERAB" "MODAB"
                          "PLUSTO") 'symbols)
            'font-lock-builtin-face)))

@@ -40,6 +40,12 @@ abbrev pub is_integer : Content → Bool
 is_integer (plain (value.Int i)) = true
 is_integer v = false
 
+-- an INT or a LONG INT
+abbrev pub is_number : Content → Bool
+is_number (plain (value.Int i)) = true
+is_number (plain (value.Long l)) = true
+is_number v = false
+
 abbrev pub integer : Content → ℤ
 integer (plain (value.Int i)) = i
 integer v = pos 0

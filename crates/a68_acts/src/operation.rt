@@ -1,7 +1,7 @@
 //! Operations between two of their acts.
 use crate::{Left, Steps, Want};
 use a68_layout::Trims;
-use a68_values::{FaultKind, Name, Value, Values};
+use a68_values::{FaultKind, Name, Plain, Value, Values};
 
 /// How an operation goes on.
 #[derive(Drop)]
@@ -25,12 +25,12 @@ pub enum Next {
     Void,
     /// It yields this name.
     Name(Name),
-    /// It applies the operator that this row combines with assignation to what the cell holds and to this operand, and
-    /// gives that to the name.
+    /// It applies the operator that this row combines with assignation to what the cell holds and to this operand, which is
+    /// an integer, and gives that to the name.
     Update {
         row: u32,
         name: Name,
-        operand: i64,
+        operand: Plain,
     },
     /// It applies the operator that this row combines with assignation to the text of the name and to this operand, and
     /// gives that to the name.

@@ -16,17 +16,27 @@ use a68_ranges::{Ranges, ranges};
 use a68_tree::Tree;
 use std::alloc::Global;
 
-// Finds all modes of a tree whose formulas are shaped, and what is known of its nodes.
+// Finds all modes of a tree whose formulas are shaped, and what is known of its nodes, by its ranges.
+fn known_by(alloc: Global, tree: &Tree, ranges: &Ranges) -> Result<(Modes, Notes), Stop>
+    requires ranges { AreRanges tree.now ranges.now }
+    requires once { DeclaresOnce tree.now }
+    ensures known { IfOk result (λ found. AreKnown tree.now found.0 found.1) }
+    ensures wrong { IfErr result (StopsBy (IsMisused tree.now)) }
+{
+    let meaning = find_meaning(alloc, tree, ranges)?;
+    let notes = find_notes(alloc, tree, ranges, &meaning)?;
+    let modes = rowed_modes(alloc, meaning)?;
+    Ok((modes, notes))
+}
+
+// The same, where the ranges are yet to be found.
 fn known(alloc: Global, tree: &Tree) -> Result<(Modes, Notes), Stop>
     requires once { DeclaresOnce tree.now }
     ensures known { IfOk result (λ found. AreKnown tree.now found.0 found.1) }
     ensures wrong { IfErr result (StopsBy (IsMisused tree.now)) }
 {
     let ranges = ranges(alloc, tree)?;
-    let meaning = find_meaning(alloc, tree, &ranges)?;
-    let notes = find_notes(alloc, tree, &ranges, &meaning)?;
-    let modes = rowed_modes(alloc, meaning)?;
-    Ok((modes, notes))
+    known_by(alloc, tree, &ranges)
 }
 
 // Keeps the modes of what is known, and lets the rest go.

@@ -89,7 +89,7 @@ impl Does {
             Does::Slice(forms) => !forms.items.is_empty(),
             Does::Compose(fields) => *fields > 0,
             Does::Select { mode, .. } => *mode < modes.len(),
-            Does::Apply(row) => 1 <= *row && *row <= 38,
+            Does::Apply(row) => 1 <= *row && *row <= 40,
             Does::Jump(to) | Does::Unless(to) | Does::Step(to) | Does::Advance(to) => (*to as usize)
                 < count,
             Does::Case(places) => places.are_inside(count),

@@ -6,7 +6,7 @@ use std::panic::Expect;
 use std::process::Abort;
 
 /// Codes: + where the machine runs it, what is to be seen in it, and its instructions. Push pushes an INT. The modes
-/// are the standard ones: 0 VOID, 1 INT, 6 layout, 7 `[] CHAR`, 8 a union of six, 9 REF INT; there are 13.
+/// are the standard ones: 0 VOID, 1 INT, 6 layout, 7 `[] CHAR`, 8 a union of seven, 9 REF INT; there are 15.
 const CASES: &str = "\
 + BEGIN INT x := 5; print(x) END | Enter 1, Make 1 0, Push 5, Store 1, Bind 0, Tag 0 0, Deref 1, Print 1, Leave 0, End
 - nothing |
@@ -50,19 +50,19 @@ const CASES: &str = "\
 + SKIP of layout | Skip 6, Drop, End
 + SKIP of a row | Skip 7, Drop, End
 + SKIP of a union | Skip 8, Drop, End
-- a mode that is not there | Skip 13, Drop, End
+- a mode that is not there | Skip 15, Drop, End
 + a cell of INT | Make 1 0, Drop, End
 + a cell of VOID | Make 0 0, Drop, End
 + a cell with a bound | Push, Make 1 1, Drop, End
 - a bound that is not there | Make 1 1, Drop, End
 + a row is fetched | Push, Deref 7, Drop, End
-- a mode that is not there is fetched | Push, Deref 13, Drop, End
+- a mode that is not there is fetched | Push, Deref 15, Drop, End
 + a row is assigned | Push, Push, Store 7, Drop, End
-- a mode that is not there is assigned | Push, Push, Store 13, Drop, End
+- a mode that is not there is assigned | Push, Push, Store 15, Drop, End
 + a cell of INT that stays | Heap 1 0, Drop, End
 + a cell of a row that stays | Heap 7 0, Drop, End
-- a cell of a mode that is not there | Make 13 0, Drop, End
-- a cell that stays of a mode that is not there | Heap 13 0, Drop, End
+- a cell of a mode that is not there | Make 15 0, Drop, End
+- a cell that stays of a mode that is not there | Heap 15 0, Drop, End
 + whether two names are the same | Nil, Nil, Same 1, Drop, End
 - a relation of one name | Nil, Same 0, Drop, End
 - a relation negated twice | Nil, Nil, Same 2, Drop, End
@@ -71,7 +71,7 @@ const CASES: &str = "\
 - a structure without a field | Compose 0, Drop, End
 - a structure leaves one value | Push, Push, Compose 2, Drop, Drop, End
 + a field is selected | Push, Select 12 1, Drop, End
-- a field of a mode that is not there | Push, Select 13 0, Drop, End
+- a field of a mode that is not there | Push, Select 15 0, Drop, End
 - a field of nothing | Select 12 0, Drop, End
 + a number as a text | Push, Push, Whole, Drop, End
 + an item of a union | Push, Unite 1, Print 1, End
@@ -91,9 +91,9 @@ const CASES: &str = "\
 + row 33 | Push, Apply 33, Drop, End
 + row 34 | Push, Apply 34, Drop, End
 + row 35 leaves nothing | Push, Apply 35, End
-+ row 38 | Push, Apply 38, Drop, End
-- row 39 | Push, Apply 39, Drop, End
-- row 40 | Push, Apply 40, Drop, End
++ row 40 | Push, Apply 40, Drop, End
++ row 39 | Push, Apply 39, Drop, End
+- row 41 | Push, Apply 41, Drop, End
 + a limit's own step | Push, Push, Push, Apply 26, Counter, Step 9, Turn, Advance 5, Jump 9, Forget, End
 + a choice by a number | Push, Case 2 4 6, Skip 0, Jump 6, Skip 0, Jump 6, End
 + one part for every number | Push, Case 2, End
@@ -103,17 +103,17 @@ const CASES: &str = "\
 - a part before the choice | Skip 0, Push, Case 0 3, End
 - two parts of two heights | Push, Case 2 3, Push, End
 + two parts of one height | Push, Case 2 4, Push, Jump 5, Push, Drop, End
-+ a choice by a member | Push, Unite 1, Member 8 3 5 5 5 5 5 5, Drop, Jump 5, End
-- no value is left at the last place | Push, Unite 1, Member 8 3 5 5 5 5 5 5, Drop, Jump 5, Drop, End
-- the value of a member is left | Push, Unite 1, Member 8 3 5 5 5 5 5 5, Skip 0, Jump 5, End
-+ one place for all members | Push, Member 8 2 2 2 2 2 2 2, End
-- a choice by a member of nothing | Member 8 1 1 1 1 1 1 1, End
-- a choice by a member of a mode that is not there | Push, Member 13 2, End
-- a member's part outside | Push, Member 8 2 9 2 2 2 2 2, End
-- a member's part at the choice itself | Push, Member 8 1 2 2 2 2 2 2, End
-- a place too few for the members | Push, Excess 8 2 2 2 2 2 2, End
-- a place too many, and no member for it | Push, Member 8 2 2 2 2 2 2 2 2, End
-- a member too many is told of | Push, Excess 8 2 2 2 2 2 2 2, End
++ a choice by a member | Push, Unite 1, Member 8 3 5 5 5 5 5 5 5, Drop, Jump 5, End
+- no value is left at the last place | Push, Unite 1, Member 8 3 5 5 5 5 5 5 5, Drop, Jump 5, Drop, End
+- the value of a member is left | Push, Unite 1, Member 8 3 5 5 5 5 5 5 5, Skip 0, Jump 5, End
++ one place for all members | Push, Member 8 2 2 2 2 2 2 2 2, End
+- a choice by a member of nothing | Member 8 1 1 1 1 1 1 1 1, End
+- a choice by a member of a mode that is not there | Push, Member 15 2, End
+- a member's part outside | Push, Member 8 2 9 2 2 2 2 2 2, End
+- a member's part at the choice itself | Push, Member 8 1 2 2 2 2 2 2 2, End
+- a place too few for the members | Push, Excess 8 2 2 2 2 2 2 2, End
+- a place too many, and no member for it | Push, Member 8 2 2 2 2 2 2 2 2 2, End
+- a member too many is told of | Push, Excess 8 2 2 2 2 2 2 2 2, End
 + one place for a mode that is no union | Push, Member 1 2, End
 - two places for a mode that is no union | Push, Member 1 2 2, End
 - a member of a mode that is no union is told of | Push, Excess 1 2, End

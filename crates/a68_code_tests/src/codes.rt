@@ -226,7 +226,7 @@ fn instructions(alloc: Global, ops: &str) -> Option<Instrs> {
     Some(Instrs { items })
 }
 
-/// The standard modes; behind them 13 is STRUCT (INT x, y), and 14 REF 13. None where memory runs out.
+/// The standard modes; behind them 15 is STRUCT (INT x, y), and 16 REF 15. None where memory runs out.
 pub fn modes_with_pair(alloc: Global) -> Option<Modes> {
     let mut modes = Modes::new(alloc).ok()?;
     add_structure(alloc, &mut modes, &[INT, INT])?;

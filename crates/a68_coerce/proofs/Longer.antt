@@ -8,7 +8,7 @@ use Rattle.std.proofs.lemmas.Bool.{cases_lt}
 use Rattle.a68_modes.specs.declared.shape.Shape.{Shape}
 use Rattle.a68_modes.specs.declared.shape.Shape.TheVariants.{Ref, Rows, Union, Proc, Same}
 use Rattle.a68_modes.specs.Nodes.{ShapeIsWithin, HoldsNodes}
-use Rattle.a68_modes.proofs.Holding.{thirteen}
+use Rattle.a68_modes.proofs.Holding.{fifteen}
 use Rattle.a68_modes.specs.declared.coercion.Coercion.{Coercion}
 use Rattle.a68_modes.specs.declared.coercion.Sort.{Sort}
 use Rattle.a68_modes.specs.declared.coercion.Sort.TheVariants as by
@@ -417,7 +417,7 @@ module _ (nodes : List Shape) (s : Shape) (holds : HoldsNodes nodes) (formed : A
   keeps_paths : KeepPaths nodes (nodes ++ s ∷ [])
   keeps_paths sort from to path h g =
       let more = longer nodes s holds formed within_them in
-      let some = thirteen nodes holds in (
+      let some = fifteen nodes holds in (
         leads_on nodes (nodes ++ s ∷ []) (length nodes) forth back named named_back (omega arith) (omega arith) (omega arith) sort from to path h g,
         leads_on (nodes ++ s ∷ []) nodes (length nodes) back forth named_back named (omega arith) (omega arith) (omega arith) sort from to path h g,
       )
@@ -425,7 +425,7 @@ module _ (nodes : List Shape) (s : Shape) (holds : HoldsNodes nodes) (formed : A
   keeps_balances : KeepBalances nodes (nodes ++ s ∷ [])
   keeps_balances sort to leaves found g all =
       let more = longer nodes s holds formed within_them in
-      let some = thirteen nodes holds in (
+      let some = fifteen nodes holds in (
         is_balanced_on nodes (nodes ++ s ∷ []) (length nodes) forth back named named_back (omega arith) (omega arith) (omega arith) sort to leaves found g all,
         is_balanced_on (nodes ++ s ∷ []) nodes (length nodes) back forth named_back named (omega arith) (omega arith) (omega arith) sort to leaves found g all,
       )
@@ -433,7 +433,7 @@ module _ (nodes : List Shape) (s : Shape) (holds : HoldsNodes nodes) (formed : A
   keeps_forms : KeepForms nodes (nodes ++ s ∷ [])
   keeps_forms sort form leaves found all =
       let more = longer nodes s holds formed within_them in
-      let some = thirteen nodes holds in (
+      let some = fifteen nodes holds in (
         is_formed_on nodes (nodes ++ s ∷ []) (length nodes) forth back named named_back (omega arith) (omega arith) (omega arith) sort form leaves found all,
         is_formed_on (nodes ++ s ∷ []) nodes (length nodes) back forth named_back named (omega arith) (omega arith) (omega arith) sort form leaves found all,
       )
@@ -441,7 +441,7 @@ module _ (nodes : List Shape) (s : Shape) (holds : HoldsNodes nodes) (formed : A
   keeps_sides : KeepSides nodes (nodes ++ s ∷ [])
   keeps_sides soft strong found all every =
       let more = longer nodes s holds formed within_them in
-      let some = thirteen nodes holds in (
+      let some = fifteen nodes holds in (
         is_sided_on nodes (nodes ++ s ∷ []) (length nodes) forth back named named_back (omega arith) (omega arith) (omega arith) soft strong found all every,
         is_sided_on (nodes ++ s ∷ []) nodes (length nodes) back forth named_back named (omega arith) (omega arith) (omega arith) soft strong found all every,
       )

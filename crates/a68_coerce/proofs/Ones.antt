@@ -162,7 +162,7 @@ module _ (nodes : List Shape) (holds : HoldsNodes nodes) (formed : AreWellFormed
 
   bools : unfolded nodes 11 ≡ Rows 1 false 2
   bools =
-      let is : shape_at nodes 11 ≡ Rows 1 false 2 = sym (get_or-take 13 nodes 11 Blank (omega arith)) ∙ ap (λ (xs : List Shape). shape_at xs 11) holds.standard in
+      let is : shape_at nodes 11 ≡ Rows 1 false 2 = sym (get_or-take 15 nodes 11 Blank (omega arith)) ∙ ap (λ (xs : List Shape). shape_at xs 11) holds.standard in
       ap (shape_at nodes) (stays nodes (length nodes) 11 (λ t e. let no : Rows 1 false 2 ≡ Same t = sym is ∙ e in cc)) ∙ is
 
   bools_void : (g : CoercionGoal) → IsBools nodes g → IsVoidGoal nodes g → ⊥

@@ -70,7 +70,7 @@ no_named nodes m g nv a b e w p (naming x v) = w p v
 -- BITS is widened, and nothing is united to it
 pub bits : (nodes : List Shape) → HoldsNodes nodes → unfolded nodes 4 ≡ Bits
 bits nodes holds =
-    let is : shape_at nodes 4 ≡ Bits = sym (get_or-take 13 nodes 4 Blank (omega arith)) ∙ ap (λ (xs : List Shape). shape_at xs 4) holds.standard in
+    let is : shape_at nodes 4 ≡ Bits = sym (get_or-take 15 nodes 4 Blank (omega arith)) ∙ ap (λ (xs : List Shape). shape_at xs 4) holds.standard in
     ap (shape_at nodes) (stays nodes (length nodes) 4 (λ t e. let no : Bits ≡ Same t = sym is ∙ e in cc)) ∙ is
 
 not_bits : (nodes : List Shape) (k : Mode) → unfolded nodes 4 ≡ Bits → UnitesTo nodes (as_it_stands 4) k → ⊥

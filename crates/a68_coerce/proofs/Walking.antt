@@ -2,7 +2,7 @@
 use Rattle.std.proofs.Common.{◌≡◌, ◌<◌, ◌⊎◌, ℕ, List, [], ◌∷◌, ◌++◌, Some, None, length, length-append, refl, sym, ap, ◌∙◌, Bool, subst, inl, inr, ⊎_elim, arith}
 use Rattle.std.proofs.lemmas.List.{append-nil, append_assoc}
 use Rattle.a68_modes.specs.declared.shape.Shape.{Shape}
-use Rattle.a68_modes.specs.declared.shape.Shape.TheVariants.{Void, Int, Bool as bool_shape, Char, Bits, Sema, Layout, Ref, Rows, Struct, Union, Proc, Same, Blank}
+use Rattle.a68_modes.specs.declared.shape.Shape.TheVariants.{Void, Int, Long, Bool as bool_shape, Char, Bits, Sema, Layout, Ref, Rows, Struct, Union, Proc, Same, Blank}
 use Rattle.a68_modes.specs.Nodes.{shape_at, HoldsNodes}
 use Rattle.a68_modes.specs.declared.coercion.Coercion.{Coercion}
 use Rattle.a68_modes.specs.declared.coercion.Coercion.TheVariants.{Deref, Deproc}
@@ -96,6 +96,7 @@ by_call nodes m next not e = go (unfolded nodes m.id) refl e
     go bool_shape f g = absurd (cc)
     go Char f g = absurd (cc)
     go Bits f g = absurd (cc)
+    go Long f g = absurd (cc)
     go Sema f g = absurd (cc)
     go Layout f g = absurd (cc)
     go (Rows dims flex x) f g = absurd (cc)

@@ -21,8 +21,8 @@ use crate::turns::repeat;
 use a68_annot::Note;
 use a68_code::Does;
 use a68_emit::{
-    View, Writer, are_built, coerce, denotation, leave, meaningless, misfit, nothing, parallel,
-    same, store, tag,
+    View, Writer, are_built, coerce, denotation, leave, long_denotation, meaningless, misfit,
+    nothing, parallel, same, store, tag,
 };
 use a68_modes::ModeId;
 use a68_tree::{Node, NodeId, NodeKind};
@@ -169,6 +169,7 @@ fn construct(alloc: Global, program: &View, id: NodeId, node: &Node, note: &Note
     let parts = &node.parts.items;
     match node.kind {
         NodeKind::Denotation => denotation(alloc, program, node, out),
+        NodeKind::LongDenotation => long_denotation(program, node, out),
         NodeKind::Skip => skip(place, note.goal, out),
         NodeKind::Nil => nil(place, out),
         NodeKind::RoutineText => routine_text(program, place, note, out),

@@ -4,7 +4,7 @@ use Rattle.std.proofs.lemmas.List.{length-append}
 use Rattle.std.proofs.lemmas.Bool.Decides.{eqb_tells}
 use Rattle.std.proofs.Math.ListN.{get_or-append}
 use Rattle.std.proofs.Math.Seq.{get_or-append_seam}
-use Rattle.a68_declare.proofs.Standing.{standard_apart, thirteen}
+use Rattle.a68_declare.proofs.Standing.{standard_apart, fifteen}
 use Rattle.a68_declare.specs.Numbering.{class_at, at_class, IsNumberOf, IsNumbering, NodesAreNumbered}
 use Rattle.a68_equiv.specs.Classes.{AreExact}
 use Rattle.a68_equiv.specs.Related.{as_it_stands}
@@ -14,9 +14,9 @@ use Rattle.a68_ranges.proofs.Taking.{some_one, below_or}
 
 module _ (nodes : List Shape) (classes : List ℕ) (holds : HoldsNodes nodes) (exact : AreExact nodes classes) where
   -- no two standard nodes have one class
-  apart : (a b : ℕ) → a < 13 → b < 13 → class_at classes a ≡ class_at classes b → a ≡ b
+  apart : (a b : ℕ) → a < 15 → b < 15 → class_at classes a ≡ class_at classes b → a ≡ b
   apart a b h g e =
-      let t = thirteen nodes holds in
+      let t = fifteen nodes holds in
       standard_apart nodes holds a b h g ((exact.exact (as_it_stands a) (as_it_stands b) (omega arith) (omega arith)).0 e)
 
   module _ (count : ℕ) (table : List (ℕ × ℕ)) (to firsts : List ℕ) (so : NodesAreNumbered nodes classes count table to firsts) where
@@ -57,11 +57,11 @@ module _ (nodes : List Shape) (classes : List ℕ) (holds : HoldsNodes nodes) (e
       first = λ k h. let f = so.first k h in let l = f.0 in (omega arith, before j (get_or firsts k 0) l ∙ f.1);
       standard = λ m h l. ⊎_elim (λ s. absurd (old (let n = s.1 in omega arith))) (λ s. let n = s.1 in before j m (omega arith) ∙ so.standard m (omega arith) l) (eqb_tells m count);
       begun = λ h. absurd (old (omega arith));
-      enough = λ h. ⊎_elim (λ l. absurd (old l)) (λ g. so.enough g) (below_or count 13);
+      enough = λ h. ⊎_elim (λ l. absurd (old l)) (λ g. so.enough g) (below_or count 15);
       in_order = in_order_on j (let o = so.only (class_at classes count) j e in let l = o.0 in omega arith);
     }
       where
-        old : count < 13 → ⊥
+        old : count < 15 → ⊥
         old h =
             let o = so.only (class_at classes count) j e in
             let f = so.first j o.0 in
@@ -123,7 +123,7 @@ module _ (nodes : List Shape) (classes : List ℕ) (holds : HoldsNodes nodes) (e
             (λ s. let n = s.1 in subst (λ k. get_or (to ++ length firsts ∷ []) k 0 ≡ k) (sym s.1) (last (length firsts) ∙ so.begun (omega arith)))
             (λ s. let n = s.1 in before (length firsts) m (omega arith) ∙ so.standard m (omega arith) l) (eqb_tells m count);
         begun = λ h. let b = so.begun (omega arith) in let m = more in omega arith;
-        enough = λ h. let m = more in ⊎_elim (λ l. let b = so.begun (omega arith) in omega arith) (λ g. let e = so.enough g in omega arith) (below_or count 13);
+        enough = λ h. let m = more in ⊎_elim (λ l. let b = so.begun (omega arith) in omega arith) (λ g. let e = so.enough g in omega arith) (below_or count 15);
         in_order = in_order_on (length firsts) (omega arith);
       }
 
@@ -152,8 +152,8 @@ module _ (nodes : List Shape) (classes : List ℕ) (holds : HoldsNodes nodes) (e
           let e = (exact.exact (as_it_stands a) (as_it_stands b) h g).1 eq in
           some_one (sym (so.found a h) ∙ ap (at_class table) e ∙ so.found b g),
     );
-    standard = λ m h. let t = thirteen nodes holds in so.standard m (omega arith) h;
-    enough = so.enough (thirteen nodes holds);
+    standard = λ m h. let t = fifteen nodes holds in so.standard m (omega arith) h;
+    enough = so.enough (fifteen nodes holds);
     few = so.few;
     in_order = so.in_order;
   }

@@ -6,7 +6,7 @@ use Rattle.std.proofs.lemmas.Bool.{false≢true}
 use Rattle.std.proofs.lemmas.List.{length-map}
 use Rattle.a68_declare.proofs.Imaging.{map_has, get_map, map_same, same_count, same_shape, parts_renumbered, constructor_kept, constructor_union, passes_union, passes_renumbered, union_renumbered, leads_renumbered, image_other, other_image, image_union, union_image, images_of, at_other, other_at, at_union, union_at, passes_none, leads_by, union_leads, no_same, bare_other, steps_renumbered, wider, steps_union, dims_renumbered}
 use Rattle.a68_declare.proofs.Looping.{no_sequence}
-use Rattle.a68_declare.proofs.Standing.{standard_at, thirteen}
+use Rattle.a68_declare.proofs.Standing.{standard_at, fifteen}
 use Rattle.a68_declare.proofs.Serving.{bare_members, standard_image}
 use Rattle.a68_declare.proofs.Words.{no_loops, way_behind}
 use Rattle.a68_declare.specs.Clean.{AreFixed, CleansTo, IsBare, IsNode, IsRising, IsUnionImage, IsImage, UnionsHaveNoFlex, CleanMembersHaveNoFlex, renumbered}
@@ -44,7 +44,7 @@ alike_itself nodes (suc depth) a = (refl, (λ place p part. (p, part, alike_itse
 
 module _ (old new : List Shape) (classes to firsts : List ℕ) (holds : HoldsNodes old) (formed : AreWellFormed old) (full : AreFull old) (exact : AreExact old classes)
     (num : IsNumbering old to firsts) (new_holds : HoldsNodes new) (long : length new ≡ length firsts)
-    (shapes : (j : ℕ) → 13 ≤ j → j < length firsts → IsShapeFrom old to (get_or firsts j 0) (shape_at new j)) where
+    (shapes : (j : ℕ) → 15 ≤ j → j < length firsts → IsShapeFrom old to (get_or firsts j 0) (shape_at new j)) where
   -- what stands in a mode has an equivalent one in each equivalent mode
   meets : (a b : ℕ) → a < length old → b < length old → Equivalent old (as_it_stands a) (as_it_stands b) → (place x : ℕ) → IsInMode old a (unfolded old a) place x
       → (y : ℕ) × IsInMode old b (unfolded old b) place y × (get_or to x 0 ≡ get_or to y 0)
@@ -106,7 +106,7 @@ module _ (old new : List Shape) (classes to firsts : List ℕ) (holds : HoldsNod
       let there = num.there m h in
       ⊎_elim
       (λ low.
-      let t = thirteen old holds in
+      let t = fifteen old holds in
       let j = get_or to m 0 in
       let eq = (num.same j m (omega arith) h).0 (num.standard j low) in
       moved j m (omega arith) h eq (shape_at new j) (subst (IsShapeFrom old to j) (sym (standard_at new new_holds j low)) (standard_image old holds to num.standard j low)))
@@ -114,7 +114,7 @@ module _ (old new : List Shape) (classes to firsts : List ℕ) (holds : HoldsNod
       let j = get_or to m 0 in
       let g = num.firsts_there j there in
       moved (get_or firsts j 0) m g h ((num.same (get_or firsts j 0) m g h).0 (num.back j there)) (shape_at new j) (shapes j high there))
-      (below_or (get_or to m 0) 13)
+      (below_or (get_or to m 0) 15)
 
   -- what stands behind mode words is neither one nor blank
   never_word : (m : ℕ) → m < length old → (t : ℕ) → unfolded old m ≡ Same t → ⊥
@@ -284,7 +284,7 @@ module _ (old new : List Shape) (classes to firsts : List ℕ) (holds : HoldsNod
       subst (λ x. Equivalent new (as_it_stands x) (as_it_stands (get_or to b 0))) (sym (num.back i li)) (subst (λ x. Equivalent new (as_it_stands i) (as_it_stands x)) (sym (num.back j lj)) eq) in
       sym (num.back i li) ∙ (num.same a b ha hb).1 (λ depth. alike_back depth a b ha hb (same depth)) ∙ num.back j lj
 
-  pub cleans : ((j : ℕ) → 13 ≤ j → j < length firsts → IsRising (shape_at new j)) → CleansTo old (number_in to) new
+  pub cleans : ((j : ℕ) → 15 ≤ j → j < length firsts → IsRising (shape_at new j)) → CleansTo old (number_in to) new
   cleans rising = record {
     clean = record { holds = new_holds; bare = bare_new; apart = apart_new };
     there = there_new;

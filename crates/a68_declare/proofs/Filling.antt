@@ -67,7 +67,7 @@ shape_there nodes to firsts m shape holds num h from = go (is_union (unfolded no
         let x = map_has (number_in to) (parts_of (unfolded nodes m)) _ (Contains-get_or (map (number_in to) (parts_of (unfolded nodes m))) k 0 l) in
         subst (λ y. y < length firsts) x.2 (num.there x.0 (All-contains (λ y. y < length nodes) (parts_of (unfolded nodes m)) x.0 within x.1))))
 
-pub filled_none : (nodes : List Shape) (to firsts : List ℕ) (new : List Shape) → ((j : ℕ) → 13 ≤ j → shape_at new j ≡ Blank) → AreShapesFrom nodes to firsts 13 new
+pub filled_none : (nodes : List Shape) (to firsts : List ℕ) (new : List Shape) → ((j : ℕ) → 15 ≤ j → shape_at new j ≡ Blank) → AreShapesFrom nodes to firsts 15 new
 filled_none nodes to firsts new blank = record { done = λ j h l. absurd (omega arith); rising = λ j h l. absurd (omega arith); blank = λ j h l. blank j l }
 
 -- one node more
@@ -75,21 +75,21 @@ pub filled : (nodes : List Shape) (to firsts : List ℕ) (count : ℕ) (new : Li
     → AreShapesFrom nodes to firsts (count + 1) (set new count shape)
 filled nodes to firsts count new shape lt from up so = record { done = done; rising = rising; blank = blank }
   where
-    rising : (j : ℕ) → 13 ≤ j → j < count + 1 → IsRising (shape_at (set new count shape) j)
+    rising : (j : ℕ) → 15 ≤ j → j < count + 1 → IsRising (shape_at (set new count shape) j)
     rising j h l = go (cases_eq j count)
       where
         go : (j ≡ count) ⊎ (j ≡ count → ⊥) → IsRising (shape_at (set new count shape) j)
         go (inl e) = subst (λ k. IsRising (shape_at (set new count shape) k)) (sym e) (subst IsRising (sym (get_or-set_same new count shape Blank lt)) up)
         go (inr ne) = subst IsRising (sym (get_or-set_other new count j shape Blank ne)) (so.rising j h (omega arith))
 
-    done : (j : ℕ) → 13 ≤ j → j < count + 1 → IsShapeFrom nodes to (get_or firsts j 0) (shape_at (set new count shape) j)
+    done : (j : ℕ) → 15 ≤ j → j < count + 1 → IsShapeFrom nodes to (get_or firsts j 0) (shape_at (set new count shape) j)
     done j h l = go (cases_eq j count)
       where
         go : (j ≡ count) ⊎ (j ≡ count → ⊥) → IsShapeFrom nodes to (get_or firsts j 0) (shape_at (set new count shape) j)
         go (inl e) = subst (λ k. IsShapeFrom nodes to (get_or firsts k 0) (shape_at (set new count shape) k)) (sym e) (subst (IsShapeFrom nodes to (get_or firsts count 0)) (sym (get_or-set_same new count shape Blank lt)) from)
         go (inr ne) = subst (IsShapeFrom nodes to (get_or firsts j 0)) (sym (get_or-set_other new count j shape Blank ne)) (so.done j h (omega arith))
 
-    blank : (j : ℕ) → count + 1 ≤ j → 13 ≤ j → shape_at (set new count shape) j ≡ Blank
+    blank : (j : ℕ) → count + 1 ≤ j → 15 ≤ j → shape_at (set new count shape) j ≡ Blank
     blank j h l = get_or-set_other new count j shape Blank (λ e. omega arith) ∙ so.blank j (omega arith) l
 
 -- ---- one shape

@@ -4,6 +4,7 @@ use Rattle.std.specs.Prelude.{map, slice_get, nat_eq, nat_lt, if◌then◌else�
 use Rattle.std.specs.List.{All, Contains}
 use Rattle.std.specs.Option.{option_map_or}
 use Rattle.std.proofs.lemmas.Bool.{false≢true}
+use Rattle.std.proofs.lemmas.Bool.{cases_eq}
 use Rattle.std.proofs.lemmas.Bool.Decides.{nat_tests}
 use Rattle.std.proofs.lemmas.List.Elements.{All-contains, All-from_recursion}
 use Rattle.a68_declare.proofs.Cleaning.{alike_itself}
@@ -17,7 +18,7 @@ use Rattle.a68_declare.specs.Numbering.{HaveTwins}
 use Rattle.a68_declarers.specs.declared.form.DeclarerForm.{DeclarerForm}
 use Rattle.a68_declarers.specs.declared.form.DeclarerForm.TheVariants as forms
 use Rattle.a68_declarers.proofs.Counting.{first_is, two}
-use Rattle.a68_declarers.proofs.Shaping.{AllForms, IsLow, form_low, found_form, one_holds, last_holds, map_holds, fields_hold}
+use Rattle.a68_declarers.proofs.Shaping.{AllForms, IsFlexless, IsLow, form_low, found_form, one_holds, last_holds, map_holds, fields_hold}
 use Rattle.a68_declarers.specs.Declarers.{form_at, is_declarer, is_field, known_forms, IsDeclarerAt}
 use Rattle.a68_declarers.specs.Modes.{ModesAreDeclared, AreOrdered}
 use Rattle.a68_declarers.specs.Numbers.{declarers, mode_number, of_two, one_if, twin_of}
@@ -50,7 +51,7 @@ hands_on _ b c = absurd (let l = c.1 in omega arith)
 module _ (tree : Built) (nodes : List Shape) (number : ℕ → Truth → ℕ) (holds : HoldsNodes nodes) (declared : ModesAreDeclared tree nodes number) (ordered : AreOrdered tree nodes number) where
   -- a standard mode but STRING, or the mode of a declarer without its FLEX
   abbrev pub IsFree : ℕ → Type 0
-  IsFree m = (m < 12) ⊎ ((d : ℕ) × IsDeclarerAt tree d × (m ≡ number d true))
+  IsFree m = IsFlexless m ⊎ ((d : ℕ) × IsDeclarerAt tree d × (m ≡ number d true))
 
   record IsStill (s : Shape) : Type 0 where
     same : constructor true s ≡ constructor false s
@@ -61,10 +62,10 @@ module _ (tree : Built) (nodes : List Shape) (number : ℕ → Truth → ℕ) (h
     where
       go : (b : Truth) → is_declarer (kind_at tree e) ≡ b → IsFree (number e true)
       go true is = inr (e, is, refl)
-      go false is = let none = ordered.none e true (λ t. false≢true (sym is ∙ t)) in inl (omega arith)
+      go false is = let none = ordered.none e true (λ t. false≢true (sym is ∙ t)) in inl (omega arith, λ e. omega arith)
 
   void_free : IsFree 0
-  void_free = inl (omega arith)
+  void_free = inl (omega arith, λ e. omega arith)
 
   last_free : (parts : List ℕ) → IsFree (last_mode (λ e. number e true) parts)
   last_free parts = last_holds IsFree void_free (λ e. number e true) parts (λ e c. each_free e)
@@ -82,7 +83,7 @@ module _ (tree : Built) (nodes : List Shape) (number : ℕ → Truth → ℕ) (h
       word_free None = void_free
       word_free (Some x) = last_free (parts_at tree x)
 
-  standard_still : (m : ℕ) → m < 12 → IsStill (shape_at standard_shapes m)
+  standard_still : (m : ℕ) → IsFlexless m → IsStill (shape_at standard_shapes m)
   standard_still zero h = record { same = refl; parts = inr (λ j e l. absurd (omega arith)) }
   standard_still (suc zero) h = record { same = refl; parts = inr (λ j e l. absurd (omega arith)) }
   standard_still (suc (suc zero)) h = record { same = refl; parts = inr (λ j e l. absurd (omega arith)) }
@@ -90,16 +91,19 @@ module _ (tree : Built) (nodes : List Shape) (number : ℕ → Truth → ℕ) (h
   standard_still (suc (suc (suc (suc zero)))) h = record { same = refl; parts = inr (λ j e l. absurd (omega arith)) }
   standard_still (suc (suc (suc (suc (suc zero))))) h = record { same = refl; parts = inr (λ j e l. absurd (omega arith)) }
   standard_still (suc (suc (suc (suc (suc (suc zero)))))) h = record { same = refl; parts = inr (λ j e l. absurd (omega arith)) }
-  standard_still (suc (suc (suc (suc (suc (suc (suc zero))))))) h = record { same = refl; parts = inr (All-from_recursion IsFree (3 ∷ []) (inl (omega arith), tt)) }
-  standard_still (suc (suc (suc (suc (suc (suc (suc (suc zero)))))))) h = record { same = refl; parts = inr (All-from_recursion IsFree (1 ∷ 2 ∷ 3 ∷ 4 ∷ 7 ∷ 6 ∷ []) (inl (omega arith), (inl (omega arith), (inl (omega arith), (inl (omega arith), (inl (omega arith), (inl (omega arith), tt))))))) }
+  standard_still (suc (suc (suc (suc (suc (suc (suc zero))))))) h = record { same = refl; parts = inr (All-from_recursion IsFree (3 ∷ []) (inl (omega arith, λ e. omega arith), tt)) }
+  standard_still (suc (suc (suc (suc (suc (suc (suc (suc zero)))))))) h = record { same = refl; parts = inr (All-from_recursion IsFree (1 ∷ 13 ∷ 2 ∷ 3 ∷ 4 ∷ 7 ∷ 6 ∷ []) (inl (omega arith, λ e. omega arith), (inl (omega arith, λ e. omega arith), (inl (omega arith, λ e. omega arith), (inl (omega arith, λ e. omega arith), (inl (omega arith, λ e. omega arith), (inl (omega arith, λ e. omega arith), (inl (omega arith, λ e. omega arith), tt)))))))) }
   standard_still (suc (suc (suc (suc (suc (suc (suc (suc (suc zero))))))))) h = record { same = refl; parts = inl refl }
   standard_still (suc (suc (suc (suc (suc (suc (suc (suc (suc (suc zero)))))))))) h = record { same = refl; parts = inl refl }
-  standard_still (suc (suc (suc (suc (suc (suc (suc (suc (suc (suc (suc zero))))))))))) h = record { same = refl; parts = inr (All-from_recursion IsFree (2 ∷ []) (inl (omega arith), tt)) }
-  standard_still (suc (suc (suc (suc (suc (suc (suc (suc (suc (suc (suc (suc m)))))))))))) h = absurd (omega arith)
+  standard_still (suc (suc (suc (suc (suc (suc (suc (suc (suc (suc (suc zero))))))))))) h = record { same = refl; parts = inr (All-from_recursion IsFree (2 ∷ []) (inl (omega arith, λ e. omega arith), tt)) }
+  standard_still (suc (suc (suc (suc (suc (suc (suc (suc (suc (suc (suc (suc zero)))))))))))) h = absurd (h.1 refl)
+  standard_still (suc (suc (suc (suc (suc (suc (suc (suc (suc (suc (suc (suc (suc zero))))))))))))) h = record { same = refl; parts = inr (λ j e l. absurd (omega arith)) }
+  standard_still (suc (suc (suc (suc (suc (suc (suc (suc (suc (suc (suc (suc (suc (suc zero)))))))))))))) h = record { same = refl; parts = inl refl }
+  standard_still (suc (suc (suc (suc (suc (suc (suc (suc (suc (suc (suc (suc (suc (suc (suc m))))))))))))))) h = absurd (let l = h.0 in omega arith)
 
   node_still : (m : ℕ) → IsFree m → IsStill (shape_at nodes m)
   node_still m free = ⊎_elim
-      (λ low. subst IsStill (sym (standard_at nodes holds m (omega arith))) (standard_still m low))
+      (λ low. subst IsStill (sym (standard_at nodes holds m low.0)) (standard_still m low))
       (λ w. subst (λ k. IsStill (shape_at nodes k)) (sym w.2) (shape_still w.0 (form_at tree w.0) (shape_at nodes (number w.0 true)) (form_low tree w.0) (declared.shapes w.0 true w.1)))
       free
 
@@ -131,7 +135,7 @@ module _ (tree : Built) (nodes : List Shape) (number : ℕ → Truth → ℕ) (h
   same_free m h free = (unfolded_still m h free).same
 
   -- the members of a union are such modes
-  standard_union : (m : ℕ) → m < 13 → is_union (shape_at standard_shapes m) ≡ true → All IsFree (parts_of (shape_at standard_shapes m))
+  standard_union : (m : ℕ) → m < 15 → is_union (shape_at standard_shapes m) ≡ true → All IsFree (parts_of (shape_at standard_shapes m))
   standard_union zero h u = absurd (false≢true u)
   standard_union (suc zero) h u = absurd (false≢true u)
   standard_union (suc (suc zero)) h u = absurd (false≢true u)
@@ -140,12 +144,14 @@ module _ (tree : Built) (nodes : List Shape) (number : ℕ → Truth → ℕ) (h
   standard_union (suc (suc (suc (suc (suc zero))))) h u = absurd (false≢true u)
   standard_union (suc (suc (suc (suc (suc (suc zero)))))) h u = absurd (false≢true u)
   standard_union (suc (suc (suc (suc (suc (suc (suc zero))))))) h u = absurd (false≢true u)
-  standard_union (suc (suc (suc (suc (suc (suc (suc (suc zero)))))))) h u = All-from_recursion IsFree (1 ∷ 2 ∷ 3 ∷ 4 ∷ 7 ∷ 6 ∷ []) (inl (omega arith), (inl (omega arith), (inl (omega arith), (inl (omega arith), (inl (omega arith), (inl (omega arith), tt))))))
+  standard_union (suc (suc (suc (suc (suc (suc (suc (suc zero)))))))) h u = All-from_recursion IsFree (1 ∷ 13 ∷ 2 ∷ 3 ∷ 4 ∷ 7 ∷ 6 ∷ []) (inl (omega arith, λ e. omega arith), (inl (omega arith, λ e. omega arith), (inl (omega arith, λ e. omega arith), (inl (omega arith, λ e. omega arith), (inl (omega arith, λ e. omega arith), (inl (omega arith, λ e. omega arith), (inl (omega arith, λ e. omega arith), tt)))))))
   standard_union (suc (suc (suc (suc (suc (suc (suc (suc (suc zero))))))))) h u = absurd (false≢true u)
   standard_union (suc (suc (suc (suc (suc (suc (suc (suc (suc (suc zero)))))))))) h u = absurd (false≢true u)
   standard_union (suc (suc (suc (suc (suc (suc (suc (suc (suc (suc (suc zero))))))))))) h u = absurd (false≢true u)
   standard_union (suc (suc (suc (suc (suc (suc (suc (suc (suc (suc (suc (suc zero)))))))))))) h u = absurd (false≢true u)
-  standard_union (suc (suc (suc (suc (suc (suc (suc (suc (suc (suc (suc (suc (suc m))))))))))))) h u = absurd (omega arith)
+  standard_union (suc (suc (suc (suc (suc (suc (suc (suc (suc (suc (suc (suc (suc zero))))))))))))) h u = absurd (false≢true u)
+  standard_union (suc (suc (suc (suc (suc (suc (suc (suc (suc (suc (suc (suc (suc (suc zero)))))))))))))) h u = absurd (false≢true u)
+  standard_union (suc (suc (suc (suc (suc (suc (suc (suc (suc (suc (suc (suc (suc (suc (suc m))))))))))))))) h u = absurd (omega arith)
 
   shape_union : (d : ℕ) (fixed : Truth) (form : DeclarerForm) (shape : Shape) → IsShapeOf tree number d fixed form shape → is_union shape ≡ true → All IsFree (parts_of shape)
   shape_union d fixed (forms.Standard m n) shape is u = absurd (false≢true (sym (ap is_union is) ∙ u))
@@ -163,7 +169,7 @@ module _ (tree : Built) (nodes : List Shape) (number : ℕ → Truth → ℕ) (h
       let o = ordered.onto m high h in
       subst (λ k. All IsFree (parts_of (shape_at nodes k))) o.3
       (shape_union o.0 o.1 (form_at tree o.0) (shape_at nodes (number o.0 o.1)) (declared.shapes o.0 o.1 o.2) (ap (λ k. is_union (shape_at nodes k)) o.3 ∙ u)))
-      (below_or m 13)
+      (below_or m 15)
 
   pub member_free : (m x : ℕ) → m < length nodes → is_union (unfolded nodes m) ≡ true → IsMember nodes m x → IsFree x
   member_free m x h u i = go ((members_behind nodes holds (length nodes) m x h u).0 i).way
@@ -279,7 +285,7 @@ module _ (tree : Built) (nodes : List Shape) (number : ℕ → Truth → ℕ) (h
         go false is =
             let first = ordered.none e false (λ t. false≢true (sym is ∙ t)) in
             let second = ordered.none e true (λ t. false≢true (sym is ∙ t)) in
-            inl (second ∙ sym first, inl (omega arith))
+            inl (second ∙ sym first, inl (omega arith, λ e. omega arith))
 
     void_twin : IsTwin 0 0
     void_twin = inl (refl, void_free)
@@ -323,7 +329,7 @@ module _ (tree : Built) (nodes : List Shape) (number : ℕ → Truth → ℕ) (h
     known_twins : AllForms HasTwins known_forms
     unfolding known_forms
     known_twins =
-        (inl (refl, inl (omega arith)), (inl (refl, inl (omega arith)), (inl (refl, inl (omega arith)), (inl (refl, inl (omega arith)), (inl (refl, inl (omega arith)), (inr (inl (refl, refl)), (tt, (tt, (tt, (tt, (tt, (tt, tt))))))))))))
+        (inl (refl, inl (omega arith, λ e. omega arith)), (inl (refl, inl (omega arith, λ e. omega arith)), (inl (refl, inl (omega arith, λ e. omega arith)), (inl (refl, inl (omega arith, λ e. omega arith)), (inl (refl, inl (omega arith, λ e. omega arith)), (inr (inl (refl, refl)), (inl (refl, inl (omega arith, λ e. omega arith)), (tt, (tt, (tt, (tt, (tt, (tt, tt)))))))))))))
 
     form_akin : (d : ℕ) (form : DeclarerForm) (s t : Shape) → HasTwins form → IsShapeOf tree number d true form s → IsShapeOf tree number d false form t → AreAkin s t
     form_akin d (forms.Standard m n) s t twins p q = rw (p, q) (record { same = refl; parts = inr (inr (record { plain = refl; plain_too = refl; passes = refl; pairs = (twins, tt) })) })
@@ -346,7 +352,7 @@ module _ (tree : Built) (nodes : List Shape) (number : ℕ → Truth → ℕ) (h
     node_akin x y (inr (inl (e, f))) =
         subst (λ k. AreAkin (shape_at nodes k) (shape_at nodes y)) (sym e) (subst (λ k. AreAkin (shape_at nodes 7) (shape_at nodes k)) (sym f)
         (rw (standard_at nodes holds 7 (omega arith), standard_at nodes holds 12 (omega arith))
-        (record { same = refl; parts = inr (inr (record { plain = refl; plain_too = refl; passes = refl; pairs = (inl (refl, inl (omega arith)), tt) })) })))
+        (record { same = refl; parts = inr (inr (record { plain = refl; plain_too = refl; passes = refl; pairs = (inl (refl, inl (omega arith, λ e. omega arith)), tt) })) })))
     node_akin x y (inr (inr (d, is, e, f))) =
         subst (λ k. AreAkin (shape_at nodes k) (shape_at nodes y)) (sym e) (subst (λ k. AreAkin (shape_at nodes (number d true)) (shape_at nodes k)) (sym f)
         (form_akin d (form_at tree d) (shape_at nodes (number d true)) (shape_at nodes (number d false)) (found_form HasTwins known_forms (spelling_at tree d) tt known_twins) (declared.shapes d true is) (declared.shapes d false is)))
@@ -492,17 +498,18 @@ module _ (tree : Built) (nodes : List Shape) (number : ℕ → Truth → ℕ) (h
     )
 
     -- the node of each mode without its FLEX
-    low_twin : (m : ℕ) → m < 12 → twin_of m ≡ m
-    low_twin m h = ap (λ b. if b then m else (if nat_eq m 12 then 7 else m + m % 2)) (let e : nat_lt m 12 ≡ true = grind (arith, nat_tests) in e)
+    low_twin : (m : ℕ) → IsFlexless m → twin_of m ≡ m
+    low_twin m h = grind (arith, nat_tests, h.0, h.1)
 
-    high_twin : (m : ℕ) → 13 ≤ m → twin_of m ≡ m + m % 2
+    high_twin : (m : ℕ) → 15 ≤ m → twin_of m ≡ m + m % 2
     high_twin m h =
         let e : nat_lt m 12 ≡ false = grind (arith, nat_tests) in
         let f : nat_eq m 12 ≡ false = grind (arith, nat_tests) in
-        ap (λ b. if b then m else (if nat_eq m 12 then 7 else m + m % 2)) e ∙ ap (λ b. if b then 7 else m + m % 2) f
+        let g : nat_lt m 15 ≡ false = grind (arith, nat_tests) in
+        rw (e, f, g) refl
 
     module _ (numbered : (d : ℕ) (fixed : Truth) → number d fixed ≡ mode_number tree d fixed) where
-      place_of : (d : ℕ) (fixed : Truth) → IsDeclarerAt tree d → number d fixed ≡ 13 + 2 * declarers tree d + one_if fixed
+      place_of : (d : ℕ) (fixed : Truth) → IsDeclarerAt tree d → number d fixed ≡ 15 + 2 * declarers tree d + one_if fixed
       place_of d fixed is = numbered d fixed ∙ ap (of_two fixed) (first_is tree d is) ∙ two tree fixed (2 * declarers tree d)
 
       second_of : (d : ℕ) (fixed : Truth) → IsDeclarerAt tree d → twin_of (number d fixed) ≡ number d true
@@ -520,19 +527,16 @@ module _ (tree : Built) (nodes : List Shape) (number : ℕ → Truth → ℕ) (h
 
       a_twin : (m : ℕ) → m < length nodes → (twin_of m < length nodes) × IsTwin (twin_of m) m
       a_twin m h = ⊎_elim
-          (λ low. let e = low_twin m low in (omega arith, inl (e, inl low)))
-          (λ high. ⊎_elim
-          (λ twelve.
-          let e : m ≡ 12 = omega arith in
-          let f : twin_of m ≡ 7 = ap twin_of e in
-          (omega arith, inr (inl (f, e))))
+          (λ low. ⊎_elim
+          (λ twelve. let f : twin_of m ≡ 7 = ap twin_of twelve in (omega arith, inr (inl (f, twelve))))
+          (λ other. let e = low_twin m (low, other) in (omega arith, inl (e, inl (low, other))))
+          (cases_eq m 12))
           (λ higher.
           let o = ordered.onto m higher h in
           let there = declared.there o.0 true in
           let e : twin_of m ≡ number o.0 true = ap twin_of (sym o.3) ∙ second_of o.0 o.1 o.2 in
           (omega arith, subst (λ k. IsTwin k m) (sym e) (subst (IsTwin (number o.0 true)) o.3 (twins o.0 o.1 o.2))))
-          (below_or m 13))
-          (below_or m 12)
+          (below_or m 15)
 
       pub have_twins : HaveTwins nodes
       have_twins m h = let t = a_twin m h in record { there = t.0; equivalent = λ depth. twin_alike depth (twin_of m) m t.0 h t.1 }

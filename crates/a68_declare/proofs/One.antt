@@ -6,7 +6,7 @@ use Rattle.std.proofs.lemmas.Bool.{cases_lt}
 use Rattle.std.proofs.lemmas.Bool.Decides.{nat_tests}
 use Rattle.std.proofs.lemmas.List.{ext_get_or}
 use Rattle.a68_base.specs.declared.refusal.Refusal.{Refusal}
-use Rattle.a68_declare.proofs.Standing.{standard_at, thirteen}
+use Rattle.a68_declare.proofs.Standing.{standard_at, fifteen}
 use Rattle.a68_declare.specs.Broken.{root_of, IsIllFormed, IsWrongUnion, HasRelated, HasNoTwo}
 use Rattle.a68_declare.specs.Outcome.{AreRaw, AreModesOf, ByNode, IsFirstBroken, undefined, too_many, ill_formed, wrong_union, wrong_bounds}
 use Rattle.a68_declarers.specs.Bounds.{bracket_at, bracket_of, next_start, HasWrongBounds}
@@ -86,10 +86,10 @@ module _ (tree : Built) (once : (id : ℕ) → IsTwice tree id → ⊥) where
     pub same_number : (d : ℕ) (fixed : Bool) → number d fixed ≡ others d fixed
     same_number d fixed = a.numbered d fixed ∙ sym (b.numbered d fixed)
 
-    low_same : (m : ℕ) → m < 13 → shape_at raw m ≡ shape_at another m
+    low_same : (m : ℕ) → m < 15 → shape_at raw m ≡ shape_at another m
     low_same m h = standard_at raw a.holds m h ∙ sym (standard_at another b.holds m h)
 
-    high_same : (m : ℕ) → 13 ≤ m → m < length raw → shape_at raw m ≡ shape_at another m
+    high_same : (m : ℕ) → 15 ≤ m → m < length raw → shape_at raw m ≡ shape_at another m
     high_same m h lt =
         let from = a.onto m h lt in
         let d = from.0 in
@@ -101,13 +101,13 @@ module _ (tree : Built) (once : (id : ℕ) → IsTwice tree id → ⊥) where
         (subst (λ k. IsShapeOf tree others d fixed (form_at tree d) (shape_at another k)) there (b.declared.shapes d fixed from.2))
 
     shapes_same : (m : ℕ) → m < length raw → get_or raw m Blank ≡ get_or another m Blank
-    shapes_same m lt = ⊎_elim (λ h. low_same m h) (λ h. high_same m h lt) (cases_lt m 13)
+    shapes_same m lt = ⊎_elim (λ h. low_same m h) (λ h. high_same m h lt) (cases_lt m 15)
 
   no_longer : (raw another : List Shape) (number others : ℕ → Bool → ℕ) → AreRaw tree raw number → AreRaw tree another others → length another ≤ length raw
   no_longer raw another number others a b =
       ⊎_elim
       (λ (more : length raw < length another).
-      let from = b.onto (length raw) (thirteen raw a.holds) more in
+      let from = b.onto (length raw) (fifteen raw a.holds) more in
       let there = a.declared.there from.0 from.1 in
       let same : number from.0 from.1 ≡ length raw = same_number raw another number others a b from.0 from.1 ∙ from.3 in
       absurd (omega arith))

@@ -52,7 +52,7 @@ shape_full tree number d fixed forms.Union shape is e = let f = sym is ∙ e in 
 shape_full tree number d fixed forms.Procedure shape is e = let f = sym is ∙ e in cc
 shape_full tree number d fixed forms.Word shape is e = let f = sym is.2 ∙ e in cc
 
-standard_dims : (m : ℕ) → m < 13 → HasDimensions (shape_at standard_shapes m)
+standard_dims : (m : ℕ) → m < 15 → HasDimensions (shape_at standard_shapes m)
 standard_dims zero h = tt
 standard_dims (suc zero) h = tt
 standard_dims (suc (suc zero)) h = tt
@@ -66,9 +66,11 @@ standard_dims (suc (suc (suc (suc (suc (suc (suc (suc (suc zero))))))))) h = tt
 standard_dims (suc (suc (suc (suc (suc (suc (suc (suc (suc (suc zero)))))))))) h = tt
 standard_dims (suc (suc (suc (suc (suc (suc (suc (suc (suc (suc (suc zero))))))))))) h = (omega arith, omega arith)
 standard_dims (suc (suc (suc (suc (suc (suc (suc (suc (suc (suc (suc (suc zero)))))))))))) h = (omega arith, omega arith)
-standard_dims (suc (suc (suc (suc (suc (suc (suc (suc (suc (suc (suc (suc (suc m))))))))))))) h = absurd (omega arith)
+standard_dims (suc (suc (suc (suc (suc (suc (suc (suc (suc (suc (suc (suc (suc zero))))))))))))) h = tt
+standard_dims (suc (suc (suc (suc (suc (suc (suc (suc (suc (suc (suc (suc (suc (suc zero)))))))))))))) h = tt
+standard_dims (suc (suc (suc (suc (suc (suc (suc (suc (suc (suc (suc (suc (suc (suc (suc m))))))))))))))) h = absurd (omega arith)
 
-standard_full : (m : ℕ) → m < 13 → shape_at standard_shapes m ≡ Blank → ⊥
+standard_full : (m : ℕ) → m < 15 → shape_at standard_shapes m ≡ Blank → ⊥
 standard_full zero h e = cc
 standard_full (suc zero) h e = cc
 standard_full (suc (suc zero)) h e = cc
@@ -82,7 +84,9 @@ standard_full (suc (suc (suc (suc (suc (suc (suc (suc (suc zero))))))))) h e = c
 standard_full (suc (suc (suc (suc (suc (suc (suc (suc (suc (suc zero)))))))))) h e = cc
 standard_full (suc (suc (suc (suc (suc (suc (suc (suc (suc (suc (suc zero))))))))))) h e = cc
 standard_full (suc (suc (suc (suc (suc (suc (suc (suc (suc (suc (suc (suc zero)))))))))))) h e = cc
-standard_full (suc (suc (suc (suc (suc (suc (suc (suc (suc (suc (suc (suc (suc m))))))))))))) h e = omega arith
+standard_full (suc (suc (suc (suc (suc (suc (suc (suc (suc (suc (suc (suc (suc zero))))))))))))) h e = cc
+standard_full (suc (suc (suc (suc (suc (suc (suc (suc (suc (suc (suc (suc (suc (suc zero)))))))))))))) h e = cc
+standard_full (suc (suc (suc (suc (suc (suc (suc (suc (suc (suc (suc (suc (suc (suc (suc m))))))))))))))) h e = omega arith
 
 module _ (tree : Built) (nodes : List Shape) (number : ℕ → Bool → ℕ) (holds : HoldsNodes nodes) (declared : ModesAreDeclared tree nodes number) where
   pub raw_dims : AreOrdered tree nodes number → HaveDimensions nodes
@@ -94,7 +98,7 @@ module _ (tree : Built) (nodes : List Shape) (number : ℕ → Bool → ℕ) (ho
       subst (λ k. HasDimensions (shape_at nodes k)) o.3 (shape_dims tree number o.0 o.1 (form_at tree o.0) (shape_at nodes (number o.0 o.1)) (declared.shapes o.0 o.1 o.2)))
       (λ past. subst HasDimensions (sym (blank_past nodes m past)) tt)
       (below_or m (length nodes)))
-      (below_or m 13)
+      (below_or m 15)
 
   pub raw_full : AreOrdered tree nodes number → AreFull nodes
   raw_full ordered m less e = ⊎_elim
@@ -102,7 +106,7 @@ module _ (tree : Built) (nodes : List Shape) (number : ℕ → Bool → ℕ) (ho
       (λ high.
       let o = ordered.onto m high less in
       shape_full tree number o.0 o.1 (form_at tree o.0) (shape_at nodes (number o.0 o.1)) (declared.shapes o.0 o.1 o.2) (ap (shape_at nodes) o.3 ∙ e))
-      (below_or m 13)
+      (below_or m 15)
 
 pub united_is : (tree : Built) (nodes : List Shape) (number : ℕ → Bool → ℕ) (d : ℕ) → ModesAreDeclared tree nodes number → IsDeclarerAt tree d → form_at tree d ≡ forms.Union → is_union (unfolded nodes (number d false)) ≡ true
 united_is tree nodes number d declared is form =

@@ -71,39 +71,39 @@ steps_in WithinUnions (Union ms) b c = c
 steps_in WithinUnions _ b c = absurd (let l = c.1 in omega arith)
 
 abbrev low_ranks : List ℕ
-low_ranks = 0 ∷ 0 ∷ 0 ∷ 0 ∷ 0 ∷ 0 ∷ 0 ∷ 1 ∷ 2 ∷ 1 ∷ 2 ∷ 1 ∷ 1 ∷ []
+low_ranks = 0 ∷ 0 ∷ 0 ∷ 0 ∷ 0 ∷ 0 ∷ 0 ∷ 1 ∷ 2 ∷ 1 ∷ 2 ∷ 1 ∷ 1 ∷ 0 ∷ 1 ∷ []
 
 -- the standard modes lie below those of declarers, and later declarers below earlier ones
 rank_of : (count : ℕ) → ℕ → ℕ
-rank_of count m = if nat_lt m 13 then slice_index_or low_ranks m 0 else 3 + (count - m)
+rank_of count m = if nat_lt m 15 then slice_index_or low_ranks m 0 else 3 + (count - m)
 
 lows : All (λ r. r ≤ 2) low_ranks
-lows = All-from_recursion (λ r. r ≤ 2) low_ranks (omega arith, (omega arith, (omega arith, (omega arith, (omega arith, (omega arith, (omega arith, (omega arith, (omega arith, (omega arith, (omega arith, (omega arith, (omega arith, tt)))))))))))))
+lows = All-from_recursion (λ r. r ≤ 2) low_ranks (omega arith, (omega arith, (omega arith, (omega arith, (omega arith, (omega arith, (omega arith, (omega arith, (omega arith, (omega arith, (omega arith, (omega arith, (omega arith, (omega arith, (omega arith, tt)))))))))))))))
 
-low_le : (m : ℕ) → m < 13 → slice_index_or low_ranks m 0 ≤ 2
+low_le : (m : ℕ) → m < 15 → slice_index_or low_ranks m 0 ≤ 2
 low_le m h = lows m 0 h
 
-rank_low : (count m : ℕ) → m < 13 → rank_of count m ≡ slice_index_or low_ranks m 0
+rank_low : (count m : ℕ) → m < 15 → rank_of count m ≡ slice_index_or low_ranks m 0
 unfolding rank_of
-rank_low count m h = go (nat_lt m 13) refl
+rank_low count m h = go (nat_lt m 15) refl
   where
-    go : (b : Bool) → nat_lt m 13 ≡ b → (if b then slice_index_or low_ranks m 0 else 3 + (count - m)) ≡ slice_index_or low_ranks m 0
+    go : (b : Bool) → nat_lt m 15 ≡ b → (if b then slice_index_or low_ranks m 0 else 3 + (count - m)) ≡ slice_index_or low_ranks m 0
     go true e = refl
-    go false e = let g : 13 ≤ m = grind (arith, nat_tests, e) in absurd (omega arith)
+    go false e = let g : 15 ≤ m = grind (arith, nat_tests, e) in absurd (omega arith)
 
-rank_high : (count m : ℕ) → 13 ≤ m → rank_of count m ≡ 3 + (count - m)
+rank_high : (count m : ℕ) → 15 ≤ m → rank_of count m ≡ 3 + (count - m)
 unfolding rank_of
-rank_high count m h = go (nat_lt m 13) refl
+rank_high count m h = go (nat_lt m 15) refl
   where
-    go : (b : Bool) → nat_lt m 13 ≡ b → (if b then slice_index_or low_ranks m 0 else 3 + (count - m)) ≡ 3 + (count - m)
-    go true e = let g : m < 13 = grind (arith, nat_tests, e) in absurd (omega arith)
+    go : (b : Bool) → nat_lt m 15 ≡ b → (if b then slice_index_or low_ranks m 0 else 3 + (count - m)) ≡ 3 + (count - m)
+    go true e = let g : m < 15 = grind (arith, nat_tests, e) in absurd (omega arith)
     go false e = refl
 
 -- the parts of a standard mode are standard, and lie lower
 abbrev IsLower : (a b : ℕ) → Type 0
-IsLower a b = (b < 13) × (slice_index_or low_ranks b 0 < slice_index_or low_ranks a 0)
+IsLower a b = (b < 15) × (slice_index_or low_ranks b 0 < slice_index_or low_ranks a 0)
 
-lower_parts : (a : ℕ) → a < 13 → All (IsLower a) (parts_of (shape_at standard_shapes a))
+lower_parts : (a : ℕ) → a < 15 → All (IsLower a) (parts_of (shape_at standard_shapes a))
 lower_parts zero h = λ j d l. absurd (omega arith)
 lower_parts (suc zero) h = λ j d l. absurd (omega arith)
 lower_parts (suc (suc zero)) h = λ j d l. absurd (omega arith)
@@ -112,12 +112,14 @@ lower_parts (suc (suc (suc (suc zero)))) h = λ j d l. absurd (omega arith)
 lower_parts (suc (suc (suc (suc (suc zero))))) h = λ j d l. absurd (omega arith)
 lower_parts (suc (suc (suc (suc (suc (suc zero)))))) h = λ j d l. absurd (omega arith)
 lower_parts (suc (suc (suc (suc (suc (suc (suc zero))))))) h = All-from_recursion (IsLower 7) (3 ∷ []) ((omega arith, omega arith), tt)
-lower_parts (suc (suc (suc (suc (suc (suc (suc (suc zero)))))))) h = All-from_recursion (IsLower 8) (1 ∷ 2 ∷ 3 ∷ 4 ∷ 7 ∷ 6 ∷ []) ((omega arith, omega arith), ((omega arith, omega arith), ((omega arith, omega arith), ((omega arith, omega arith), ((omega arith, omega arith), ((omega arith, omega arith), tt))))))
+lower_parts (suc (suc (suc (suc (suc (suc (suc (suc zero)))))))) h = All-from_recursion (IsLower 8) (1 ∷ 13 ∷ 2 ∷ 3 ∷ 4 ∷ 7 ∷ 6 ∷ []) ((omega arith, omega arith), ((omega arith, omega arith), ((omega arith, omega arith), ((omega arith, omega arith), ((omega arith, omega arith), ((omega arith, omega arith), ((omega arith, omega arith), tt)))))))
 lower_parts (suc (suc (suc (suc (suc (suc (suc (suc (suc zero))))))))) h = All-from_recursion (IsLower 9) (1 ∷ []) ((omega arith, omega arith), tt)
 lower_parts (suc (suc (suc (suc (suc (suc (suc (suc (suc (suc zero)))))))))) h = All-from_recursion (IsLower 10) (12 ∷ []) ((omega arith, omega arith), tt)
 lower_parts (suc (suc (suc (suc (suc (suc (suc (suc (suc (suc (suc zero))))))))))) h = All-from_recursion (IsLower 11) (2 ∷ []) ((omega arith, omega arith), tt)
 lower_parts (suc (suc (suc (suc (suc (suc (suc (suc (suc (suc (suc (suc zero)))))))))))) h = All-from_recursion (IsLower 12) (3 ∷ []) ((omega arith, omega arith), tt)
-lower_parts (suc (suc (suc (suc (suc (suc (suc (suc (suc (suc (suc (suc (suc m))))))))))))) h = absurd (omega arith)
+lower_parts (suc (suc (suc (suc (suc (suc (suc (suc (suc (suc (suc (suc (suc zero))))))))))))) h = λ j d l. absurd (omega arith)
+lower_parts (suc (suc (suc (suc (suc (suc (suc (suc (suc (suc (suc (suc (suc (suc zero)))))))))))))) h = All-from_recursion (IsLower 14) (13 ∷ []) ((omega arith, omega arith), tt)
+lower_parts (suc (suc (suc (suc (suc (suc (suc (suc (suc (suc (suc (suc (suc (suc (suc m))))))))))))))) h = absurd (omega arith)
 
 first_is : {tree : Built} {name d : ℕ} {ranges : List ℕ} → FirstDefinition tree sorts.ModeWord name ranges d → defines (kind_at tree d) ≡ Some sorts.ModeWord
 first_is (here is) = is.sort_is
@@ -140,7 +142,7 @@ module _ (tree : Built) (nodes : List Shape) (number : ℕ → Bool → ℕ) (ho
   abbrev Falls : (a b : ℕ) → Type 0
   Falls a b = (rank_of (length nodes) b < rank_of (length nodes) a) ⊎ IsRoot b
 
-  falls_to_low : (a m : ℕ) → 13 ≤ a → m < 13 → Falls a m
+  falls_to_low : (a m : ℕ) → 15 ≤ a → m < 15 → Falls a m
   falls_to_low a m h l =
       let e = rank_high (length nodes) a h in
       let f = rank_low (length nodes) m l in
@@ -182,7 +184,7 @@ module _ (tree : Built) (nodes : List Shape) (number : ℕ → Bool → ℕ) (ho
       (λ high.
       let o = ordered.onto a high h in
       subst (λ m. All (Falls m) (parts_of (shape_at nodes m))) o.3 (from_declarer o.0 o.1 o.2))
-      (below_or a 13)
+      (below_or a 15)
 
   step_falls : (which : Inward) (a b : ℕ) → a < length nodes → Contains (row (map (steps_of which) nodes) a) b → Falls a b
   step_falls which a b h c =

@@ -136,7 +136,7 @@ module _ (old one other : List Shape) (to by : ℕ → ℕ) (holds : HoldsNodes 
       image_one m lt (shape_at one j) (shape_at other j) (a.rising j high h) (b.rising j high hj)
       (subst (λ k. IsImage old to m (unfolded old m) (shape_at one k)) f (a.images m lt))
       (subst (λ k. IsImage old by m (unfolded old m) (shape_at other k)) back (b.images m lt)))
-      (cases_lt j 13)
+      (cases_lt j 15)
 
   pub clean_one : one ≡ other
   clean_one =

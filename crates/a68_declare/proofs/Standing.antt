@@ -5,17 +5,23 @@ use Rattle.a68_equiv.proofs.Grasp.{stays}
 use Rattle.a68_equiv.specs.Related.{as_it_stands}
 use Rattle.a68_equiv.specs.Unfolding.{behind, unfolded, constructor, passes_on, IsInMode, Equivalent}
 use Rattle.a68_modes.specs.declared.shape.Shape.{Shape}
-use Rattle.a68_modes.specs.declared.shape.Shape.TheVariants.{Void, Int, Bool, Char, Bits, Sema, Layout, Ref, Rows, Union, Proc, Same, Blank}
+use Rattle.a68_modes.specs.declared.shape.Shape.TheVariants.{Void, Int, Long, Bool, Char, Bits, Sema, Layout, Ref, Rows, Union, Proc, Same, Blank}
 use Rattle.a68_modes.specs.Nodes.{shape_at, standard_shapes, HoldsNodes}
 
+-- the modes that have the code of another one, a name or a row
+data IsOther : (m code : ℕ) → Type 0 where
+  of_text : IsOther 10 9
+  of_bools : IsOther 11 7
+  of_long : IsOther 14 9
+
 module _ (nodes : List Shape) (holds : HoldsNodes nodes) where
-  pub standard_at : (m : ℕ) → m < 13 → shape_at nodes m ≡ shape_at standard_shapes m
-  standard_at m h = sym (get_or-take 13 nodes m Blank h) ∙ ap (λ xs. shape_at xs m) holds.standard
+  pub standard_at : (m : ℕ) → m < 15 → shape_at nodes m ≡ shape_at standard_shapes m
+  standard_at m h = sym (get_or-take 15 nodes m Blank h) ∙ ap (λ xs. shape_at xs m) holds.standard
 
-  pub thirteen : 13 ≤ length nodes
-  thirteen = let l = length-take 13 nodes in let e = ap length holds.standard in omega (arith, l, e)
+  pub fifteen : 15 ≤ length nodes
+  fifteen = let l = length-take 15 nodes in let e = ap length holds.standard in omega (arith, l, e)
 
-  no_word : (m : ℕ) → m < 13 → (t : ℕ) → shape_at standard_shapes m ≡ Same t → ⊥
+  no_word : (m : ℕ) → m < 15 → (t : ℕ) → shape_at standard_shapes m ≡ Same t → ⊥
   no_word zero h t e = cc
   no_word (suc zero) h t e = cc
   no_word (suc (suc zero)) h t e = cc
@@ -29,9 +35,11 @@ module _ (nodes : List Shape) (holds : HoldsNodes nodes) where
   no_word (suc (suc (suc (suc (suc (suc (suc (suc (suc (suc zero)))))))))) h t e = cc
   no_word (suc (suc (suc (suc (suc (suc (suc (suc (suc (suc (suc zero))))))))))) h t e = cc
   no_word (suc (suc (suc (suc (suc (suc (suc (suc (suc (suc (suc (suc zero)))))))))))) h t e = cc
-  no_word (suc (suc (suc (suc (suc (suc (suc (suc (suc (suc (suc (suc (suc m))))))))))))) h t e = omega arith
+  no_word (suc (suc (suc (suc (suc (suc (suc (suc (suc (suc (suc (suc (suc zero))))))))))))) h t e = cc
+  no_word (suc (suc (suc (suc (suc (suc (suc (suc (suc (suc (suc (suc (suc (suc zero)))))))))))))) h t e = cc
+  no_word (suc (suc (suc (suc (suc (suc (suc (suc (suc (suc (suc (suc (suc (suc (suc m))))))))))))))) h t e = omega arith
 
-  pub standard_unfolded : (m : ℕ) → m < 13 → unfolded nodes m ≡ shape_at standard_shapes m
+  pub standard_unfolded : (m : ℕ) → m < 15 → unfolded nodes m ≡ shape_at standard_shapes m
   standard_unfolded m h =
       let e : behind nodes (length nodes) m ≡ m = stays nodes (length nodes) m (λ t f. no_word m h t (sym (standard_at m h) ∙ f)) in
       ap (shape_at nodes) e ∙ standard_at m h
@@ -43,23 +51,24 @@ module _ (nodes : List Shape) (holds : HoldsNodes nodes) where
   code Bool = 2
   code Char = 3
   code Bits = 4
+  code Long = 13
   code Sema = 5
   code Layout = 6
   code (Rows dims false m) = 7
   code (Union members) = 8
   code (Ref m) = 9
   code (Rows dims true m) = 12
-  code _ = 13
+  code _ = 15
 
   code_at : ℕ → ℕ
   code_at m = code (constructor false (shape_at standard_shapes m))
 
-  one_code : (a b : ℕ) → a < 13 → b < 13 → constructor false (unfolded nodes a) ≡ constructor false (unfolded nodes b) → code_at a ≡ code_at b
+  one_code : (a b : ℕ) → a < 15 → b < 15 → constructor false (unfolded nodes a) ≡ constructor false (unfolded nodes b) → code_at a ≡ code_at b
   unfolding code_at
   one_code a b h g e = ap (λ s. code (constructor false s)) (sym (standard_unfolded a h)) ∙ ap code e ∙ ap (λ s. code (constructor false s)) (standard_unfolded b g)
 
-  -- but for two pairs the code tells which mode it is
-  tells : (m : ℕ) → m < 13 → (code_at m ≡ m) ⊎ ((m ≡ 10) ⊎ (m ≡ 11))
+  -- but for three modes the code tells which mode it is
+  tells : (m : ℕ) → m < 15 → (code_at m ≡ m) ⊎ IsOther m (code_at m)
   unfolding code_at
   tells zero h = inl refl
   tells (suc zero) h = inl refl
@@ -71,13 +80,15 @@ module _ (nodes : List Shape) (holds : HoldsNodes nodes) where
   tells (suc (suc (suc (suc (suc (suc (suc zero))))))) h = inl refl
   tells (suc (suc (suc (suc (suc (suc (suc (suc zero)))))))) h = inl refl
   tells (suc (suc (suc (suc (suc (suc (suc (suc (suc zero))))))))) h = inl refl
-  tells (suc (suc (suc (suc (suc (suc (suc (suc (suc (suc zero)))))))))) h = inr (inl refl)
-  tells (suc (suc (suc (suc (suc (suc (suc (suc (suc (suc (suc zero))))))))))) h = inr (inr refl)
+  tells (suc (suc (suc (suc (suc (suc (suc (suc (suc (suc zero)))))))))) h = inr of_text
+  tells (suc (suc (suc (suc (suc (suc (suc (suc (suc (suc (suc zero))))))))))) h = inr of_bools
   tells (suc (suc (suc (suc (suc (suc (suc (suc (suc (suc (suc (suc zero)))))))))))) h = inl refl
-  tells (suc (suc (suc (suc (suc (suc (suc (suc (suc (suc (suc (suc (suc m))))))))))))) h = absurd (omega arith)
+  tells (suc (suc (suc (suc (suc (suc (suc (suc (suc (suc (suc (suc (suc zero))))))))))))) h = inl refl
+  tells (suc (suc (suc (suc (suc (suc (suc (suc (suc (suc (suc (suc (suc (suc zero)))))))))))))) h = inr of_long
+  tells (suc (suc (suc (suc (suc (suc (suc (suc (suc (suc (suc (suc (suc (suc (suc m))))))))))))))) h = absurd (omega arith)
 
   -- two modes of one part each, whose parts have different codes
-  by_part : (a b p q : ℕ) → a < 13 → b < 13 → p < 13 → q < 13 → IsInMode nodes a (unfolded nodes a) 0 p → ((x : ℕ) → IsInMode nodes b (unfolded nodes b) 0 x → x ≡ q)
+  by_part : (a b p q : ℕ) → a < 15 → b < 15 → p < 15 → q < 15 → IsInMode nodes a (unfolded nodes a) 0 p → ((x : ℕ) → IsInMode nodes b (unfolded nodes b) 0 x → x ≡ q)
       → Equivalent nodes (as_it_stands a) (as_it_stands b) → code_at p ≡ code_at q
   by_part a b p q ha hb hp hq at only eq =
       let found = (eq 2).1.0 0 (as_it_stands p) (record { at = at; flex = sym (passes false (unfolded nodes a)) }) in
@@ -89,65 +100,94 @@ module _ (nodes : List Shape) (holds : HoldsNodes nodes) where
       passes f (Proc ps m) = refl
       passes f _ = refl
 
-  ref_at : (m p : ℕ) → m < 13 → shape_at standard_shapes m ≡ Ref p → IsInMode nodes m (unfolded nodes m) 0 p × ((x : ℕ) → IsInMode nodes m (unfolded nodes m) 0 x → x ≡ p)
+  ref_at : (m p : ℕ) → m < 15 → shape_at standard_shapes m ≡ Ref p → IsInMode nodes m (unfolded nodes m) 0 p × ((x : ℕ) → IsInMode nodes m (unfolded nodes m) 0 x → x ≡ p)
   ref_at m p h e =
       let f : unfolded nodes m ≡ Ref p = standard_unfolded m h ∙ e in
       (rw f (omega arith, refl), λ x at. sym ((rw f at at).1))
 
-  row_at : (m p : ℕ) (flex : Truth) → m < 13 → shape_at standard_shapes m ≡ Rows 1 flex p → IsInMode nodes m (unfolded nodes m) 0 p × ((x : ℕ) → IsInMode nodes m (unfolded nodes m) 0 x → x ≡ p)
+  row_at : (m p : ℕ) (flex : Truth) → m < 15 → shape_at standard_shapes m ≡ Rows 1 flex p → IsInMode nodes m (unfolded nodes m) 0 p × ((x : ℕ) → IsInMode nodes m (unfolded nodes m) 0 x → x ≡ p)
   row_at m p flex h e =
       let f : unfolded nodes m ≡ Rows 1 flex p = standard_unfolded m h ∙ e in
       (rw f (omega arith, refl), λ x at. sym ((rw f at at).1))
 
-  other_codes : (a b : ℕ) → a < 13 → b < 13 → Equivalent nodes (as_it_stands a) (as_it_stands b) → code_at a ≡ code_at b
+  other_codes : (a b : ℕ) → a < 15 → b < 15 → Equivalent nodes (as_it_stands a) (as_it_stands b) → code_at a ≡ code_at b
   other_codes a b ha hb eq = one_code a b ha hb ((eq 1).0)
 
-  nine_ten : Equivalent nodes (as_it_stands 9) (as_it_stands 10) → ⊥
+  names_apart : (a b p q : ℕ) → a < 15 → b < 15 → p < 15 → q < 15 → shape_at standard_shapes a ≡ Ref p → shape_at standard_shapes b ≡ Ref q
+      → (code_at p ≡ code_at q → ⊥) → Equivalent nodes (as_it_stands a) (as_it_stands b) → ⊥
+  names_apart a b p q ha hb hp hq e f other eq = other (by_part a b p q ha hb hp hq (ref_at a p ha e).0 (ref_at b q hb f).1 eq)
+
+  rows_apart : (a b p q : ℕ) → a < 15 → b < 15 → p < 15 → q < 15 → shape_at standard_shapes a ≡ Rows 1 false p → shape_at standard_shapes b ≡ Rows 1 false q
+      → (code_at p ≡ code_at q → ⊥) → Equivalent nodes (as_it_stands a) (as_it_stands b) → ⊥
+  rows_apart a b p q ha hb hp hq e f other eq = other (by_part a b p q ha hb hp hq (row_at a p false ha e).0 (row_at b q false hb f).1 eq)
+
+  int_string : code_at 1 ≡ code_at 12 → ⊥
   unfolding code_at
-  nine_ten eq = let e = by_part 9 10 1 12 (omega arith) (omega arith) (omega arith) (omega arith) (ref_at 9 1 (omega arith) refl).0 (ref_at 10 12 (omega arith) refl).1 eq in let f : 1 ≡ 12 = e in omega arith
+  int_string e = let f : 1 ≡ 12 = e in omega arith
+
+  int_long : code_at 1 ≡ code_at 13 → ⊥
+  unfolding code_at
+  int_long e = let f : 1 ≡ 13 = e in omega arith
+
+  string_long : code_at 12 ≡ code_at 13 → ⊥
+  unfolding code_at
+  string_long e = let f : 12 ≡ 13 = e in omega arith
+
+  char_bool : code_at 3 ≡ code_at 2 → ⊥
+  unfolding code_at
+  char_bool e = let f : 3 ≡ 2 = e in omega arith
+
+  nine_ten : Equivalent nodes (as_it_stands 9) (as_it_stands 10) → ⊥
+  nine_ten = names_apart 9 10 1 12 (omega arith) (omega arith) (omega arith) (omega arith) refl refl int_string
 
   ten_nine : Equivalent nodes (as_it_stands 10) (as_it_stands 9) → ⊥
-  unfolding code_at
-  ten_nine eq = let e = by_part 10 9 12 1 (omega arith) (omega arith) (omega arith) (omega arith) (ref_at 10 12 (omega arith) refl).0 (ref_at 9 1 (omega arith) refl).1 eq in let f : 12 ≡ 1 = e in omega arith
+  ten_nine = names_apart 10 9 12 1 (omega arith) (omega arith) (omega arith) (omega arith) refl refl (λ e. int_string (sym e))
+
+  nine_fourteen : Equivalent nodes (as_it_stands 9) (as_it_stands 14) → ⊥
+  nine_fourteen = names_apart 9 14 1 13 (omega arith) (omega arith) (omega arith) (omega arith) refl refl int_long
+
+  fourteen_nine : Equivalent nodes (as_it_stands 14) (as_it_stands 9) → ⊥
+  fourteen_nine = names_apart 14 9 13 1 (omega arith) (omega arith) (omega arith) (omega arith) refl refl (λ e. int_long (sym e))
+
+  ten_fourteen : Equivalent nodes (as_it_stands 10) (as_it_stands 14) → ⊥
+  ten_fourteen = names_apart 10 14 12 13 (omega arith) (omega arith) (omega arith) (omega arith) refl refl string_long
+
+  fourteen_ten : Equivalent nodes (as_it_stands 14) (as_it_stands 10) → ⊥
+  fourteen_ten = names_apart 14 10 13 12 (omega arith) (omega arith) (omega arith) (omega arith) refl refl (λ e. string_long (sym e))
 
   seven_eleven : Equivalent nodes (as_it_stands 7) (as_it_stands 11) → ⊥
-  unfolding code_at
-  seven_eleven eq = let e = by_part 7 11 3 2 (omega arith) (omega arith) (omega arith) (omega arith) (row_at 7 3 false (omega arith) refl).0 (row_at 11 2 false (omega arith) refl).1 eq in let f : 3 ≡ 2 = e in omega arith
+  seven_eleven = rows_apart 7 11 3 2 (omega arith) (omega arith) (omega arith) (omega arith) refl refl char_bool
 
   eleven_seven : Equivalent nodes (as_it_stands 11) (as_it_stands 7) → ⊥
-  unfolding code_at
-  eleven_seven eq = let e = by_part 11 7 2 3 (omega arith) (omega arith) (omega arith) (omega arith) (row_at 11 2 false (omega arith) refl).0 (row_at 7 3 false (omega arith) refl).1 eq in let f : 2 ≡ 3 = e in omega arith
+  eleven_seven = rows_apart 11 7 2 3 (omega arith) (omega arith) (omega arith) (omega arith) refl refl (λ e. char_bool (sym e))
 
-  code_ten : code_at 10 ≡ 9
-  unfolding code_at
-  code_ten = refl
+  plain_other : (a b : ℕ) → IsOther b a → Equivalent nodes (as_it_stands a) (as_it_stands b) → ⊥
+  plain_other _ _ of_text eq = nine_ten eq
+  plain_other _ _ of_bools eq = seven_eleven eq
+  plain_other _ _ of_long eq = nine_fourteen eq
 
-  code_eleven : code_at 11 ≡ 7
-  unfolding code_at
-  code_eleven = refl
+  other_plain : (a b : ℕ) → IsOther a b → Equivalent nodes (as_it_stands a) (as_it_stands b) → ⊥
+  other_plain _ _ of_text eq = ten_nine eq
+  other_plain _ _ of_bools eq = eleven_seven eq
+  other_plain _ _ of_long eq = fourteen_nine eq
 
-  nine_seven : (n : ℕ) → n ≡ 9 → n ≡ 7 → ⊥
-  nine_seven n e f = omega arith
+  both_other : (a b x y : ℕ) → IsOther a x → IsOther b y → x ≡ y → Equivalent nodes (as_it_stands a) (as_it_stands b) → a ≡ b
+  both_other _ _ _ _ of_text of_text e eq = refl
+  both_other _ _ _ _ of_text of_bools e eq = absurd (omega arith)
+  both_other _ _ _ _ of_text of_long e eq = absurd (ten_fourteen eq)
+  both_other _ _ _ _ of_bools of_text e eq = absurd (omega arith)
+  both_other _ _ _ _ of_bools of_bools e eq = refl
+  both_other _ _ _ _ of_bools of_long e eq = absurd (omega arith)
+  both_other _ _ _ _ of_long of_text e eq = absurd (fourteen_ten eq)
+  both_other _ _ _ _ of_long of_bools e eq = absurd (omega arith)
+  both_other _ _ _ _ of_long of_long e eq = refl
+
+  one_of : (a b x y : ℕ) → (x ≡ a) ⊎ IsOther a x → (y ≡ b) ⊎ IsOther b y → x ≡ y → Equivalent nodes (as_it_stands a) (as_it_stands b) → a ≡ b
+  one_of a b x y (inl e) (inl f) g eq = sym e ∙ g ∙ f
+  one_of a b x y (inl e) (inr o) g eq = absurd (plain_other a b (subst (IsOther b) (sym g ∙ e) o) eq)
+  one_of a b x y (inr o) (inl f) g eq = absurd (other_plain a b (subst (IsOther a) (g ∙ f) o) eq)
+  one_of a b x y (inr o) (inr p) g eq = both_other a b x y o p g eq
 
   -- no two of them are equivalent
-  pub standard_apart : (a b : ℕ) → a < 13 → b < 13 → Equivalent nodes (as_it_stands a) (as_it_stands b) → a ≡ b
-  standard_apart a b ha hb eq = go (tells a ha) (tells b hb) (other_codes a b ha hb eq)
-    where
-      go : (code_at a ≡ a) ⊎ ((a ≡ 10) ⊎ (a ≡ 11)) → (code_at b ≡ b) ⊎ ((b ≡ 10) ⊎ (b ≡ 11)) → code_at a ≡ code_at b → a ≡ b
-      go (inl e) (inl f) g = sym e ∙ g ∙ f
-      go (inl e) (inr (inl f)) g =
-          let same : a ≡ 9 = sym e ∙ g ∙ ap code_at f ∙ code_ten in
-          absurd (nine_ten (subst (λ x. Equivalent nodes (as_it_stands 9) (as_it_stands x)) f (subst (λ x. Equivalent nodes (as_it_stands x) (as_it_stands b)) same eq)))
-      go (inl e) (inr (inr f)) g =
-          let same : a ≡ 7 = sym e ∙ g ∙ ap code_at f ∙ code_eleven in
-          absurd (seven_eleven (subst (λ x. Equivalent nodes (as_it_stands 7) (as_it_stands x)) f (subst (λ x. Equivalent nodes (as_it_stands x) (as_it_stands b)) same eq)))
-      go (inr (inl e)) (inl f) g =
-          let same : b ≡ 9 = sym f ∙ sym g ∙ ap code_at e ∙ code_ten in
-          absurd (ten_nine (subst (λ x. Equivalent nodes (as_it_stands 10) (as_it_stands x)) same (subst (λ x. Equivalent nodes (as_it_stands x) (as_it_stands b)) e eq)))
-      go (inr (inr e)) (inl f) g =
-          let same : b ≡ 7 = sym f ∙ sym g ∙ ap code_at e ∙ code_eleven in
-          absurd (eleven_seven (subst (λ x. Equivalent nodes (as_it_stands 11) (as_it_stands x)) same (subst (λ x. Equivalent nodes (as_it_stands x) (as_it_stands b)) e eq)))
-      go (inr (inl e)) (inr (inl f)) g = e ∙ sym f
-      go (inr (inr e)) (inr (inr f)) g = e ∙ sym f
-      go (inr (inl e)) (inr (inr f)) g = absurd (nine_seven (code_at a) (ap code_at e ∙ code_ten) (g ∙ ap code_at f ∙ code_eleven))
-      go (inr (inr e)) (inr (inl f)) g = absurd (nine_seven (code_at a) (g ∙ ap code_at f ∙ code_ten) (ap code_at e ∙ code_eleven))
+  pub standard_apart : (a b : ℕ) → a < 15 → b < 15 → Equivalent nodes (as_it_stands a) (as_it_stands b) → a ≡ b
+  standard_apart a b ha hb eq = one_of a b (code_at a) (code_at b) (tells a ha) (tells b hb) (other_codes a b ha hb eq) eq

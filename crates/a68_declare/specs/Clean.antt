@@ -8,6 +8,7 @@ use Rattle.a68_equiv.specs.Unfolding.{unfolded, leads_within, is_union, Equivale
 use Rattle.a68_modes.specs.Nodes.{shape_at, HoldsNodes}
 use Rattle.a68_modes.specs.declared.shape.Shape.{Shape}
 use Rattle.a68_modes.specs.declared.shape.Shape.TheVariants.{Ref, Rows, Struct, Union, Proc, Same, Blank}
+use Rattle.a68_modes.specs.declared.standard.TheConstants.{STANDARD}
 
 -- a shape that is no mode word and not blank; the members of a union are neither unions nor mode words, and each stands once
 abbrev pub IsBare : List Shape → Shape → Type 0
@@ -65,7 +66,7 @@ pub record CleansTo (old : List Shape) (to : ℕ → ℕ) (new : List Shape) : T
   -- each number that is less than a node's is that of an earlier node
   pub in_order : (m j : ℕ) → m < length old → j < to m → (a : ℕ) × (a < m) × (to a ≡ j)
   -- the union among the standard modes has an order of its own
-  pub rising : (j : ℕ) → 13 ≤ j → j < length new → IsRising (shape_at new j)
+  pub rising : (j : ℕ) → STANDARD ≤ j → j < length new → IsRising (shape_at new j)
 
 -- a node of a mode: the mode as it stands there is equivalent
 pub record IsNode (nodes : List Shape) (mode : Mode) (id : ℕ) : Type 0 where

@@ -11,6 +11,7 @@ use Rattle.a68_equiv.specs.Unfolding.{unfolded, Equivalent}
 use Rattle.a68_modes.specs.Nodes.{shape_at}
 use Rattle.a68_modes.specs.declared.shape.Shape.{Shape}
 use Rattle.a68_modes.specs.declared.shape.Shape.TheVariants.{Union, Blank}
+use Rattle.a68_modes.specs.declared.standard.TheConstants.{STANDARD}
 
 -- the class of a node's mode as it stands
 abbrev pub class_at : List ℕ → ℕ → ℕ
@@ -34,8 +35,8 @@ pub record IsNumbering (nodes : List Shape) (to firsts : List ℕ) : Type 0 wher
   pub firsts_there : (j : ℕ) → j < length firsts → slice_index_or firsts j 0 < length nodes
   pub back : (j : ℕ) → j < length firsts → slice_index_or to (slice_index_or firsts j 0) 0 ≡ j
   pub same : (a b : ℕ) → a < length nodes → b < length nodes → (slice_index_or to a 0 ≡ slice_index_or to b 0) ↔ Equivalent nodes (as_it_stands a) (as_it_stands b)
-  pub standard : (m : ℕ) → m < 13 → slice_index_or to m 0 ≡ m
-  pub enough : 13 ≤ length firsts
+  pub standard : (m : ℕ) → m < STANDARD → slice_index_or to m 0 ≡ m
+  pub enough : STANDARD ≤ length firsts
   pub few : length firsts ≤ length nodes
   pub in_order : (m j : ℕ) → m < length nodes → j < slice_index_or to m 0 → (a : ℕ) × (a < m) × (slice_index_or to a 0 ≡ j)
 
@@ -67,16 +68,16 @@ pub record NodesAreNumbered (nodes : List Shape) (classes : List ℕ) (count : �
   pub only : (class j : ℕ) → at_class table class ≡ Some j → (j < length firsts) × (class_at classes (slice_index_or firsts j 0) ≡ class)
   pub first : (j : ℕ) → j < length firsts → (slice_index_or firsts j 0 < count) × (slice_index_or to (slice_index_or firsts j 0) 0 ≡ j)
   -- no two standard nodes have one class
-  pub standard : (m : ℕ) → m < count → m < 13 → slice_index_or to m 0 ≡ m
-  pub begun : count ≤ 13 → length firsts ≡ count
-  pub enough : 13 ≤ count → 13 ≤ length firsts
+  pub standard : (m : ℕ) → m < count → m < STANDARD → slice_index_or to m 0 ≡ m
+  pub begun : count ≤ STANDARD → length firsts ≡ count
+  pub enough : STANDARD ≤ count → STANDARD ≤ length firsts
   pub in_order : (m j : ℕ) → m < count → j < slice_index_or to m 0 → (a : ℕ) × (a < m) × (slice_index_or to a 0 ≡ j)
 
 -- the nodes behind the standard ones and before one have the shapes of their classes
 pub record AreShapesFrom (nodes : List Shape) (to firsts : List ℕ) (count : ℕ) (new : List Shape) : Type 0 where
-  pub done : (j : ℕ) → 13 ≤ j → j < count → IsShapeFrom nodes to (slice_index_or firsts j 0) (shape_at new j)
-  pub rising : (j : ℕ) → 13 ≤ j → j < count → IsRising (shape_at new j)
-  pub blank : (j : ℕ) → count ≤ j → 13 ≤ j → shape_at new j ≡ Blank
+  pub done : (j : ℕ) → STANDARD ≤ j → j < count → IsShapeFrom nodes to (slice_index_or firsts j 0) (shape_at new j)
+  pub rising : (j : ℕ) → STANDARD ≤ j → j < count → IsRising (shape_at new j)
+  pub blank : (j : ℕ) → count ≤ j → STANDARD ≤ j → shape_at new j ≡ Blank
 
 -- the nodes of modes without FLEX, by the first old nodes of their numbers
 abbrev pub AreTwins : (to firsts fixed : List ℕ) → Type 0

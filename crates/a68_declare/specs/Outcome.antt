@@ -15,6 +15,7 @@ use Rattle.a68_modes.specs.declared.shape.Shape.{Shape}
 use Rattle.a68_ranges.specs.Indexed.{IsLeast}
 use Rattle.a68_ranges.specs.Nodes.{place_at}
 use Rattle.a68_tree.specs.Trees.{Built}
+use Rattle.a68_modes.specs.declared.standard.TheConstants.{STANDARD}
 
 -- The modes of a tree's declarers as they are declared: behind the standard ones two for each declarer, in the order of the
 -- tree, and no others.
@@ -24,7 +25,7 @@ pub record AreRaw (tree : Built) (raw : List Shape) (number : ℕ → Bool → �
   pub declared : ModesAreDeclared tree raw number
   pub numbered : (d : ℕ) (fixed : Bool) → number d fixed ≡ mode_number tree d fixed
   pub holds : HoldsNodes raw
-  pub onto : (m : ℕ) → 13 ≤ m → m < length raw → (d : ℕ) × (fixed : Bool) × IsDeclarerAt tree d × (number d fixed ≡ m)
+  pub onto : (m : ℕ) → STANDARD ≤ m → m < length raw → (d : ℕ) × (fixed : Bool) × IsDeclarerAt tree d × (number d fixed ≡ m)
 
 -- the rule that is broken first, in the order N2, L4, M1, M2, C4, at the first such place in the text
 pub data IsFirstBroken (tree : Built) : Refusal → Type 0 where

@@ -14,7 +14,7 @@ use crate::numbering::{Numbering, numbering_of};
 use a68_base::NoMemory;
 use a68_declarers::{add_blank, twin};
 use a68_equiv::Classes;
-use a68_modes::{ModeId, Modes};
+use a68_modes::{ModeId, Modes, standard};
 use std::alloc::Global;
 
 /// Clean modes, the number of each old node, and of each clean mode the node without its FLEX.
@@ -34,12 +34,12 @@ fn set_all(
 ) -> Result<(), NoMemory>
     requires numbering { IsNumbering modes.now numbering.now.to.items numbering.now.firsts.items }
     requires long { length new.old ≡ length numbering.now.firsts.items }
-    requires blank { (j : ℕ) → 13 ≤ j → shape_at new.old j ≡ Blank }
+    requires blank { (j : ℕ) → 15 ≤ j → shape_at new.old j ≡ Blank }
     ensures long { OnOk result (length new.new ≡ length numbering.now.firsts.items) }
     ensures shapes { OnOk result (AreShapesFrom modes.now numbering.now.to.items numbering.now.firsts.items (length numbering.now.firsts.items) new.new) }
 {
     let _there = modes.len();
-    for number in 13..new.len() {
+    for number in standard::STANDARD..new.len() {
         let first = numbering.firsts[number as usize];
         let shape = shape_from(alloc, modes, &numbering.to, first)?;
         new.set(number, shape);
@@ -61,12 +61,12 @@ fn fixed_of(alloc: Global, numbering: &Numbering) -> Result<Vec<ModeId>, NoMemor
 
 // How many nodes there are behind the standard ones.
 fn blanks(numbering: &Numbering, count: u32) -> u32
-    requires enough { 13 ≤ length numbering.now.firsts.items }
+    requires enough { 15 ≤ length numbering.now.firsts.items }
     requires few { length numbering.now.firsts.items ≤ count }
-    ensures { result + 13 ≡ length numbering.now.firsts.items }
+    ensures { result + 15 ≡ length numbering.now.firsts.items }
 {
     let _count = count;
-    (numbering.firsts.len() - 13) as u32
+    (numbering.firsts.len() - standard::STANDARD as usize) as u32
 }
 
 /// Clean modes that mean the same as these: no two of them are equivalent, none is a mode word, and the members of inner unions

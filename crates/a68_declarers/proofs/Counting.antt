@@ -41,22 +41,22 @@ module _ (tree : Built) where
       go true e h g = (n, omega arith, e, omega arith)
       go false e h g = absurd (omega arith)
 
-  pub first_is : (d : ℕ) → IsDeclarerAt tree d → first_number tree d ≡ 13 + 2 * declarers tree d
-  first_is d is = ap (λ b. if b then 13 + 2 * declarers tree d else 0) is
+  pub first_is : (d : ℕ) → IsDeclarerAt tree d → first_number tree d ≡ 15 + 2 * declarers tree d
+  first_is d is = ap (λ b. if b then 15 + 2 * declarers tree d else 0) is
 
   pub first_none : (d : ℕ) → is_declarer (kind_at tree d) ≡ false → first_number tree d ≡ 0
-  first_none d is = ap (λ b. if b then 13 + 2 * declarers tree d else 0) is
+  first_none d is = ap (λ b. if b then 15 + 2 * declarers tree d else 0) is
 
-  pub two : (fixed : Bool) (n : ℕ) → of_two fixed (13 + n) ≡ 13 + n + one_if fixed
+  pub two : (fixed : Bool) (n : ℕ) → of_two fixed (15 + n) ≡ 15 + n + one_if fixed
   two false n = omega arith
-  two true n = go (nat_eq (13 + n) 0) refl
+  two true n = go (nat_eq (15 + n) 0) refl
     where
-      go : (b : Bool) → nat_eq (13 + n) 0 ≡ b → (if b then 0 else 13 + n + 1) ≡ 13 + n + one_if true
+      go : (b : Bool) → nat_eq (15 + n) 0 ≡ b → (if b then 0 else 15 + n + 1) ≡ 15 + n + one_if true
       go false e = refl
-      go true e = absurd (let h : 13 + n ≡ 0 = eqb-true (13 + n) 0 e in omega arith)
+      go true e = absurd (let h : 15 + n ≡ 0 = eqb-true (15 + n) 0 e in omega arith)
 
   module _ (numbers : List ℕ) (are : AreNumbers tree numbers) where
-    pub number_is : (d : ℕ) (fixed : Bool) → IsDeclarerAt tree d → number_at numbers d fixed ≡ 13 + 2 * declarers tree d + one_if fixed
+    pub number_is : (d : ℕ) (fixed : Bool) → IsDeclarerAt tree d → number_at numbers d fixed ≡ 15 + 2 * declarers tree d + one_if fixed
     number_is d fixed is = ap (of_two fixed) (are.each d ∙ first_is d is) ∙ two fixed (2 * declarers tree d)
 
     pub number_none : (d : ℕ) (fixed : Bool) → is_declarer (kind_at tree d) ≡ false → number_at numbers d fixed ≡ 0
@@ -77,10 +77,10 @@ module _ (tree : Built) where
         go true e = absurd (never e)
         go false e = e
 
-    pub number_below : (d : ℕ) (fixed : Bool) → number_at numbers d fixed < 13 + 2 * declarers tree (length tree.nodes)
+    pub number_below : (d : ℕ) (fixed : Bool) → number_at numbers d fixed < 15 + 2 * declarers tree (length tree.nodes)
     number_below d fixed = go (is_declarer (kind_at tree d)) refl
       where
-        go : (b : Bool) → is_declarer (kind_at tree d) ≡ b → number_at numbers d fixed < 13 + 2 * declarers tree (length tree.nodes)
+        go : (b : Bool) → is_declarer (kind_at tree d) ≡ b → number_at numbers d fixed < 15 + 2 * declarers tree (length tree.nodes)
         go true e = let n = number_is d fixed e in let p = declarers_pass d (length tree.nodes) e (declarer_there tree d e) in let l = low_one fixed in omega arith
         go false e = let n = number_none d fixed e in omega arith
 
@@ -95,11 +95,11 @@ module _ (tree : Built) where
         go (k, false, e) = (k, true, omega arith)
         go (k, true, e) = (suc k, false, omega arith)
 
-    pub ordered : (nodes : List Shape) → length nodes ≡ 13 + 2 * declarers tree (length tree.nodes) → AreOrdered tree nodes (number_at numbers)
+    pub ordered : (nodes : List Shape) → length nodes ≡ 15 + 2 * declarers tree (length tree.nodes) → AreOrdered tree nodes (number_at numbers)
     ordered nodes long = record {
       standard = omega arith;
       low = λ d fixed is. let n = number_is d fixed is in omega arith;
-      onto = λ m low less. go m low less (odd_or (m - 13));
+      onto = λ m low less. go m low less (odd_or (m - 15));
       grows = λ d e fixed other is also h.
           let n = number_is d fixed is in
           let m = number_is e other also in
@@ -109,7 +109,7 @@ module _ (tree : Built) where
       none = λ d fixed never. number_none d fixed (not_declarer d never);
     }
       where
-        go : (m : ℕ) → 13 ≤ m → m < length nodes → ((k : ℕ) × (b : Bool) × (m - 13 ≡ 2 * k + one_if b)) → (d : ℕ) × (fixed : Bool) × IsDeclarerAt tree d × (number_at numbers d fixed ≡ m)
+        go : (m : ℕ) → 15 ≤ m → m < length nodes → ((k : ℕ) × (b : Bool) × (m - 15 ≡ 2 * k + one_if b)) → (d : ℕ) × (fixed : Bool) × IsDeclarerAt tree d × (number_at numbers d fixed ≡ m)
         go m low less (k, b, e) =
             let r = each_counted (length tree.nodes) k (omega arith) in
             let n = number_is r.0 b r.2 in
@@ -119,7 +119,7 @@ module _ (tree : Built) where
 -- the numbers of one node more
 pub record NumbersMore (tree : Built) (items : List ℕ) (count next : ℕ) : Type 0 where
   pub long : length items ≡ count
-  pub next_is : next ≡ 13 + 2 * declarers tree count
+  pub next_is : next ≡ 15 + 2 * declarers tree count
   pub each : (d : ℕ) → d < count → slice_index_or items d 0 ≡ first_number tree d
   pub small : All (λ m. m < 2 ^ 24) items
 
@@ -131,7 +131,7 @@ abbrev pub next_or : (b : Bool) → (next : ℕ) → ℕ
 next_or true next = next + 2
 next_or false next = next
 
-pub numbers_more : (tree : Built) (items : List ℕ) (i next number after : ℕ) (b : Bool) → is_declarer (kind_at tree i) ≡ b → length items ≡ i → next ≡ 13 + 2 * declarers tree i
+pub numbers_more : (tree : Built) (items : List ℕ) (i next number after : ℕ) (b : Bool) → is_declarer (kind_at tree i) ≡ b → length items ≡ i → next ≡ 15 + 2 * declarers tree i
     → ((d : ℕ) → d < i → slice_index_or items d 0 ≡ first_number tree d) → All (λ m. m < 2 ^ 24) items → next < 2 ^ 24 → number ≡ number_or b next → after ≡ next_or b next
     → NumbersMore tree (items ++ number ∷ []) (i + 1) after
 numbers_more tree items i next number after b is long next_is each small low number_is after_is = record {
@@ -145,7 +145,7 @@ numbers_more tree items i next number after b is long next_is each small low num
   small = All-push (λ m. m < 2 ^ 24) items number small (less b number_is);
 }
   where
-    declared : (b : Bool) → is_declarer (kind_at tree i) ≡ b → after ≡ next_or b next → after ≡ 13 + 2 * declarers tree (i + 1)
+    declared : (b : Bool) → is_declarer (kind_at tree i) ≡ b → after ≡ next_or b next → after ≡ 15 + 2 * declarers tree (i + 1)
     declared true e f = let g = ap (declarers tree) (add-one i) in let h = ap (λ b. declarers tree i + one_if b) e in omega (arith, g, h)
     declared false e f = let g = ap (declarers tree) (add-one i) in let h = ap (λ b. declarers tree i + one_if b) e in omega (arith, g, h)
 

@@ -23,7 +23,7 @@ pub record IsSet (tree : Built) (numbers : List ℕ) (d : ℕ) (fixed : Bool) (o
   pub others : (m : ℕ) → (m ≡ number_at numbers d fixed → ⊥) → shape_at new m ≡ shape_at old m
 
 module _ (tree : Built) (numbers : List ℕ) (are : AreNumbers tree numbers) where
-  pub begun : (nodes : List Shape) → ((m : ℕ) → 13 ≤ m → shape_at nodes m ≡ Blank) → AreSet tree numbers 0 nodes
+  pub begun : (nodes : List Shape) → ((m : ℕ) → 15 ≤ m → shape_at nodes m ≡ Blank) → AreSet tree numbers 0 nodes
   begun nodes none = record {
     done = λ d fixed h. absurd (omega arith);
     blank = λ d fixed h is. none (number_at numbers d fixed) (let n = number_is tree numbers are d fixed is in omega arith);
@@ -76,7 +76,7 @@ module _ (tree : Built) (numbers : List ℕ) (are : AreNumbers tree numbers) whe
       here true = b.shape
       here false = subst (IsShapeOf tree (number_at numbers) i false (form_at tree i)) (sym (b.others (number_at numbers i false) (λ e. let l = two_of i is in omega arith))) a.shape
 
-  pub all_set : (i : ℕ) (nodes : List Shape) → length tree.nodes ≤ i → length nodes ≡ 13 + 2 * declarers tree (length tree.nodes) → AreSet tree numbers i nodes → ModesAreDeclared tree nodes (number_at numbers)
+  pub all_set : (i : ℕ) (nodes : List Shape) → length tree.nodes ≤ i → length nodes ≡ 15 + 2 * declarers tree (length tree.nodes) → AreSet tree numbers i nodes → ModesAreDeclared tree nodes (number_at numbers)
   all_set i nodes h long so = record {
     there = λ d fixed. let b = number_below tree numbers are d fixed in omega arith;
     void = number_void tree numbers are;

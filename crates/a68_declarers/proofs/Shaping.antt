@@ -60,9 +60,13 @@ fields_all tree mode found before i parts whole h so = sym (append_none found) �
 
 -- ---- the modes within a shape
 
+-- a standard mode that has no FLEX: each but STRING
+abbrev pub IsFlexless : ℕ → Type 0
+IsFlexless m = (m < 15) × (m ≡ 12 → ⊥)
+
 -- the standard modes that a word gives are there, and that without FLEX is not STRING
 abbrev pub IsLow : DeclarerForm → Type 0
-IsLow (forms.Standard m n) = (m < 13) × (n < 12)
+IsLow (forms.Standard m n) = (m < 15) × IsFlexless n
 IsLow _ = Unit {0}
 
 -- what holds of all forms in a table and of mode words holds of the form that is found
@@ -81,7 +85,7 @@ found_form Holds (row ∷ rows) (Some s) word all = go (bytes_eq s row.0) (found
 
 known_low : AllForms IsLow known_forms
 unfolding known_forms
-known_low = ((omega arith, omega arith), ((omega arith, omega arith), ((omega arith, omega arith), ((omega arith, omega arith), ((omega arith, omega arith), ((omega arith, omega arith), (tt, (tt, (tt, (tt, (tt, (tt, tt))))))))))))
+known_low = ((omega arith, (omega arith, λ e. omega arith)), ((omega arith, (omega arith, λ e. omega arith)), ((omega arith, (omega arith, λ e. omega arith)), ((omega arith, (omega arith, λ e. omega arith)), ((omega arith, (omega arith, λ e. omega arith)), ((omega arith, (omega arith, λ e. omega arith)), ((omega arith, (omega arith, λ e. omega arith)), (tt, (tt, (tt, (tt, (tt, (tt, tt)))))))))))))
 
 pub form_low : (tree : Built) (d : ℕ) → IsLow (form_at tree d)
 form_low tree d = found_form IsLow known_forms (spelling_at tree d) tt known_low
@@ -119,11 +123,11 @@ one_holds P m p = All-cons P m [] p (All-nil P)
 
 -- what holds of the standard modes, of the modes of declarers within and of the definition of a word, holds of each mode within
 -- the shape of a declarer
-pub shape_holds : (P : ℕ → Type 0) (tree : Built) (number : ℕ → Bool → ℕ) (d : ℕ) (fixed : Bool) (form : DeclarerForm) (shape : Shape) → IsLow form → ((m : ℕ) → m < 13 → P m)
+pub shape_holds : (P : ℕ → Type 0) (tree : Built) (number : ℕ → Bool → ℕ) (d : ℕ) (fixed : Bool) (form : DeclarerForm) (shape : Shape) → IsLow form → ((m : ℕ) → m < 15 → P m)
     → ((e : ℕ) (f : Bool) → Contains (parts_at tree d) e → P (number e f))
     → ((definition : ℕ) → IsModeWordOf tree d (name_at tree d) (Some definition) → P (last_mode (λ e. number e fixed) (parts_at tree definition)))
     → IsShapeOf tree number d fixed form shape → All P (parts_of shape)
-shape_holds P tree number d true (forms.Standard m n) shape low std each word is = rw is (one_holds P n (std n (let l = low.1 in omega arith)))
+shape_holds P tree number d true (forms.Standard m n) shape low std each word is = rw is (one_holds P n (std n low.1.0))
 shape_holds P tree number d false (forms.Standard m n) shape low std each word is = rw is (one_holds P m (std m low.0))
 shape_holds P tree number d fixed forms.Name shape low std each word is =
     rw is (one_holds P _ (last_holds P (std 0 (omega arith)) (λ e. number e false) (parts_at tree d) (λ e c. each e false c)))
@@ -144,7 +148,7 @@ shape_holds P tree number d fixed forms.Word shape low std each word (definition
     go (Some x) of = word x of
 
 -- each mode within the shape of a declarer is there
-pub shape_within : (tree : Built) (number : ℕ → Bool → ℕ) (count d : ℕ) (fixed : Bool) (form : DeclarerForm) (shape : Shape) → IsLow form → 13 ≤ count
+pub shape_within : (tree : Built) (number : ℕ → Bool → ℕ) (count d : ℕ) (fixed : Bool) (form : DeclarerForm) (shape : Shape) → IsLow form → 15 ≤ count
     → ((e : ℕ) (fixed : Bool) → number e fixed < count) → IsShapeOf tree number d fixed form shape → ShapeIsWithin count shape
 shape_within tree number count d fixed form shape low few each is =
     shape_holds (λ k. k < count) tree number d fixed form shape low (λ m h. omega arith) (λ e f c. each e f)

@@ -9,11 +9,13 @@ use Rattle.a68_tree.specs.Trees.{Built}
 use Rattle.a68_tree.specs.declared.kind.NodeKind.{NodeKind}
 use Rattle.a68_tree.specs.declared.kind.NodeKind.TheVariants as kind
 
--- the reserved words and the bracket that begin declarers; STRING is FLEX [] CHAR
+-- the reserved words and the bracket that begin declarers; STRING is FLEX [] CHAR, and behind LONG stands
+-- INT
 unfoldable pub known_forms : List (List ℕ × DeclarerForm)
 known_forms =
     (codes "INT", forms.Standard 1 1) ∷ (codes "BOOL", forms.Standard 2 2) ∷ (codes "CHAR", forms.Standard 3 3) ∷
     (codes "BITS", forms.Standard 4 4) ∷ (codes "SEMA", forms.Standard 5 5) ∷ (codes "STRING", forms.Standard 12 7) ∷
+    (codes "LONG", forms.Standard 13 13) ∷
     (codes "REF", forms.Name) ∷ (codes "[", forms.Row false) ∷ (codes "FLEX", forms.Row true) ∷
     (codes "STRUCT", forms.Structure) ∷ (codes "UNION", forms.Union) ∷ (codes "PROC", forms.Procedure) ∷ []
 

@@ -5,6 +5,7 @@ use Rattle.a68_declarers.specs.Shapes.{IsShapeOf}
 use Rattle.a68_modes.specs.Nodes.{shape_at}
 use Rattle.a68_modes.specs.declared.shape.Shape.{Shape}
 use Rattle.a68_tree.specs.Trees.{Built}
+use Rattle.a68_modes.specs.declared.standard.TheConstants.{STANDARD}
 
 -- each declarer has two nodes, one for its mode as it stands, one for its mode without FLEX; VOID has the standard one
 pub record ModesAreDeclared (tree : Built) (nodes : List Shape) (number : ℕ → Bool → ℕ) : Type 0 where
@@ -14,8 +15,8 @@ pub record ModesAreDeclared (tree : Built) (nodes : List Shape) (number : ℕ �
 
 -- each node behind the standard ones is that of a declarer, and those within a declarer have greater numbers
 pub record AreOrdered (tree : Built) (nodes : List Shape) (number : ℕ → Bool → ℕ) : Type 0 where
-  pub standard : 13 ≤ length nodes
-  pub low : (d : ℕ) (fixed : Bool) → IsDeclarerAt tree d → 13 ≤ number d fixed
-  pub onto : (m : ℕ) → 13 ≤ m → m < length nodes → (d : ℕ) × (fixed : Bool) × IsDeclarerAt tree d × (number d fixed ≡ m)
+  pub standard : STANDARD ≤ length nodes
+  pub low : (d : ℕ) (fixed : Bool) → IsDeclarerAt tree d → STANDARD ≤ number d fixed
+  pub onto : (m : ℕ) → STANDARD ≤ m → m < length nodes → (d : ℕ) × (fixed : Bool) × IsDeclarerAt tree d × (number d fixed ≡ m)
   pub grows : (d e : ℕ) (fixed other : Bool) → IsDeclarerAt tree d → IsDeclarerAt tree e → d < e → number d fixed < number e other
   pub none : (d : ℕ) (fixed : Bool) → (IsDeclarerAt tree d → ⊥) → number d fixed ≡ 0

@@ -34,7 +34,7 @@ mode_number tree d fixed = of_two fixed (first_number tree d)
 -- The node of the mode of a node without its FLEX: the second of the two of a declarer, which has an even number; [] CHAR for
 -- STRING; and every other standard mode itself.
 abbrev pub twin_of : ℕ → ℕ
-twin_of m = if nat_lt m standard.STRING then m else if nat_eq m standard.STRING then standard.ROW_OF_CHAR else m + m % 2
+twin_of m = if nat_lt m standard.STRING then m else if nat_eq m standard.STRING then standard.ROW_OF_CHAR else if nat_lt m standard.STANDARD then m else m + m % 2
 
 -- the same, by the first nodes of all
 abbrev pub number_at : List ℕ → (d : ℕ) → (fixed : Bool) → ℕ

@@ -80,6 +80,13 @@ fn forms() -> &'static [(&'static str, DeclarerForm)]
                 without_flex: 7,
             },
         ),
+        (
+            "LONG",
+            DeclarerForm::Standard {
+                as_it_stands: 13,
+                without_flex: 13,
+            },
+        ),
         ("REF", DeclarerForm::Name),
         ("[", DeclarerForm::Row { flex: false }),
         ("FLEX", DeclarerForm::Row { flex: true }),

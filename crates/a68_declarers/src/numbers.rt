@@ -55,6 +55,8 @@ pub fn twin(node: ModeId) -> ModeId
         node
     } else if node == standard::STRING {
         standard::ROW_OF_CHAR
+    } else if node < standard::STANDARD {
+        node
     } else {
         node + node % 2
     }

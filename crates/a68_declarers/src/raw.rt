@@ -46,7 +46,7 @@ fn set_one(
     requires there { declarer < length tree.now.nodes }
     requires ranges { AreRanges tree.now ranges.now }
     requires within { (d : ℕ) (fixed : Bool) → number_at numbers.now d fixed < length modes.old }
-    requires standard { 13 ≤ length modes.old }
+    requires standard { 15 ≤ length modes.old }
     requires blank { shape_at modes.old (number_at numbers.now declarer fixed) ≡ Blank }
     ensures long { OnOk result (length modes.new ≡ length modes.old) }
     ensures set { OnOk result (IsShapeOf tree.now (number_at numbers.now) declarer fixed (form_at tree.now declarer) (shape_at modes.new (number_at numbers.now declarer fixed))) }
@@ -67,8 +67,8 @@ fn set_all(
 ) -> Result<(), NoMemory>
     requires ranges { AreRanges tree.now ranges.now }
     requires numbers { AreNumbers tree.now numbers.now }
-    requires long { length modes.old ≡ 13 + 2 * declarers tree.now (length tree.now.nodes) }
-    requires blank { (m : ℕ) → 13 ≤ m → shape_at modes.old m ≡ Blank }
+    requires long { length modes.old ≡ 15 + 2 * declarers tree.now (length tree.now.nodes) }
+    requires blank { (m : ℕ) → 15 ≤ m → shape_at modes.old m ≡ Blank }
     ensures declared { OnOk result (ModesAreDeclared tree.now modes.new (number_at numbers.now)) }
     ensures long { OnOk result (length modes.new ≡ length modes.old) }
 {
@@ -93,7 +93,7 @@ pub fn raw_modes(
     requires few { declarers tree.now (length tree.now.nodes) ≤ 4096 }
     ensures declared { IfOk result (λ modes. ModesAreDeclared tree.now modes (number_at numbers.now)) }
     ensures ordered { IfOk result (λ modes. AreOrdered tree.now modes (number_at numbers.now)) }
-    ensures standard { IfOk result (λ modes. take 13 modes ≡ standard_shapes) }
+    ensures standard { IfOk result (λ modes. take 15 modes ≡ standard_shapes) }
     ensures few { IfOk result (λ modes. length modes ≤ 2 ^ 20) }
 {
     let mut modes = Modes::new(alloc)?;

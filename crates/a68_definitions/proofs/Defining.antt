@@ -3,7 +3,7 @@ use Rattle.std.proofs.Common.{◌≡◌, ◌<◌, ◌≤◌, ◌∷◌, ◌⊎�
 use Rattle.std.proofs.lemmas.List.Elements.{All-map}
 use Rattle.std.specs.List.{All}
 use Rattle.std.specs.Prelude.{slice_index_or, slice_set}
-use Rattle.a68_declare.proofs.Standing.{thirteen}
+use Rattle.a68_declare.proofs.Standing.{fifteen}
 use Rattle.a68_declare.specs.Outcome.{AreByNode, AreModesOf, ByNode}
 use Rattle.a68_declarers.specs.Shapes.{front}
 use Rattle.a68_definitions.specs.Defined.{AllBelow, AreBelow, IsGranted, IsRequestBelow, fixed_mode_at, first_declarer, identity, is_parameter, has_parameters, mode_at, parameters, part_from_end, part_number, requested, variable, with_mode, with_parameters}
@@ -109,7 +109,7 @@ all_longer n more table h all k = let x : part_number table k < n = all k in ome
 
 -- there is more than one mode
 pub some_modes : (nodes : List Shape) → HoldsNodes nodes → 1 < length nodes
-some_modes nodes holds = let all : 13 ≤ length nodes = thirteen nodes holds in omega arith
+some_modes nodes holds = let all : 15 ≤ length nodes = fifteen nodes holds in omega arith
 
 -- ---- the modes that are found of declarers
 

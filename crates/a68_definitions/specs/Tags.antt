@@ -1,5 +1,5 @@
 -- The definitions of the tags that a tree applies (Report, 4.8.1 and 7.2.1).
-use Rattle.std.specs.Prelude.{◌≡◌, ◌<◌, ◌-◌, ℕ, Bool, true, false, List, length, slice_get, slice_index_or, nat_lt, Option, Some, None, if◌then◌else◌}
+use Rattle.std.specs.Prelude.{◌≡◌, ◌<◌, ◌-◌, ℕ, Bool, true, false, List, length, slice_get, slice_index_or, nat_lt, ◌||◌, Option, Some, None, if◌then◌else◌}
 use Rattle.a68_ranges.specs.declared.tags.TheConstants as tags
 use Rattle.a68_ranges.specs.Nodes.{kind_at, name_at, parts_at}
 use Rattle.a68_ranges.specs.Standard.{IsTagOf}
@@ -36,7 +36,7 @@ standard_place_of nodes (Some definition) = standard_place nodes definition
 -- print, write and whole are called, and have no mode (10.3.3 and 10.3.2.1; own form)
 abbrev pub if_called : Option ℕ → Option ℕ
 if_called None = None
-if_called (Some place) = if nat_lt place tags.PRINT then None else Some place
+if_called (Some place) = if nat_lt place tags.PRINT || nat_lt tags.WHOLE place then None else Some place
 
 -- the place of the tag of the standard environ that a node applies, where it is one that is only called
 abbrev pub called_tag : Built → List (Option ℕ) → (n : ℕ) → Option ℕ

@@ -81,7 +81,7 @@ pub fn called_tag(tree: &Tree, tags: &Tags, node: NodeId) -> Option<u32>
     ensures { result ≡ specs.called_tag tree.now tags.now node }
 {
     match standard_place(tree.len(), tags.at(node)) {
-        Some(place) if place >= tags::PRINT => Some(place),
+        Some(place) if place >= tags::PRINT && place <= tags::WHOLE => Some(place),
         _ => None,
     }
 }

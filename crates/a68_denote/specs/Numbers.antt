@@ -28,6 +28,10 @@ number_below bound radix bytes =
 abbrev pub int_in : List ℕ → Option ℤ
 int_in bytes = option_map pos (number_below (2 ^ 63) 10 bytes)
 
+-- the LONG INT that a number stands for behind LONG: digits alone, of a value below 2 to the power 127
+abbrev pub long_in : List ℕ → Option ℤ
+long_in bytes = option_map pos (number_below (2 ^ 127) 10 bytes)
+
 -- the radix of a bits denotation, and what stands behind its r: 2r, 4r, 8r or 16r
 abbrev pub radix_16_in : ℕ → ℕ → List ℕ → Option (ℕ × List ℕ)
 radix_16_in a b [] = None

@@ -4,5 +4,5 @@
 mod numbers;
 mod strings;
 
-pub use numbers::{bits_of, int_of};
+pub use numbers::{bits_of, int_of, long_of};
 pub use strings::string_of;

@@ -1,6 +1,6 @@
 //! The values of numbers and of bits denotations.
 ghost use Rattle.std.specs.Prelude.{◌≡◌, ◌≤◌, ◌<◌, ◌^◌, ◌*◌, ◌+◌, SomeIff};
-ghost use Rattle.a68_denote.specs.Numbers.{digit_of, number_below, int_in, radix_in, bits_in};
+ghost use Rattle.a68_denote.specs.Numbers.{digit_of, number_below, int_in, long_in, radix_in, bits_in};
 ghost use Rattle.std.specs.Option.{option_map};
 
 // The digit that a byte is, or 16 where it is none.
@@ -15,17 +15,19 @@ fn digit(byte: u8) -> u64
     }
 }
 
-// A number with one more digit behind it, where it is below 2 to the power 64.
-fn with_digit(number: u64, radix: u64, digit: u64) -> Option<u64>
-    ensures { SomeIff result (number * radix + digit < 2 ^ 64) (number * radix + digit) }
+// A number with one more digit behind it, where it is below 2 to the power 128.
+fn with_digit(number: u128, radix: u64, digit: u64) -> Option<u128>
+    ensures { SomeIff result (number * radix + digit < 2 ^ 128) (number * radix + digit) }
 {
-    number.checked_mul(radix)?.checked_add(digit)
+    number
+        .checked_mul(u128::from(radix))?
+        .checked_add(u128::from(digit))
 }
 
-// The value of digits of the radix, where it is below 2 to the power 64.
-fn number(radix: u64, text: &[u8]) -> Option<u64>
+// The value of digits of the radix, where it is below 2 to the power 128.
+fn number(radix: u64, text: &[u8]) -> Option<u128>
     requires { (0 < radix) × (radix ≤ 16) }
-    ensures { result ≡ number_below (2 ^ 64) radix text.now }
+    ensures { result ≡ number_below (2 ^ 128) radix text.now }
 {
     if text.is_empty() {
         return None;
@@ -50,6 +52,15 @@ pub fn int_of(text: &[u8]) -> Option<i64>
     i64::try_from(value).ok()
 }
 
+/// The LONG INT that a number without its layout stands for behind LONG (Report, 8.1.1): digits alone, of a value below 2
+/// to the power 127. None for every other text.
+pub fn long_of(text: &[u8]) -> Option<i128>
+    ensures { result ≡ long_in text.now }
+{
+    let value = number(10, text)?;
+    i128::try_from(value).ok()
+}
+
 // The radix of a bits denotation, and what stands behind its r.
 fn radix(text: &[u8]) -> Option<(u64, &[u8])>
     ensures { option_map (λ found. (found.0, found.1.now)) result ≡ radix_in text.now }
@@ -69,5 +80,6 @@ pub fn bits_of(text: &[u8]) -> Option<u64>
     ensures { result ≡ bits_in text.now }
 {
     let (radix, digits) = radix(text)?;
-    number(radix, digits)
+    let value = number(radix, digits)?;
+    u64::try_from(value).ok()
 }

@@ -5,7 +5,7 @@ use Rattle.std.specs.Prelude.{if◌then◌else◌, map, not, ◌++◌}
 use Rattle.std.specs.declared.option.Option.{Option}
 use Rattle.a68_annot.specs.declared.annotated.Annotated.{Annotated}
 use Rattle.a68_annot.specs.declared.note.Note.{Note}
-use Rattle.a68_elab.specs.Constants.{value_in}
+use Rattle.a68_elab.specs.Constants.{long_value_in, value_in}
 use Rattle.a68_elab.specs.Made as made
 use Rattle.a68_elab.specs.Programs as programs
 use Rattle.a68_elab.specs.Made.{bytes_of, seen, last_id, parts_at, trees_at, coerced, behind_proc, behind_ref, all_but_last, last_tree, spelling_of, is_one_of, called, printers, wholes, items_at, begins_with, is_heap, is_declarer, behind_heap, first_bounds, new_name}
@@ -203,6 +203,7 @@ module _ (end : ℕ) where
   construct_begins : (a : Annotated) (g : (frames id : ℕ) → Tree) (f : ℕ → Tree) (node : Node) (note : Note) (k : NodeKind) → node.span.from ≤ end → ((frames id : ℕ) → BeginsBy end (g frames id)) → ((id : ℕ) → BeginsBy end (f id))
       → ((k : ℕ) (n : Node) → slice_get a.tree.nodes k ≡ Some n → n.span.from ≤ end) → BeginsBy end (made.made a g f node note k)
   construct_begins a g f node note kind.Denotation p w h all = denoted_begins node.span.from (option_and_then value_in (spelling_of a node)) p
+  construct_begins a g f node note kind.LongDenotation p w h all = denoted_begins node.span.from (option_and_then long_value_in (spelling_of a node)) p
   construct_begins a g f node note kind.Skip p w h all = (p, tt)
   construct_begins a g f node note kind.Nil p w h all = (p, tt)
   construct_begins a g f node note kind.Tag p w h all = (p, tt)

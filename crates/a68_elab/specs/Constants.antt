@@ -3,13 +3,14 @@ use Rattle.std.specs.Prelude.{ℕ, pos, Bool, true, false, List, [], ◌∷◌, 
 use Rattle.std.specs.Option.{option_map, option_map_or}
 use Rattle.std.specs.declared.option.Option.{Option}
 use Rattle.a68_base.specs.Tables.{find}
-use Rattle.a68_denote.specs.Numbers.{int_in, bits_in}
+use Rattle.a68_denote.specs.Numbers.{int_in, long_in, bits_in}
 use Rattle.a68_ops.specs.Yields.{text_row}
 use Rattle.a68_values.specs.Content.{Content, plain, layout}
+use Rattle.a68_values.specs.Longs.{long_of}
 use Rattle.a68_values.specs.declared.plain.Layout.{Layout}
 use Rattle.a68_values.specs.declared.plain.Layout.TheVariants.{Newline, Space}
 use Rattle.a68_values.specs.declared.plain.Plain.{Plain}
-use Rattle.a68_values.specs.declared.plain.Plain.TheVariants.{Int, Bool as Truth, Char, Bits}
+use Rattle.a68_values.specs.declared.plain.Plain.TheVariants.{Int, Long, Bool as Truth, Char, Bits}
 
 -- TRUE and FALSE (Report, 8.1.3)
 abbrev pub truths : List (List ℕ × Bool)
@@ -40,11 +41,16 @@ abbrev pub value_in : List ℕ → Option Content
 value_in spelling =
     or_else (λ i. Int i) (int_in spelling) (or_else (λ b. Bits b) (bits_in spelling) (or_else (λ t. Truth t) (find truths spelling) (quoted_in spelling)))
 
--- the tags of the standard environ that stand for plain values (Report, 10.2.1; intwidth and bitswidth are own)
+-- the value of a number behind LONG (Report, 8.1)
+abbrev pub long_value_in : List ℕ → Option Content
+long_value_in spelling = option_map (λ z. plain (Long (long_of z))) (long_in spelling)
+
+-- the tags of the standard environ that stand for plain values (Report, 10.2.1; intwidth, bitswidth and longintwidth are own)
 abbrev pub standard_plain : List (List ℕ × Plain)
 standard_plain =
     (codes "maxint", Int (pos 9223372036854775807)) ∷ (codes "intwidth", Int (pos 19)) ∷ (codes "bitswidth", Int (pos 64)) ∷
-    (codes "maxabschar", Int (pos 255)) ∷ []
+    (codes "maxabschar", Int (pos 255)) ∷ (codes "longmaxint", Long (long_of (pos 170141183460469231731687303715884105727))) ∷
+    (codes "longintwidth", Int (pos 39)) ∷ []
 
 -- and those that stand for what print lays out (own)
 abbrev pub standard_layouts : List (List ℕ × Layout)

@@ -11,7 +11,7 @@ use Rattle.a68_acts.specs.Members.{members_of}
 use Rattle.a68_base.specs.Tables.{is_listed}
 use Rattle.a68_base.specs.declared.limits.TheConstants.{MOST_INSTRUCTIONS}
 use Rattle.a68_base.specs.declared.refusal.Span.{Span}
-use Rattle.a68_elab.specs.Constants.{value_in, standard_in}
+use Rattle.a68_elab.specs.Constants.{long_value_in, value_in, standard_in}
 use Rattle.a68_elab.specs.declared.bound.Bound.{Bound}
 use Rattle.a68_elab.specs.declared.bound.Bound.TheVariants as bound
 use Rattle.a68_elab.specs.declared.sight.Sight.{Sight}
@@ -679,6 +679,7 @@ numbers_of a ids = map (λ id. unit_number a (bytes_of a id).from) ids
 -- definitions of mode words, so many frames further out. One row for each kind of node; the others stand for none.
 abbrev pub made : Annotated → (g : (frames id : ℕ) → Tree) (f : ℕ → Tree) → Node → Note → NodeKind → Tree
 made a g f node note kind.Denotation = denoted node.span.from (option_and_then value_in (spelling_of a node))
+made a g f node note kind.LongDenotation = denoted node.span.from (option_and_then long_value_in (spelling_of a node))
 made a g f node note kind.Skip = leaf node.span.from (skip note.goal)
 made a g f node note kind.Nil = leaf node.span.from nil
 made a g f node note kind.RoutineText = leaf node.span.from (routine (text_number a node.span.from) note.need)

@@ -10,7 +10,7 @@ use Rattle.a68_acts.specs.Operations.{is_union}
 use Rattle.a68_annot.specs.declared.annotated.Annotated.{Annotated}
 use Rattle.a68_annot.specs.declared.note.Note.{Note}
 use Rattle.a68_base.specs.declared.limits.TheConstants.{MOST_INSTRUCTIONS}
-use Rattle.a68_elab.specs.Constants.{value_in}
+use Rattle.a68_elab.specs.Constants.{long_value_in, value_in}
 use Rattle.a68_elab.specs.Made.{before_out, behind_heap, field_in, fields_at, first_bounds, first_goal, goal_at, form_of, behind_proc, behind_ref, begins_with, called, if_first, is_by, is_declarer, is_for, is_from, is_heap, is_one_of, is_to, is_while, items_at, only_id, out_of, parts_at, past, printers, rowed_to, spelling_of, standard_of, wholes}
 use Rattle.a68_elab.specs.declared.bound.Bound.{Bound}
 use Rattle.a68_elab.specs.declared.bound.Bound.TheVariants as bound
@@ -148,7 +148,7 @@ is_row _ = false
 
 -- an operator that runs: each of the table
 abbrev pub applies : (row : ℕ) → Bool
-applies row = nat_le operators.PLUSAB row && nat_le row operators.UPB
+applies row = nat_le operators.PLUSAB row && nat_le row operators.SHORTEN
 
 -- an operator that leaves a value: each but UP and DOWN
 abbrev pub gives : (row : ℕ) → Bool
@@ -327,6 +327,7 @@ parallel_runs a ids = nat_le 2 (length ids) && all_leave a false ids
 -- what it takes of them. One row for each kind of node; the others leave nothing that is known.
 abbrev pub leaves_as : Annotated → Node → Note → NodeKind → Option Bool
 leaves_as a node note kind.Denotation = if_so (is_some (option_and_then value_in (spelling_of a node))) true
+leaves_as a node note kind.LongDenotation = if_so (is_some (option_and_then long_value_in (spelling_of a node))) true
 leaves_as a node note kind.Skip = if_so (is_there a.modes note.goal) (asks_value a note)
 leaves_as a node note kind.Nil = Some true
 leaves_as a node note kind.Tag = Some true

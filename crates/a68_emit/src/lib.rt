@@ -24,8 +24,8 @@ pub use forks::parallel;
 pub use loops::{depth, leave_frames, limit, loop_turn, open};
 pub use numbered::Numbered;
 pub use single::{
-    CollateralForm, denotation, form_at, forms_of, is_heap, leave, meaningless, misfit,
-    mode_in_front, new_does, nothing, same, store, tag,
+    CollateralForm, denotation, form_at, forms_of, is_heap, leave, long_denotation, meaningless,
+    misfit, mode_in_front, new_does, nothing, same, store, tag,
 };
 pub use specifications::{aim_member, goal_at, has_tag, members_of, unaimed};
 pub use view::{View, hops};

@@ -1,7 +1,7 @@
 //! Single instructions, and constructs that are one.
 ghost use Rattle.std.specs.Option.{option_and_then};
 ghost use Rattle.std.specs.Prelude.{◌≡◌, ◌<◌, ◌++◌, not, length, map, if◌then◌else◌, IfOk, OnOk};
-ghost use Rattle.a68_elab.specs.Constants.{value_in};
+ghost use Rattle.a68_elab.specs.Constants.{long_value_in, value_in};
 ghost use Rattle.a68_elab.specs.Made as made;
 ghost use Rattle.a68_elab.specs.Programs as programs;
 ghost use Rattle.a68_elab.specs.Trees as trees;
@@ -18,7 +18,9 @@ use a68_base::NoMemory;
 use a68_code::Does;
 use a68_layout::{TrimForm, TrimForms};
 use a68_modes::{ModeId, Shape};
-use a68_parts::{behind_ref, first_goal, is_one_of, parts_at, standard_of, value_in};
+use a68_parts::{
+    behind_ref, first_goal, is_one_of, long_value_in, parts_at, standard_of, value_in,
+};
 use a68_runs::form_of as slice_form;
 use a68_tree::{Node, NodeId};
 use a68_values::Value;
@@ -65,6 +67,15 @@ pub fn denotation(alloc: Global, program: &View, node: &Node, out: &mut Writer)
         Ok(value) => denoted(node.span.from, value, out),
         Err(_) => out.run_out(),
     }
+}
+
+/// Push the value of a number behind LONG.
+pub fn long_denotation(program: &View, node: &Node, out: &mut Writer)
+    requires { node.now.name < length program.now.of.now.tree.spellings }
+    ensures { Wrote out.old out.new (stretch (made.denoted node.now.span.from (option_and_then long_value_in (made.spelling_of program.now.of.now node.now))) (length out.old.list)) }
+{
+    let value = long_value_in(program.of.annotated().tree.spelling(node.name));
+    denoted(node.span.from, value, out);
 }
 
 /// Push the value of a tag of the standard environ, or Tag: hops and slot.

@@ -2,7 +2,7 @@
 use Rattle.std.proofs.Common.{◌≡◌, ℕ, List, [], ◌∷◌, Bool, false, cond, nat_eq, refl, sym, ap, ◌∙◌}
 use Rattle.std.specs.Prelude.{map}
 use Rattle.a68_modes.specs.declared.shape.Shape.{Shape}
-use Rattle.a68_modes.specs.declared.shape.Shape.TheVariants.{Void, Int, Bool as bool_shape, Char, Bits, Sema, Layout, Ref, Rows, Struct, Union, Proc, Same, Blank}
+use Rattle.a68_modes.specs.declared.shape.Shape.TheVariants.{Void, Int, Long, Bool as bool_shape, Char, Bits, Sema, Layout, Ref, Rows, Struct, Union, Proc, Same, Blank}
 use Rattle.a68_equiv.specs.Unfolding.{constructor, flex_left, is_union}
 use Rattle.a68_equiv.specs.Graph.{code_of}
 use Rattle.a68_equiv.proofs.Numbers.{bit_back}
@@ -29,7 +29,7 @@ rows_of _ = Void
 abbrev plain_of : ℕ → Shape
 plain_of tag =
     cond (nat_eq tag 1) Int (cond (nat_eq tag 2) bool_shape (cond (nat_eq tag 3) Char (cond (nat_eq tag 4) Bits (cond (nat_eq tag 5) Sema (cond (nat_eq tag 6) Layout
-    (cond (nat_eq tag 7) (Ref 0) (cond (nat_eq tag 10) (Union []) (cond (nat_eq tag 12) (Same 0) (cond (nat_eq tag 13) Blank Void)))))))))
+    (cond (nat_eq tag 7) (Ref 0) (cond (nat_eq tag 10) (Union []) (cond (nat_eq tag 12) (Same 0) (cond (nat_eq tag 13) Blank (cond (nat_eq tag 14) Long Void))))))))))
 
 abbrev made_of : List ℕ → Shape
 made_of [] = Void
@@ -48,6 +48,7 @@ made fixed Int = refl
 made fixed bool_shape = refl
 made fixed Char = refl
 made fixed Bits = refl
+made fixed Long = refl
 made fixed Sema = refl
 made fixed Layout = refl
 made fixed (Ref m) = refl
@@ -75,6 +76,7 @@ coded fixed Int = refl
 coded fixed bool_shape = refl
 coded fixed Char = refl
 coded fixed Bits = refl
+coded fixed Long = refl
 coded fixed Sema = refl
 coded fixed Layout = refl
 coded fixed (Ref m) = refl
@@ -92,6 +94,7 @@ union_made fixed Int = refl
 union_made fixed bool_shape = refl
 union_made fixed Char = refl
 union_made fixed Bits = refl
+union_made fixed Long = refl
 union_made fixed Sema = refl
 union_made fixed Layout = refl
 union_made fixed (Ref m) = refl

@@ -4,7 +4,7 @@ use Rattle.std.specs.Prelude.{map, ◌↔◌, IsTrue}
 use Rattle.std.specs.List.{Contains}
 use Rattle.std.proofs.lemmas.List.{get_or_default}
 use Rattle.a68_modes.specs.declared.shape.Shape.{Shape}
-use Rattle.a68_modes.specs.declared.shape.Shape.TheVariants.{Void, Int, Bool as bool_shape, Char, Bits, Sema, Layout, Ref, Rows, Struct, Union, Proc, Same, Blank}
+use Rattle.a68_modes.specs.declared.shape.Shape.TheVariants.{Void, Int, Long, Bool as bool_shape, Char, Bits, Sema, Layout, Ref, Rows, Struct, Union, Proc, Same, Blank}
 use Rattle.a68_modes.specs.declared.coercion.Coercion.{Coercion}
 use Rattle.a68_modes.specs.Nodes.{shape_at, ShapeIsWithin, HoldsNodes}
 use Rattle.a68_equiv.specs.declared.mode.Mode.{Mode}
@@ -39,6 +39,7 @@ step_in Int k e = absurd (cc)
 step_in bool_shape k e = absurd (cc)
 step_in Char k e = absurd (cc)
 step_in Bits k e = absurd (cc)
+step_in Long k e = absurd (cc)
 step_in Sema k e = absurd (cc)
 step_in Layout k e = absurd (cc)
 step_in (Rows dims flex m) k e = absurd (cc)
@@ -56,6 +57,7 @@ step_below n Int k h e = absurd (cc)
 step_below n bool_shape k h e = absurd (cc)
 step_below n Char k h e = absurd (cc)
 step_below n Bits k h e = absurd (cc)
+step_below n Long k h e = absurd (cc)
 step_below n Sema k h e = absurd (cc)
 step_below n Layout k h e = absurd (cc)
 step_below n (Rows dims flex m) k h e = absurd (cc)
@@ -124,6 +126,7 @@ module _ (nodes : List Shape) (at goal : Mode) where
       go bool_shape f g = absurd (cc)
       go Char f g = absurd (cc)
       go Bits f g = absurd (cc)
+      go Long f g = absurd (cc)
       go Sema f g = absurd (cc)
       go Layout f g = absurd (cc)
       go (Rows dims flex m) f g = absurd (cc)

@@ -3,7 +3,7 @@
 use Rattle.std.specs.Prelude.{◌≡◌, ◌<◌, ◌≤◌, ◌+◌, ◌*◌, ◌/◌, ◌%◌, nat_eq, ◌↔◌, ℕ, List, [], ◌∷◌, length, map, slice_index, Bool, true, false}
 use Rattle.std.specs.List.{All, Contains}
 use Rattle.a68_modes.specs.declared.shape.Shape.{Shape}
-use Rattle.a68_modes.specs.declared.shape.Shape.TheVariants.{Void, Int, Bool as bool_shape, Char, Bits, Sema, Layout, Ref, Rows, Struct, Union, Proc, Same, Blank}
+use Rattle.a68_modes.specs.declared.shape.Shape.TheVariants.{Void, Int, Long, Bool as bool_shape, Char, Bits, Sema, Layout, Ref, Rows, Struct, Union, Proc, Same, Blank}
 use Rattle.a68_modes.specs.Nodes.{shape_at, parts_of}
 use Rattle.a68_equiv.specs.declared.mode.Mode.{Mode}
 use Rattle.a68_partition.specs.Rows.{row_at, Stands}
@@ -34,6 +34,7 @@ code_of fixed Int = 1 ∷ []
 code_of fixed bool_shape = 2 ∷ []
 code_of fixed Char = 3 ∷ []
 code_of fixed Bits = 4 ∷ []
+code_of fixed Long = 14 ∷ []
 code_of fixed Sema = 5 ∷ []
 code_of fixed Layout = 6 ∷ []
 code_of fixed (Ref m) = 7 ∷ []

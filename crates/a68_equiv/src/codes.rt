@@ -28,6 +28,7 @@ pub fn code(alloc: Global, fixed: bool, shape: &Shape) -> Result<Vec<u32>, NoMem
         Shape::Proc { params, .. } => return places(alloc, params),
         Shape::Same(_) => 12,
         Shape::Blank => 13,
+        Shape::Long => 14,
     };
     Ok(Vec::from_slice(alloc, &[kind])?)
 }

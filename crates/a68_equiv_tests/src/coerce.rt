@@ -17,165 +17,171 @@ use std::alloc::Global;
 use std::panic::Expect;
 use std::process::Abort;
 
-/// 13 REF REF INT, 14 PROC INT, 15 REF PROC INT, 16 PROC REF INT; 17 [] INT, 18 [,] INT, 19 REF [] INT, 20 REF [,] INT;
-/// 21 UNION (INT, BOOL), 22 UNION (INT, BOOL, CHAR); 23 STRUCT (INT a, BOOL b), 24 REF STRUCT, 25 [] STRUCT,
-/// 26 REF [] STRUCT; 27 PROC (INT) INT, 28 REF PROC (INT) INT, 29 PROC VOID; 30 [,] BOOL, 31 UNION (REF INT, BOOL),
-/// 32 FLEX [] INT, 33 REF FLEX [] INT, 34 UNION ([] INT, BOOL), 35 REF REF [] INT, 36 REF UNION (INT, BOOL),
-/// 37 PROC [] INT, 38 REF BITS, 39 a word for 22, 40 UNION (UNION (INT, BOOL), CHAR), 41 [] [] INT
+/// 15 REF REF INT, 16 PROC INT, 17 REF PROC INT, 18 PROC REF INT; 19 [] INT, 20 [,] INT, 21 REF [] INT, 22 REF [,] INT;
+/// 23 UNION (INT, BOOL), 24 UNION (INT, BOOL, CHAR); 25 STRUCT (INT a, BOOL b), 26 REF STRUCT, 27 [] STRUCT,
+/// 28 REF [] STRUCT; 29 PROC (INT) INT, 30 REF PROC (INT) INT, 31 PROC VOID; 32 [,] BOOL, 33 UNION (REF INT, BOOL),
+/// 34 FLEX [] INT, 35 REF FLEX [] INT, 36 UNION ([] INT, BOOL), 37 REF REF [] INT, 38 REF UNION (INT, BOOL),
+/// 39 PROC [] INT, 40 REF BITS, 41 a word for 24, 42 UNION (UNION (INT, BOOL), CHAR), 43 [] [] INT
 const DECLARED: &str = "\
 REF 9
 PROC 1
-REF 14
+REF 16
 PROC 9
 ROW 1 1
 ROW 2 1
-REF 17
-REF 18
+REF 19
+REF 20
 UNION 1 2
 UNION 1 2 3
 STRUCT 0 1 1 2
-REF 23
-ROW 1 23
 REF 25
-PROC 1 1
+ROW 1 25
 REF 27
+PROC 1 1
+REF 29
 PROC 0
 ROW 2 2
 UNION 9 2
 FLEX 1 1
-REF 32
-UNION 17 2
-REF 19
+REF 34
+UNION 19 2
 REF 21
-PROC 17
+REF 23
+PROC 19
 REF 4
 WORD
-UNION 21 3
-ROW 1 17
-39 IS 22
+UNION 23 3
+ROW 1 19
+41 IS 24
 ";
 
 /// A sort, two modes, and the coercions from the one to the other; `none` where there are none.
 const PATHS: &str = "\
 soft 1 1:
-soft 14 1: Deproc
-soft 16 9: Deproc
+soft 16 1: Deproc
+soft 18 9: Deproc
 soft 9 1: none
-soft 16 1: none
-soft 15 1: none
+soft 18 1: none
+soft 17 1: none
 weak 9 1: Deref
-weak 13 9: Deref
-weak 19 19:
-weak 19 17: none
-weak 35 19: Deref
-weak 37 17: Deproc
-weak 24 23: none
+weak 15 9: Deref
+weak 21 21:
+weak 21 19: none
+weak 37 21: Deref
+weak 39 19: Deproc
 weak 26 25: none
-meek 24 23: Deref
-meek 13 1: Deref Deref
-meek 15 1: Deref Deproc
-meek 16 1: Deproc Deref
+weak 28 27: none
+meek 26 25: Deref
+meek 15 1: Deref Deref
+meek 17 1: Deref Deproc
+meek 18 1: Deproc Deref
 meek 1 9: none
-meek 27 1: none
-meek 1 21: none
-firm 1 21: Unite 1
-firm 9 21: Deref Unite 1
-firm 9 31: Unite 9
-firm 13 31: Deref Unite 9
-firm 21 22: Unite 21
-firm 36 22: Deref Unite 21
-firm 2 39: Unite 2
-firm 22 40:
-firm 40 39:
-firm 22 21: none
-firm 3 21: none
-firm 1 17: none
+meek 29 1: none
+meek 1 23: none
+firm 1 23: Unite 1
+firm 9 23: Deref Unite 1
+firm 9 33: Unite 9
+firm 15 33: Deref Unite 9
+firm 23 24: Unite 23
+firm 38 24: Deref Unite 23
+firm 2 41: Unite 2
+firm 24 42:
+firm 42 41:
+firm 24 23: none
+firm 3 23: none
+firm 1 19: none
 firm 4 11: none
-firm 9 19: none
-strong 1 17: RowUp
-strong 9 17: Deref RowUp
-strong 1 18: RowUp RowUp
-strong 17 18: RowUp
-strong 1 41: RowUp RowUp
-strong 17 41: RowUp
-strong 24 25: Deref RowUp
+firm 9 21: none
+strong 1 19: RowUp
+strong 9 19: Deref RowUp
+strong 1 20: RowUp RowUp
+strong 19 20: RowUp
+strong 1 43: RowUp RowUp
+strong 19 43: RowUp
+strong 26 27: Deref RowUp
 strong 3 12: RowUp
 strong 10 7: Deref
 strong 4 11: Widen
-strong 38 11: Deref Widen
-strong 4 30: Widen RowUp
-strong 9 19: RowUpName
-strong 13 19: Deref RowUpName
-strong 19 20: RowUpName
-strong 9 20: none
-strong 9 33: none
-strong 19 33: none
-strong 33 17: Deref
+strong 40 11: Deref Widen
+strong 4 32: Widen RowUp
+strong 9 21: RowUpName
+strong 15 21: Deref RowUpName
+strong 21 22: RowUpName
+strong 9 22: none
+strong 9 35: none
+strong 21 35: none
+strong 35 19: Deref
 strong 1 0: Drop
-strong 29 0: Drop
+strong 31 0: Drop
 strong 0 0:
-strong 1 21: Unite 1
-strong 17 34: Unite 17
-strong 1 34: none
+strong 1 23: Unite 1
+strong 19 36: Unite 19
+strong 1 36: none
 strong 9 8: Deref Unite 1
 strong 10 8: Deref Unite 7
+meek 14 13: Deref
+strong 14 8: Deref Unite 13
+strong 13 0: Drop
+strong 1 13: none
+strong 9 13: none
+strong 13 1: none
 strong 1 2: none
 ";
 
 /// A sort, a mode and the units of a choice by their modes, `S` for one in strong positions only; and which is balanced.
 const BALANCED: &str = "\
-soft 9 of 16 9: 0
-soft 9 of 13 9: 1
+soft 9 of 18 9: 0
+soft 9 of 15 9: 1
 meek 2 of S 2: 1
-meek 1 of 9 14 1: 0
+meek 1 of 9 16 1: 0
 meek 2 of 9 2: none
-weak 19 of 19 9: 0
-firm 21 of 1 2: 0
-firm 17 of 1 17: 1
+weak 21 of 21 9: 0
+firm 23 of 1 2: 0
+firm 19 of 1 19: 1
 firm 11 of 4 11: 1
-firm 17 of 1 1: none
+firm 19 of 1 1: none
 firm 1 of S S: none
 firm 1 of: none
 ";
 
 /// A sort, a form and the units of a choice; which is balanced, and its mode, `f` where FLEX is taken away.
 const FORMED: &str = "\
-weak row of 19: 0 19
-weak row of 35: 0 f19
-weak row of 37: 0 17
-weak row of 33: 0 33
+weak row of 21: 0 21
+weak row of 37: 0 f21
+weak row of 39: 0 19
+weak row of 35: 0 35
 weak row of 9: none
-weak row of 1 17: 1 17
-weak row of 17 19: 0 17
-weak row of 19 17: 1 17
-weak structure of 24: 0 24
+weak row of 1 19: 1 19
+weak row of 19 21: 0 19
+weak row of 21 19: 1 19
 weak structure of 26: 0 26
-weak structure of 17: none
-meek routine of 28: 0 f27
-meek routine of 14: none
-meek union of 36: 0 f21
-meek union of 1 21: 1 21
+weak structure of 28: 0 28
+weak structure of 19: none
+meek routine of 30: 0 f29
+meek routine of 16: none
+meek union of 38: 0 f23
+meek union of 1 23: 1 23
 meek union of 1: none
-soft name of 16: 0 9
+soft name of 18: 0 9
 soft name of S 9: 1 9
-soft name of 13 9: 1 9
-soft name of 14: none
+soft name of 15 9: 1 9
+soft name of 16: none
 soft name of S S: none
 ";
 
 /// The units of one side of an identity relation, and those of the other; which of the first is balanced, and its mode.
 const SIDES: &str = "\
 9 is 9: 0 9
-9 is 13: 0 9
-13 is 9: none
-16 is 9: 0 9
-9 13 is S: 0 9
-13 9 is 9: 1 9
+9 is 15: 0 9
+15 is 9: none
+18 is 9: 0 9
+9 15 is S: 0 9
+15 9 is 9: 1 9
 9 is 1: none
 1 is 9: none
 S is 9: none
-35 is 35: 0 35
-19 is 9: 0 19
+37 is 37: 0 37
+21 is 9: 0 21
 ";
 
 const SORTS: &[(&str, Sort)] = &[

@@ -12,23 +12,23 @@ use std::panic::Expect;
 use std::process::Abort;
 
 /// MODE A = STRUCT (INT v, REF A n); MODE B = STRUCT (INT v, REF STRUCT (INT v, REF B n) n);
-/// 21 STRUCT (INT n), 22 STRUCT (INT v); 23 UNION (BOOL, CHAR), 24 UNION (INT, 23), 25 UNION (CHAR, BOOL, INT);
-/// 26 REF [] CHAR, 27 REF REF INT.
+/// 23 STRUCT (INT n), 24 STRUCT (INT v); 25 UNION (BOOL, CHAR), 26 UNION (INT, 25), 27 UNION (CHAR, BOOL, INT);
+/// 28 REF [] CHAR, 29 REF REF INT.
 const DECLARED: &str = "\
 WORD
-REF 13
-STRUCT 0 1 1 14
-13 IS 15
+REF 15
+STRUCT 0 1 1 16
+15 IS 17
 WORD
-REF 16
-STRUCT 0 1 1 17
 REF 18
 STRUCT 0 1 1 19
-16 IS 20
+REF 20
+STRUCT 0 1 1 21
+18 IS 22
 STRUCT 1 1
 STRUCT 0 1
 UNION 2 3
-UNION 1 23
+UNION 1 25
 UNION 3 2 1
 REF 7
 REF 9
@@ -36,16 +36,16 @@ REF 9
 
 /// Which of them, and of the standard modes, are equivalent; a `f` takes FLEX away.
 const EQUIVALENT: &str = "\
-13 16: yes
-13 1: no
-21 22: no
-24 25: yes
-24 23: no
+15 18: yes
+15 1: no
+23 24: no
+26 27: yes
+26 25: no
 12 7: no
 f12 7: yes
 f10 10: yes
-f10 26: no
-9 27: no
+f10 28: no
+9 29: no
 7 11: no
 ";
 
@@ -79,9 +79,9 @@ fn are_as_told(rt: &impl Abort, modes: &Modes, classes: &Classes, table: &str)
 fn are_same_modes(rt: &impl Abort, modes: &Modes, classes: &Classes)
     requires { length classes.now.of ≡ 2 * length modes.now }
 {
-    holds(rt, modes.len() > 16, "A and B");
-    holds(rt, classes.same(13, 16), "A is B");
-    holds(rt, !classes.same(13, 1), "A is not INT");
+    holds(rt, modes.len() > 18, "A and B");
+    holds(rt, classes.same(15, 18), "A is B");
+    holds(rt, !classes.same(15, 1), "A is not INT");
 }
 
 #[test]
@@ -98,32 +98,32 @@ fn equivalent_modes(rt: HostRuntime) {
 /// MODE A = PROC (A) A, B = PROC B, C = REF C, D = STRUCT (D v), E = STRUCT (INT v, REF STRUCT (INT v, REF E n) n)
 const RECURSIVE: &str = "\
 WORD
-PROC 13 13
-13 IS 14
-WORD
-PROC 15
+PROC 15 15
 15 IS 16
 WORD
-REF 17
+PROC 17
 17 IS 18
 WORD
-STRUCT 0 19
+REF 19
 19 IS 20
 WORD
-REF 21
-STRUCT 0 1 1 22
+STRUCT 0 21
+21 IS 22
+WORD
 REF 23
 STRUCT 0 1 1 24
-21 IS 25
+REF 25
+STRUCT 0 1 1 26
+23 IS 27
 ";
 
 /// Modes, and the place of each in a list of it alone, where it is not well formed.
 const FORMED: &[(&str, Option<u32>)] = &[
-    ("13", None),
-    ("15", Some(0)),
+    ("15", None),
     ("17", Some(0)),
     ("19", Some(0)),
-    ("21", None),
+    ("21", Some(0)),
+    ("23", None),
 ];
 
 fn are_formed(rt: &impl Abort, alloc: Global, modes: &Modes) {
@@ -136,8 +136,8 @@ fn are_formed(rt: &impl Abort, alloc: Global, modes: &Modes) {
 
 // The third of INT, A and C is not well formed.
 fn are_not_all_formed(rt: &impl Abort, alloc: Global, modes: &Modes) {
-    holds(rt, modes.len() == 26, "26 modes");
-    let fault = ill_formed(alloc, modes, &[1, 13, 17]).expect(rt, "memory");
+    holds(rt, modes.len() == 28, "28 modes");
+    let fault = ill_formed(alloc, modes, &[1, 15, 19]).expect(rt, "memory");
     holds(rt, fault == Some(2), "C is not well formed");
     let all = all_well_formed(alloc, modes).expect(rt, "memory");
     holds(rt, !all, "not all are well formed");
@@ -152,13 +152,13 @@ fn formed_modes(rt: HostRuntime) {
     drop(modes);
 }
 
-/// 13 PROC INT, 14 UNION (INT, BOOL), 15 UNION (SEMA, REF INT), 16 PROC (INT) INT, 17 UNION (SEMA, UNION (INT, BOOL))
+/// 15 PROC INT, 16 UNION (INT, BOOL), 17 UNION (SEMA, REF INT), 18 PROC (INT) INT, 19 UNION (SEMA, UNION (INT, BOOL))
 const BESIDE: &str = "\
 PROC 1
 UNION 1 2
 UNION 5 9
 PROC 1 1
-UNION 5 14
+UNION 5 16
 ";
 
 /// Which of them, and of the standard modes, are related.
@@ -166,16 +166,16 @@ const RELATED: &str = "\
 9 1: yes
 1 9: yes
 1 2: no
-13 1: yes
-13 9: no
-16 1: no
-14 2: yes
-14 15: yes
-15 2: no
+15 1: yes
+15 9: no
+18 1: no
+16 2: yes
+16 17: yes
+17 2: no
 10 7: yes
 10 12: no
-17 9: yes
-17 3: no
+19 9: yes
+19 3: no
 ";
 
 // Whether the modes of each line are related as it says.
@@ -231,43 +231,43 @@ fn interned(
     intern(alloc, modes, classes, shape).expect(rt, "a node")
 }
 
-/// 13 is A, by MODE A = STRUCT (INT v, REF A n); 14 REF A, 15 the structure; 16 is P, by MODE P = PROC (P) P; 17 the PROC
+/// 15 is A, by MODE A = STRUCT (INT v, REF A n); 16 REF A, 17 the structure; 18 is P, by MODE P = PROC (P) P; 19 the PROC
 const FIRST: &str = "\
 WORD
-REF 13
-STRUCT 0 1 1 14
-13 IS 15
+REF 15
+STRUCT 0 1 1 16
+15 IS 17
 WORD
-PROC 16 16
-16 IS 17
+PROC 18 18
+18 IS 19
 ";
 
 /// Shapes, and the nodes that they get.
 const INTERNED: &str = "\
 REF 1 = 9
 FLEX 1 3 = 12
-UNION 6 7 4 3 2 1 = 8
-STRUCT 0 1 1 14 = 13
-REF 15 = 14
-SAME 15 = 13
-PROC 17 16 = 16
-REF 7 = 18
-FLEX 2 1 = 19
-ROW 2 1 = 20
-UNION 1 2 = 21
-UNION 2 1 2 = 21
-UNION 3 21 = 22
-UNION 22 4 7 6 = 8
-PROC 1 1 = 23
-STRUCT 1 1 = 24
-STRUCT 0 1 = 25
+UNION 6 7 13 4 3 2 1 = 8
+STRUCT 0 1 1 16 = 15
+REF 17 = 16
+SAME 17 = 15
+PROC 19 18 = 18
+REF 7 = 20
+FLEX 2 1 = 21
+ROW 2 1 = 22
+UNION 1 2 = 23
+UNION 2 1 2 = 23
+UNION 3 23 = 24
+UNION 24 4 13 7 6 = 8
+PROC 1 1 = 25
+STRUCT 1 1 = 26
+STRUCT 0 1 = 27
 ";
 
 /// Which of the nodes are then equivalent.
 const THEN_EQUIVALENT: &str = "\
-f19 20: yes
-19 20: no
-24 25: no
+f21 22: yes
+21 22: no
+26 27: no
 ";
 
 // Whether each shape gets its node.
@@ -292,7 +292,7 @@ fn interned_modes(rt: HostRuntime) {
     let mut classes = settle(alloc, &modes).expect(rt, "memory");
     intern_all(rt, alloc, &mut modes, &mut classes);
     intern_all(rt, alloc, &mut modes, &mut classes);
-    holds(rt, modes.len() == 26, "26 modes");
+    holds(rt, modes.len() == 28, "28 modes");
     are_as_told(rt, &modes, &classes, THEN_EQUIVALENT);
     drop(classes);
     drop(modes);

@@ -6,11 +6,11 @@ use std::alloc::Global;
 use std::panic::Expect;
 use std::process::Abort;
 
-/// Node 13 is REF STRING, and 14 a mode word that stands for it.
+/// Node 15 is REF STRING, and 16 a mode word that stands for it.
 const MORE: &str = "\
 REF 12
 WORD
-14 IS 13
+16 IS 15
 ";
 
 // REF INT is plain, STRING and VOID are not; VOID alone is VOID.
@@ -26,7 +26,7 @@ fn are_plain_and_void(rt: &impl Abort, modes: &Modes) {
 // The shape is the union of what can be printed.
 fn is_what_prints(rt: &impl Abort, alloc: Global, shape: &Shape) {
     let parts = shape.parts(alloc).expect(rt, "memory");
-    let members = [1, 2, 3, 4, 7, 6];
+    let members = [1, 13, 2, 3, 4, 7, 6];
     holds(
         rt,
         parts.items.as_slice() == members.as_slice(),
@@ -36,9 +36,9 @@ fn is_what_prints(rt: &impl Abort, alloc: Global, shape: &Shape) {
 
 // The printed modes, REF STRING and the mode word are as they were.
 fn are_copied(rt: &impl Abort, alloc: Global, copy: &Modes) {
-    holds(rt, copy.len() == 15, "15 modes");
+    holds(rt, copy.len() == 17, "17 modes");
     holds(rt, matches!(copy.shape(10), Shape::Ref(12)), "REF STRING");
-    holds(rt, matches!(copy.shape(14), Shape::Same(13)), "the word");
+    holds(rt, matches!(copy.shape(16), Shape::Same(15)), "the word");
     is_what_prints(rt, alloc, copy.shape(8));
 }
 
@@ -57,9 +57,9 @@ fn nodes(rt: HostRuntime) {
 fn numbers(rt: HostRuntime) {
     let alloc = rt.alloc();
     let mut modes = Modes::new(alloc).expect(&rt, "memory");
-    holds(&rt, modes.len() == 13, "13 standard modes");
+    holds(&rt, modes.len() == 15, "15 standard modes");
     let id = add(&rt, alloc, &mut modes, Shape::Ref(12));
-    holds(&rt, id == 13, "a new mode");
+    holds(&rt, id == 15, "a new mode");
     add(&rt, alloc, &mut modes, Shape::Int);
     drop(modes);
 }

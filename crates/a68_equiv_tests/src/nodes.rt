@@ -121,7 +121,7 @@ fn add_line(rt: &impl Abort, alloc: Global, modes: &mut Modes, line: &str) {
     }
 }
 
-/// The standard modes, and behind them, from 13 on, a mode for each line; or a mode word IS a mode.
+/// The standard modes, and behind them, from 15 on, a mode for each line; or a mode word IS a mode.
 pub fn modes_of(rt: &impl Abort, alloc: Global, text: &str) -> Modes {
     let mut modes = Modes::new(alloc).expect(rt, "memory");
     for line in text.lines() {

@@ -11,7 +11,7 @@ use Rattle.a68_annot.specs.declared.annotated.Annotated.{Annotated}
 use Rattle.a68_annot.specs.declared.note.Note.{Note}
 use Rattle.a68_base.specs.declared.refusal.Span.{Span}
 use Rattle.a68_elab.proofs.Nodes.{behind_is, defined_is, tree_of_nodes}
-use Rattle.a68_elab.specs.Constants.{value_in}
+use Rattle.a68_elab.specs.Constants.{long_value_in, value_in}
 use Rattle.a68_elab.specs.Made as made
 use Rattle.a68_elab.specs.Made.{beginning_at, is_parallel, numbers_of, or_other, unit_among, unit_in, unit_number, units_before, bytes_of, hops_seen, seen, all_but_last, before_out, behind_all, behind_heap, behind_proc, behind_ref, begins_with, called, coerced, field_in, fields_at, first_bounds, first_goal, form_of, forms_of, if_first, index_units, is_by, is_collateral, is_declarer, is_for, is_from, is_heap, is_one_of, is_out, is_routine_text, is_to, is_while, isnt, items_at, kind_at, last_id, last_tree, leaf, mode_of, new_name, only, only_id, out_of, parts_at, past, printers, rowed_to, spelling_of, standard_of, tag_of, text_among, text_number, texts_before, texts_in, trees_at, wholes}
 use Rattle.a68_elab.specs.Programs.{asked_tree, body_yields, fitting, misfit, place_of, apart_before, parallel_unit_of, defined_bound, tree_in, behind, body_of, program_of, tree_at}
@@ -64,6 +64,8 @@ module _ (a : Annotated) (there : AreThere a (length a.tree.nodes)) (nodes : Hol
       → AllBetween id (length a.tree.nodes) node.parts
       → leaves_as a node note k ≡ Some left → IsFit a.modes (texts_of a) (all_units a) left (made.made a g f node (seen a s note) k)
   made-fits s g defined node note left kind.Denotation r u b e = by-so _ true left _ e (denoted-fits a.modes (texts_of a) (all_units a) node.span.from (option_and_then value_in (spelling_of a node)))
+  made-fits s g defined node note left kind.LongDenotation r u b e =
+      by-so _ true left _ e (denoted-fits a.modes (texts_of a) (all_units a) node.span.from (option_and_then long_value_in (spelling_of a node)))
   made-fits s g defined node note left kind.Skip r u b e =
       by-so (is_there a.modes note.goal) (asks_value a note) left _ e (λ w. fit-none a.modes (texts_of a) (all_units a) (asks_value a note) node.span.from (skip note.goal) serial refl refl w)
   made-fits s g defined node note left kind.Nil r u b e =

@@ -173,7 +173,7 @@ module _ (a : Annotated) (there : AreThere a (length a.tree.nodes)) where
 pub int-is : (nodes : List Shape) → HoldsNodes nodes → shape_at nodes 1 ≡ shape.Int
 int-is nodes h = go nodes h.standard
   where
-    go : (l : List Shape) → take 13 l ≡ standard_shapes → shape_at l 1 ≡ shape.Int
+    go : (l : List Shape) → take 15 l ≡ standard_shapes → shape_at l 1 ≡ shape.Int
     go [] e = absurd (cc)
     go (x ∷ []) e = absurd (cc)
     go (x ∷ (y ∷ l)) e = ap (λ (k : List Shape). slice_index_or k 1 shape.Blank) e
@@ -181,7 +181,7 @@ int-is nodes h = go nodes h.standard
 pub int-there : (nodes : List Shape) → HoldsNodes nodes → IsTrue (nat_lt 1 (length nodes))
 int-there nodes h = go nodes h.standard
   where
-    go : (l : List Shape) → take 13 l ≡ standard_shapes → IsTrue (nat_lt 1 (length l))
+    go : (l : List Shape) → take 15 l ≡ standard_shapes → IsTrue (nat_lt 1 (length l))
     go [] e = absurd (cc)
     go (x ∷ []) e = absurd (cc)
     go (x ∷ (y ∷ l)) e = lt-ltb 1 (length (x ∷ (y ∷ l))) (omega arith)

@@ -25,7 +25,7 @@ use Rattle.a68_layout.specs.declared.types.Trim.{Trim}
 use Rattle.a68_modes.specs.Nodes.{shape_at, is_plain, is_void}
 use Rattle.a68_modes.specs.declared.shape.Shape.{Shape}
 use Rattle.a68_ops.specs.Applied.{applied, updated}
-use Rattle.a68_ops.specs.Printed.{item_text, whole as whole_number}
+use Rattle.a68_ops.specs.Printed.{item_text, member, whole as whole_number}
 use Rattle.a68_ops.specs.Texts.{text_of}
 use Rattle.a68_ops.specs.Yields.{Yield, is_unset}
 use Rattle.a68_values.specs.Content.{Content, void, plain, structure, row, scope_of}
@@ -63,7 +63,7 @@ assigned-forkless modes m (plain (value.Name n)) v =
     (if-forkless (nat_lt n.scope (scope_of v)) _ _ refl (if-forkless (steps.is_beyond modes m n.cell) _ _ refl (goes-forkless modes _ [])))
 assigned-forkless modes m _ v = refl
 
-by-forkless : (r : ℕ) (v : Content) (k : ℤ) → Forkless (op.updating_by r v k)
+by-forkless : (r : ℕ) (v : Content) (k : Plain) → Forkless (op.updating_by r v k)
 by-forkless r (plain (value.Name n)) k = refl
 by-forkless r (plain value.Nil) k = refl
 by-forkless r v k = if-forkless (is_unset v) (Meets fault.Unset) (Meets fault.Kind) refl refl
@@ -77,7 +77,8 @@ text-forkless : (r : ℕ) (v w : Content) → Forkless (rowing.updating_text r v
 text-forkless r v w = if-forkless (is_unset v || is_unset w) _ _ refl (if-forkless (is_some (text_of w)) _ _ (extending-forkless r v w) refl)
 
 updating-forkless : (r : ℕ) (v w : Content) → Forkless (op.updating r v w)
-updating-forkless r v (plain (value.Int k)) = by-forkless r v k
+updating-forkless r v (plain (value.Int k)) = by-forkless r v (value.Int k)
+updating-forkless r v (plain (value.Long l)) = by-forkless r v (value.Long l)
 updating-forkless r v w = text-forkless r v w
 
 put-forkless : (n : Name) (y : Yield) → Forkless (op.put n y)
@@ -124,8 +125,12 @@ worded-forkless : (text : Result (List ℕ) FaultKind) → Forkless (op.worded t
 worded-forkless (Ok text) = refl
 worded-forkless (Err why) = refl
 
+whole_by-forkless : (v : Content) (number : Option ℤ) (width : ℤ) → Forkless (op.whole_by v number width)
+whole_by-forkless v (Some n) width = worded-forkless (whole_number n width)
+whole_by-forkless v None width = if-forkless (is_unset v) (Meets fault.Unset) (Meets fault.Kind) refl refl
+
 whole-forkless : (v w : Content) → Forkless (op.whole_of v w)
-whole-forkless (plain (value.Int v)) (plain (value.Int w)) = worded-forkless (whole_number v w)
+whole-forkless v (plain (value.Int w)) = whole_by-forkless v (op.number_in (member v)) w
 whole-forkless v w = if-forkless (is_unset v || is_unset w) (Meets fault.Unset) (Meets fault.Kind) refl refl
 
 frame-forkless : (chain : List Environ) (go : Environ → Doing) → ((e : Environ) → Forkless (go e)) → Forkless (op.in_frame chain go)
@@ -262,7 +267,7 @@ extended-forkless modes r n w bounds (Ok cells) = goes-forkless modes _ []
 extended-forkless modes r n w bounds (Err why) = refl
 
 resumed_by-forkless : (modes : List Shape) (n : Next) (d : Descriptor) → Forkless (op.resumed_by modes n d)
-resumed_by-forkless modes (next.Update r n k) d = extended-forkless modes r n (plain (value.Int k)) (bounds_of d.dims) (cells_seen d (cells_of modes 3))
+resumed_by-forkless modes (next.Update r n p) d = extended-forkless modes r n (plain p) (bounds_of d.dims) (cells_seen d (cells_of modes 3))
 resumed_by-forkless modes (next.Extend r n w) d = extended-forkless modes r n w (bounds_of d.dims) (cells_seen d (cells_of modes 3))
 resumed_by-forkless modes (next.Sliced trims scope) d = names_part-forkless scope (view d trims)
 resumed_by-forkless modes (next.Selected offset scope) d = if-forkless (nat_lt most_cells (d.base + offset)) _ _ refl refl
@@ -275,7 +280,7 @@ resumed_with-forkless next.Value (reply.Value v) = refl
 resumed_with-forkless next.Held (reply.Held (held.Plain p)) = refl
 resumed_with-forkless next.Void reply.Go = refl
 resumed_with-forkless (next.Name n) reply.Go = refl
-resumed_with-forkless (next.Update r n k) (reply.Held (held.Plain p)) = put-forkless n (updated r (plain p) (plain (value.Int k)))
+resumed_with-forkless (next.Update r n p) (reply.Held (held.Plain old)) = put-forkless n (updated r (plain old) (plain p))
 resumed_with-forkless (next.Raised count) (reply.Base cell) = refl
 resumed_with-forkless (next.Sema cell) reply.Go = refl
 resumed_with-forkless next.Count (reply.Held (held.Plain p)) = counted-forkless p

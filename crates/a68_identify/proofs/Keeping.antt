@@ -22,7 +22,7 @@ use Rattle.a68_identify.specs.Kept.{KeepOperators}
 use Rattle.a68_identify.specs.Operators.{operand_modes}
 use Rattle.a68_identify.specs.Pairs.{none_left, one_more}
 use Rattle.a68_identify.specs.declared.identified.Identified.{Identified}
-use Rattle.a68_modes.proofs.Holding.{thirteen}
+use Rattle.a68_modes.proofs.Holding.{fifteen}
 use Rattle.a68_modes.specs.Nodes.{HoldsNodes}
 use Rattle.a68_modes.specs.declared.coercion.Coercion.{Coercion}
 use Rattle.a68_modes.specs.declared.coercion.Sort.{Sort}
@@ -71,7 +71,7 @@ module _ (nodes others : List Shape) (n : ℕ) (paths : (sort : Sort) (from to :
 
 -- ---- both ways
 
-standard_below : (n : ℕ) (o : Operator) (count : ℕ) → 13 ≤ n → IsLow o → All (λ p. p < n) (standard_parameters o count)
+standard_below : (n : ℕ) (o : Operator) (count : ℕ) → 15 ≤ n → IsLow o → All (λ p. p < n) (standard_parameters o count)
 standard_below n o zero some low = let r = low.1 in All-cons (λ p. p < n) o.right [] (omega arith) (All-nil (λ p. p < n))
 standard_below n o (suc zero) some low = let r = low.1 in All-cons (λ p. p < n) o.right [] (omega arith) (All-nil (λ p. p < n))
 standard_below n o (suc (suc count)) some low =
@@ -79,7 +79,7 @@ standard_below n o (suc (suc count)) some low =
     let r = low.1 in
     All-cons (λ p. p < n) o.left (o.right ∷ []) (omega arith) (All-cons (λ p. p < n) o.right [] (omega arith) (All-nil (λ p. p < n)))
 
-module _ (tree : Built) (nodes others : List Shape) (of : ByNode) (sign : ℕ) (operands : List (List Leaf)) (n : ℕ) (some : 13 ≤ n)
+module _ (tree : Built) (nodes others : List Shape) (of : ByNode) (sign : ℕ) (operands : List (List Leaf)) (n : ℕ) (some : 15 ≤ n)
     (there : (d : ℕ) → All (λ p. p < n) (operand_modes tree of d))
     (forth : (ps : List ℕ) → All (λ p. p < n) ps → AllFit nodes operands ps → AllFit others operands ps)
     (back : (ps : List ℕ) → All (λ p. p < n) ps → AllFit others operands ps → AllFit nodes operands ps) where
@@ -98,7 +98,7 @@ module _ (tree : Built) (nodes others : List Shape) (of : ByNode) (sign : ℕ) (
   low_in : (spelling : List ℕ) (o : Operator) → Contains (candidates spelling (length operands)) o → All (λ p. p < n) (standard_parameters o (length operands))
   low_in spelling o c = standard_below n o (length operands) some (subst IsLow c.2 (candidates_low spelling (length operands) c.0 o c.1))
 
-module _ (tree : Built) (nodes others : List Shape) (of : ByNode) (sign : ℕ) (operands : List (List Leaf)) (n : ℕ) (some : 13 ≤ n)
+module _ (tree : Built) (nodes others : List Shape) (of : ByNode) (sign : ℕ) (operands : List (List Leaf)) (n : ℕ) (some : 15 ≤ n)
     (there : (d : ℕ) → All (λ p. p < n) (operand_modes tree of d))
     (forth : (ps : List ℕ) → All (λ p. p < n) ps → AllFit nodes operands ps → AllFit others operands ps)
     (back : (ps : List ℕ) → All (λ p. p < n) ps → AllFit others operands ps → AllFit nodes operands ps) where
@@ -118,8 +118,8 @@ keep_operators nodes after holds paths forms tree of at sign operands found are 
     all_fit_on nodes after n (λ sort from to path h g. (paths sort from to path h g).0) (λ leaves b every. (forms by.Weak form.Row leaves (Some b) every).0) fit all low in
     let back = λ (ps : List ℕ) (low : All (λ p. p < n) ps) (fit : AllFit after operands ps).
     all_fit_on after nodes n (λ sort from to path h g. (paths sort from to path h g).1) (λ leaves b every. (forms by.Weak form.Row leaves (Some b) every).1) fit all low in (
-      operator_on tree nodes after of sign operands n (thirteen nodes holds) there forth back,
-      operator_on tree after nodes of sign operands n (thirteen nodes holds) there back forth,
+      operator_on tree nodes after of sign operands n (fifteen nodes holds) there forth back,
+      operator_on tree after nodes of sign operands n (fifteen nodes holds) there back forth,
     )
 
 pub interning_operators : InterningKeeps KeepOperators

@@ -6,3 +6,5 @@ pub mod Serving
 pub mod Preceding
 pub mod Keeping
 pub mod Sifting
+pub mod Listing
+pub mod Separating

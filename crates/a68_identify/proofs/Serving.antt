@@ -5,7 +5,7 @@ use Rattle.std.specs.List.{All}
 use Rattle.std.proofs.lemmas.List.Elements.{All-map}
 use Rattle.a68_declare.specs.Outcome.{AreModesOf, ByNode}
 use Rattle.a68_identify.specs.Operators.{NumbersAreThere, mode_at, operand_modes, declarers_at}
-use Rattle.a68_modes.proofs.Holding.{thirteen}
+use Rattle.a68_modes.proofs.Holding.{fifteen}
 use Rattle.a68_modes.specs.Nodes.{HoldsNodes}
 use Rattle.a68_modes.specs.declared.shape.Shape.{Shape}
 use Rattle.a68_ranges.proofs.Taking.{below_or}
@@ -20,7 +20,7 @@ default_past (x ∷ xs) (suc k) d h = default_past xs k d (omega arith)
 module _ (tree : Built) (nodes : List Shape) (of : ByNode) (holds : HoldsNodes nodes) (are : NumbersAreThere tree nodes of) where
   mode_there : (d : ℕ) → mode_at of d < length nodes
   mode_there d =
-      let some = thirteen nodes holds in
+      let some = fifteen nodes holds in
       ⊎_elim (λ h. are.there d 0 h)
       (λ h. let e = default_past of.without_flex d 0 h in omega arith)
       (below_or d (length of.without_flex))

@@ -13,57 +13,57 @@ use Rattle.a68_ranges.proofs.Looking.{nothing_declared}
 use Rattle.a68_ranges.specs.Definitions.{defines, declared_in}
 use Rattle.a68_ranges.specs.Links.{has_layer, layered}
 use Rattle.a68_ranges.specs.Nodes.{kind_at, name_at}
-use Rattle.a68_ranges.specs.Tables.{is_sort, same_sort, operators_among, operators_in}
+use Rattle.a68_ranges.specs.Tables.{has_name, is_sort, same_sort, operators_in, operators_named}
 use Rattle.a68_ranges.specs.declared.sort.IndicatorKind.TheVariants as sorts
 use Rattle.a68_tree.specs.Trees.{Built}
 use Rattle.a68_tree.specs.declared.kind.NodeKind.{NodeKind}
 use Rattle.a68_tree.specs.declared.kind.NodeKind.TheVariants as kind
 
--- ---- the operator definitions of a range
+-- ---- the operator definitions of a sign in a range
 
--- what defines an operator of some sign is an operator definition
-is_operator : (k : NodeKind) (named : Bool) → (is_operator_definition k && named) ≡ true → is_sort sorts.Operator (defines k) ≡ true
+-- what defines an operator of a sign is an operator definition of that sign
+is_operator : (k : NodeKind) (named : Bool) → (is_operator_definition k && named) ≡ true → (is_sort sorts.Operator (defines k) && named) ≡ true
 unfolding defines same_sort
-is_operator kind.OpDefinition named e = refl
+is_operator kind.OpDefinition named e = e
 is_operator _ named e = absurd (false≢true e)
 
-module _ (tree : Built) (Holds : ℕ → Type 0) (only : (d : ℕ) → Holds d → is_sort sorts.Operator (defines (kind_at tree d)) ≡ true) where
-  contains_on : (ds : List ℕ) (x : ℕ) → is_sort sorts.Operator (defines (kind_at tree x)) ≡ true → Contains ds x → Contains (operators_among tree ds) x
+module _ (tree : Built) (sign : ℕ) (Holds : ℕ → Type 0) (only : (d : ℕ) → Holds d → has_name tree sorts.Operator sign d ≡ true) where
+  contains_on : (ds : List ℕ) (x : ℕ) → has_name tree sorts.Operator sign x ≡ true → Contains ds x → Contains (operators_named tree sign ds) x
   contains_on [] x t (k, low, e) = absurd (omega arith)
   contains_on (d ∷ ds) x t (zero, low, e) =
-      subst (λ b. Contains (if b then d ∷ operators_among tree ds else operators_among tree ds) x) (sym (subst (λ y. is_sort sorts.Operator (defines (kind_at tree y)) ≡ true) (sym e) t)) (0, omega arith, e)
-  contains_on (d ∷ ds) x t (suc k, low, e) = go (is_sort sorts.Operator (defines (kind_at tree d))) (contains_on ds x t (k, omega arith, e))
+      subst (λ b. Contains (if b then d ∷ operators_named tree sign ds else operators_named tree sign ds) x) (sym (subst (λ y. has_name tree sorts.Operator sign y ≡ true) (sym e) t)) (0, omega arith, e)
+  contains_on (d ∷ ds) x t (suc k, low, e) = go (has_name tree sorts.Operator sign d) (contains_on ds x t (k, omega arith, e))
     where
-      go : (b : Bool) → Contains (operators_among tree ds) x → Contains (if b then d ∷ operators_among tree ds else operators_among tree ds) x
+      go : (b : Bool) → Contains (operators_named tree sign ds) x → Contains (if b then d ∷ operators_named tree sign ds else operators_named tree sign ds) x
       go true c = let l = c.1 in (suc c.0, omega arith, c.2)
       go false c = c
 
-  first_on : (ds : List ℕ) (x : ℕ) → FirstThatHolds Holds (operators_among tree ds) x → FirstThatHolds Holds ds x
+  first_on : (ds : List ℕ) (x : ℕ) → FirstThatHolds Holds (operators_named tree sign ds) x → FirstThatHolds Holds ds x
   first_on [] x f = f
-  first_on (d ∷ ds) x f = go (is_sort sorts.Operator (defines (kind_at tree d))) refl (λ y g. first_on ds y g) f
+  first_on (d ∷ ds) x f = go (has_name tree sorts.Operator sign d) refl (λ y g. first_on ds y g) f
     where
-      head : ((y : ℕ) → FirstThatHolds Holds (operators_among tree ds) y → FirstThatHolds Holds ds y) → {y : ℕ} → FirstThatHolds Holds (d ∷ operators_among tree ds) y → FirstThatHolds Holds (d ∷ ds) y
+      head : ((y : ℕ) → FirstThatHolds Holds (operators_named tree sign ds) y → FirstThatHolds Holds ds y) → {y : ℕ} → FirstThatHolds Holds (d ∷ operators_named tree sign ds) y → FirstThatHolds Holds (d ∷ ds) y
       head on (first_here h) = first_here h
       head on (first_later {y = y} none rest) = first_later none (on y rest)
 
-      go : (b : Bool) → is_sort sorts.Operator (defines (kind_at tree d)) ≡ b → ((y : ℕ) → FirstThatHolds Holds (operators_among tree ds) y → FirstThatHolds Holds ds y)
-          → FirstThatHolds Holds (if b then d ∷ operators_among tree ds else operators_among tree ds) x → FirstThatHolds Holds (d ∷ ds) x
+      go : (b : Bool) → has_name tree sorts.Operator sign d ≡ b → ((y : ℕ) → FirstThatHolds Holds (operators_named tree sign ds) y → FirstThatHolds Holds ds y)
+          → FirstThatHolds Holds (if b then d ∷ operators_named tree sign ds else operators_named tree sign ds) x → FirstThatHolds Holds (d ∷ ds) x
       go true e on f = head on f
       go false e on f = first_later (λ h. false≢true (sym e ∙ only d h)) (on x f)
 
-  -- the first that holds among the operator definitions is the first among all
-  pub is_first_on : (ds : List ℕ) (found : Option ℕ) → IsFirstThatHolds Holds (operators_among tree ds) found → IsFirstThatHolds Holds ds found
+  -- the first that holds among the operator definitions of the sign is the first among all
+  pub is_first_on : (ds : List ℕ) (found : Option ℕ) → IsFirstThatHolds Holds (operators_named tree sign ds) found → IsFirstThatHolds Holds ds found
   is_first_on ds None none = λ x among h. none x (contains_on ds x (only x h) among) h
   is_first_on ds (Some x) f = first_on ds x f
 
 module _ (tree : Built) (nodes : List Shape) (of : ByNode) (sign : ℕ) (operands : List (List Leaf)) where
-  fits_only : (d : ℕ) → DefinitionFits tree nodes of sign operands d → is_sort sorts.Operator (defines (kind_at tree d)) ≡ true
+  fits_only : (d : ℕ) → DefinitionFits tree nodes of sign operands d → has_name tree sorts.Operator sign d ≡ true
   fits_only d f = is_operator (kind_at tree d) (nat_eq (name_at tree d) sign) f.sign_is
 
-  pub first_in_range : (range : ℕ) (found : Option ℕ) → IsFirstThatHolds (DefinitionFits tree nodes of sign operands) (operators_in tree range) found
+  pub first_in_range : (range : ℕ) (found : Option ℕ) → IsFirstThatHolds (DefinitionFits tree nodes of sign operands) (operators_in tree range sign) found
       → IsFirstThatHolds (DefinitionFits tree nodes of sign operands) (declared_in tree range) found
   unfolding operators_in
-  first_in_range range found f = is_first_on tree (DefinitionFits tree nodes of sign operands) fits_only (declared_in tree range) found f
+  first_in_range range found f = is_first_on tree sign (DefinitionFits tree nodes of sign operands) fits_only (declared_in tree range) found f
 
   -- ---- the ranges that have layers
 

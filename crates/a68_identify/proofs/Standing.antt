@@ -18,7 +18,7 @@ use Rattle.a68_signs.specs.declared.signs.Operator.{Operator}
 
 abbrev are_low : List Operator → Bool
 are_low [] = true
-are_low (o ∷ os) = nat_lt o.left 13 && (nat_lt o.right 13 && (nat_lt o.result 13 && are_low os))
+are_low (o ∷ os) = nat_lt o.left 15 && (nat_lt o.right 15 && (nat_lt o.result 15 && are_low os))
 
 abbrev entries_low : List SignGroup → Bool
 entries_low [] = true
@@ -34,10 +34,10 @@ below m n e = grind (arith, nat_tests)
 low_all : (os : List Operator) → are_low os ≡ true → All IsLow os
 low_all [] e = All-nil IsLow
 low_all (o ∷ os) e =
-    let p = both (nat_lt o.left 13) (nat_lt o.right 13 && (nat_lt o.result 13 && are_low os)) e in
-    let q = both (nat_lt o.right 13) (nat_lt o.result 13 && are_low os) p.1 in
-    let r = both (nat_lt o.result 13) (are_low os) q.1 in
-    All-cons IsLow o os (below o.left 13 p.0, below o.right 13 q.0, below o.result 13 r.0) (low_all os r.1)
+    let p = both (nat_lt o.left 15) (nat_lt o.right 15 && (nat_lt o.result 15 && are_low os)) e in
+    let q = both (nat_lt o.right 15) (nat_lt o.result 15 && are_low os) p.1 in
+    let r = both (nat_lt o.result 15) (are_low os) q.1 in
+    All-cons IsLow o os (below o.left 15 p.0, below o.right 15 q.0, below o.result 15 r.0) (low_all os r.1)
 
 entry_low : (entries : List SignGroup) (sign : List ℕ) → entries_low entries ≡ true → All IsLow (option_map_or (λ (e : SignGroup). e.operators) (entry_of entries sign) [])
 entry_low [] sign low = All-nil IsLow

@@ -18,6 +18,7 @@ use Rattle.a68_signs.specs.declared.signs.Operator.{Operator}
 use Rattle.a68_ranges.specs.Definitions.{declared_in}
 use Rattle.a68_ranges.specs.Surroundings.{Lies}
 use Rattle.a68_tree.specs.Trees.{Built}
+use Rattle.a68_modes.specs.declared.standard.TheConstants.{STANDARD}
 
 -- The operand fits a parameter: it is balanced firmly to its mode. Where the parameter stands for every row, the operand is
 -- balanced weakly to a row or the name of one. (A parameter's mode 0 is never VOID: an operand of that mode fits none.)
@@ -80,4 +81,4 @@ IsOwn tree nodes of sign operands ranges None = (d : ℕ) → Own tree nodes of 
 
 -- the parameters and the result of a standard operator are standard modes
 abbrev pub IsLow : Operator → Type 0
-IsLow o = (o.left < 13) × (o.right < 13) × (o.result < 13)
+IsLow o = (o.left < STANDARD) × (o.right < STANDARD) × (o.result < STANDARD)

@@ -90,3 +90,19 @@ pub record NumbersAreThere (tree : Built) (nodes : List Shape) (of : ByNode) : T
   pub long : length of.as_they_stand ≡ length tree.nodes
   pub fixed_long : length of.without_flex ≡ length tree.nodes
   pub there : All (λ m. m < length nodes) of.without_flex
+
+-- ---- the modes of all parameters, listed once
+
+-- the modes by node, and for each node the modes of the parameters of the operator that it defines
+pub record Listed : Type 0 where
+  pub of : ByNode
+  pub lists : List (List ℕ)
+
+-- the lists of the nodes before one
+pub record AreListedBefore (tree : Built) (of : ByNode) (count : ℕ) (lists : List (List ℕ)) : Type 0 where
+  pub long : length lists ≡ count
+  pub each : (definition : ℕ) → definition < count → slice_get lists definition ≡ Some (operand_modes tree of definition)
+
+-- the lists of all nodes of a tree
+abbrev pub AreListed : Built → Listed → Type 0
+AreListed tree modes = AreListedBefore tree modes.of (length tree.nodes) modes.lists

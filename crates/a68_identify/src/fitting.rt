@@ -8,6 +8,7 @@ ghost use Rattle.a68_equiv.specs.Dimensions.{HaveDimensions};
 ghost use Rattle.a68_equiv.specs.Ways.{AreWellFormed};
 ghost use Rattle.a68_identify.specs.Identified.{AllFit, OperandFits};
 
+use crate::apart::is_apart;
 use a68_base::NoMemory;
 use a68_coerce::{Leaf, ModeForm, balance, balance_to_form};
 use a68_equiv::Classes;
@@ -34,6 +35,9 @@ fn fits_mode(
     requires mode { parameter ≢ 0 }
     ensures { IfOk result (λ fits. IsTrue fits ↔ OperandFits modes.now leaves.now parameter) }
 {
+    if is_apart(modes, classes, leaves, parameter) {
+        return Ok(false);
+    }
     let found = balance(alloc, modes, classes, Sort::Firm, leaves, parameter)?;
     Ok(found.is_some())
 }

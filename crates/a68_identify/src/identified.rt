@@ -6,17 +6,16 @@ ghost use Rattle.a68_equiv.specs.Classes.{AreExact};
 ghost use Rattle.a68_equiv.specs.Dimensions.{HaveDimensions};
 ghost use Rattle.a68_equiv.specs.Ways.{AreWellFormed};
 ghost use Rattle.a68_identify.specs.Identified.{DefinitionFits, IsFirstThatHolds, IsLow, IsOperator, IsOwn, StandardFits};
-ghost use Rattle.a68_identify.specs.Operators.{NumbersAreThere};
+ghost use Rattle.a68_identify.specs.Operators.{AreListed, NumbersAreThere};
 ghost use Rattle.a68_ranges.specs.Nodes.{name_at};
 ghost use Rattle.a68_ranges.specs.Surroundings.{Lies};
 ghost use Rattle.a68_ranges.specs.Tables.{AreRanges};
 
 use crate::fitting::all_fit;
-use crate::operands::operand_modes;
-use crate::reading::{defines_sign, operators_by};
+use crate::listed::{OperatorModes, parameters_of};
+use crate::reading::defines_sign;
 use a68_base::NoMemory;
 use a68_coerce::Leaf;
-use a68_declare::NodeModes;
 use a68_equiv::Classes;
 use a68_modes::Modes;
 use a68_ranges::Ranges;
@@ -45,30 +44,25 @@ fn definition_fits(
     tree: &Tree,
     modes: &Modes,
     classes: &Classes,
-    of: &NodeModes,
+    of: &OperatorModes<'_>,
     formula: &Formula<'_>,
     definition: NodeId,
 ) -> Result<bool, NoMemory>
     requires formed { AreWellFormed modes.now }
     requires rows { HaveDimensions modes.now }
     requires exact { AreExact modes.now classes.now.of }
-    requires of { NumbersAreThere tree.now modes.now of.now }
+    requires of { NumbersAreThere tree.now modes.now of.now.of }
+    requires listed { AreListed tree.now of.now }
     requires leaves { All (λ o. All (IsLeafBelow (length modes.now)) o.now) formula.now.operands.now }
     requires few { All (λ o. length o.now < 2 ^ 32) formula.now.operands.now }
-    ensures { IfOk result (λ fits. IsTrue fits ↔ DefinitionFits tree.now modes.now of.now formula.now.sign (map (λ o. o.now) formula.now.operands.now) definition) }
+    ensures { IfOk result (λ fits. IsTrue fits ↔ DefinitionFits tree.now modes.now of.now.of formula.now.sign (map (λ o. o.now) formula.now.operands.now) definition) }
 {
     if !defines_sign(tree, formula.sign, definition) {
         return Ok(false);
     }
     let _there = modes.len();
-    let parameters = operand_modes(alloc, tree, of, definition)?;
-    let fits = all_fit(
-        alloc,
-        modes,
-        classes,
-        formula.operands,
-        parameters.as_slice(),
-    )?;
+    let parameters = parameters_of(tree, of, definition);
+    let fits = all_fit(alloc, modes, classes, formula.operands, parameters)?;
     Ok(fits)
 }
 
@@ -78,17 +72,18 @@ fn first_definition(
     tree: &Tree,
     modes: &Modes,
     classes: &Classes,
-    of: &NodeModes,
+    of: &OperatorModes<'_>,
     formula: &Formula<'_>,
     list: &[NodeId],
 ) -> Result<Option<NodeId>, NoMemory>
     requires formed { AreWellFormed modes.now }
     requires rows { HaveDimensions modes.now }
     requires exact { AreExact modes.now classes.now.of }
-    requires of { NumbersAreThere tree.now modes.now of.now }
+    requires of { NumbersAreThere tree.now modes.now of.now.of }
+    requires listed { AreListed tree.now of.now }
     requires leaves { All (λ o. All (IsLeafBelow (length modes.now)) o.now) formula.now.operands.now }
     requires few { All (λ o. length o.now < 2 ^ 32) formula.now.operands.now }
-    ensures { IfOk result (IsFirstThatHolds (DefinitionFits tree.now modes.now of.now formula.now.sign (map (λ o. o.now) formula.now.operands.now)) list.now) }
+    ensures { IfOk result (IsFirstThatHolds (DefinitionFits tree.now modes.now of.now.of formula.now.sign (map (λ o. o.now) formula.now.operands.now)) list.now) }
 {
     for definition in list {
         if definition_fits(alloc, tree, modes, classes, of, formula, *definition)? {
@@ -105,7 +100,7 @@ fn own(
     ranges: &Ranges,
     modes: &Modes,
     classes: &Classes,
-    of: &NodeModes,
+    of: &OperatorModes<'_>,
     formula: &Formula<'_>,
 ) -> Result<Option<NodeId>, NoMemory>
     requires at { formula.now.at < length tree.now.nodes }
@@ -113,15 +108,16 @@ fn own(
     requires formed { AreWellFormed modes.now }
     requires rows { HaveDimensions modes.now }
     requires exact { AreExact modes.now classes.now.of }
-    requires of { NumbersAreThere tree.now modes.now of.now }
+    requires of { NumbersAreThere tree.now modes.now of.now.of }
+    requires listed { AreListed tree.now of.now }
     requires leaves { All (λ o. All (IsLeafBelow (length modes.now)) o.now) formula.now.operands.now }
     requires few { All (λ o. length o.now < 2 ^ 32) formula.now.operands.now }
-    ensures { IfOk result (λ found. (about : List ℕ) → Lies tree.now formula.now.at about → IsOwn tree.now modes.now of.now formula.now.sign (map (λ o. o.now) formula.now.operands.now) about found) }
+    ensures { IfOk result (λ found. (about : List ℕ) → Lies tree.now formula.now.at about → IsOwn tree.now modes.now of.now.of formula.now.sign (map (λ o. o.now) formula.now.operands.now) about found) }
 {
     let mut next = ranges.about(formula.at);
     'outwards: while let Some(number) = next {
         let layer = ranges.layer(number);
-        let list = operators_by(tree, ranges, layer.range);
+        let list = ranges.operators(layer.range, formula.sign);
         let found = first_definition(alloc, tree, modes, classes, of, formula, list)?;
         if found.is_some() {
             return Ok(found);
@@ -190,7 +186,7 @@ fn first_standard(
 /// operand, two for one of two. It is the first fitting definition in the innermost range about the formula that has one;
 /// else the first fitting operator of the standard environ, in the order of its table. None exactly where there is neither.
 ///
-/// An operand fits a parameter where it is balanced firmly to its mode (3.2.1); for LWB and UPB where it is balanced weakly
+/// The modes of the parameters are listed beforehand. An operand fits a parameter where it is balanced firmly to its mode (3.2.1); for LWB and UPB where it is balanced weakly
 /// to a row or the name of one.
 pub fn identify(
     alloc: Global,
@@ -198,7 +194,7 @@ pub fn identify(
     ranges: &Ranges,
     modes: &Modes,
     classes: &Classes,
-    of: &NodeModes,
+    of: &OperatorModes<'_>,
     at: NodeId,
     operands: &[&[Leaf]],
 ) -> Result<Option<Identified>, NoMemory>
@@ -207,11 +203,12 @@ pub fn identify(
     requires formed { AreWellFormed modes.now }
     requires rows { HaveDimensions modes.now }
     requires exact { AreExact modes.now classes.now.of }
-    requires of { NumbersAreThere tree.now modes.now of.now }
+    requires of { NumbersAreThere tree.now modes.now of.now.of }
+    requires listed { AreListed tree.now of.now }
     requires leaves { All (λ o. All (IsLeafBelow (length modes.now)) o.now) operands.now }
     requires few { All (λ o. length o.now < 2 ^ 32) operands.now }
     requires count { length operands.now < 2 ^ 32 }
-    ensures { IfOk result (λ found. MatchOption found ((any : Identified) → IsOperator tree.now modes.now of.now at (name_at tree.now at) (map (λ o. o.now) operands.now) any → ⊥) (IsOperator tree.now modes.now of.now at (name_at tree.now at) (map (λ o. o.now) operands.now))) }
+    ensures { IfOk result (λ found. MatchOption found ((any : Identified) → IsOperator tree.now modes.now of.now.of at (name_at tree.now at) (map (λ o. o.now) operands.now) any → ⊥) (IsOperator tree.now modes.now of.now.of at (name_at tree.now at) (map (λ o. o.now) operands.now))) }
 {
     let sign = tree.node(at).name;
     let formula = Formula { at, sign, operands };

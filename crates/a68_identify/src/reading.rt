@@ -4,7 +4,7 @@ ghost use Rattle.a68_identify.specs.Operators as operators;
 ghost use Rattle.a68_ranges.specs.Definitions.{declared_in};
 ghost use Rattle.a68_ranges.specs.Indexed.{earlier_of};
 ghost use Rattle.a68_ranges.specs.Nodes as nodes;
-ghost use Rattle.a68_ranges.specs.Tables.{AreRanges, operators_in};
+ghost use Rattle.a68_ranges.specs.Tables.{AreRanges};
 
 use a68_ranges::Ranges;
 use a68_tree::{NodeId, NodeKind, Tree};
@@ -73,18 +73,6 @@ pub fn declared_by<'a>(tree: &Tree, ranges: &'a Ranges, range: NodeId) -> &'a [N
 {
     if range < tree.len() {
         ranges.declared(range)
-    } else {
-        &[]
-    }
-}
-
-/// The operator definitions among what a range declares, in order of text; a number of no node declares none.
-pub fn operators_by<'a>(tree: &Tree, ranges: &'a Ranges, range: NodeId) -> &'a [NodeId]
-    requires { AreRanges tree.now ranges.now }
-    ensures { result.now ≡ operators_in tree.now range }
-{
-    if range < tree.len() {
-        ranges.operators(range)
     } else {
         &[]
     }

@@ -37,7 +37,7 @@ adjoins_on t v n le (ends e) = ends (
 )
 
 -- a byte that is known passes no test that this one does not pass
-refuted : (p : ℕ → Bool) (b c : ℕ) → p b ≡ true → b ≡ c → p c ≡ false → ⊥
+pub refuted : (p : ℕ → Bool) (b c : ℕ) → p b ≡ true → b ≡ c → p c ≡ false → ⊥
 refuted p b c passes e fails = true≢false (p c) (subst (λ (x : ℕ). p x ≡ true) e passes) fails
 
 bracket_tags : (t rest : List ℕ) (m : ℕ) → Each in_tag (t ++ 32 ∷ 41 ∷ rest) 1 m → ends_tag (slice_index (t ++ 32 ∷ 41 ∷ rest) (m - 1)) ≡ true → m ≤ length t

@@ -1,11 +1,11 @@
 -- Where a symbol is cut from the front of a text, by what stands behind it.
-use Rattle.std.proofs.Common.{◌≡◌, ◌≢◌, ℕ, zero, suc, ◌+◌, ◌-◌, ◌<◌, ◌≤◌, Bool, true, false, not, ◌||◌, nat_eq, List, [], ◌∷◌, ◌++◌, length, slice_index, take, drop, refl, sym, ap, subst, ◌∙◌, inl, inr, arith, append_assoc}
+use Rattle.std.proofs.Common.{◌≡◌, ◌≢◌, ℕ, zero, suc, ◌+◌, ◌-◌, ◌<◌, ◌≤◌, Bool, true, false, not, ◌||◌, nat_eq, List, [], ◌∷◌, ◌++◌, length, slice_index, take, refl, sym, ap, subst, ◌∙◌, inl, inr, arith, append_assoc}
 use Rattle.std.specs.List.{list_all}
 use Rattle.std.proofs.lemmas.Bool.{and_parts, eqb-true}
 use Rattle.std.proofs.lemmas.Bool.Decides.{nat_tests}
 use Rattle.std.proofs.lemmas.List.{length-append, get_or_append_left, get_or-append-add, get_or-append_right}
 use Rattle.std.proofs.Math.Seq.{take-append_seam, get_or-append_seam, drop-append_seam}
-use Rattle.a68_denote.specs.Strings.{StandFor, Denotes}
+use Rattle.a68_denote.specs.Strings.{StandFor}
 use Rattle.a68_input.proofs.Strings.{lone_quote}
 use Rattle.a68_input.specs.Joining.{doubled, quoted}
 use Rattle.a68_lister.proofs.Alone as alone
@@ -18,14 +18,14 @@ use Rattle.a68_symbols.specs.Bytes.{is_layout, is_capital, is_small, is_digit, i
 use Rattle.a68_symbols.specs.Forms.{Each, IsWholeWord, Longest}
 use Rattle.a68_symbols.specs.Gives.{gives, word_gives, number_gives}
 use Rattle.a68_symbols.specs.Marks.{is_mark}
-use Rattle.a68_symbols.specs.Runs.{item_width, AreItems, IsLongestTag, IsLongestMark}
+use Rattle.a68_symbols.specs.Runs.{item_width, AreItems, IsLongestTag}
 use Rattle.a68_symbols.specs.Symbols.{Front, front_is}
 use Rattle.a68_symbols.specs.Words.{is_opener}
 use Rattle.a68_symbols.proofs.Again.{true≢false}
 use Rattle.a68_symbols.proofs.Measures.{word_longest, no_opener, tag_longest, number_longest, layout_longest, mark_longest}
 use Rattle.a68_symbols.proofs.Quotes.{quoted_longest}
 
-pub front_blank : (t : List ℕ) → Front (32 ∷ t) Nothing 1
+pub front_blank : (t : List ℕ) → Front false (32 ∷ t) Nothing 1
 front_blank t = front_is (layout_longest (32 ∷ t) (omega arith) refl) refl
 
 -- ---- the bytes of a symbol
@@ -56,7 +56,7 @@ within s rest = omega (arith, length-append s rest)
 -- ---- words
 
 pub word : (s : List ℕ) (c : ℕ) (rest : List ℕ) → 0 < length s → is_capital (slice_index s 0) ≡ true → list_all in_word s ≡ true → is_opener s ≡ false → word_gives s ≡ Symbol kinds.Word → in_word c ≡ false
-    → Front (s ++ c ∷ rest) (Symbol kinds.Word) (length s)
+    → Front false (s ++ c ∷ rest) (Symbol kinds.Word) (length s)
 word s c rest some first all closed is out =
     let whole : IsWholeWord (s ++ c ∷ rest) 0 (length s) = record {
       some = some;
@@ -68,7 +68,7 @@ word s c rest some first all closed is out =
     } in
     let front : take (length s) (s ++ c ∷ rest) ≡ s = take-append_seam s (c ∷ rest) in
     let shut : is_opener (take (length s) (s ++ c ∷ rest)) ≡ false = subst (λ (l : List ℕ). is_opener l ≡ false) (sym front) closed in
-    front_is (word_longest (s ++ c ∷ rest) (length s) whole (no_opener (s ++ c ∷ rest) (length s) whole shut)) (ap (gives forms.Word) front ∙ is)
+    front_is (word_longest (s ++ c ∷ rest) (length s) whole (no_opener (s ++ c ∷ rest) (length s) whole shut)) (ap (gives false forms.Word) front ∙ is)
 
 -- ---- tags and numbers
 
@@ -92,7 +92,7 @@ longest_tag s rest some all stops = record {
       true≢false (in_tag (slice_index (s ++ rest) (length s + found.0))) (on (length s + found.0) (omega (arith, some)) (omega (arith, found.1, low))) out;
 }
 
-pub tag : (s rest : List ℕ) → 0 < length s → is_small (slice_index s 0) ≡ true → list_all ends_tag s ≡ true → StopsIn rest → Front (s ++ rest) (Symbol kinds.Tag) (length s)
+pub tag : (s rest : List ℕ) → 0 < length s → is_small (slice_index s 0) ≡ true → list_all ends_tag s ≡ true → StopsIn rest → Front false (s ++ rest) (Symbol kinds.Tag) (length s)
 tag s rest some first all stops =
     front_is (tag_longest (s ++ rest) (length s) (subst (λ (b : ℕ). is_small b ≡ true) (sym (left s rest 0 some)) first) (longest_tag s rest some all stops)) refl
 
@@ -100,18 +100,18 @@ passes : (s : List ℕ) → list_all ends_tag s ≡ true → Passes (λ b. not (
 passes [] all = tt
 passes (b ∷ s) all = let parts = and_parts (ends_tag b) _ all in (ends_bare b parts.0, passes s parts.1)
 
-pub number : (s rest : List ℕ) → 0 < length s → is_digit (slice_index s 0) ≡ true → list_all ends_tag s ≡ true → number_gives s ≡ Symbol kinds.Number → StopsIn rest → Front (s ++ rest) (Symbol kinds.Number) (length s)
+pub number : (s rest : List ℕ) → 0 < length s → is_digit (slice_index s 0) ≡ true → list_all ends_tag s ≡ true → number_gives false s ≡ Symbol kinds.Number → StopsIn rest → Front false (s ++ rest) (Symbol kinds.Number) (length s)
 number s rest some first all is stops =
     let bare : without_layout (take (length s) (s ++ rest)) ≡ s = ap without_layout (take-append_seam s rest) ∙ without_none s (passes s all) in
-    front_is (number_longest (s ++ rest) (length s) (subst (λ (b : ℕ). is_digit b ≡ true) (sym (left s rest 0 some)) first) (longest_tag s rest some all stops)) (ap number_gives bare ∙ is)
+    front_is (number_longest (s ++ rest) (length s) (subst (λ (b : ℕ). is_digit b ≡ true) (sym (left s rest 0 some)) first) (longest_tag s rest some all stops)) (ap (number_gives false) bare ∙ is)
 
 -- ---- marks
 
-pub mark_blank : (s rest : List ℕ) → is_mark s ≡ true → Front (s ++ 32 ∷ rest) (Symbol kinds.Mark) (length s)
+pub mark_blank : (s rest : List ℕ) → is_mark s ≡ true → Front false (s ++ 32 ∷ rest) (Symbol kinds.Mark) (length s)
 mark_blank s rest is = front_is (alone.mark_longest s rest 32 refl is) refl
 
 -- a byte that is a mark, and none with any bytes behind it
-pub mark_alone : (a : ℕ) (rest : List ℕ) → is_mark (a ∷ []) ≡ true → ((more : List ℕ) → 0 < length more → is_mark (a ∷ more) ≡ false) → Front (a ∷ rest) (Symbol kinds.Mark) 1
+pub mark_alone : (a : ℕ) (rest : List ℕ) → is_mark (a ∷ []) ≡ true → ((more : List ℕ) → 0 < length more → is_mark (a ∷ more) ≡ false) → Front false (a ∷ rest) (Symbol kinds.Mark) 1
 mark_alone a rest is none = front_is (mark_longest (a ∷ rest) 1 (omega arith) (record { within = omega arith; is = inr is; longest = λ m lt le e. longer m lt le e })) refl
   where
     longer : (m : ℕ) → 1 < m → m ≤ length (a ∷ rest) → is_mark (take m (a ∷ rest)) ≡ true → ⊥
@@ -133,7 +133,7 @@ none_longer a two three four (b ∷ c ∷ d ∷ e ∷ more) some = refl
 
 -- a byte that is a mark, before a digit
 pub mark_digit : (a b : ℕ) (rest : List ℕ) → is_mark (a ∷ []) ≡ true → is_mark (a ∷ b ∷ []) ≡ false → ((c : ℕ) → is_mark (a ∷ b ∷ c ∷ []) ≡ false) → ((c d : ℕ) → is_mark (a ∷ b ∷ c ∷ d ∷ []) ≡ false)
-    → Front (a ∷ b ∷ rest) (Symbol kinds.Mark) 1
+    → Front false (a ∷ b ∷ rest) (Symbol kinds.Mark) 1
 mark_digit a b rest is two three four = front_is (mark_longest (a ∷ b ∷ rest) 1 (omega arith) (record { within = omega arith; is = inr is; longest = λ m lt le e. longer m lt e })) refl
   where
     none : (more : List ℕ) → is_mark (a ∷ b ∷ more) ≡ false
@@ -149,7 +149,7 @@ mark_digit a b rest is two three four = front_is (mark_longest (a ∷ b ∷ rest
 
 -- ---- strings
 
-pub string : (line : List ℕ) (c : ℕ) (rest : List ℕ) → StandFor (doubled line) line → c ≢ 34 → Front (quoted line ++ c ∷ rest) (Symbol kinds.Quoted) (length (quoted line))
+pub string : (line : List ℕ) (c : ℕ) (rest : List ℕ) → StandFor (doubled line) line → c ≢ 34 → Front false (quoted line ++ c ∷ rest) (Symbol kinds.Quoted) (length (quoted line))
 string line c rest stand other =
     let text : List ℕ = quoted line ++ c ∷ rest in
     let whole : quoted line ++ c ∷ rest ≡ 34 ∷ (doubled line ++ 34 ∷ c ∷ rest) = ap (λ (l : List ℕ). 34 ∷ l) (append_assoc (doubled line) (34 ∷ []) (c ∷ rest)) in
@@ -176,7 +176,7 @@ is_alone (a ∷ []) = nat_eq a 40 || (nat_eq a 41 || (nat_eq a 59 || (nat_eq a 9
 is_alone _ = false
 
 abbrev Marks : ℕ → Type 0
-Marks a = (rest : List ℕ) → Front (a ∷ rest) (Symbol kinds.Mark) 1
+Marks a = (rest : List ℕ) → Front false (a ∷ rest) (Symbol kinds.Mark) 1
 
 marks_if : (a b : ℕ) (others : Bool) → Marks b → (others ≡ true → Marks a) → nat_eq a b || others ≡ true → Marks a
 marks_if a b others here there e = by (nat_eq a b) refl
@@ -201,21 +201,21 @@ abbrev pub is_before_digit : List ℕ → Bool
 is_before_digit (a ∷ []) = nat_eq a 58 || (nat_eq a 43 || nat_eq a 45)
 is_before_digit _ = false
 
-colon_digit : (b : ℕ) (rest : List ℕ) → is_digit b ≡ true → Front (58 ∷ b ∷ rest) (Symbol kinds.Mark) 1
+colon_digit : (b : ℕ) (rest : List ℕ) → is_digit b ≡ true → Front false (58 ∷ b ∷ rest) (Symbol kinds.Mark) 1
 colon_digit b rest e = mark_digit 58 b rest refl (grind (arith, nat_tests)) (λ c. grind (arith, nat_tests)) (λ c d. grind (arith, nat_tests))
 
-plus_digit : (b : ℕ) (rest : List ℕ) → is_digit b ≡ true → Front (43 ∷ b ∷ rest) (Symbol kinds.Mark) 1
+plus_digit : (b : ℕ) (rest : List ℕ) → is_digit b ≡ true → Front false (43 ∷ b ∷ rest) (Symbol kinds.Mark) 1
 plus_digit b rest e = mark_digit 43 b rest refl (grind (arith, nat_tests)) (λ c. grind (arith, nat_tests)) (λ c d. grind (arith, nat_tests))
 
-minus_digit : (b : ℕ) (rest : List ℕ) → is_digit b ≡ true → Front (45 ∷ b ∷ rest) (Symbol kinds.Mark) 1
+minus_digit : (b : ℕ) (rest : List ℕ) → is_digit b ≡ true → Front false (45 ∷ b ∷ rest) (Symbol kinds.Mark) 1
 minus_digit b rest e = mark_digit 45 b rest refl (grind (arith, nat_tests)) (λ c. grind (arith, nat_tests)) (λ c d. grind (arith, nat_tests))
 
-pub marks_digit : (a : ℕ) → is_before_digit (a ∷ []) ≡ true → (b : ℕ) (rest : List ℕ) → is_digit b ≡ true → Front (a ∷ b ∷ rest) (Symbol kinds.Mark) 1
+pub marks_digit : (a : ℕ) → is_before_digit (a ∷ []) ≡ true → (b : ℕ) (rest : List ℕ) → is_digit b ≡ true → Front false (a ∷ b ∷ rest) (Symbol kinds.Mark) 1
 marks_digit a e b rest digit = by (nat_eq a 58) (nat_eq a 43) refl refl
   where
-    by : (v w : Bool) → nat_eq a 58 ≡ v → nat_eq a 43 ≡ w → Front (a ∷ b ∷ rest) (Symbol kinds.Mark) 1
-    by true w t u = subst (λ (x : ℕ). Front (x ∷ b ∷ rest) (Symbol kinds.Mark) 1) (sym (eqb-true a 58 t)) (colon_digit b rest digit)
-    by false true t u = subst (λ (x : ℕ). Front (x ∷ b ∷ rest) (Symbol kinds.Mark) 1) (sym (eqb-true a 43 u)) (plus_digit b rest digit)
+    by : (v w : Bool) → nat_eq a 58 ≡ v → nat_eq a 43 ≡ w → Front false (a ∷ b ∷ rest) (Symbol kinds.Mark) 1
+    by true w t u = subst (λ (x : ℕ). Front false (x ∷ b ∷ rest) (Symbol kinds.Mark) 1) (sym (eqb-true a 58 t)) (colon_digit b rest digit)
+    by false true t u = subst (λ (x : ℕ). Front false (x ∷ b ∷ rest) (Symbol kinds.Mark) 1) (sym (eqb-true a 43 u)) (plus_digit b rest digit)
     by false false t u =
         let last : nat_eq a 45 ≡ true = rw (t, u) at e in
-        subst (λ (x : ℕ). Front (x ∷ b ∷ rest) (Symbol kinds.Mark) 1) (sym (eqb-true a 45 last)) (minus_digit b rest digit)
+        subst (λ (x : ℕ). Front false (x ∷ b ∷ rest) (Symbol kinds.Mark) 1) (sym (eqb-true a 45 last)) (minus_digit b rest digit)

@@ -2,6 +2,7 @@ pub mod Ahead
 pub mod Behind
 pub mod Cutting
 pub mod Fronts
+pub mod Last
 pub mod Onward
 pub mod Quoting
 pub mod Strings

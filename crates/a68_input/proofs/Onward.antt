@@ -338,25 +338,25 @@ module _ (t v : List ℕ) (some : 0 < length t) (a : SetApart t v) where
         own forms.OpenString e m le i = string_within m le i
         own _ e m le i = cc
 
-  longest_on : (f : StretchForm) (n : ℕ) → Longest t f n → IsUnrefused (gives f (take n t)) → Longest (t ++ v) f n
-  longest_on forms.Layout n l unrefused = layout_on n l
-  longest_on forms.SharpComment n l unrefused = sharp_on n l
-  longest_on forms.WordComment n l unrefused = comment_on n l
-  longest_on forms.OpenComment n l unrefused = absurd unrefused
-  longest_on forms.Word n l unrefused = word_on n l (no_opener (take n t) unrefused)
-  longest_on forms.Tag n l unrefused = tag_on n l
-  longest_on forms.Number n l unrefused = number_on n l
-  longest_on forms.Quoted n l unrefused = quoted_on n l
-  longest_on forms.OpenString n l unrefused = absurd unrefused
-  longest_on forms.Mark n l unrefused = mark_on n l
+  longest_on : (long : Bool) (f : StretchForm) (n : ℕ) → Longest t f n → IsUnrefused (gives long f (take n t)) → Longest (t ++ v) f n
+  longest_on long forms.Layout n l unrefused = layout_on n l
+  longest_on long forms.SharpComment n l unrefused = sharp_on n l
+  longest_on long forms.WordComment n l unrefused = comment_on n l
+  longest_on long forms.OpenComment n l unrefused = absurd unrefused
+  longest_on long forms.Word n l unrefused = word_on n l (no_opener (take n t) unrefused)
+  longest_on long forms.Tag n l unrefused = tag_on n l
+  longest_on long forms.Number n l unrefused = number_on n l
+  longest_on long forms.Quoted n l unrefused = quoted_on n l
+  longest_on long forms.OpenString n l unrefused = absurd unrefused
+  longest_on long forms.Mark n l unrefused = mark_on n l
 
 -- what is cut from the front of a text is cut there too before what the text adjoins
-pub front_on : {t v : List ℕ} {g : Given} {n : ℕ} → Adjoins t v → IsUnrefused g → Front t g n → Front (t ++ v) g n
+pub front_on : {long : Bool} {t v : List ℕ} {g : Given} {n : ℕ} → Adjoins t v → IsUnrefused g → Front long t g n → Front long (t ++ v) g n
 front_on adjoins unrefused (front_none some none) = absurd unrefused
-front_on {t} {v} adjoins unrefused (front_is {f = f} {n = n} l e) =
+front_on {long} {t} {v} adjoins unrefused (front_is {f = f} {n = n} l e) =
     let some : 0 < length t = omega (arith, l.within, is_some f t n l.is) in
-    front_is (longest_on t v some (set_apart t v some adjoins) f n l (subst IsUnrefused (sym e) unrefused)) (ap (gives f) (take-append-le n t v l.within) ∙ e)
+    front_is (longest_on t v some (set_apart t v some adjoins) long f n l (subst IsUnrefused (sym e) unrefused)) (ap (gives long f) (take-append-le n t v l.within) ∙ e)
 
-pub front_within : {t : List ℕ} {g : Given} {n : ℕ} → IsUnrefused g → Front t g n → n ≤ length t
+pub front_within : {long : Bool} {t : List ℕ} {g : Given} {n : ℕ} → IsUnrefused g → Front long t g n → n ≤ length t
 front_within unrefused (front_none some none) = absurd unrefused
 front_within unrefused (front_is l e) = l.within

@@ -1,5 +1,5 @@
 -- What stands in front of a program has symbols, and is not long.
-use Rattle.std.proofs.Common.{◌≡◌, ℕ, suc, rules, ◌+◌, ◌*◌, ◌<◌, ◌≤◌, ◌^◌, Bool, true, false, ◌&&◌, ◌||◌, nat_eq, nat_le, nat_lt, List, [], ◌∷◌, ◌++◌, length, slice_index, codes, if◌then◌else◌, refl, sym, ap, subst, ◌∙◌, arith, append_assoc}
+use Rattle.std.proofs.Common.{◌≡◌, ℕ, suc, rules, ◌+◌, ◌*◌, ◌<◌, ◌≤◌, ◌^◌, Bool, true, false, ◌&&◌, nat_eq, nat_lt, List, [], ◌∷◌, ◌++◌, length, slice_index, codes, if◌then◌else◌, refl, sym, ap, subst, ◌∙◌, arith, append_assoc}
 use Rattle.std.specs.Fmt.{decimal}
 use Rattle.std.specs.List.{list_all}
 use Rattle.std.specs.Option.{is_some}
@@ -12,14 +12,10 @@ use Rattle.a68_denote.specs.Numbers.{int_in, digit_of, are_digits, value_of}
 use Rattle.a68_denote.specs.Strings.{StandFor}
 use Rattle.a68_input.proofs.Quoting.{stands_for}
 use Rattle.a68_input.proofs.Tokens.{IsNumeral, Token, blank, word, tag, mark, numeral, string, text_of, count_of, all_fit, AllStand, all_stand, cut_tokens, text-append, count-append}
-use Rattle.a68_input.specs.Joining.{doubled, quoted, unsigned, is_number, number_piece, line_piece, line_pieces, head_piece, tail_piece, prelude}
+use Rattle.a68_input.specs.Joining.{doubled, quoted, is_number, number_piece, line_piece, line_pieces, head_piece, tail_piece, prelude}
 use Rattle.a68_input.specs.Lines.{HasNoFeed, HaveNoFeed, KeepLimits, bytes_in}
-use Rattle.a68_input.specs.Symbols.{HasFront, PreludesHaveSymbols}
-use Rattle.a68_symbols.specs.declared.form.Given.TheVariants.{Symbol}
-use Rattle.a68_symbols.specs.declared.symbol.SymbolKind.TheVariants as kinds
+use Rattle.a68_input.specs.Symbols.{PreludesHaveSymbols}
 use Rattle.a68_symbols.specs.Bytes.{is_digit, ends_tag}
-use Rattle.a68_symbols.specs.Gives.{number_gives}
-use Rattle.a68_symbols.specs.Limits.{most_bytes, most_symbols}
 use Rattle.a68_symbols.specs.Symbols.{IsCut}
 
 -- ---- numbers
@@ -278,6 +274,6 @@ preludes_have_symbols lines k =
     let cut = cut_tokens r.tokens 0 0 r.stand (omega (arith, r.few, most)) in
     record {
       front = cut.pieces;
-      has = (omega (arith, prelude_long lines k), subst (λ (l : List ℕ). IsCut 0 0 l cut.pieces) r.text_is cut.is);
+      has = (omega (arith, prelude_long lines k), subst (λ (l : List ℕ). IsCut false 0 0 l cut.pieces) r.text_is cut.is);
       few = fewer (length cut.pieces) (count_of r.tokens) (length lines) cut.many r.few;
     }

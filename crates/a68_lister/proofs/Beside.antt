@@ -6,7 +6,7 @@ use Rattle.a68_symbols.specs.declared.sym.Token.TheVariants as t
 use Rattle.a68_symbols.specs.declared.sym.Sym.{Sym}
 use Rattle.a68_symbols.specs.declared.sym.Sym.TheVariants.{Is}
 use Rattle.a68_tree.specs.Forest.{Forest, mark, forget, joined, spells}
-use Rattle.a68_tree.specs.Grammar.{IsAt, IsBound, IsBounds, IsBy, IsChoices, IsDeclaration, IsDeclared, IsDeclarer, IsDeclarers, IsDefinitions, IsElse, IsElseBrief, IsEnclosed, IsEnquiry, IsFor, IsFrom, IsIdentities, IsIndex, IsIndexes, IsModes, IsMonadic, IsOperands, IsOps, IsOut, IsOutBrief, IsOutC, IsOutCBrief, IsParams, IsPlain, IsPlan, IsPlanned, IsPrimary, IsPriorities, IsProcs, IsResult, IsRoutine, IsSecondary, IsSerial, IsSign, IsSpec, IsTags, IsTertiary, IsTo, IsTrimmer, IsUnit, IsUnits, IsUnits2, IsVariable, IsVariables, IsWhile, IsYield, and_then, assignation, at_, bound_both, bound_colon, bound_more, bound_none, bound_one, bound_upper, by_, call, case_, case_brief, cast, cast_void, choice_more, choice_one, closed, collateral, conditional, conditional_brief, conformity, conformity_brief, declared, declarer_more, declarer_one, denotation, dyadic, elif, elif_b, else_, else_b, enclosed, enquiry_declaration, enquiry_one, enquiry_unit, flex, for_, from_, generator_heap, generator_loc, heap_variables, identities, identity_is, identity_isnt, identity_more, identity_one, index_at, index_colon, index_from, index_more, index_one, index_unit, joined_, loc_variables, loop, mode_, mode_more, mode_one, mode_word, monadic, monadic_minus, monadic_other, monadic_plus, nil, no_at, no_by, no_else, no_else_b, no_for, no_from, no_out, no_outbrief, no_outc, no_outcbrief, no_to, no_while, op_, op_more, op_one, op_plan, operand_last, operand_next, operand_sign, out_again, out_serial, outbrief_again, outbrief_serial, outc_again, outc_serial, outcbrief_again, outcbrief_serial, parallel, params, plain, plain_int, plain_other, plan_one, plan_two, planned_more, planned_one, primary, prio_, prio_more, prio_one, proc, proc_params, proc_variables, procs, procs_more, procs_one, ref, result, result_void, routine, routine_params, routine_plain, rows, secondary, selection, serial_declaration, serial_one, serial_unit, sign_at_least, sign_at_most, sign_differs, sign_equals, sign_greater, sign_less, sign_monadic, sign_other, sign_times, single, skip, slice, spec, spec_tag, struct_, tag, tags_end, tags_more, tags_next, tertiary, to_, trimmer_open, trimmer_upper, two, union_, unit_more, unit_one, vacuum, variable, variable_more, variable_one, variable_set, variables, while_, yield_, yield_void}
+use Rattle.a68_tree.specs.Grammar.{IsAt, IsBound, IsBounds, IsBy, IsChoices, IsDeclaration, IsDeclared, IsDeclarer, IsDeclarers, IsDefinitions, IsElse, IsElseBrief, IsEnclosed, IsEnquiry, IsFor, IsFrom, IsIdentities, IsIndex, IsIndexes, IsModes, IsMonadic, IsOperands, IsOps, IsOut, IsOutBrief, IsOutC, IsOutCBrief, IsParams, IsPlain, IsPlan, IsPlanned, IsPrimary, IsPriorities, IsProcs, IsResult, IsRoutine, IsSecondary, IsSerial, IsSign, IsSpec, IsTags, IsTertiary, IsTo, IsTrimmer, IsUnit, IsUnits, IsUnits2, IsVariable, IsVariables, IsWhile, IsYield, and_then, assignation, at_, bound_both, bound_colon, bound_more, bound_none, bound_one, bound_upper, by_, call, case_, case_brief, cast, cast_void, choice_more, choice_one, closed, collateral, conditional, conditional_brief, conformity, conformity_brief, declared, declarer_more, declarer_one, denotation, dyadic, elif, elif_b, else_, else_b, enclosed, enquiry_declaration, enquiry_one, enquiry_unit, flex, for_, from_, generator_heap, generator_loc, heap_variables, identities, identity_is, identity_isnt, identity_more, identity_one, index_at, index_colon, index_from, index_more, index_one, index_unit, joined_, loc_variables, long_denotation, long_int, loop, mode_, mode_more, mode_one, mode_word, monadic, monadic_minus, monadic_other, monadic_plus, nil, no_at, no_by, no_else, no_else_b, no_for, no_from, no_out, no_outbrief, no_outc, no_outcbrief, no_to, no_while, op_, op_more, op_one, op_plan, operand_last, operand_next, operand_sign, out_again, out_serial, outbrief_again, outbrief_serial, outc_again, outc_serial, outcbrief_again, outcbrief_serial, parallel, params, plain, plain_int, plain_other, plan_one, plan_two, planned_more, planned_one, primary, prio_, prio_more, prio_one, proc, proc_params, proc_variables, procs, procs_more, procs_one, ref, result, result_void, routine, routine_params, routine_plain, rows, secondary, selection, serial_declaration, serial_one, serial_unit, sign_at_least, sign_at_most, sign_differs, sign_equals, sign_greater, sign_less, sign_monadic, sign_other, sign_times, single, skip, slice, spec, spec_tag, struct_, tag, tags_end, tags_more, tags_next, tertiary, to_, trimmer_open, trimmer_upper, two, union_, unit_more, unit_one, vacuum, variable, variable_more, variable_one, variable_set, variables, while_, yield_, yield_void}
 use Rattle.a68_tree.proofs.Joining.{spells_joined}
 
 -- a tag or a number
@@ -197,6 +197,7 @@ mutual
   primary_fine (cast_void u) r x = (refl, enclosed_fine u r (any false r x))
   primary_fine tag r x = (refl, x)
   primary_fine (denotation {d = s} d) r x = (refl, any (goes (Is s)) r x)
+  primary_fine (long_denotation {d = s} d) r x = (refl, (refl, any (goes (Is s)) r x))
   primary_fine (enclosed u) r x = enclosed_fine u r (any false r x)
 
   indexes_fine : {f : Forest} → IsIndexes f → (r : List Sym) → Fine true r → Fine false (spells f r)
@@ -219,6 +220,7 @@ mutual
 
   declarer_fine : {f : Forest} → IsDeclarer f → (r : List Sym) → Fine false r → Fine false (spells f r)
   declarer_fine (plain {s = o} s) r x = lone false (Is o) r (plain_out s) x
+  declarer_fine long_int r x = lone false (Is t.Long) (Is t.Int ∷ r) refl (lone false (Is t.Int) r refl x)
   declarer_fine mode_word r x = (refl, x)
   declarer_fine (ref d) r x = (refl, declarer_fine d r x)
   declarer_fine (rows f d) r x = (refl, bounds_fine f _ (refl, declarer_fine d r x))

@@ -22,18 +22,18 @@ use Rattle.a68_symbols.proofs.Starts.{start_of, longest_of, begins, Begins, at_m
 
 -- ---- layout
 
-front_layout : (c : ℕ) (t : List ℕ) → is_layout c ≡ true → Front (c ∷ t) Nothing 1
+front_layout : {long : Bool} (c : ℕ) (t : List ℕ) → is_layout c ≡ true → Front long (c ∷ t) Nothing 1
 front_layout c t lay = front_is (longest_of forms.Layout (c ∷ t) 1 (refl, lay) (omega arith) own) refl
   where
     own : (g : StretchForm) → start_of g ≡ start_of forms.Layout → (m : ℕ) → m ≤ length (c ∷ t) → Is g (c ∷ t) m → m ≤ 1
     own forms.Layout e m le i = omega (arith, i.0)
     own _ e m le i = cc
 
-pub cut_layout : (g t : List ℕ) (at count : ℕ) (more : List Piece) → Passes is_layout g → IsCut (at + length g) count t more → IsCut at count (g ++ t) more
-cut_layout [] t at count more all cut = let e : at + 0 ≡ at = omega arith in subst (λ (k : ℕ). IsCut k count t more) e cut
-cut_layout (b ∷ g) t at count more all cut =
+pub cut_layout : {long : Bool} (g t : List ℕ) (at count : ℕ) (more : List Piece) → Passes is_layout g → IsCut long (at + length g) count t more → IsCut long at count (g ++ t) more
+cut_layout {long} [] t at count more all cut = let e : at + 0 ≡ at = omega arith in subst (λ (k : ℕ). IsCut long k count t more) e cut
+cut_layout {long} (b ∷ g) t at count more all cut =
     let e : at + suc (length g) ≡ at + 1 + length g = omega arith in
-    cut_passed (front_layout b (g ++ t) all.0) (cut_layout g t (at + 1) count more all.1 (subst (λ (k : ℕ). IsCut k count t more) e cut))
+    cut_passed (front_layout b (g ++ t) all.0) (cut_layout g t (at + 1) count more all.1 (subst (λ (k : ℕ). IsCut long k count t more) e cut))
 
 blanks_pass : (n : ℕ) → Passes is_layout (blanks n)
 blanks_pass zero = tt
@@ -104,7 +104,7 @@ mark_some (b ∷ s) e = omega arith
 quoted_some : (s : List ℕ) → IsQuoted s → (0 < length s) × (in_tag (slice_index s 0) ≡ false)
 quoted_some s q = rw q.1.spelled (omega arith, refl)
 
-pub stops_symbol : {kind : SymbolKind} {s : List ℕ} → Spells kind s → goes_on kind ≡ false → (u : List ℕ) → StopsIn (s ++ u)
+pub stops_symbol : {long : Bool} {kind : SymbolKind} {s : List ℕ} → Spells long kind s → goes_on kind ≡ false → (u : List ℕ) → StopsIn (s ++ u)
 stops_symbol {s = s} (spells_word r w e) out u = head_out s u r.some (capital_out (slice_index s 0) r.begins)
 stops_symbol (spells_tag r w) out u = cc
 stops_symbol (spells_number r w e) out u = cc
@@ -114,7 +114,7 @@ stops_symbol {s = s} (spells_mark e w) out u =
     let whole : is_mark (take (length s) s) ≡ true = subst (λ (x : List ℕ). is_mark x ≡ true) (sym (take-length s)) e in
     head_out s u (mark_some s e) (mark_out (slice_index s 0) (begins forms.Mark s (length s) whole))
 
-pub spells_some : {kind : SymbolKind} {s : List ℕ} → Spells kind s → 0 < length s
+pub spells_some : {long : Bool} {kind : SymbolKind} {s : List ℕ} → Spells long kind s → 0 < length s
 spells_some (spells_word r w e) = r.some
 spells_some (spells_tag r w) = r.some
 spells_some (spells_number r w e) = r.some

@@ -1,11 +1,11 @@
 -- A text that is laid out anew has the symbols that it had.
-use Rattle.std.proofs.Common.{◌≡◌, ℕ, zero, suc, ◌+◌, ◌-◌, ◌<◌, ◌≤◌, List, [], ◌∷◌, ◌++◌, Some, None, length, take, drop, map, refl, sym, ap, subst, ◌∙◌, arith}
+use Rattle.std.proofs.Common.{◌≡◌, ℕ, zero, suc, ◌+◌, ◌-◌, ◌<◌, ◌≤◌, Bool, false, List, [], ◌∷◌, ◌++◌, Some, None, length, take, drop, map, refl, sym, ap, subst, ◌∙◌, arith}
 use Rattle.std.specs.Prelude.{slice_get}
 use Rattle.std.proofs.lemmas.List.{drop-drop}
 use Rattle.std.proofs.Math.Seq.{drop-append_seam, take-append_seam}
 use Rattle.a68_base.specs.declared.refusal.Rule.{Rule}
 use Rattle.a68_lister.proofs.Laid.{EachSpells, bytes_in, kinds_of, pieces_from, cut_laid}
-use Rattle.a68_lister.proofs.Standing.{Spells, spells, spells_word, spells_tag, spells_number, spells_bits, spells_quoted, spells_mark}
+use Rattle.a68_lister.proofs.Standing.{Spells, spells, long_spelled, spells_word, spells_tag, spells_number, spells_bits, spells_quoted, spells_mark}
 use Rattle.a68_lister.specs.Layout.{gap, laid_out, listed, depth_behind, bytes_of, spelling_in, spellings_in}
 use Rattle.a68_lister.specs.Parting.{Parted, kinds_in}
 use Rattle.a68_lister.specs.Relists.{Relists, spelled_symbols}
@@ -14,6 +14,7 @@ use Rattle.a68_symbols.specs.declared.symbol.SymbolKind.{SymbolKind}
 use Rattle.a68_symbols.specs.Limits.{most_bytes, most_symbols}
 use Rattle.a68_symbols.specs.Names.{Named, Spelled, AreNamed, spelled_in, spelling_of, stretch_of}
 use Rattle.a68_symbols.specs.Symbols.{Piece, piece_of, IsCut, cut_ended, cut_passed, cut_taken, HasSymbols, IsRefused, too_long, stopped, SymbolsAre}
+use Rattle.a68_symbols.specs.Words.{is_long}
 use Rattle.a68_symbols.proofs.Cutting.{one_list, not_both}
 
 -- ---- the spellings of a text's symbols
@@ -38,17 +39,21 @@ list_long found [] = refl
 list_long found (s ∷ ss) = ap (λ (n : ℕ). suc n) (list_long found ss)
 
 -- each piece of a text spells its kind
-abbrev EachStands : List ℕ → List Piece → Type 0
-EachStands text [] = Unit {0}
-EachStands text (p ∷ ps) = Spells p.kind (spelling_of p.kind (stretch_of text p.span)) × EachStands text ps
+abbrev EachStands : List ℕ → Bool → List Piece → Type 0
+EachStands text long [] = Unit {0}
+EachStands text long (p ∷ ps) =
+    Spells long p.kind (spelling_of p.kind (stretch_of text p.span)) × EachStands text (is_long p.kind (spelling_of p.kind (stretch_of text p.span))) ps
 
-all_stand : (text : List ℕ) {at before : ℕ} {t : List ℕ} {ps : List Piece} → IsCut at before t ps → t ≡ drop at text → EachStands text ps
+all_stand : (text : List ℕ) {long : Bool} {at before : ℕ} {t : List ℕ} {ps : List Piece} → IsCut long at before t ps → t ≡ drop at text → EachStands text long ps
 all_stand text cut_ended e = tt
 all_stand text (cut_passed {at = at} {n = n} front cut) e = all_stand text cut (ap (λ (l : List ℕ). drop n l) e ∙ drop-drop n at text)
-all_stand text (cut_taken {at = at} {n = n} {text = t} {kind = kind} front room cut) e =
+all_stand text (cut_taken {long = long} {at = at} {n = n} {text = t} {kind = kind} {more = more} front room cut) e =
     let same : at + n - at ≡ n = omega arith in
     let stretch : take n t ≡ take (at + n - at) (drop at text) = ap (λ (l : List ℕ). take n l) e ∙ sym (ap (λ (k : ℕ). take k (drop at text)) same) in
-    (subst (λ (l : List ℕ). Spells kind (spelling_of kind l)) stretch (spells front), all_stand text cut (ap (λ (l : List ℕ). drop n l) e ∙ drop-drop n at text))
+    let same_long : is_long kind (take n t) ≡ is_long kind (spelling_of kind (take (at + n - at) (drop at text))) =
+    long_spelled long t n kind front ∙ ap (λ (l : List ℕ). is_long kind (spelling_of kind l)) stretch in
+    let later = all_stand text cut (ap (λ (l : List ℕ). drop n l) e ∙ drop-drop n at text) in
+    (subst (λ (l : List ℕ). Spells long kind (spelling_of kind l)) stretch (spells front), subst (λ (x : Bool). EachStands text x more) same_long later)
 
 abbrev OwnFrom : List ℕ → Named → List Symbol → Type 0
 OwnFrom text found ss = (i : ℕ) (s : Symbol) → slice_get ss i ≡ Some s → slice_get found.spellings s.name ≡ Some (spelled_in text s)
@@ -56,10 +61,12 @@ OwnFrom text found ss = (i : ℕ) (s : Symbol) → slice_get ss i ≡ Some s →
 own_bytes : (text : List ℕ) (found : Named) (s : Symbol) → slice_get found.spellings s.name ≡ Some (spelled_in text s) → spelling_in found s ≡ spelling_of s.kind (stretch_of text s.span)
 own_bytes text found s e = ap bytes_of e
 
-each_spells : (text : List ℕ) (found : Named) (ss : List Symbol) → OwnFrom text found ss → EachStands text (map piece_of ss) → EachSpells (spelled_list found ss)
-each_spells text found [] own stand = tt
-each_spells text found (s ∷ ss) own stand =
-    (subst (λ (l : List ℕ). Spells s.kind l) (sym (own_bytes text found s (own 0 s refl))) stand.0, each_spells text found ss (λ i r e. own (suc i) r e) stand.1)
+each_spells : (text : List ℕ) (found : Named) (long : Bool) (ss : List Symbol) → OwnFrom text found ss → EachStands text long (map piece_of ss) → EachSpells long (spelled_list found ss)
+each_spells text found long [] own stand = tt
+each_spells text found long (s ∷ ss) own stand =
+    let bytes = sym (own_bytes text found s (own 0 s refl)) in
+    let later = subst (λ (l : List ℕ). EachStands text (is_long s.kind l) (map piece_of ss)) bytes stand.1 in
+    (subst (λ (l : List ℕ). Spells long s.kind l) bytes stand.0, each_spells text found (is_long s.kind (spelling_in found s)) ss (λ i r e. own (suc i) r e) later)
 
 -- ---- where they stand in the listing
 
@@ -86,7 +93,7 @@ record Moved (text : List ℕ) (found : Named) (new old : Symbol) : Type 0 where
   name : new.name ≡ old.name
   same : spelled_in text new ≡ spelled found old
 
-alone : {kind : SymbolKind} {s : List ℕ} → Spells kind s → spelling_of kind s ≡ s
+alone : {long : Bool} {kind : SymbolKind} {s : List ℕ} → Spells long kind s → spelling_of kind s ≡ s
 alone (spells_word r w e) = w
 alone (spells_tag r w) = w
 alone (spells_number r w e) = w
@@ -95,7 +102,7 @@ alone (spells_quoted q) = refl
 alone (spells_mark e w) = w
 
 -- a piece of the listing is its spelling
-piece_spelled : (text : List ℕ) (at : ℕ) (b rest : List ℕ) (kind : SymbolKind) → drop at text ≡ b ++ rest → Spells kind b
+piece_spelled : {long : Bool} (text : List ℕ) (at : ℕ) (b rest : List ℕ) (kind : SymbolKind) → drop at text ≡ b ++ rest → Spells long kind b
     → spelling_of kind (stretch_of text (record { from = at; to = at + length b })) ≡ b
 piece_spelled text at b rest kind e spells =
     let same : at + length b - at ≡ length b = omega arith in
@@ -106,10 +113,10 @@ piece_spelled text at b rest kind e spells =
 behind_gap : (text : List ℕ) (at : ℕ) (g rest : List ℕ) → drop at text ≡ g ++ rest → drop (at + length g) text ≡ rest
 behind_gap text at g rest e = sym (drop-drop (length g) at text) ∙ ap (λ (l : List ℕ). drop (length g) l) e ∙ drop-append_seam g rest
 
-old_of : (text : List ℕ) (found : Named) (ss : List Symbol) (at : ℕ) (before : List ℕ) (depth : ℕ) → drop at text ≡ laid_out before depth (bytes_in (spelled_list found ss)) → EachSpells (spelled_list found ss)
+old_of : (text : List ℕ) (found : Named) (long : Bool) (ss : List Symbol) (at : ℕ) (before : List ℕ) (depth : ℕ) → drop at text ≡ laid_out before depth (bytes_in (spelled_list found ss)) → EachSpells long (spelled_list found ss)
     → (i : ℕ) (new : Symbol) → slice_get (moved found at before depth ss) i ≡ Some new → (old : Symbol) × (slice_get ss i ≡ Some old) × Moved text found new old
-old_of text found [] at before depth e each i new there = absurd (let f : None ≡ Some new = there in cc f)
-old_of text found (s ∷ ss) at before depth e each zero new there =
+old_of text found long [] at before depth e each i new there = absurd (let f : None ≡ Some new = there in cc f)
+old_of text found long (s ∷ ss) at before depth e each zero new there =
     let b : List ℕ = spelling_in found s in
     let g : List ℕ = gap before depth b in
     let rest : List ℕ = laid_out b (depth_behind depth b) (bytes_in (spelled_list found ss)) in
@@ -118,11 +125,11 @@ old_of text found (s ∷ ss) at before depth e each zero new there =
     let here : spelled_in text (record { kind = s.kind; span = record { from = at + length g; to = at + length g + length b }; name = s.name }) ≡ spelled found s =
     ap {A = List ℕ} {B = Spelled} (λ (l : List ℕ). record { kind = s.kind; bytes = l }) (piece_spelled text (at + length g) b rest s.kind (behind_gap text at g (b ++ rest) e) each.0) in
     (s, refl, subst (λ (x : Symbol). Moved text found x s) is (record { name = refl; same = here }))
-old_of text found (s ∷ ss) at before depth e each (suc i) new there =
+old_of text found long (s ∷ ss) at before depth e each (suc i) new there =
     let b : List ℕ = spelling_in found s in
     let g : List ℕ = gap before depth b in
     let rest : List ℕ = laid_out b (depth_behind depth b) (bytes_in (spelled_list found ss)) in
-    old_of text found ss (at + length g + length b) b (depth_behind depth b) (behind_gap text (at + length g) b rest (behind_gap text at g (b ++ rest) e)) each.1 i new there
+    old_of text found (is_long s.kind b) ss (at + length g + length b) b (depth_behind depth b) (behind_gap text (at + length g) b rest (behind_gap text at g (b ++ rest) e)) each.1 i new there
 
 new_of : (found : Named) (ss : List Symbol) (at : ℕ) (before : List ℕ) (depth : ℕ) (i : ℕ) (old : Symbol) → slice_get ss i ≡ Some old
     → (new : Symbol) × (slice_get (moved found at before depth ss) i ≡ Some new) × (new.name ≡ old.name)
@@ -161,8 +168,8 @@ module _ (text : List ℕ) (found : Named) (has : HasSymbols text (map piece_of 
   again : Named
   again = record { symbols = moved found 0 [] 0 found.symbols; spellings = found.spellings }
 
-  each : EachSpells (spelled_list found found.symbols)
-  each = each_spells text found found.symbols (λ i s e. names.own i s e) (all_stand text has.1 refl)
+  each : EachSpells false (spelled_list found found.symbols)
+  each = each_spells text found false found.symbols (λ i s e. names.own i s e) (all_stand text has.1 refl)
 
   laid : laid_out [] 0 (bytes_in (spelled_list found found.symbols)) ≡ listed (spellings_in found)
   laid = ap (λ (l : List (List ℕ)). laid_out [] 0 l) (bytes_map found found.symbols)
@@ -170,13 +177,13 @@ module _ (text : List ℕ) (found : Named) (has : HasSymbols text (map piece_of 
   parts : Parted (kinds_of (spelled_list found found.symbols))
   parts = subst (λ (l : List SymbolKind). Parted l) (sym (kinds_map found found.symbols)) parted
 
-  cut : IsCut 0 0 (listed (spellings_in found)) (map piece_of (moved found 0 [] 0 found.symbols))
+  cut : IsCut false 0 0 (listed (spellings_in found)) (map piece_of (moved found 0 [] 0 found.symbols))
   cut =
       let room : 0 + length (spelled_list found found.symbols) ≤ most_symbols = omega (arith, list_long found found.symbols, few) in
-      let made : IsCut 0 0 (laid_out [] 0 (bytes_in (spelled_list found found.symbols))) (pieces_from 0 [] 0 (spelled_list found found.symbols)) =
-      cut_laid (spelled_list found found.symbols) [] 0 0 0 each parts room in
-      subst (λ (l : List Piece). IsCut 0 0 (listed (spellings_in found)) l) (sym (moved_pieces found 0 [] 0 found.symbols))
-      (subst (λ (l : List ℕ). IsCut 0 0 l (pieces_from 0 [] 0 (spelled_list found found.symbols))) laid made)
+      let made : IsCut false 0 0 (laid_out [] 0 (bytes_in (spelled_list found found.symbols))) (pieces_from 0 [] 0 (spelled_list found found.symbols)) =
+      cut_laid false (spelled_list found found.symbols) [] 0 0 0 each parts room in
+      subst (λ (l : List Piece). IsCut false 0 0 (listed (spellings_in found)) l) (sym (moved_pieces found 0 [] 0 found.symbols))
+      (subst (λ (l : List ℕ). IsCut false 0 0 l (pieces_from 0 [] 0 (spelled_list found found.symbols))) laid made)
 
   symbols_are : SymbolsAre (listed (spellings_in found)) (map piece_of (moved found 0 [] 0 found.symbols))
   symbols_are = record {
@@ -190,7 +197,7 @@ module _ (text : List ℕ) (found : Named) (has : HasSymbols text (map piece_of 
       by rule place (stopped le stops) = not_both stops cut
 
   old : (i : ℕ) (new : Symbol) → slice_get (moved found 0 [] 0 found.symbols) i ≡ Some new → (o : Symbol) × (slice_get found.symbols i ≡ Some o) × Moved (listed (spellings_in found)) found new o
-  old i new there = old_of (listed (spellings_in found)) found found.symbols 0 [] 0 (sym laid) each i new there
+  old i new there = old_of (listed (spellings_in found)) found false found.symbols 0 [] 0 (sym laid) each i new there
 
   own_spelled : (i : ℕ) (s : Symbol) → slice_get found.symbols i ≡ Some s → spelled found s ≡ spelled_in text s
   own_spelled i s there = ap {A = List ℕ} {B = Spelled} (λ (l : List ℕ). record { kind = s.kind; bytes = l }) (own_bytes text found s (names.own i s there))

@@ -53,7 +53,7 @@ parted found (s ∷ r ∷ ss) (c ∷ d ∷ classes) before long fine = (
   parted found (r ∷ ss) (d ∷ classes) (goes (with_class (sym_in found s) c)) (omega (arith, long)) fine.1,
 )
 
-cut_few : {at before : ℕ} {t : List ℕ} {ps : List Piece} → IsCut at before t ps → before ≤ most_symbols → before + length ps ≤ most_symbols
+cut_few : {long : Bool} {at before : ℕ} {t : List ℕ} {ps : List Piece} → IsCut long at before t ps → before ≤ most_symbols → before + length ps ≤ most_symbols
 cut_few cut_ended le = omega (arith, le)
 cut_few (cut_passed front cut) le = cut_few cut le
 cut_few (cut_taken {before = before} {more = more} front room cut) le =

@@ -102,6 +102,7 @@ first_enclosed (g.loop p) r = widen set.begins_loop set.begins_enclosed up_enclo
 pub first_declarer : {d : Forest} → IsDeclarer d → (r : List Sym) → Begins set.begins_declarer (spells d r)
 first_declarer (g.plain g.plain_int) r = here _ (Is t.Int) refl
 first_declarer (g.plain g.plain_other) r = here _ (Is t.Plain) refl
+first_declarer g.long_int r = here _ (Is t.Long) refl
 first_declarer g.mode_word r = here _ (Is t.ModeWord) refl
 first_declarer (g.ref d) r = here _ (Is t.Ref) refl
 first_declarer (g.rows l d) r = here _ (Opens b.Square) refl
@@ -129,6 +130,7 @@ first_primary (g.cast d e) r = widen set.begins_result set.begins_base result_ba
 first_primary (g.cast_void e) r = here _ (Is t.Void) refl
 first_primary g.tag r = here _ (Is t.Tag) refl
 first_primary (g.denotation {d = d} p) r = here _ (Is d) (denotation_base (Is d) (first_denotation p))
+first_primary (g.long_denotation p) r = here _ (Is t.Long) refl
 first_primary (g.enclosed e) r = widen set.begins_enclosed set.begins_base up_base (first_enclosed e r)
 
 pub first_secondary : {k : NodeKind} {u : Forest} → IsSecondary k u → (r : List Sym) → Begins set.begins_secondary (spells u r)

@@ -6,7 +6,7 @@ use Rattle.a68_symbols.specs.declared.sym.Token.{Token}
 use Rattle.a68_symbols.specs.declared.sym.Token.TheVariants as t
 use Rattle.a68_symbols.specs.declared.sym.Sym.{Sym}
 use Rattle.a68_symbols.specs.declared.sym.Sym.TheVariants.{Opens, Closes, Is}
-use Rattle.a68_lookahead.specs.Ahead.{word, word_or_void, test, named, more, colon, bracket, closing, token, step, behind}
+use Rattle.a68_lookahead.specs.Ahead.{word, word_or_void, behind_long, test, named, more, colon, bracket, closing, token, step, behind}
 use Rattle.a68_lookahead.specs.declared.look.Due.{Due}
 use Rattle.a68_lookahead.specs.declared.look.Due.TheVariants as due
 use Rattle.a68_lookahead.specs.declared.look.Landmark.{Landmark}
@@ -33,6 +33,7 @@ Within n Missed = Unit {0}
 word_within : (s : Token) → Within 1 (word s)
 word_within t.Int = omega arith
 word_within t.Plain = omega arith
+word_within t.Long = omega arith
 word_within t.ModeWord = omega arith
 word_within t.Ref = omega arith
 word_within t.Flex = omega arith
@@ -44,6 +45,10 @@ word_within _ = tt
 word_or_void_within : (s : Token) → Within 1 (word_or_void s)
 word_or_void_within t.Void = omega arith
 word_or_void_within s = word_within s
+
+behind_long_within : (s : Token) → Within 1 (behind_long s)
+behind_long_within t.Int = omega arith
+behind_long_within _ = tt
 
 test_within : (sought : Landmark) (s : Token) → Within 1 (test sought s)
 test_within m.Colon t.Colon = tt
@@ -88,6 +93,7 @@ token_within sought due.Ended s = test_within sought s
 token_within sought due.Named s = named_within sought s
 token_within sought due.More s = more_within s
 token_within sought due.Colon s = colon_within s
+token_within sought due.Long s = behind_long_within s
 
 pub step_within : (sought : Landmark) (n : ℕ) (d : Due) (s : Sym) → Within (n + 1) (step sought n d s)
 step_within sought zero d (Opens o) = bracket_within d o

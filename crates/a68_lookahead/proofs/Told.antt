@@ -35,6 +35,7 @@ mutual
   pub behind_declarer : (sought : Landmark) → {d : Forest} → IsDeclarer d → (y : List Sym) → behind sought zero due.Declarer (spells d y) ≡ behind sought zero due.Ended y
   behind_declarer sought (g.plain g.plain_int) y = refl
   behind_declarer sought (g.plain g.plain_other) y = refl
+  behind_declarer sought g.long_int y = refl
   behind_declarer sought g.mode_word y = refl
   behind_declarer sought (g.ref d) y = behind_declarer sought d y
   behind_declarer sought (g.rows {f = f} {d = d} l i) y = behind_forest sought zero due.Declarer f (Closes b.Square ∷ spells d y) ∙ behind_declarer sought i y
@@ -47,6 +48,7 @@ mutual
   as_result : (sought : Landmark) → {d : Forest} → IsDeclarer d → (y : List Sym) → behind sought zero due.Result (spells d y) ≡ behind sought zero due.Ended y
   as_result sought (g.plain g.plain_int) y = refl
   as_result sought (g.plain g.plain_other) y = refl
+  as_result sought g.long_int y = refl
   as_result sought g.mode_word y = refl
   as_result sought (g.ref d) y = behind_declarer sought d y
   as_result sought (g.rows {f = f} {d = d} l i) y = behind_forest sought zero due.Declarer f (Closes b.Square ∷ spells d y) ∙ behind_declarer sought i y
@@ -59,6 +61,7 @@ mutual
   as_proc : (sought : Landmark) → {d : Forest} → IsDeclarer d → (y : List Sym) → behind sought zero due.Procedure (spells d y) ≡ behind sought zero due.Ended y
   as_proc sought (g.plain g.plain_int) y = refl
   as_proc sought (g.plain g.plain_other) y = refl
+  as_proc sought g.long_int y = refl
   as_proc sought g.mode_word y = refl
   as_proc sought (g.ref d) y = behind_declarer sought d y
   as_proc sought (g.rows {f = f} {d = d} l i) y = behind_forest sought zero due.Declarer f (Closes b.Square ∷ spells d y) ∙ behind_declarer sought i y
@@ -79,6 +82,7 @@ mutual
 ahead_declarer : {d : Forest} → IsDeclarer d → (y : List Sym) → routine_ahead (spells d y) ≡ behind m.Colon zero due.Result (spells d y)
 ahead_declarer (g.plain g.plain_int) y = refl
 ahead_declarer (g.plain g.plain_other) y = refl
+ahead_declarer g.long_int y = refl
 ahead_declarer g.mode_word y = refl
 ahead_declarer (g.ref d) y = refl
 ahead_declarer (g.rows l i) y = refl
@@ -95,6 +99,7 @@ result_seen (g.result_void i) r = refl
 declarer_more : (sought : Landmark) → {d : Forest} → IsDeclarer d → (y : List Sym) → behind sought zero due.More (spells d y) ≡ behind sought zero due.Declarer (spells d y)
 declarer_more sought (g.plain g.plain_int) y = refl
 declarer_more sought (g.plain g.plain_other) y = refl
+declarer_more sought g.long_int y = refl
 declarer_more sought g.mode_word y = refl
 declarer_more sought (g.ref d) y = refl
 declarer_more sought (g.rows l i) y = refl
@@ -235,6 +240,8 @@ primary_unlisted l (g.denotation g.denotation_bits) r = refl
 primary_unlisted l (g.denotation g.denotation_quoted) r = refl
 primary_unlisted l (g.denotation g.denotation_true) r = refl
 primary_unlisted l (g.denotation g.denotation_false) r = refl
+primary_unlisted l (g.long_denotation g.number_digit) r = refl
+primary_unlisted l (g.long_denotation g.number_other) r = refl
 primary_unlisted l (g.enclosed e) r = enclosed_unlisted _ e r
 
 secondary_unlisted : {sought : Landmark} → Lists sought → {k : NodeKind} {u : Forest} → IsSecondary k u → (r : List Sym) → behind sought zero due.Declarer (spells u r) ≡ false
@@ -398,6 +405,8 @@ primary_unseen (g.denotation g.denotation_bits) r = refl
 primary_unseen (g.denotation g.denotation_quoted) r = refl
 primary_unseen (g.denotation g.denotation_true) r = refl
 primary_unseen (g.denotation g.denotation_false) r = refl
+primary_unseen (g.long_denotation g.number_digit) r = refl
+primary_unseen (g.long_denotation g.number_other) r = refl
 primary_unseen (g.enclosed e) r = enclosed_unseen e r
 
 secondary_unseen : {k : NodeKind} {u : Forest} → IsSecondary k u → (r : List Sym) → routine_ahead (spells u r) ≡ false
@@ -438,6 +447,7 @@ variables_tag (g.variable_more (g.variable_set i) l) d p r = behind_declarer m.T
 proc_ahead : {d : Forest} → IsDeclarer d → (y : List Sym) → phrase_ahead (Is t.Proc ∷ spells d y) ≡ behind m.Tag zero due.Declarer (Is t.Proc ∷ spells d y)
 proc_ahead (g.plain g.plain_int) y = refl
 proc_ahead (g.plain g.plain_other) y = refl
+proc_ahead g.long_int y = refl
 proc_ahead g.mode_word y = refl
 proc_ahead (g.ref d) y = refl
 proc_ahead (g.rows l i) y = refl
@@ -450,6 +460,7 @@ proc_ahead (g.proc_params l q) y = refl
 pub plain_ahead : {d : Forest} → IsDeclarer d → (y : List Sym) → phrase_ahead (spells d y) ≡ behind m.Tag zero due.Declarer (spells d y)
 plain_ahead (g.plain g.plain_int) y = refl
 plain_ahead (g.plain g.plain_other) y = refl
+plain_ahead g.long_int y = refl
 plain_ahead g.mode_word y = refl
 plain_ahead (g.ref d) y = refl
 plain_ahead (g.rows l i) y = refl
@@ -522,6 +533,8 @@ primary_undeclared (g.denotation g.denotation_bits) r = refl
 primary_undeclared (g.denotation g.denotation_quoted) r = refl
 primary_undeclared (g.denotation g.denotation_true) r = refl
 primary_undeclared (g.denotation g.denotation_false) r = refl
+primary_undeclared (g.long_denotation g.number_digit) r = refl
+primary_undeclared (g.long_denotation g.number_other) r = refl
 primary_undeclared (g.enclosed e) r = (enclosed_no_tag e r).1
 
 secondary_undeclared : {k : NodeKind} {u : Forest} → IsSecondary k u → (r : List Sym) → behind m.Tag zero due.Ended r ≡ false → phrase_ahead (spells u r) ≡ false
@@ -611,6 +624,7 @@ enclosed_unspecced (g.loop p) r = for_unspecced p r
 pub declarer_unspecced : {d : Forest} → IsDeclarer d → (r : List Sym) → spec_ahead (spells d r) ≡ false
 declarer_unspecced (g.plain g.plain_int) r = refl
 declarer_unspecced (g.plain g.plain_other) r = refl
+declarer_unspecced g.long_int r = refl
 declarer_unspecced g.mode_word r = refl
 declarer_unspecced (g.ref d) r = refl
 declarer_unspecced (g.rows l i) r = refl
@@ -624,6 +638,7 @@ declarer_unspecced (g.proc_params l q) r = refl
 result_uncoloned : {f : Forest} → IsResult f → (r : List Sym) → behind m.Spec zero due.Colon (spells f r) ≡ false
 result_uncoloned (g.result (g.plain g.plain_int) i) r = refl
 result_uncoloned (g.result (g.plain g.plain_other) i) r = refl
+result_uncoloned (g.result g.long_int i) r = refl
 result_uncoloned (g.result g.mode_word i) r = refl
 result_uncoloned (g.result (g.ref d) i) r = refl
 result_uncoloned (g.result (g.rows l d) i) r = refl
@@ -649,6 +664,7 @@ primary_unspecced (g.cast d e) r = declarer_unspecced d _
 primary_unspecced (g.cast_void e) r = refl
 primary_unspecced g.tag r = refl
 primary_unspecced (g.denotation p) r = refl
+primary_unspecced (g.long_denotation p) r = refl
 primary_unspecced (g.enclosed e) r = enclosed_unspecced e r
 
 secondary_unspecced : {k : NodeKind} {u : Forest} → IsSecondary k u → (r : List Sym) → spec_ahead (spells u r) ≡ false
@@ -731,6 +747,7 @@ untagged_next (Is t.Skip) x e = absurd (false≢true e)
 untagged_next (Is t.Nil) x e = absurd (false≢true e)
 untagged_next (Is t.True) x e = absurd (false≢true e)
 untagged_next (Is t.False) x e = absurd (false≢true e)
+untagged_next (Is t.Long) x e = absurd (false≢true e)
 untagged_next (Is t.Int) x e = absurd (false≢true e)
 untagged_next (Is t.Plain) x e = absurd (false≢true e)
 untagged_next (Is t.Void) x e = absurd (false≢true e)

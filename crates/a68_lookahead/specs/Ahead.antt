@@ -18,6 +18,7 @@ use Rattle.a68_lookahead.specs.declared.look.Look.TheVariants.{Goes, Found, Miss
 abbrev pub word : Token → Look
 word t.Int = Goes 0 due.Ended
 word t.Plain = Goes 0 due.Ended
+word t.Long = Goes 0 due.Long
 word t.ModeWord = Goes 0 due.Ended
 word t.Ref = Goes 0 due.Declarer
 word t.Flex = Goes 0 due.Declarer
@@ -29,6 +30,11 @@ word t = Missed
 abbrev pub word_or_void : Token → Look
 word_or_void t.Void = Goes 0 due.Ended
 word_or_void t = word t
+
+-- the token behind LONG
+abbrev pub behind_long : Token → Look
+behind_long t.Int = Goes 0 due.Ended
+behind_long t = Missed
 
 -- the token behind a declarer
 abbrev pub test : Landmark → Token → Look
@@ -81,6 +87,7 @@ token sought due.Ended t = test sought t
 token sought due.Named t = named sought t
 token sought due.More t = more t
 token sought due.Colon t = colon t
+token sought due.Long t = behind_long t
 
 -- what one more symbol says, within so many brackets
 abbrev pub step : Landmark → ℕ → Due → Sym → Look

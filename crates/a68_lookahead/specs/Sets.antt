@@ -32,7 +32,7 @@ begins_enclosed s =
 
 abbrev pub begins_declarer : Sym → Bool
 begins_declarer s =
-    same s (Is t.Int) || (same s (Is t.Plain) || (same s (Is t.ModeWord) || (same s (Is t.Ref) || (same s (Opens b.Square) || (same s (Is t.Flex) || (same s (Is t.Struct) || (same s (Is t.Union) || same s (Is t.Proc))))))))
+    same s (Is t.Int) || (same s (Is t.Plain) || (same s (Is t.Long) || (same s (Is t.ModeWord) || (same s (Is t.Ref) || (same s (Opens b.Square) || (same s (Is t.Flex) || (same s (Is t.Struct) || (same s (Is t.Union) || same s (Is t.Proc)))))))))
 
 abbrev pub begins_denotation : Sym → Bool
 begins_denotation s =

@@ -45,7 +45,7 @@ is_plain text = starts_is t.Int text || starts_is t.Plain text
 -- a symbol with which declarers begin
 abbrev pub is_declarer : List Sym → Bool
 is_declarer text =
-    is_plain text || (starts_is t.ModeWord text || (starts_is t.Ref text || (starts_is t.Flex text || (starts_is t.Struct text || (starts_is t.Union text || (starts_is t.Proc text || starts (Opens b.Square) text))))))
+    is_plain text || (starts_is t.Long text || (starts_is t.ModeWord text || (starts_is t.Ref text || (starts_is t.Flex text || (starts_is t.Struct text || (starts_is t.Union text || (starts_is t.Proc text || starts (Opens b.Square) text)))))))
 
 -- a symbol that stands behind a place in square brackets
 abbrev pub ends_bound : List Sym → Bool

@@ -23,6 +23,8 @@ pub enum Due {
     More,
     /// The colon behind the brackets of a spec.
     Colon,
+    /// INT, behind LONG.
+    Long,
 }
 
 /// What is looked for.
@@ -52,6 +54,7 @@ fn word(token: Token) -> Look
 {
     match token {
         Token::Int | Token::Plain | Token::ModeWord => Look::Goes(0, Due::Ended),
+        Token::Long => Look::Goes(0, Due::Long),
         Token::Ref | Token::Flex => Look::Goes(0, Due::Declarer),
         Token::Struct | Token::Union => Look::Goes(0, Due::Fields),
         Token::Proc => Look::Goes(0, Due::Procedure),
@@ -66,6 +69,16 @@ fn word_or_void(token: Token) -> Look
     match token {
         Token::Void => Look::Goes(0, Due::Ended),
         _ => word(token),
+    }
+}
+
+// The token behind LONG: INT, which ends a declarer.
+fn behind_long(token: Token) -> Look
+    ensures { result ≡ spec.behind_long token }
+{
+    match token {
+        Token::Int => Look::Goes(0, Due::Ended),
+        _ => Look::Missed,
     }
 }
 
@@ -148,6 +161,7 @@ fn token(sought: Landmark, due: Due, token: Token) -> Look
         Due::Named => named(sought, token),
         Due::More => more(token),
         Due::Colon => colon(token),
+        Due::Long => behind_long(token),
     }
 }
 

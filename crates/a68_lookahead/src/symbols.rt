@@ -82,6 +82,7 @@ pub fn is_declarer(text: &[Sym]) -> bool
     ensures { result ≡ spec.is_declarer text.now }
 {
     is_plain(text)
+        || starts_is(text, Token::Long)
         || starts_is(text, Token::ModeWord)
         || starts_is(text, Token::Ref)
         || starts_is(text, Token::Flex)

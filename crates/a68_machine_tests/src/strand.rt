@@ -298,7 +298,7 @@ fn calls_no_other_value(rt: HostRuntime) {
     run(&rt, alloc, ops, "", "Kind at 1");
 }
 
-// A run over the standard modes and STRUCT (INT x, y), which is 13; REF 13 is 14.
+// A run over the standard modes and STRUCT (INT x, y), which is 15; REF 15 is 16.
 fn run_with_pair(rt: &impl Abort, alloc: Global, ops: &str, acts: &str, end: &str) {
     let modes = modes_with_pair(alloc).expect(rt, "modes");
     let code = code_over(alloc, modes, ops).expect(rt, "a code");
@@ -312,17 +312,17 @@ fn run_with_pair(rt: &impl Abort, alloc: Global, ops: &str, acts: &str, end: &st
 #[test]
 fn composes_and_selects(rt: HostRuntime) {
     let alloc = rt.alloc();
-    let first = "Push 7, Push 9, Compose 2, Select 13 0, Print 1, End";
+    let first = "Push 7, Push 9, Compose 2, Select 15 0, Print 1, End";
     let acts = "Print \"                  +7\" = Go";
     run_with_pair(&rt, alloc, first, acts, "End");
-    let second = "Push 7, Push 9, Compose 2, Select 13 1, Print 1, End";
+    let second = "Push 7, Push 9, Compose 2, Select 15 1, Print 1, End";
     let acts = "Print \"                  +9\" = Go";
     run_with_pair(&rt, alloc, second, acts, "End");
 }
 
 /// A structure of two cells is assigned and fetched, field by field; each cell is told to hold 5.
 const ASSIGNED: &str =
-    "Make 13 0, Push 7, Push 9, Compose 2, Store 13, Deref 13, Select 13 1, Print 1, End";
+    "Make 15 0, Push 7, Push 9, Compose 2, Store 15, Deref 15, Select 15 1, Print 1, End";
 
 const FIELDS: &str = "\
 Make 2 = Base
@@ -339,7 +339,7 @@ fn stores_and_fetches_structures(rt: HostRuntime) {
 }
 
 /// The name of the second field is that of the cell behind the first one.
-const NAMED: &str = "Make 13 0, Select 14 1, Deref 1, Print 1, End";
+const NAMED: &str = "Make 15 0, Select 16 1, Deref 1, Print 1, End";
 
 const FETCHED: &str = "\
 Make 2 = Base
@@ -359,22 +359,22 @@ fn selects_nothing_else(rt: HostRuntime) {
     run_with_pair(
         &rt,
         alloc,
-        "Push 5, Select 13 0, Drop, End",
+        "Push 5, Select 15 0, Drop, End",
         "",
         "Kind at 1",
     );
     run_with_pair(
         &rt,
         alloc,
-        "Skip 1, Select 14 0, Drop, End",
+        "Skip 1, Select 16 0, Drop, End",
         "",
         "Unset at 1",
     );
-    run_with_pair(&rt, alloc, "Nil, Select 14 0, Drop, End", "", "Nil at 1");
+    run_with_pair(&rt, alloc, "Nil, Select 16 0, Drop, End", "", "Nil at 1");
     run_with_pair(
         &rt,
         alloc,
-        "Skip 13, Select 13 2, Drop, End",
+        "Skip 15, Select 15 2, Drop, End",
         "",
         "Kind at 1",
     );

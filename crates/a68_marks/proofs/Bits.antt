@@ -2,14 +2,14 @@
 use Rattle.std.proofs.Common.{◌≡◌, ◌∙◌, ◌⊎◌, inl, inr, ℕ, zero, suc, ◌+◌, ◌-◌, ◌*◌, ◌/◌, ◌%◌, ◌^◌, ◌<◌, ◌≤◌, Bool, true, false, List, [], ◌∷◌, ◌++◌, length, refl, ap, sym, arith, get_or, nat_eq, true≢false, MatchBool}
 use Rattle.std.proofs.lemmas.Bool.{cases_eq}
 use Rattle.std.proofs.lemmas.List.{take_all}
-use Rattle.std.specs.Prelude.{◌==◌, ◌||◌, bit_or, slice_set, take, replicate, if◌then◌else◌}
+use Rattle.std.specs.Prelude.{◌==◌, ◌||◌, bit_and, bit_or, slice_set, take, replicate, if◌then◌else◌}
 use Rattle.std.proofs.lemmas.Bool.Decides.{nat_tests}
-use Rattle.std.specs.Int.{bit_at, w64, trailing_ones}
+use Rattle.std.specs.Int.{bit_at, bit_not, w64, trailing_ones}
 use Rattle.std.proofs.Math.Nat.{div-div-eq-div-mul}
 use Rattle.std.proofs.Common.{get_or-set_same, get_or-set_other}
 use Rattle.std.proofs.lemmas.Nat.{pow-add, shr_le}
-use Rattle.std.proofs.lemmas.Nat.Bits.{bit_at-trailing_ones, bit_at_above, bit_at_ones, bit_at-zero, bit_at_set_same, bit_at_set_other}
-use Rattle.a68_marks.specs.Marked.{AreFull, MarksAsWere, MarksToo, RunOfMarks, is_marked}
+use Rattle.std.proofs.lemmas.Nat.Bits.{bit_at-trailing_ones, bit_at_above, bit_at_ones, bit_at-zero, bit_at_set_same, bit_at_set_other, bit_at_clear_same, bit_at_clear_other}
+use Rattle.a68_marks.specs.Marked.{AreFull, MarksAsWere, MarksLess, MarksToo, RunOfMarks, is_marked}
 
 -- the bits of a word that is shifted
 shifted : (w r i : ℕ) → bit_at (w / 2 ^ r) i ≡ bit_at w (r + i)
@@ -117,6 +117,53 @@ module _ (words : List ℕ) (n : ℕ) (room : n / 64 < length words) where
       | inl f ↦ its-place k e f ∙ sym (ap (λ b. b || is_marked words k) (same-test n k (one-number n k e f)))
     ]
   ]
+
+-- ---- one number less
+
+module _ (words : List ℕ) (n : ℕ) (room : n / 64 < length words) where
+  abbrev less : ℕ
+  less = bit_and (get_or words (n / 64) 0) (bit_not w64 (1 * 2 ^ (n % 64) % 2 ^ 64))
+
+  abbrev words-less : List ℕ
+  words-less = slice_set words (n / 64) less
+
+  less-word : (k : ℕ) → k / 64 ≡ n / 64 → get_or words-less (k / 64) 0 ≡ less
+  less-word k e = ap (λ j. get_or words-less j 0) e ∙ get_or-set_same words (n / 64) less 0 room
+
+  kept-word : (k : ℕ) → (k / 64 ≡ n / 64 → ⊥) → is_marked words-less k ≡ is_marked words k
+  unfolding is_marked
+  kept-word k ne = ap (λ w. bit_at w (k % 64) == 1) (get_or-set_other words (n / 64) (k / 64) less 0 ne)
+
+  kept-place : (k : ℕ) → k / 64 ≡ n / 64 → (k % 64 ≡ n % 64 → ⊥) → is_marked words-less k ≡ is_marked words k
+  unfolding is_marked
+  kept-place k e ne =
+      ap (λ w. bit_at w (k % 64) == 1) (less-word k e) ∙ ap (λ b. b == 1) (bit_at_clear_other w64 (get_or words (n / 64) 0) (n % 64) (omega arith) (k % 64) (omega arith) ne)
+      ∙ ap (λ j. bit_at (get_or words j 0) (k % 64) == 1) (sym e)
+
+  less-place : (k : ℕ) → k / 64 ≡ n / 64 → k % 64 ≡ n % 64 → is_marked words-less k ≡ false
+  unfolding is_marked
+  less-place k e f = ap (λ w. bit_at w (k % 64) == 1) (less-word k e) ∙ ap (λ j. bit_at less j == 1) f ∙ ap (λ b. b == 1) (bit_at_clear_same w64 (get_or words (n / 64) 0) (n % 64) (omega arith))
+
+  pub set_less : MarksLess words n words-less
+  set_less k = elim (cases_eq (k / 64) (n / 64)) [
+    | inr ne ↦ kept-word k ne ∙ sym (ap (λ b. if b then false else is_marked words k) (other-test n k (λ e. ne (ap (λ j. j / 64) e))))
+    | inl e ↦ elim (cases_eq (k % 64) (n % 64)) [
+      | inr ne ↦ kept-place k e ne ∙ sym (ap (λ b. if b then false else is_marked words k) (other-test n k (λ q. ne (ap (λ j. j % 64) q))))
+      | inl f ↦ less-place k e f ∙ sym (ap (λ b. if b then false else is_marked words k) (same-test n k (one-number n k e f)))
+    ]
+  ]
+
+-- one that has no word is not in the set
+pub none_less : (words : List ℕ) (n : ℕ) → length words ≤ n / 64 → MarksLess words n words
+none_less words n h k = elim (cases_eq k n) [
+  | inl e ↦ ap (is_marked words) e ∙ beyond words n h ∙ sym (ap (λ b. if b then false else is_marked words k) (same-test n k e))
+  | inr ne ↦ sym (ap (λ b. if b then false else is_marked words k) (other-test n k ne))
+]
+
+-- the word that shows whether a number is in the set
+pub shows : (words : List ℕ) (n word : ℕ) → word ≡ get_or words (n / 64) 0 → nat_eq (word / 2 ^ (n % 64) % 2) 1 ≡ is_marked words n
+unfolding is_marked
+shows words n word e = ap (λ w. nat_eq (w / 2 ^ (n % 64) % 2) 1) e
 
 -- ---- words for more numbers
 

@@ -1,6 +1,6 @@
 -- Inner: the headline does not rest on this file.
 -- Sets of numbers.
-use Rattle.std.specs.Prelude.{◌≡◌, ◌<◌, ◌≤◌, ◌+◌, ◌*◌, ◌/◌, ◌%◌, ◌||◌, ◌==◌, ℕ, Bool, true, false, List, slice_index}
+use Rattle.std.specs.Prelude.{◌≡◌, ◌<◌, ◌≤◌, ◌+◌, ◌*◌, ◌/◌, ◌%◌, ◌||◌, ◌==◌, ℕ, Bool, true, false, List, slice_index, if◌then◌else◌}
 use Rattle.std.specs.Int.{bit_at}
 
 -- whether a number is in the set that has these words: each of them has a bit for 64 numbers
@@ -17,6 +17,10 @@ pub record FirstOther (words : List ℕ) (from to n : ℕ) : Type 0 where
 -- the set with one number more
 abbrev pub MarksToo : (old : List ℕ) → ℕ → (new : List ℕ) → Type 0
 MarksToo old n new = (k : ℕ) → is_marked new k ≡ ((k == n) || is_marked old k)
+
+-- the set without this number
+abbrev pub MarksLess : (old : List ℕ) → ℕ → (new : List ℕ) → Type 0
+MarksLess old n new = (k : ℕ) → is_marked new k ≡ (if k == n then false else is_marked old k)
 
 -- the same set
 abbrev pub MarksAsWere : (old new : List ℕ) → Type 0

@@ -1,6 +1,6 @@
 //! Sets of numbers.
 ghost use Rattle.std.specs.Prelude.{◌≡◌, ◌<◌, ◌≤◌, ◌-◌, ◌/◌, ◌^◌, ℕ, true, false, length, slice_index, MatchBool};
-ghost use Rattle.a68_marks.specs.Marked.{AreFull, FirstOther, MarksAsWere, MarksToo, RunOfMarks, is_marked};
+ghost use Rattle.a68_marks.specs.Marked.{AreFull, FirstOther, MarksAsWere, MarksLess, MarksToo, RunOfMarks, is_marked};
 
 use std::alloc::Global;
 use std::marker::Model;
@@ -64,6 +64,34 @@ fn set_bit(words: &mut [u64], n: usize)
     words[n / 64] |= 1 << (n % 64);
 }
 
+// The number is in the set no more, which has a word for it.
+fn clear_bit(words: &mut [u64], n: usize)
+    requires { n / 64 < length words.old }
+    ensures { MarksLess words.old n words.new }
+{
+    words[n / 64] &= !(1 << (n % 64));
+}
+
+// The number is in the set no more.
+fn take_out(words: &mut [u64], n: usize)
+    ensures { MarksLess words.old n words.new }
+{
+    if n / 64 < words.len() {
+        clear_bit(words, n);
+    }
+}
+
+// Is the number in the set?
+#[inline(always)]
+fn holds(words: &[u64], n: usize) -> bool
+    ensures { result ≡ is_marked words.now n }
+{
+    match words.get(n / 64) {
+        Some(word) => (*word >> (n % 64)) % 2 == 1,
+        None => false,
+    }
+}
+
 // The set has a word for this number. Tells whether there was memory.
 fn hold(words: &mut Vec<u64>, n: usize) -> bool
     ensures same { MarksAsWere words.old.items words.new.items }
@@ -119,6 +147,22 @@ impl Marks {
             let _noted = put(&mut self.full, n / 64);
         }
         true
+    }
+
+    /// The number is in the set no more. It takes no memory.
+    pub fn unmark(&mut self, n: usize)
+        ensures { MarksLess self.old n self.new }
+    {
+        take_out(&mut self.full, n / 64);
+        take_out(&mut self.words, n);
+    }
+
+    /// Is the number in the set? It takes no memory.
+    #[inline(always)]
+    pub fn contains(&self, n: usize) -> bool
+        ensures { result ≡ is_marked self.now n }
+    {
+        holds(&self.words, n)
     }
 
     /// The first number from this one on that is not in the set, or the end of the search where there is none below it. It takes

@@ -78,7 +78,7 @@ const LISTINGS: &[(&str, &str)] = &[
     // A number as a text.
     (
         "( print(whole(5, 3)) )",
-        "14 Push 5;17 Push 3;8 Whole;8 Unite 7;2 Print 1;0 End",
+        "14 Push 5;14 Unite 1;17 Push 3;8 Whole;8 Unite 7;2 Print 1;0 End",
     ),
     // A cast whose value is dropped; units at any time.
     ("( REF INT (NIL) )", "11 Nil;2 Drop;0 End"),
@@ -126,45 +126,45 @@ const LISTINGS: &[(&str, &str)] = &[
     // A structure, whose second field is selected; its mode is the first that the text adds to those of the standard environ.
     (
         "( STRUCT (INT a, b) s = (1, 2); print(b OF s) )",
-        "2 Enter 1;25 Push 1;28 Push 2;24 Compose 2;20 Bind;43 Tag;38 Select 13 1;38 Unite 1;32 Print 1;2 Leave;0 End",
+        "2 Enter 1;25 Push 1;28 Push 2;24 Compose 2;20 Bind;43 Tag;38 Select 15 1;38 Unite 1;32 Print 1;2 Leave;0 End",
     ),
     // A row: a lower bound that is left out is 1. A slice tells how many indexes and how many units it has.
     (
         "( [3] INT a; a[2] := 5; print(a[1]) )",
-        "2 Enter 1;10 Push 1;3 Push 3;10 Make 13 2;10 Bind;13 Tag;15 Push 2;13 Slice 1 1;21 Push 5;13 Store 1;13 Drop;30 Tag;32 Push 1;30 Slice 1 1;30 Deref 1;30 Unite 1;24 Print 1;2 Leave;0 End",
+        "2 Enter 1;10 Push 1;3 Push 3;10 Make 15 2;10 Bind;13 Tag;15 Push 2;13 Slice 1 1;21 Push 5;13 Store 1;13 Drop;30 Tag;32 Push 1;30 Slice 1 1;30 Deref 1;30 Unite 1;24 Print 1;2 Leave;0 End",
     ),
     // A subscript and a trimmer with all its units.
     (
         "( [2, 0 : 1] INT a; a[1, 0 : 1 AT 3]; SKIP )",
-        "2 Enter 1;17 Push 1;3 Push 2;6 Push;10 Push 1;17 Make 13 4;17 Bind;20 Tag;22 Push 1;25 Push;29 Push 1;34 Push 3;20 Slice 2 4;20 Drop;38 Skip;2 Leave;0 End",
+        "2 Enter 1;17 Push 1;3 Push 2;6 Push;10 Push 1;17 Make 15 4;17 Bind;20 Tag;22 Push 1;25 Push;29 Push 1;34 Push 3;20 Slice 2 4;20 Drop;38 Skip;2 Leave;0 End",
     ),
     // A display, a row without elements, and a value that becomes a row of itself.
     (
         "( [] INT v = (1, 2); print(v[2]) )",
-        "2 Enter 1;14 Push 1;17 Push 2;13 Display 2 13;9 Bind;27 Tag;29 Push 2;27 Slice 1 1;27 Unite 1;21 Print 1;2 Leave;0 End",
+        "2 Enter 1;14 Push 1;17 Push 2;13 Display 2 15;9 Bind;27 Tag;29 Push 2;27 Slice 1 1;27 Unite 1;21 Print 1;2 Leave;0 End",
     ),
     (
         "( [] INT v = (); SKIP )",
-        "2 Enter 1;13 Vacuum 13;9 Bind;17 Skip;2 Leave;0 End",
+        "2 Enter 1;13 Vacuum 15;9 Bind;17 Skip;2 Leave;0 End",
     ),
     (
         "( [] INT v = 7; SKIP )",
-        "2 Enter 1;13 Push 7;13 RowUp 13;9 Bind;16 Skip;2 Leave;0 End",
+        "2 Enter 1;13 Push 7;13 RowUp 15;9 Bind;16 Skip;2 Leave;0 End",
     ),
     // A value that becomes a row of two dimensions by way of a row of one, which stands behind all other modes.
     (
         "( [,] INT a = 3; print(a[1,1]) )",
-        "2 Enter 1;14 Push 3;14 RowUp 14;14 RowUp 13;10 Bind;23 Tag;25 Push 1;27 Push 1;23 Slice 2 2;23 Unite 1;17 Print 1;2 Leave;0 End",
+        "2 Enter 1;14 Push 3;14 RowUp 16;14 RowUp 15;10 Bind;23 Tag;25 Push 1;27 Push 1;23 Slice 2 2;23 Unite 1;17 Print 1;2 Leave;0 End",
     ),
     // Bounds of fields, those of STRING among them.
     (
         "( STRUCT ([2] INT a, STRING b) s; SKIP )",
-        "2 Enter 1;31 Push 1;11 Push 2;31 Push 1;31 Push;31 Make 13 4;31 Bind;34 Skip;2 Leave;0 End",
+        "2 Enter 1;31 Push 1;11 Push 2;31 Push 1;31 Push;31 Make 15 4;31 Bind;34 Skip;2 Leave;0 End",
     ),
     // A name becomes that of a row.
     (
         "( INT x := 1; REF [] INT r = x; SKIP )",
-        "2 Enter 2;6 Make 1;11 Push 1;6 Store 1;6 Bind;29 Tag;29 RowUpName 13;25 Bind 1;32 Skip;2 Leave;0 End",
+        "2 Enter 2;6 Make 1;11 Push 1;6 Store 1;6 Bind;29 Tag;29 RowUpName 15;25 Bind 1;32 Skip;2 Leave;0 End",
     ),
     // Bits become a row of truth values.
     (

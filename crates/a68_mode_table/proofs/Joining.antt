@@ -7,7 +7,7 @@ use Rattle.std.proofs.lemmas.Bool.{cases_eq}
 use Rattle.std.proofs.lemmas.List.Elements.{All-contains, All-push}
 use Rattle.a68_coerce.proofs.Longer.{alike_sym, interning_members}
 use Rattle.a68_declare.proofs.Cleaning.{alike_itself}
-use Rattle.a68_declare.specs.Clean.{AreFixed, IsBare, IsNode}
+use Rattle.a68_declare.specs.Clean.{AreFixed, CleanMembersHaveNoFlex, IsBare, IsNode}
 use Rattle.a68_equiv.proofs.Dimensions.{one_more}
 use Rattle.a68_equiv.proofs.Growing.{grows, shrinks, still_formed}
 use Rattle.a68_equiv.specs.Classes.{IsAlready, IsNodeOf}
@@ -29,13 +29,84 @@ simple_is_bare nodes (Same m) simple = absurd simple
 simple_is_bare nodes Blank simple = absurd simple
 simple_is_bare nodes _ simple = tt
 
-module _ (nodes : List Shape) (sound : AreSound nodes) (s : Shape) (within : ShapeIsWithin (length nodes) s) (simple : IsSimple s) where
+-- a shape joins modes, of which none is equivalent to it
+module _ (nodes : List Shape) (sound : AreSound nodes) (s : Shape) (within : ShapeIsWithin (length nodes) s) where
   -- a node of a mode stays one
-  pub node_stays : (mode : Mode) (id : ℕ) → mode.id < length nodes → IsNode nodes mode id → IsNode (nodes ++ s ∷ []) mode id
-  node_stays mode id h is = record {
+  pub still_node : (mode : Mode) (id : ℕ) → mode.id < length nodes → IsNode nodes mode id → IsNode (nodes ++ s ∷ []) mode id
+  still_node mode id h is = record {
     there = let l = length-append nodes (s ∷ []) in let lt = is.there in omega arith;
     equivalent = λ depth. grows nodes s sound.holds sound.formed within depth (as_it_stands id) mode is.there h (is.equivalent depth);
   }
+
+  pub old_or_new : (m : ℕ) → m < length (nodes ++ s ∷ []) → (m < length nodes) ⊎ (m ≡ length nodes)
+  old_or_new m h = let l = length-append nodes (s ∷ []) in ⊎_elim (λ e. inr e) (λ ne. inl (omega arith)) (cases_eq m (length nodes))
+
+  module _ (dims : HasDimensions s) (twin : ℕ) (twin_is : IsNode (nodes ++ s ∷ []) (without_flex (length nodes)) twin) (holds : HoldsNodes (nodes ++ s ∷ [])) (none : (a : ℕ) → a < length nodes → IsAlready nodes s a → ⊥)
+      (bare_too : IsBare (nodes ++ s ∷ []) s) (members : CleanMembersHaveNoFlex (nodes ++ s ∷ [])) where
+    bare_on : (t : Shape) → ShapeIsWithin (length nodes) t → IsBare nodes t → IsBare (nodes ++ s ∷ []) t
+    bare_on (Union ms) in_them bare = (
+      bare.0,
+      λ x c. subst (λ k. leads_within k ≡ false) (sym (get_or-append nodes (s ∷ []) Blank x (All-contains (λ m. m < length nodes) ms x in_them c))) (bare.1 x c),
+    )
+    bare_on (Same m) in_them bare = bare
+    bare_on Blank in_them bare = bare
+    bare_on _ in_them bare = tt
+
+    each_bare : (m : ℕ) → m < length (nodes ++ s ∷ []) → IsBare (nodes ++ s ∷ []) (shape_at (nodes ++ s ∷ []) m)
+    each_bare m h = go (old_or_new m h)
+      where
+        go : (m < length nodes) ⊎ (m ≡ length nodes) → IsBare (nodes ++ s ∷ []) (shape_at (nodes ++ s ∷ []) m)
+        go (inl lt) = subst (IsBare (nodes ++ s ∷ [])) (sym (get_or-append nodes (s ∷ []) Blank m lt)) (bare_on (shape_at nodes m) (sound.holds.within m lt) (sound.clean.bare m lt))
+        go (inr e) = subst (λ k. IsBare (nodes ++ s ∷ []) (shape_at (nodes ++ s ∷ []) k)) (sym e) (subst (IsBare (nodes ++ s ∷ [])) (sym (get_or-append_seam nodes s [] Blank)) bare_too)
+
+    all_apart : (a b : ℕ) → a < length (nodes ++ s ∷ []) → b < length (nodes ++ s ∷ []) → Equivalent (nodes ++ s ∷ []) (as_it_stands a) (as_it_stands b) → a ≡ b
+    all_apart a b ha hb eq = go (old_or_new a ha) (old_or_new b hb)
+      where
+        go : (a < length nodes) ⊎ (a ≡ length nodes) → (b < length nodes) ⊎ (b ≡ length nodes) → a ≡ b
+        go (inl la) (inl lb) = sound.clean.apart a b la lb (λ depth. shrinks nodes s sound.holds sound.formed within depth (as_it_stands a) (as_it_stands b) la lb (eq depth))
+        go (inl la) (inr e) = absurd (none a la (subst (λ k. Equivalent (nodes ++ s ∷ []) (as_it_stands a) (as_it_stands k)) e eq))
+        go (inr e) (inl lb) =
+            let back : Equivalent (nodes ++ s ∷ []) (as_it_stands b) (as_it_stands a) = λ depth. alike_sym (nodes ++ s ∷ []) depth (as_it_stands a) (as_it_stands b) (eq depth) in
+            absurd (none b lb (subst (λ k. Equivalent (nodes ++ s ∷ []) (as_it_stands b) (as_it_stands k)) e back))
+        go (inr e) (inr f) = e ∙ sym f
+
+    each_fixed : (m : ℕ) → m < length (nodes ++ s ∷ []) → (id : ℕ) × IsNode (nodes ++ s ∷ []) (without_flex m) id
+    each_fixed m h = go (old_or_new m h)
+      where
+        go : (m < length nodes) ⊎ (m ≡ length nodes) → (id : ℕ) × IsNode (nodes ++ s ∷ []) (without_flex m) id
+        go (inl lt) = let n = sound.fixed m lt in (n.0, still_node (without_flex m) n.0 lt n.1)
+        go (inr e) = (twin, subst (λ k. IsNode (nodes ++ s ∷ []) (without_flex k) twin) (sym e) twin_is)
+
+    pub still_sound : AreSound (nodes ++ s ∷ [])
+    still_sound = record {
+      holds = holds;
+      clean = record { holds = holds; bare = each_bare; apart = all_apart };
+      formed = still_formed nodes s sound.holds sound.formed within;
+      rows = one_more nodes s sound.rows dims;
+      members = members;
+      fixed = each_fixed;
+    }
+
+    pub still_fixed : (fixed : List ℕ) → AreFixed nodes fixed → AreFixed (nodes ++ s ∷ []) (fixed ++ twin ∷ [])
+    still_fixed fixed are = record {
+      long = let l = length-append nodes (s ∷ []) in let k = length-append fixed (twin ∷ []) in let e = are.long in omega arith;
+      each = λ m h. go m (old_or_new m h);
+    }
+      where
+        go : (m : ℕ) → (m < length nodes) ⊎ (m ≡ length nodes) → IsNode (nodes ++ s ∷ []) (without_flex m) (get_or (fixed ++ twin ∷ []) m 0)
+        go m (inl lt) =
+            let e = are.long in
+            let below : m < length fixed = omega arith in
+            subst (IsNode (nodes ++ s ∷ []) (without_flex m)) (sym (get_or-append fixed (twin ∷ []) 0 m below)) (still_node (without_flex m) (get_or fixed m 0) lt (are.each m lt))
+        go m (inr e) =
+            let here : get_or (fixed ++ twin ∷ []) m 0 ≡ twin = ap (λ k. get_or (fixed ++ twin ∷ []) k 0) (e ∙ sym are.long) ∙ get_or-append_seam fixed twin [] 0 in
+            subst (IsNode (nodes ++ s ∷ []) (without_flex m)) (sym here) (subst (λ k. IsNode (nodes ++ s ∷ []) (without_flex k) twin) (sym e) twin_is)
+
+-- ---- shapes that are no unions
+
+module _ (nodes : List Shape) (sound : AreSound nodes) (s : Shape) (within : ShapeIsWithin (length nodes) s) (simple : IsSimple s) where
+  pub node_stays : (mode : Mode) (id : ℕ) → mode.id < length nodes → IsNode nodes mode id → IsNode (nodes ++ s ∷ []) mode id
+  node_stays = still_node nodes sound s within
 
   last_there : length nodes < length (nodes ++ s ∷ [])
   last_there = omega (arith, length-append nodes (s ∷ []))
@@ -68,67 +139,14 @@ module _ (nodes : List Shape) (sound : AreSound nodes) (s : Shape) (within : Sha
     is_new : IsNodeOf nodes (nodes ++ s ∷ []) s (length nodes)
     is_new = inr (record { last = refl; added = refl; none = not_already })
 
-    old_or_new : (m : ℕ) → m < length (nodes ++ s ∷ []) → (m < length nodes) ⊎ (m ≡ length nodes)
-    old_or_new m h = let l = length-append nodes (s ∷ []) in ⊎_elim (λ e. inr e) (λ ne. inl (omega arith)) (cases_eq m (length nodes))
-
-    bare_on : (t : Shape) → ShapeIsWithin (length nodes) t → IsBare nodes t → IsBare (nodes ++ s ∷ []) t
-    bare_on (Union ms) in_them bare = (
-      bare.0,
-      λ x c. subst (λ k. leads_within k ≡ false) (sym (get_or-append nodes (s ∷ []) Blank x (All-contains (λ m. m < length nodes) ms x in_them c))) (bare.1 x c),
-    )
-    bare_on (Same m) in_them bare = bare
-    bare_on Blank in_them bare = bare
-    bare_on _ in_them bare = tt
-
-    each_bare : (m : ℕ) → m < length (nodes ++ s ∷ []) → IsBare (nodes ++ s ∷ []) (shape_at (nodes ++ s ∷ []) m)
-    each_bare m h = go (old_or_new m h)
-      where
-        go : (m < length nodes) ⊎ (m ≡ length nodes) → IsBare (nodes ++ s ∷ []) (shape_at (nodes ++ s ∷ []) m)
-        go (inl lt) = subst (IsBare (nodes ++ s ∷ [])) (sym (get_or-append nodes (s ∷ []) Blank m lt)) (bare_on (shape_at nodes m) (sound.holds.within m lt) (sound.clean.bare m lt))
-        go (inr e) = subst (λ k. IsBare (nodes ++ s ∷ []) (shape_at (nodes ++ s ∷ []) k)) (sym e) (subst (IsBare (nodes ++ s ∷ [])) (sym (get_or-append_seam nodes s [] Blank)) (simple_is_bare (nodes ++ s ∷ []) s simple))
-
-    all_apart : (a b : ℕ) → a < length (nodes ++ s ∷ []) → b < length (nodes ++ s ∷ []) → Equivalent (nodes ++ s ∷ []) (as_it_stands a) (as_it_stands b) → a ≡ b
-    all_apart a b ha hb eq = go (old_or_new a ha) (old_or_new b hb)
-      where
-        go : (a < length nodes) ⊎ (a ≡ length nodes) → (b < length nodes) ⊎ (b ≡ length nodes) → a ≡ b
-        go (inl la) (inl lb) = sound.clean.apart a b la lb (λ depth. shrinks nodes s sound.holds sound.formed within depth (as_it_stands a) (as_it_stands b) la lb (eq depth))
-        go (inl la) (inr e) = absurd (not_already a la (subst (λ k. Equivalent (nodes ++ s ∷ []) (as_it_stands a) (as_it_stands k)) e eq))
-        go (inr e) (inl lb) =
-            let back : Equivalent (nodes ++ s ∷ []) (as_it_stands b) (as_it_stands a) = λ depth. alike_sym (nodes ++ s ∷ []) depth (as_it_stands a) (as_it_stands b) (eq depth) in
-            absurd (not_already b lb (subst (λ k. Equivalent (nodes ++ s ∷ []) (as_it_stands b) (as_it_stands k)) e back))
-        go (inr e) (inr f) = e ∙ sym f
-
-    each_fixed : (m : ℕ) → m < length (nodes ++ s ∷ []) → (id : ℕ) × IsNode (nodes ++ s ∷ []) (without_flex m) id
-    each_fixed m h = go (old_or_new m h)
-      where
-        go : (m < length nodes) ⊎ (m ≡ length nodes) → (id : ℕ) × IsNode (nodes ++ s ∷ []) (without_flex m) id
-        go (inl lt) = let n = sound.fixed m lt in (n.0, node_stays (without_flex m) n.0 lt n.1)
-        go (inr e) = (twin, subst (λ k. IsNode (nodes ++ s ∷ []) (without_flex k) twin) (sym e) twin_is)
+    members_too : CleanMembersHaveNoFlex (nodes ++ s ∷ [])
+    members_too = interning_members nodes (nodes ++ s ∷ []) s (length nodes) sound.holds sound.formed within sound.members is_new (simple_plain s simple)
 
     pub joined_sound : AreSound (nodes ++ s ∷ [])
-    joined_sound = record {
-      holds = holds;
-      clean = record { holds = holds; bare = each_bare; apart = all_apart };
-      formed = still_formed nodes s sound.holds sound.formed within;
-      rows = one_more nodes s sound.rows dims;
-      members = interning_members nodes (nodes ++ s ∷ []) s (length nodes) sound.holds sound.formed within sound.members is_new (simple_plain s simple);
-      fixed = each_fixed;
-    }
+    joined_sound = still_sound nodes sound s within dims twin twin_is holds not_already (simple_is_bare (nodes ++ s ∷ []) s simple) members_too
 
     pub joined_fixed : (fixed : List ℕ) → AreFixed nodes fixed → AreFixed (nodes ++ s ∷ []) (fixed ++ twin ∷ [])
-    joined_fixed fixed are = record {
-      long = let l = length-append nodes (s ∷ []) in let k = length-append fixed (twin ∷ []) in let e = are.long in omega arith;
-      each = λ m h. go m (old_or_new m h);
-    }
-      where
-        go : (m : ℕ) → (m < length nodes) ⊎ (m ≡ length nodes) → IsNode (nodes ++ s ∷ []) (without_flex m) (get_or (fixed ++ twin ∷ []) m 0)
-        go m (inl lt) =
-            let e = are.long in
-            let below : m < length fixed = omega arith in
-            subst (IsNode (nodes ++ s ∷ []) (without_flex m)) (sym (get_or-append fixed (twin ∷ []) 0 m below)) (node_stays (without_flex m) (get_or fixed m 0) lt (are.each m lt))
-        go m (inr e) =
-            let here : get_or (fixed ++ twin ∷ []) m 0 ≡ twin = ap (λ k. get_or (fixed ++ twin ∷ []) k 0) (e ∙ sym are.long) ∙ get_or-append_seam fixed twin [] 0 in
-            subst (IsNode (nodes ++ s ∷ []) (without_flex m)) (sym here) (subst (λ k. IsNode (nodes ++ s ∷ []) (without_flex k) twin) (sym e) twin_is)
+    joined_fixed = still_fixed nodes sound s within dims twin twin_is holds not_already (simple_is_bare (nodes ++ s ∷ []) s simple) members_too
 
 -- ---- names, procedures and rows
 

@@ -1,6 +1,7 @@
 pub mod Alike
-pub mod Shapes
-pub mod Joining
-pub mod Once
 pub mod Filed
+pub mod Joining
+pub mod Numbers
+pub mod Once
+pub mod Shapes
 pub mod Whole

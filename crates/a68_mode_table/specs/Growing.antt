@@ -3,11 +3,13 @@ use Rattle.std.specs.Prelude.{◌≡◌, ◌<◌, ◌≤◌, ◌++◌, ◌∷◌
 use Rattle.a68_declare.specs.Clean.{AreClean, CleanMembersHaveNoFlex}
 pub use Rattle.a68_declare.specs.Clean.{AreFixed, IsNode}
 use Rattle.a68_equiv.specs.Dimensions.{HaveDimensions}
-use Rattle.a68_equiv.specs.Related.{without_flex}
+use Rattle.a68_equiv.specs.Related.{as_it_stands, without_flex}
+use Rattle.a68_equiv.specs.Unfolding.{Equivalent}
 use Rattle.a68_equiv.specs.Ways.{AreWellFormed}
 use Rattle.a68_modes.specs.Nodes.{shape_at, HoldsNodes}
 use Rattle.a68_modes.specs.declared.shape.Shape.{Shape}
-use Rattle.a68_modes.specs.declared.shape.Shape.TheVariants.{Rows}
+use Rattle.a68_modes.specs.declared.shape.Shape.TheVariants.{Rows, Union}
+use Rattle.a68_modes.specs.declared.standard.TheConstants as standard
 
 -- what a list of modes keeps
 pub record AreSound (nodes : List Shape) : Type 0 where
@@ -32,6 +34,25 @@ pub record IsRowInterned (old : List Shape) (dims : ℕ) (flex : Bool) (of : ℕ
   pub fixed : ℕ
   pub fixed_is : IsInterned old (Rows dims false fixed_element) between fixed
   pub is : IsInterned between (Rows dims flex of) new id
+
+-- the union of INT and LONG INT
+abbrev pub number_mode : Shape
+number_mode = Union (standard.INT ∷ standard.LONG_INT ∷ [])
+
+-- the mode of an old node is that union: it is equivalent to a new node of it
+abbrev pub IsNumberMode : List Shape → ℕ → Type 0
+IsNumberMode nodes m = Equivalent (nodes ++ number_mode ∷ []) (as_it_stands m) (as_it_stands (length nodes))
+
+-- the node of that union: the one that there is, or a new one behind the others where there is none
+pub data IsNumberInterned (old new : List Shape) (id : ℕ) : Type 0 where
+  an_old_number : id < length old → IsNumberMode old id → new ≡ old → IsNumberInterned old new id
+  a_new_number : ((a : ℕ) → a < length old → IsNumberMode old a → ⊥) → new ≡ old ++ number_mode ∷ [] → id ≡ length old → IsNumberInterned old new id
+
+-- the old shapes stand where they stood, and the node is there
+pub record KeepsOld (old new : List Shape) (id : ℕ) : Type 0 where
+  pub longer : length old ≤ length new
+  pub kept : (m : ℕ) → m < length old → shape_at new m ≡ shape_at old m
+  pub there : id < length new
 
 -- the old shapes stand where they stood, and the shape at its node
 pub record KeepsShapes (old new : List Shape) (id : ℕ) (shape : Shape) : Type 0 where

@@ -3,14 +3,14 @@ ghost use Rattle.std.specs.Prelude.{◌≡◌, ◌<◌, ◌≤◌, ◌++◌, ◌
 ghost use Rattle.a68_declare.specs.Clean.{IsNode};
 ghost use Rattle.a68_equiv.specs.Dimensions.{HasDimensions};
 ghost use Rattle.a68_equiv.specs.Related.{without_flex};
-ghost use Rattle.a68_mode_table.specs.Growing.{IsInterned, IsRowInterned};
+ghost use Rattle.a68_mode_table.specs.Growing.{IsInterned, IsNumberInterned, IsRowInterned};
 ghost use Rattle.a68_mode_table.specs.Simple.{IsSimple};
 ghost use Rattle.a68_mode_table.specs.Table.{IsTable};
 ghost use Rattle.a68_modes.specs.Nodes.{ShapeIsWithin};
 
 use a68_base::NoMemory;
 use a68_equiv::{Classes, intern};
-use a68_modes::{ModeId, Modes, Shape};
+use a68_modes::{Members, ModeId, Modes, Shape, standard};
 use std::alloc::Global;
 
 // Adds a mode to a list that has room for it.
@@ -59,6 +59,31 @@ pub fn grown(
         Ok(id) => {
             let _there = modes.len();
             note(fixed, id, count, twin);
+            Ok(id)
+        }
+        Err(_) => Err(NoMemory),
+    }
+}
+
+/// The node of the union of INT and LONG INT, which joins the modes where it is not there.
+pub fn grown_number(
+    alloc: Global,
+    modes: &mut Modes,
+    classes: &mut Classes,
+    fixed: &mut Vec<ModeId>,
+) -> Result<ModeId, NoMemory>
+    requires { IsTable modes.old classes.old fixed.old.items }
+    ensures table { IsTable modes.new classes.new fixed.new.items }
+    ensures interned { IfOk result (λ id. IsNumberInterned modes.old modes.new id) }
+    ensures stays { OnErr result (modes.new ≡ modes.old) }
+{
+    fixed.reserve(1)?;
+    let members = Members::from_slice(alloc, &[standard::INT, standard::LONG_INT])?;
+    let count = modes.len();
+    match intern(alloc, modes, classes, Shape::Union(members)) {
+        Ok(id) => {
+            let _there = modes.len();
+            note(fixed, id, count, count);
             Ok(id)
         }
         Err(_) => Err(NoMemory),

@@ -6,11 +6,11 @@ ghost use Rattle.a68_equiv.specs.Classes.{AreExact, AreKept};
 ghost use Rattle.a68_equiv.specs.Dimensions.{HaveDimensions};
 ghost use Rattle.a68_equiv.specs.Related.{without_flex};
 ghost use Rattle.a68_equiv.specs.Ways.{AreWellFormed};
-ghost use Rattle.a68_mode_table.specs.Growing.{AreSound, IsInterned, IsRowInterned};
+ghost use Rattle.a68_mode_table.specs.Growing.{AreSound, IsInterned, IsNumberInterned, IsRowInterned};
 ghost use Rattle.a68_modes.specs.Nodes.{shape_at, HoldsNodes};
 ghost use Rattle.a68_modes.specs.declared.shape.Shape.TheVariants.{Proc, Ref};
 
-use crate::growing::{grown, grown_row};
+use crate::growing::{grown, grown_number, grown_row};
 use a68_base::NoMemory;
 use a68_equiv::{Classes, Mode};
 use a68_modes::{Members, ModeId, Modes, Shape};
@@ -165,6 +165,15 @@ impl ModeTable {
             Shape::Proc { params, result: of },
             itself,
         )
+    }
+
+    /// The node of the union of INT and LONG INT, which joins the modes where it is not there. NoMemory also where 16,777,216
+    /// nodes are there; an error leaves the modes as they were.
+    pub fn number(&mut self, alloc: Global) -> Result<ModeId, NoMemory>
+        ensures interned { IfOk result (λ id. IsNumberInterned self.old self.new id) }
+        ensures stays { OnErr result (self.new ≡ self.old) }
+    {
+        grown_number(alloc, &mut self.modes, &mut self.classes, &mut self.fixed)
     }
 
     /// The node of a row, which joins the modes where it is not there; before it the same row without FLEX, of the element

@@ -147,6 +147,10 @@ const ACCEPTED: &[&str] = &[
 /// A text, the byte of a declarer or of VOID in it, and the number of its mode as it stands and without FLEX, among the standard ones.
 const STANDARD: &[(&str, u32, ModeId, ModeId)] = &[
     ("( INT a; SKIP )", 2, 1, 1),
+    ("( LONG INT a; SKIP )", 2, 13, 13),
+    ("( REF LONG INT r; SKIP )", 2, 14, 14),
+    ("( REF LONG INT r; SKIP )", 6, 13, 13),
+    ("( PROC (LONG INT) INT p; SKIP )", 8, 13, 13),
     ("( STRING s; SKIP )", 2, 12, 7),
     ("( FLEX [1:0] CHAR s; SKIP )", 2, 12, 7),
     ("( [1:3] CHAR s; SKIP )", 2, 7, 7),

@@ -21,60 +21,69 @@ enum Joins {
     Row(u32, bool, ModeId),
     /// A procedure with these parameters and this result.
     Procedure(&'static [ModeId], ModeId),
+    /// The union of INT and LONG INT.
+    Number,
 }
 
 /// No modes but the standard ones.
 const PLAIN: &str = "( INT a; SKIP )";
-/// 13 is PROC (INT) BOOL.
+/// 15 is PROC (INT) BOOL.
 const ROUTINE: &str = "( PROC (INT) BOOL p; SKIP )";
-/// 13 is FLEX [] BOOL.
+/// 15 is FLEX [] BOOL.
 const FLEXIBLE: &str = "( FLEX [1:0] BOOL f; SKIP )";
-/// 13 is REF REF BOOL, 14 is REF BOOL.
+/// 15 is REF REF BOOL, 16 is REF BOOL.
 const NAMES: &str = "( REF REF BOOL r; SKIP )";
+
+/// 15 is UNION (INT, LONG INT).
+const NUMBER: &str = "( UNION (LONG INT, INT) u; SKIP )";
 
 /// A text, what joins its modes, the node of that, how many nodes there are then, and the node of the same mode without its FLEX.
 const GROWTH: &[(&str, Joins, ModeId, u32, ModeId)] = &[
     // REF INT, REF STRING and REF BOOL
-    (PLAIN, Joins::Name(1), 9, 13, 9),
-    (PLAIN, Joins::Name(12), 10, 13, 10),
-    (PLAIN, Joins::Name(2), 13, 14, 13),
+    (PLAIN, Joins::Name(1), 9, 15, 9),
+    (PLAIN, Joins::Name(12), 10, 15, 10),
+    (PLAIN, Joins::Name(2), 15, 16, 15),
     // [] CHAR, STRING, [] BOOL and FLEX [] BOOL
-    (PLAIN, Joins::Row(1, false, 3), 7, 13, 7),
-    (PLAIN, Joins::Row(1, true, 3), 12, 13, 7),
-    (PLAIN, Joins::Row(1, false, 2), 11, 13, 11),
-    (PLAIN, Joins::Row(1, true, 2), 13, 14, 11),
+    (PLAIN, Joins::Row(1, false, 3), 7, 15, 7),
+    (PLAIN, Joins::Row(1, true, 3), 12, 15, 7),
+    (PLAIN, Joins::Row(1, false, 2), 11, 15, 11),
+    (PLAIN, Joins::Row(1, true, 2), 15, 16, 11),
     // [,] INT, and FLEX [,] INT behind it
-    (PLAIN, Joins::Row(2, false, 1), 13, 14, 13),
-    (PLAIN, Joins::Row(2, true, 1), 14, 15, 13),
+    (PLAIN, Joins::Row(2, false, 1), 15, 16, 15),
+    (PLAIN, Joins::Row(2, true, 1), 16, 17, 15),
     // [] [] CHAR, and before [] STRING and FLEX [] STRING
-    (PLAIN, Joins::Row(1, false, 7), 13, 14, 13),
-    (PLAIN, Joins::Row(1, false, 12), 14, 15, 13),
-    (PLAIN, Joins::Row(1, true, 12), 14, 15, 13),
+    (PLAIN, Joins::Row(1, false, 7), 15, 16, 15),
+    (PLAIN, Joins::Row(1, false, 12), 16, 17, 15),
+    (PLAIN, Joins::Row(1, true, 12), 16, 17, 15),
     // PROC INT, PROC (INT) BOOL and PROC (INT, INT) VOID
-    (PLAIN, Joins::Procedure(&[], 1), 13, 14, 13),
-    (PLAIN, Joins::Procedure(&[1], 2), 13, 14, 13),
-    (PLAIN, Joins::Procedure(&[1, 1], 0), 13, 14, 13),
-    (ROUTINE, Joins::Procedure(&[1], 2), 13, 14, 13),
-    (ROUTINE, Joins::Procedure(&[2], 1), 14, 15, 14),
-    (ROUTINE, Joins::Name(13), 14, 15, 14),
-    (FLEXIBLE, Joins::Row(1, true, 2), 13, 14, 11),
-    (FLEXIBLE, Joins::Name(13), 14, 15, 14),
+    (PLAIN, Joins::Procedure(&[], 1), 15, 16, 15),
+    (PLAIN, Joins::Procedure(&[1], 2), 15, 16, 15),
+    (PLAIN, Joins::Procedure(&[1, 1], 0), 15, 16, 15),
+    (ROUTINE, Joins::Procedure(&[1], 2), 15, 16, 15),
+    (ROUTINE, Joins::Procedure(&[2], 1), 16, 17, 16),
+    (ROUTINE, Joins::Name(15), 16, 17, 16),
+    (FLEXIBLE, Joins::Row(1, true, 2), 15, 16, 11),
+    (FLEXIBLE, Joins::Name(15), 16, 17, 16),
     // [] [] BOOL before [] FLEX [] BOOL
-    (FLEXIBLE, Joins::Row(1, false, 13), 15, 16, 14),
-    (NAMES, Joins::Name(2), 14, 15, 14),
-    (NAMES, Joins::Name(14), 13, 15, 13),
-    (NAMES, Joins::Name(13), 15, 16, 15),
+    (FLEXIBLE, Joins::Row(1, false, 15), 17, 18, 16),
+    (NAMES, Joins::Name(2), 16, 17, 16),
+    (NAMES, Joins::Name(16), 15, 17, 15),
+    (NAMES, Joins::Name(15), 17, 18, 17),
+    (PLAIN, Joins::Number, 15, 16, 15),
+    (ROUTINE, Joins::Number, 16, 17, 16),
+    (NUMBER, Joins::Number, 15, 16, 15),
 ];
 
 /// A text, the node of a union in it, and its members in order.
 const MEMBERS: &[(&str, ModeId, &[ModeId])] = &[
-    ("( INT a; SKIP )", 8, &[1, 2, 3, 4, 7, 6]),
-    ("( UNION (BOOL, INT) u; SKIP )", 13, &[1, 2]),
-    ("( UNION (REF BOOL, INT) u; SKIP )", 13, &[1, 14]),
-    ("( UNION (STRING, BITS, INT) u; SKIP )", 13, &[1, 4, 7]),
+    ("( INT a; SKIP )", 8, &[1, 13, 2, 3, 4, 7, 6]),
+    ("( UNION (BOOL, INT) u; SKIP )", 15, &[1, 2]),
+    ("( UNION (REF BOOL, INT) u; SKIP )", 15, &[1, 16]),
+    ("( UNION (STRING, BITS, INT) u; SKIP )", 15, &[1, 4, 7]),
+    (NUMBER, 15, &[1, 13]),
     (
         "( UNION (SEMA, UNION (CHAR, INT), BOOL) u; SKIP )",
-        13,
+        15,
         &[1, 2, 3, 5],
     ),
 ];
@@ -126,6 +135,7 @@ fn joined(rt: &impl Abort, alloc: Global, table: &mut ModeTable, joins: &Joins) 
                 .procedure(alloc, params, *of)
                 .expect(rt, "a procedure")
         }
+        Joins::Number => table.number(alloc).expect(rt, "a union"),
     }
 }
 

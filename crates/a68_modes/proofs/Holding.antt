@@ -15,10 +15,10 @@ pub wider : (n m : ℕ) (s : Shape) → n ≤ m → ShapeIsWithin n s → ShapeI
 wider n m s h = All-weaker (λ k. k < n) (λ k. k < m) (λ k g. omega arith) (parts_of s)
 
 -- the standard nodes are there
-pub thirteen : (nodes : List Shape) → HoldsNodes nodes → 13 ≤ length nodes
-thirteen nodes h =
-    let e : length (take 13 nodes) ≡ 13 = ap length h.standard in
-    let f = length-take 13 nodes in
+pub fifteen : (nodes : List Shape) → HoldsNodes nodes → 15 ≤ length nodes
+fifteen nodes h =
+    let e : length (take 15 nodes) ≡ 15 = ap length h.standard in
+    let f = length-take 15 nodes in
     omega arith
 
 abbrev NoneBlank : List Shape → Type 0
@@ -32,22 +32,22 @@ none_blank (s ∷ ss) (suc k) h lt e = none_blank ss k h.1 (omega arith) e
 
 standard_none : NoneBlank standard_shapes
 standard_none =
-    (λ e. cc, (λ e. cc, (λ e. cc, (λ e. cc, (λ e. cc, (λ e. cc, (λ e. cc, (λ e. cc, (λ e. cc, (λ e. cc, (λ e. cc, (λ e. cc, (λ e. cc, tt)))))))))))))
+    (λ e. cc, (λ e. cc, (λ e. cc, (λ e. cc, (λ e. cc, (λ e. cc, (λ e. cc, (λ e. cc, (λ e. cc, (λ e. cc, (λ e. cc, (λ e. cc, (λ e. cc, (λ e. cc, (λ e. cc, tt)))))))))))))))
 
 -- a Blank node stands behind the standard ones
-pub blank_behind : (nodes : List Shape) (m : ℕ) → HoldsNodes nodes → shape_at nodes m ≡ Blank → 13 ≤ m
-blank_behind nodes m h e = go (cases_lt m 13)
+pub blank_behind : (nodes : List Shape) (m : ℕ) → HoldsNodes nodes → shape_at nodes m ≡ Blank → 15 ≤ m
+blank_behind nodes m h e = go (cases_lt m 15)
   where
-    go : (m < 13) ⊎ (13 ≤ m) → 13 ≤ m
+    go : (m < 15) ⊎ (15 ≤ m) → 15 ≤ m
     go (inl lt) =
-        let same : get_or standard_shapes m Blank ≡ Blank = ap (λ (xs : List Shape). get_or xs m Blank) (sym h.standard) ∙ get_or-take 13 nodes m Blank lt ∙ e in
+        let same : get_or standard_shapes m Blank ≡ Blank = ap (λ (xs : List Shape). get_or xs m Blank) (sym h.standard) ∙ get_or-take 15 nodes m Blank lt ∙ e in
         absurd (none_blank standard_shapes m standard_none lt same)
     go (inr le) = le
 
 -- one node more
 pub grown : (nodes : List Shape) (s : Shape) → HoldsNodes nodes → ShapeIsWithin (length nodes) s → length nodes < 16777216 → HoldsNodes (nodes ++ s ∷ [])
 grown nodes s h w lt = record {
-  standard = take-append-le 13 nodes (s ∷ []) (thirteen nodes h) ∙ h.standard;
+  standard = take-append-le 15 nodes (s ∷ []) (fifteen nodes h) ∙ h.standard;
   within = λ m g. rw more (each m (cases_eq m (length nodes)) g);
   few = let e = more in omega arith;
 }
@@ -65,7 +65,7 @@ grown nodes s h w lt = record {
 -- a Blank node gets its shape
 pub changed : (nodes : List Shape) (id : ℕ) (s : Shape) → HoldsNodes nodes → shape_at nodes id ≡ Blank → id < length nodes → ShapeIsWithin (length nodes) s → HoldsNodes (set nodes id s)
 changed nodes id s h blank lt w = record {
-  standard = take-set-le 13 nodes id s (blank_behind nodes id h blank) ∙ h.standard;
+  standard = take-set-le 15 nodes id s (blank_behind nodes id h blank) ∙ h.standard;
   within = λ m g. rw (length-set nodes id s) (each m (cases_eq m id) (let l = length-set nodes id s in omega arith));
   few = let l = length-set nodes id s in let f = h.few in omega arith;
 }
@@ -83,14 +83,14 @@ each_within n [] m h lt = absurd (omega arith)
 each_within n (s ∷ ss) zero h lt = All-from_recursion (λ k. k < n) (parts_of s) h.0
 each_within n (s ∷ ss) (suc m) h lt = each_within n ss m h.1 (omega arith)
 
-standard_within : EachWithin 13 standard_shapes
+standard_within : EachWithin 15 standard_shapes
 standard_within =
-    let below : (1 < 13) × Unit {0} = (lit< tt, tt) in
-    (tt, (tt, (tt, (tt, (tt, (tt, (tt, ((lit< tt, tt), ((lit< tt, (lit< tt, (lit< tt, (lit< tt, (lit< tt, (lit< tt, tt)))))), (below, ((lit< tt, tt), ((lit< tt, tt), ((lit< tt, tt), tt)))))))))))))
+    let below : (1 < 15) × Unit {0} = (lit< tt, tt) in
+    (tt, (tt, (tt, (tt, (tt, (tt, (tt, ((lit< tt, tt), ((lit< tt, (lit< tt, (lit< tt, (lit< tt, (lit< tt, (lit< tt, (lit< tt, tt))))))), (below, ((lit< tt, tt), ((lit< tt, tt), ((lit< tt, tt), (tt, ((lit< tt, tt), tt)))))))))))))))
 
 -- the standard modes alone
 pub standard_holds : HoldsNodes standard_shapes
-standard_holds = record { standard = refl; within = λ m g. each_within 13 standard_shapes m standard_within g; few = lit≤ tt }
+standard_holds = record { standard = refl; within = λ m g. each_within 15 standard_shapes m standard_within g; few = lit≤ tt }
 
 -- one node more, or none
 pub pushed : (b : Bool) (nodes new : List Shape) (s : Shape) → HoldsNodes nodes → ShapeIsWithin (length nodes) s → length nodes < 16777216 → new ≡ cond b (nodes ++ s ∷ []) nodes → HoldsNodes new

@@ -4,7 +4,7 @@ use Rattle.std.specs.List.{All}
 use Rattle.a68_base.specs.declared.limits.TheConstants.{MOST_MODES}
 use Rattle.a68_modes.specs.declared.standard.TheConstants as standard
 use Rattle.a68_modes.specs.declared.shape.Shape.{Shape}
-use Rattle.a68_modes.specs.declared.shape.Shape.TheVariants.{Void, Int, Bool, Char, Bits, Sema, Layout, Ref, Rows, Struct, Union, Proc, Same, Blank}
+use Rattle.a68_modes.specs.declared.shape.Shape.TheVariants.{Void, Int, Long, Bool, Char, Bits, Sema, Layout, Ref, Rows, Struct, Union, Proc, Same, Blank}
 
 -- the shape of a node; a number of no node has none
 abbrev pub shape_at : List Shape → ℕ → Shape
@@ -13,6 +13,7 @@ shape_at nodes m = slice_index_or nodes m Blank
 -- a value of the mode fits one cell, and is not made of others
 abbrev pub is_plain : Shape → Truth
 is_plain Int = true
+is_plain Long = true
 is_plain Bool = true
 is_plain Char = true
 is_plain Bits = true
@@ -40,12 +41,13 @@ abbrev pub ShapeIsWithin : ℕ → Shape → Type 0
 ShapeIsWithin n shape = All (λ m. m < n) (parts_of shape)
 
 -- the standard modes by their numbers: VOID, INT, BOOL, CHAR, BITS, SEMA, layout, [] CHAR, what can be printed, REF INT,
--- REF STRING, [] BOOL, STRING
+-- REF STRING, [] BOOL, STRING, LONG INT, REF LONG INT
 abbrev pub standard_shapes : List Shape
 standard_shapes =
     Void ∷ Int ∷ Bool ∷ Char ∷ Bits ∷ Sema ∷ Layout ∷ Rows 1 false standard.CHAR
-    ∷ Union (standard.INT ∷ standard.BOOL ∷ standard.CHAR ∷ standard.BITS ∷ standard.ROW_OF_CHAR ∷ standard.LAYOUT ∷ [])
-    ∷ Ref standard.INT ∷ Ref standard.STRING ∷ Rows 1 false standard.BOOL ∷ Rows 1 true standard.CHAR ∷ []
+    ∷ Union (standard.INT ∷ standard.LONG_INT ∷ standard.BOOL ∷ standard.CHAR ∷ standard.BITS ∷ standard.ROW_OF_CHAR ∷ standard.LAYOUT ∷ [])
+    ∷ Ref standard.INT ∷ Ref standard.STRING ∷ Rows 1 false standard.BOOL ∷ Rows 1 true standard.CHAR
+    ∷ Long ∷ Ref standard.LONG_INT ∷ []
 
 -- what every list of modes keeps
 pub record HoldsNodes (nodes : List Shape) : Type 0 where

@@ -29,7 +29,8 @@ impl From<NoMemory> for ModeStop {
 
 /// The modes of a text: a list of nodes, of which a mode is named by its number. The first of them are the standard
 /// modes 0 VOID, 1 INT, 2 BOOL, 3 CHAR, 4 BITS, 5 SEMA, 6 the mode of `newline` and `space`, 7 `[] CHAR`, 8 the union
-/// of what can be printed, 9 REF INT, 10 REF STRING, 11 `[] BOOL` and 12 STRING, which is `FLEX [] CHAR` (10.2.2).
+/// of what can be printed, 9 REF INT, 10 REF STRING, 11 `[] BOOL`, 12 STRING, which is `FLEX [] CHAR`, 13 LONG INT and 14
+/// REF LONG INT (10.2.2).
 ///
 /// Contracts see the list of the shapes.
 pub struct Modes {

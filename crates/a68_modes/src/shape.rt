@@ -15,6 +15,8 @@ pub enum Shape {
     Void,
     /// INT.
     Int,
+    /// LONG INT.
+    Long,
     /// BOOL.
     Bool,
     /// CHAR.
@@ -46,6 +48,7 @@ impl Drop for Shape {
         match self {
             Shape::Void
             | Shape::Int
+            | Shape::Long
             | Shape::Bool
             | Shape::Char
             | Shape::Bits
@@ -77,6 +80,7 @@ impl Shape {
         let shape = match self {
             Shape::Void => Shape::Void,
             Shape::Int => Shape::Int,
+            Shape::Long => Shape::Long,
             Shape::Bool => Shape::Bool,
             Shape::Char => Shape::Char,
             Shape::Bits => Shape::Bits,
@@ -107,6 +111,7 @@ impl Shape {
         matches!(
             self,
             Shape::Int
+                | Shape::Long
                 | Shape::Bool
                 | Shape::Char
                 | Shape::Bits

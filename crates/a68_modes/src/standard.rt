@@ -22,7 +22,7 @@ pub const SEMA: u32 = 5;
 pub const LAYOUT: u32 = 6;
 /// `[] CHAR`, the mode of strings as values.
 pub const ROW_OF_CHAR: u32 = 7;
-/// What can be printed: the union of INT, BOOL, CHAR, BITS, `[] CHAR` and the mode of `newline` and `space`.
+/// What can be printed: the union of INT, LONG INT, BOOL, CHAR, BITS, `[] CHAR` and the mode of `newline` and `space`.
 pub const PRINTABLE: u32 = 8;
 
 pub const REF_INT: u32 = 9;
@@ -33,8 +33,12 @@ pub const ROW_OF_BOOL: u32 = 11;
 /// STRING, which is `FLEX [1 : 0] CHAR`.
 pub const STRING: u32 = 12;
 
+pub const LONG_INT: u32 = 13;
+
+pub const REF_LONG_INT: u32 = 14;
+
 /// How many standard modes there are.
-pub const STANDARD: u32 = 13;
+pub const STANDARD: u32 = 15;
 
 /// The shape of a standard mode.
 pub fn standard_shape(alloc: Global, id: u32) -> Result<Shape, NoMemory>
@@ -53,12 +57,14 @@ pub fn standard_shape(alloc: Global, id: u32) -> Result<Shape, NoMemory>
         ROW_OF_CHAR => row_of(false, CHAR),
         PRINTABLE => Shape::Union(Members::from_slice(
             alloc,
-            &[INT, BOOL, CHAR, BITS, ROW_OF_CHAR, LAYOUT],
+            &[INT, LONG_INT, BOOL, CHAR, BITS, ROW_OF_CHAR, LAYOUT],
         )?),
         REF_INT => Shape::Ref(INT),
         REF_STRING => Shape::Ref(STRING),
         ROW_OF_BOOL => row_of(false, BOOL),
-        _ => row_of(true, CHAR),
+        STRING => row_of(true, CHAR),
+        LONG_INT => Shape::Long,
+        _ => Shape::Ref(LONG_INT),
     };
     Ok(shape)
 }

@@ -1,6 +1,7 @@
 -- A node that is closed has the pieces of its forest as parts.
-use Rattle.std.proofs.Common.{◌≡◌, ℕ, ◌+◌, ◌<◌, ◌≤◌, List, [], ◌∷◌, ◌++◌, length, drop, get_or, slice_get, Option, Some, None, suc, zero, refl, sym, ap, ◌∙◌}
+use Rattle.std.proofs.Common.{◌≡◌, ℕ, ◌+◌, ◌<◌, ◌≤◌, true, List, [], ◌∷◌, ◌++◌, length, drop, get_or, slice_get, Option, Some, None, suc, zero, refl, sym, ap, ◌∙◌}
 use Rattle.std.specs.Option.{option_map}
+use Rattle.std.proofs.lemmas.Bool.{false≢true}
 use Rattle.std.proofs.lemmas.List.{drop_more}
 use Rattle.std.proofs.lemmas.Option.{slice_get_read, slice_get_past, slice_get-map}
 use Rattle.a68_tree.specs.declared.kind.NodeKind.{NodeKind}
@@ -14,12 +15,13 @@ use Rattle.a68_nodes.specs.declared.draft.Piece.{Piece}
 use Rattle.a68_nodes.specs.declared.draft.Piece.TheVariants.{Part}
 use Rattle.a68_nodes.specs.Pieces.{signs_added, pieces_of}
 use Rattle.a68_nodes.specs.Views.{view, views}
-use Rattle.a68_nodes.specs.Closing.{with_closed, behind_first, after_of}
+use Rattle.a68_nodes.specs.Closing.{names_first, with_closed, behind_first, after_of}
 use Rattle.a68_nodes.proofs.Numbering.{signed_is, numbers_are}
 
--- a node as it is named where it is no identity relation
-pub named_first : (kind : NodeKind) (f : Forest) (r : List Sym) → (kind ≡ k.Identity → ⊥) → named_at kind f r ≡ length (spells f r)
-named_first k.Identity f r h = absurd (h refl)
+-- a node that is named by its first symbol
+pub named_first : (kind : NodeKind) (f : Forest) (r : List Sym) → names_first kind ≡ true → named_at kind f r ≡ length (spells f r)
+named_first k.Identity f r h = absurd (false≢true h)
+named_first k.LongDenotation f r h = absurd (false≢true h)
 named_first _ f r h = refl
 
 module _ (old : List Entry) (kept : List ℕ) (f : Forest) (r : List Sym) where

@@ -1,17 +1,19 @@
 -- Layers that become nodes.
-use Rattle.std.proofs.Common.{◌≡◌, ℕ, List, [], ◌∷◌, ◌++◌, length, take, drop, refl, sym, ap, ◌∙◌}
+use Rattle.std.proofs.Common.{◌≡◌, ℕ, ◌-◌, true, List, [], ◌∷◌, ◌++◌, length, take, drop, refl, sym, ap, ◌∙◌, arith}
 use Rattle.std.proofs.lemmas.List.{append-nil, take_at, drop_at}
 use Rattle.a68_tree.specs.declared.kind.NodeKind.{NodeKind}
 use Rattle.a68_tree.specs.declared.kind.NodeKind.TheVariants as k
 use Rattle.a68_symbols.specs.declared.sym.Sym.{Sym}
-use Rattle.a68_tree.specs.Forest.{Forest, end, part, aside, spells}
+use Rattle.a68_symbols.specs.declared.sym.Sym.TheVariants.{Is}
+use Rattle.a68_symbols.specs.declared.sym.Token.{Token}
+use Rattle.a68_tree.specs.Forest.{Forest, end, mark, part, aside, spells}
 use Rattle.a68_tree.specs.Nodes.{Entry, named_at, nodes, with_under, with_node}
 use Rattle.a68_nodes.specs.declared.draft.Piece.{Piece}
 use Rattle.a68_nodes.specs.declared.draft.Piece.TheVariants.{Part}
 use Rattle.a68_nodes.specs.Stack.{Layer, node, put}
 use Rattle.a68_nodes.specs.Pieces.{signs_added, pieces_of}
 use Rattle.a68_nodes.specs.Views.{Opened, DraftState, inherited}
-use Rattle.a68_nodes.specs.Closing.{with_closed, behind_first}
+use Rattle.a68_nodes.specs.Closing.{names_first, with_closed, behind_first}
 use Rattle.a68_nodes.specs.Built.{behind, state_of, IsDraftOf}
 use Rattle.a68_nodes.proofs.Closed.{named_first, under_closed, node_closed, identity_named}
 use Rattle.a68_nodes.proofs.Steps.{on, top, top_of, around, put_built}
@@ -89,7 +91,7 @@ pub wrap_built : (whole : List Sym) (ls : List Layer) (f : Forest) (r : List Sym
     → (kind : NodeKind) (e : Entry) (drafts : List Entry) (pieces : List Piece) (id : ℕ) → Closes old x e drafts pieces id
     → e.kind ≡ kind → e.before ≡ x.before → e.after ≡ length r → e.named ≡ x.before
     → new ≡ record { drafts = drafts; frames = record x { kept = inherited xs } ∷ xs; pieces = pieces ++ Part id ∷ [] }
-    → (kind ≡ k.Identity → ⊥) → IsDraftOf whole (node f ∷ ls) r old → IsDraftOf whole (node (part kind f end) ∷ ls) r new
+    → names_first kind ≡ true → IsDraftOf whole (node f ∷ ls) r old → IsDraftOf whole (node (part kind f end) ∷ ls) r new
 unfolding state_of
 wrap_built whole ls f r old new x xs g kind e drafts pieces id c i p a n z other b =
     let s : DraftState = state_of ls (spells f r) in record {
@@ -112,11 +114,25 @@ identity_built whole ls j u f r old new x xs g e drafts pieces id c i p a n z b 
       spelled = b.spelled;
     }
 
+pub long_built : (whole : List Sym) (ls : List Layer) (s : Token) (f : Forest) (r : List Sym) (old new : DraftState) (x : Opened) (xs : List Opened) → old.frames ≡ x ∷ xs
+    → (e : Entry) (drafts : List Entry) (pieces : List Piece) (id : ℕ) → Closes old x e drafts pieces id
+    → e.kind ≡ k.LongDenotation → e.before ≡ x.before → e.after ≡ length r → e.named ≡ x.before - 1
+    → new ≡ record { drafts = drafts; frames = record x { kept = inherited xs } ∷ xs; pieces = pieces ++ Part id ∷ [] }
+    → IsDraftOf whole (node (mark s f) ∷ ls) r old → IsDraftOf whole (node (part k.LongDenotation (mark s f) end) ∷ ls) r new
+unfolding state_of
+long_built whole ls s f r old new x xs g e drafts pieces id c i p a n z b =
+    let v : DraftState = state_of ls (spells (mark s f) r) in
+    let before = before_is v old (mark s f) r x xs b.stands g in
+    let named : e.named ≡ length (spells f r) = omega (arith, n, before) in record {
+      stands = wrapped v old (mark s f) r x xs b.stands g k.LongDenotation e drafts pieces id c new i p a named z;
+      spelled = b.spelled;
+    }
+
 pub aside_built : (whole : List Sym) (l : Layer) (ls : List Layer) (f : Forest) (r : List Sym) (old new : DraftState) (x p : Opened) (ps : List Opened) → old.frames ≡ x ∷ p ∷ ps
     → (kind : NodeKind) (e : Entry) (drafts : List Entry) (pieces : List Piece) (id : ℕ) → Closes old x e drafts pieces id
     → e.kind ≡ kind → e.before ≡ x.before → e.after ≡ length r → e.named ≡ x.before
     → new ≡ record { drafts = drafts; frames = record p { kept = p.kept ++ id ∷ [] } ∷ ps; pieces = pieces }
-    → (kind ≡ k.Identity → ⊥) → IsDraftOf whole (node f ∷ l ∷ ls) r old → IsDraftOf whole (put l (aside kind f end) ∷ ls) r new
+    → names_first kind ≡ true → IsDraftOf whole (node f ∷ l ∷ ls) r old → IsDraftOf whole (put l (aside kind f end) ∷ ls) r new
 unfolding state_of
 aside_built whole l ls f r old new x p ps g kind e drafts pieces id c i q a n z other b =
     let v : DraftState = state_of (l ∷ ls) (spells f r) in

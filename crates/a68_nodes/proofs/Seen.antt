@@ -1,5 +1,5 @@
 -- The calls, over what the object holds.
-use Rattle.std.proofs.Common.{◌≡◌, ℕ, ◌+◌, List, [], ◌∷◌, ◌++◌, length, take, drop, map, reverse, Option, Some, None, refl, sym, ap, subst, ◌∙◌}
+use Rattle.std.proofs.Common.{◌≡◌, ℕ, ◌+◌, ◌-◌, true, List, [], ◌∷◌, ◌++◌, length, take, drop, map, reverse, Option, Some, None, refl, sym, ap, subst, ◌∙◌}
 use Rattle.std.specs.Option.{option_to_list}
 use Rattle.std.proofs.lemmas.List.{append-nil, nil_from_length}
 use Rattle.a68_tree.specs.declared.kind.NodeKind.{NodeKind}
@@ -8,7 +8,7 @@ use Rattle.a68_symbols.specs.declared.sym.Bracket.{Bracket}
 use Rattle.a68_symbols.specs.declared.sym.Sym.{Sym}
 use Rattle.a68_symbols.specs.declared.sym.Sym.TheVariants.{Opens, Closes, Is}
 use Rattle.a68_symbols.specs.declared.sym.Token.{Token}
-use Rattle.a68_tree.specs.Forest.{Forest, end, group, part, sign, aside, shared, forget}
+use Rattle.a68_tree.specs.Forest.{Forest, end, mark, group, part, sign, aside, shared, forget}
 use Rattle.a68_tree.specs.Nodes.{Entry}
 use Rattle.a68_nodes.specs.declared.draft.Draft.{Draft}
 use Rattle.a68_nodes.specs.declared.draft.OpenLayer.{OpenLayer}
@@ -18,7 +18,7 @@ use Rattle.a68_nodes.specs.declared.draft.Section.{Section}
 use Rattle.a68_nodes.specs.Stack.{Layer, node, inside, put}
 use Rattle.a68_nodes.specs.Pieces.{signs_added, all_parts}
 use Rattle.a68_nodes.specs.Views.{Opened, DraftState, view, views, opened, all_opened, stretch, inherited, IsWithin, AllWithin}
-use Rattle.a68_nodes.specs.Closing.{unfinished, with_closed, behind_first}
+use Rattle.a68_nodes.specs.Closing.{names_first, unfinished, with_closed, behind_first}
 use Rattle.a68_nodes.specs.Built.{IsDraftOf}
 use Rattle.a68_nodes.proofs.Framing.{opened_push, within_front}
 use Rattle.a68_nodes.proofs.Steps as s
@@ -89,7 +89,7 @@ module _ (ds : List Draft) (fs : List OpenLayer) (ps : List Piece) (asides : Lis
             ap (λ (x : List Opened). let v : DraftState = record { drafts = views ds'; frames = x; pieces = grown } in v) (h asides)
             ∙ ap (λ (x : List Piece). let v : DraftState = record { drafts = views ds'; frames = record (opened asides fr) { kept = inherited (all_opened asides front) } ∷ all_opened asides front; pieces = x } in v) more
 
-        pub wrap_seen : (whole : List Sym) (ls : List Layer) (f : Forest) (r : List Sym) (kind : NodeKind) → view d ≡ unfinished fr kind fr.before (length r) → (kind ≡ k.Identity → ⊥)
+        pub wrap_seen : (whole : List Sym) (ls : List Layer) (f : Forest) (r : List Sym) (kind : NodeKind) → view d ≡ unfinished fr kind fr.before (length r) → names_first kind ≡ true
             → IsDraftOf whole (node f ∷ ls) r (seen ds fs ps asides) → IsDraftOf whole (node (part kind f end) ∷ ls) r (seen ds' new grown asides)
         wrap_seen whole ls f r kind i other b =
             m.wrap_built whole ls f r _ _ (opened asides fr) (all_opened asides front) frames_are kind (view d) (views ds') ps' id closes
@@ -101,6 +101,12 @@ module _ (ds : List Draft) (fs : List OpenLayer) (ps : List Piece) (asides : Lis
             m.identity_built whole ls j u f r _ _ (opened asides fr) (all_opened asides front) frames_are (view d) (views ds') ps' id closes
             (ap (λ (x : Entry). x.kind) i) (ap (λ (x : Entry). x.before) i) (ap (λ (x : Entry). x.after) i) (ap (λ (x : Entry). x.named) i) wrapped b
 
+        pub long_seen : (whole : List Sym) (ls : List Layer) (s : Token) (f : Forest) (r : List Sym) → view d ≡ unfinished fr k.LongDenotation (fr.before - 1) (length r)
+            → IsDraftOf whole (node (mark s f) ∷ ls) r (seen ds fs ps asides) → IsDraftOf whole (node (part k.LongDenotation (mark s f) end) ∷ ls) r (seen ds' new grown asides)
+        long_seen whole ls s f r i b =
+            m.long_built whole ls s f r _ _ (opened asides fr) (all_opened asides front) frames_are (view d) (views ds') ps' id closes
+            (ap (λ (x : Entry). x.kind) i) (ap (λ (x : Entry). x.before) i) (ap (λ (x : Entry). x.after) i) (ap (λ (x : Entry). x.named) i) wrapped b
+
       -- the list of what is set aside grows
       module _ (more : List ℕ) (same : all_opened more front ≡ all_opened asides front) (kept : Section) (is : (p : Opened) (os : List Opened) → all_opened asides front ≡ p ∷ os → stretch more kept ≡ p.kept ++ id ∷ [])
           (new : List OpenLayer) (h : Keeps front new kept) where
@@ -110,7 +116,7 @@ module _ (ds : List Draft) (fs : List OpenLayer) (ps : List Piece) (asides : Lis
             ap (λ (x : List Opened). let v : DraftState = record { drafts = views ds'; frames = x; pieces = ps' } in v)
             (h more p os (same ∙ e) ∙ ap (λ (x : List ℕ). let o : Opened = record p { kept = x } in o ∷ os) (is p os e))
 
-        pub aside_seen : (whole : List Sym) (l : Layer) (ls : List Layer) (f : Forest) (r : List Sym) (kind : NodeKind) → view d ≡ unfinished fr kind fr.before (length r) → (kind ≡ k.Identity → ⊥)
+        pub aside_seen : (whole : List Sym) (l : Layer) (ls : List Layer) (f : Forest) (r : List Sym) (kind : NodeKind) → view d ≡ unfinished fr kind fr.before (length r) → names_first kind ≡ true
             → IsDraftOf whole (node f ∷ l ∷ ls) r (seen ds fs ps asides) → IsDraftOf whole (put l (aside kind f end) ∷ ls) r (seen ds' new ps' more)
         aside_seen whole l ls f r kind i other b =
             let t = below whole (node f) l ls r b in

@@ -1,12 +1,19 @@
 -- Inner: the headline does not rest on this file.
 -- A node with its pieces as parts.
-use Rattle.std.specs.Prelude.{ℕ, List, [], ◌∷◌, ◌++◌, length, Option, Some, None, slice_get}
+use Rattle.std.specs.Prelude.{ℕ, Bool, true, false, List, [], ◌∷◌, ◌++◌, length, Option, Some, None, slice_get}
 use Rattle.a68_tree.specs.declared.kind.NodeKind.{NodeKind}
+use Rattle.a68_tree.specs.declared.kind.NodeKind.TheVariants as k
 use Rattle.a68_tree.specs.Nodes.{Entry}
 use Rattle.a68_nodes.specs.declared.draft.OpenLayer.{OpenLayer}
 use Rattle.a68_nodes.specs.declared.draft.Piece.{Piece}
 use Rattle.a68_nodes.specs.declared.draft.Piece.TheVariants.{Part, Sign}
 use Rattle.a68_nodes.specs.Pieces.{signs_added, parts_from}
+
+-- whether a node of that kind is named by its first symbol
+abbrev pub names_first : NodeKind → Bool
+names_first k.Identity = false
+names_first k.LongDenotation = false
+names_first kind = true
 
 -- a node of what was read in a layer, whose parts are to come
 abbrev pub unfinished : OpenLayer → NodeKind → ℕ → ℕ → Entry

@@ -6,9 +6,10 @@ ghost use Rattle.a68_symbols.specs.declared.sym.Bracket.{Bracket};
 ghost use Rattle.a68_symbols.specs.declared.sym.Sym.{Sym};
 ghost use Rattle.a68_symbols.specs.declared.sym.Sym.TheVariants.{Opens, Closes, Is};
 ghost use Rattle.a68_symbols.specs.declared.sym.Token.{Token};
-ghost use Rattle.a68_tree.specs.Forest.{Forest, Single, Several, end, group, part, sign, aside, shared, forget, spells};
+ghost use Rattle.a68_tree.specs.Forest.{Forest, Single, Several, end, mark, group, part, sign, aside, shared, forget, spells};
 ghost use Rattle.a68_tree.specs.Nodes.{with_node};
 ghost use Rattle.a68_nodes.specs.Stack.{Layer, node, inside, put};
+ghost use Rattle.a68_nodes.specs.Closing.{names_first};
 ghost use Rattle.a68_nodes.specs.Views.{views};
 ghost use Rattle.a68_nodes.specs.Built.{IsDraftOf};
 
@@ -124,7 +125,7 @@ impl Drafting {
     /// What was read in the innermost layer becomes a node of that kind, up to where that text is left. It is named by its
     /// first symbol.
     pub fn wrap(&mut self, alloc: Global, kind: NodeKind, rest: &[Sym]) -> Result<(), NoMemory>
-        ensures built { OnOk result ((whole : List Sym) (ls : List Layer) (f : Forest) → (kind ≡ k.Identity → ⊥)
+        ensures built { OnOk result ((whole : List Sym) (ls : List Layer) (f : Forest) → names_first kind ≡ true
             → IsDraftOf whole (node f ∷ ls) rest.now self.old → IsDraftOf whole (node (part kind f end) ∷ ls) rest.now self.new) }
     {
         let Some(frame) = self.frames.pop() else {
@@ -164,10 +165,31 @@ impl Drafting {
         Ok(())
     }
 
+    /// What was read in the innermost layer becomes a denotation of LONG INT, which is named by its second symbol (8.1.1).
+    pub fn wrap_long(&mut self, alloc: Global, rest: &[Sym]) -> Result<(), NoMemory>
+        ensures built { OnOk result ((whole : List Sym) (ls : List Layer) (t : Token) (f : Forest)
+            → IsDraftOf whole (node (mark t f) ∷ ls) rest.now self.old → IsDraftOf whole (node (part k.LongDenotation (mark t f) end) ∷ ls) rest.now self.new) }
+    {
+        let Some(frame) = self.frames.pop() else {
+            return Ok(());
+        };
+        let named = frame.before.saturating_sub(1);
+        let draft = unfinished(alloc, &frame, NodeKind::LongDenotation, named, rest);
+        close_within(
+            alloc,
+            &mut self.drafts,
+            &mut self.pieces,
+            &mut self.frames,
+            frame,
+            draft,
+        )?;
+        Ok(())
+    }
+
     /// What was read in the innermost layer becomes a node that is set aside for the layer around. It is named by its first
     /// symbol.
     pub fn set_aside(&mut self, alloc: Global, kind: NodeKind, rest: &[Sym]) -> Result<(), NoMemory>
-        ensures built { OnOk result ((whole : List Sym) (l : Layer) (ls : List Layer) (f : Forest) → (kind ≡ k.Identity → ⊥)
+        ensures built { OnOk result ((whole : List Sym) (l : Layer) (ls : List Layer) (f : Forest) → names_first kind ≡ true
             → IsDraftOf whole (node f ∷ l ∷ ls) rest.now self.old → IsDraftOf whole (put l (aside kind f end) ∷ ls) rest.now self.new) }
     {
         let Some(frame) = self.frames.pop() else {

@@ -3,7 +3,7 @@ use Rattle.std.proofs.Common.{◌≡◌, zero, suc, ◌<◌, ℤ, pos, negsuc, �
 use Rattle.std.proofs.Math.IntN.{*ℤ_comm}
 use Rattle.std.proofs.lemmas.Int.{ints, quot-rem}
 use Rattle.a68_ops.specs.Integers.{divided, lifted, modulo}
-use Rattle.a68_ops.specs.Yields.{int}
+use Rattle.a68_ops.specs.Yields.{PlainYield}
 
 pub taken_away : (a b : ℤ) → a -ℤ (b *ℤ int_div a b) ≡ int_rem a b
 taken_away a b =
@@ -11,10 +11,10 @@ taken_away a b =
     let q : int_div a b *ℤ b +ℤ int_rem a b ≡ a = quot-rem a b in
     omega (arith, ints)
 
-divided_by : (b z : ℤ) → 0 < unsigned_abs b → divided b z ≡ int z
-divided_by (pos zero) z h = absurd (omega arith)
-divided_by (pos (suc n)) z h = grind arith
-divided_by (negsuc n) z h = grind arith
+divided_by : (yield : ℤ → PlainYield) (b z : ℤ) → 0 < unsigned_abs b → divided yield b z ≡ yield z
+divided_by yield (pos zero) z h = absurd (omega arith)
+divided_by yield (pos (suc n)) z h = grind arith
+divided_by yield (negsuc n) z h = grind arith
 
-pub rest_by : (a b : ℤ) → 0 < unsigned_abs b → int (lifted (int_rem a b) b) ≡ divided b (modulo a b)
-rest_by a b h = ap (λ rest. int (lifted rest b)) (sym (taken_away a b)) ∙ sym (divided_by b (modulo a b) h)
+pub rest_by : (yield : ℤ → PlainYield) (a b : ℤ) → 0 < unsigned_abs b → yield (lifted (int_rem a b) b) ≡ divided yield b (modulo a b)
+rest_by yield a b h = ap (λ rest. yield (lifted rest b)) (sym (taken_away a b)) ∙ sym (divided_by yield b (modulo a b) h)

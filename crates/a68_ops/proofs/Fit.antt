@@ -10,6 +10,9 @@ use Rattle.std.specs.Ordering.{int_eq}
 use Rattle.a68_values.specs.Content.{Content, Contents, void, plain, row as row_value, no_parts, ◌and_part◌, contents_of}
 use Rattle.a68_values.specs.declared.act.FaultKind.TheVariants as fault
 use Rattle.a68_values.specs.declared.plain.Plain.TheVariants as value
+use Rattle.a68_values.specs.declared.plain.Long.{Long}
+use Rattle.a68_values.specs.Longs.{number_of, long_of}
+use Rattle.a68_values.proofs.Longs.{number_of-long_of}
 use Rattle.a68_ops.specs.Applied.{applied, as_int, plain_yield}
 use Rattle.a68_ops.specs.Bits.{shifted, element}
 use Rattle.a68_ops.specs.Fitting.{has_mode, is_silent, YieldIsOf, IsFitting}
@@ -17,7 +20,7 @@ use Rattle.a68_ops.specs.Integers.{abs_of, modulo, divided, raised, sign_of, cha
 use Rattle.a68_ops.specs.Operators.{dyadic_of}
 use Rattle.a68_signs.specs.Signs.{op, SignGroup, candidates, entry_of, dyadic_entries, monadic_entries}
 use Rattle.a68_ops.specs.Texts.{are_chars, codes_in, text_of, on_texts, text_times, repeated, times}
-use Rattle.a68_ops.specs.Yields.{yield_of, is_unset, some_unset, is_int, int, text, text_row, char_values, most_parts}
+use Rattle.a68_ops.specs.Yields.{PlainYield, yield_of, is_unset, some_unset, is_int, is_long, int, long, text, text_row, char_values, most_parts}
 use Rattle.a68_ops.specs.declared.operator.Dyadic.{Dyadic}
 use Rattle.a68_ops.specs.declared.operator.Dyadic.TheVariants as dyadic
 
@@ -29,17 +32,28 @@ at_void P f (row_value [] parts) h = absurd (false≢true h)
 at_void P f (row_value (b ∷ []) parts) h = absurd (false≢true h)
 at_void P f (row_value (b ∷ c ∷ more) parts) h = absurd (false≢true h)
 at_void P f (plain (value.Int n)) h = absurd (false≢true h)
+at_void P f (plain (value.Long l)) h = absurd (false≢true h)
 at_void P f v h = absurd (false≢true h)
 
 at_int : (P : Content → Type 0) → ((n : ℤ) → P (plain (value.Int n))) → (v : Content) → IsTrue (has_mode 1 v) → P v
 at_int P f (plain (value.Int n)) h = f n
+at_int P f (plain (value.Long l)) h = absurd (false≢true h)
 at_int P f (row_value [] parts) h = absurd (false≢true h)
 at_int P f (row_value (b ∷ []) parts) h = absurd (false≢true h)
 at_int P f (row_value (b ∷ c ∷ more) parts) h = absurd (false≢true h)
 at_int P f v h = absurd (false≢true h)
 
+at_long : (P : Content → Type 0) → ((l : Long) → P (plain (value.Long l))) → (v : Content) → IsTrue (has_mode 13 v) → P v
+at_long P f (plain (value.Long l)) h = f l
+at_long P f (plain (value.Int n)) h = absurd (false≢true h)
+at_long P f (row_value [] parts) h = absurd (false≢true h)
+at_long P f (row_value (b ∷ []) parts) h = absurd (false≢true h)
+at_long P f (row_value (b ∷ c ∷ more) parts) h = absurd (false≢true h)
+at_long P f v h = absurd (false≢true h)
+
 at_bool : (P : Content → Type 0) → ((b : Bool) → P (plain (value.Bool b))) → (v : Content) → IsTrue (has_mode 2 v) → P v
 at_bool P f (plain (value.Bool b)) h = f b
+at_bool P f (plain (value.Long l)) h = absurd (false≢true h)
 at_bool P f (row_value [] parts) h = absurd (false≢true h)
 at_bool P f (row_value (b ∷ []) parts) h = absurd (false≢true h)
 at_bool P f (row_value (b ∷ c ∷ more) parts) h = absurd (false≢true h)
@@ -47,6 +61,7 @@ at_bool P f v h = absurd (false≢true h)
 
 at_char : (P : Content → Type 0) → ((c : ℕ) → P (plain (value.Char c))) → (v : Content) → IsTrue (has_mode 3 v) → P v
 at_char P f (plain (value.Char c)) h = f c
+at_char P f (plain (value.Long l)) h = absurd (false≢true h)
 at_char P f (row_value [] parts) h = absurd (false≢true h)
 at_char P f (row_value (b ∷ []) parts) h = absurd (false≢true h)
 at_char P f (row_value (b ∷ c ∷ more) parts) h = absurd (false≢true h)
@@ -54,6 +69,7 @@ at_char P f v h = absurd (false≢true h)
 
 at_bits : (P : Content → Type 0) → ((b : ℕ) → P (plain (value.Bits b))) → (v : Content) → IsTrue (has_mode 4 v) → P v
 at_bits P f (plain (value.Bits b)) h = f b
+at_bits P f (plain (value.Long l)) h = absurd (false≢true h)
 at_bits P f (row_value [] parts) h = absurd (false≢true h)
 at_bits P f (row_value (b ∷ []) parts) h = absurd (false≢true h)
 at_bits P f (row_value (b ∷ c ∷ more) parts) h = absurd (false≢true h)
@@ -90,6 +106,7 @@ of_row (row_value [] parts) h = absurd (false≢true h)
 of_row (row_value (b ∷ []) parts) h = (codes_in parts, row_text b parts h)
 of_row (row_value (b ∷ c ∷ more) parts) h = absurd (false≢true h)
 of_row (plain (value.Int n)) h = absurd (false≢true h)
+of_row (plain (value.Long l)) h = absurd (false≢true h)
 of_row v h = absurd (false≢true h)
 
 -- ---- what an operator with a text yields
@@ -118,16 +135,24 @@ int_if z false e = tt
 an_int : (z : ℤ) → YieldIsOf 1 (yield_of (int z))
 an_int z = int_if z (is_int z) refl
 
-int_unless : (zero : Bool) (z : ℤ) → YieldIsOf 1 (yield_of (cond zero (Err fault.Divisor) (int z)))
-int_unless true z = tt
-int_unless false z = an_int z
+long_if : (z : ℤ) (fits : Bool) → is_long z ≡ fits → YieldIsOf 13 (yield_of (cond fits (Ok (value.Long (long_of z))) (Err fault.Overflow)))
+long_if z true e = rw (number_of-long_of z) e
+long_if z false e = tt
 
-a_quotient : (b z : ℤ) → YieldIsOf 1 (yield_of (divided b z))
-a_quotient b z = int_unless (int_eq b (pos 0)) z
+a_long : (z : ℤ) → YieldIsOf 13 (yield_of (long z))
+a_long z = long_if z (is_long z) refl
 
-a_power : (a b : ℤ) → YieldIsOf 1 (yield_of (raised a b))
-a_power a (pos n) = an_int (int_pow a n)
-a_power a (negsuc n) = tt
+number_unless : (mode : ℕ) (yield : ℤ → PlainYield) → ((z : ℤ) → YieldIsOf mode (yield_of (yield z)))
+    → (zero : Bool) (z : ℤ) → YieldIsOf mode (yield_of (cond zero (Err fault.Divisor) (yield z)))
+number_unless mode yield each true z = tt
+number_unless mode yield each false z = each z
+
+a_quotient : (mode : ℕ) (yield : ℤ → PlainYield) → ((z : ℤ) → YieldIsOf mode (yield_of (yield z))) → (b z : ℤ) → YieldIsOf mode (yield_of (divided yield b z))
+a_quotient mode yield each b z = number_unless mode yield each (int_eq b (pos 0)) z
+
+a_power : (mode : ℕ) (yield : ℤ → PlainYield) → ((z : ℤ) → YieldIsOf mode (yield_of (yield z))) → (a b : ℤ) → YieldIsOf mode (yield_of (raised yield a b))
+a_power mode yield each a (pos n) = each (int_pow a n)
+a_power mode yield each a (negsuc n) = tt
 
 moved_left : (b : ℕ) (n : ℤ) → YieldIsOf 4 (yield_of (shifted dyadic.ShiftLeft b n))
 moved_left b (pos n) = refl
@@ -178,6 +203,17 @@ a_repeated items (negsuc n) = a_text []
 two_ints : (row res : ℕ) → ((a : ℤ) (b : ℤ) → YieldIsOf res (applied row (plain (value.Int a)) (plain (value.Int b)))) → IsFitting (op row 1 1 res)
 two_ints row res f s v w hv hw =
     at_int (λ v. YieldIsOf res (applied row v w)) (λ a. at_int (λ w. YieldIsOf res (applied row (plain (value.Int a)) w)) (f a) w hw) v hv
+
+two_longs : (row res : ℕ) → ((a b : Long) → YieldIsOf res (applied row (plain (value.Long a)) (plain (value.Long b)))) → IsFitting (op row 13 13 res)
+two_longs row res f s v w hv hw =
+    at_long (λ v. YieldIsOf res (applied row v w)) (λ a. at_long (λ w. YieldIsOf res (applied row (plain (value.Long a)) w)) (f a) w hw) v hv
+
+long_and_int : (row res : ℕ) → ((a : Long) (n : ℤ) → YieldIsOf res (applied row (plain (value.Long a)) (plain (value.Int n)))) → IsFitting (op row 13 1 res)
+long_and_int row res f s v w hv hw =
+    at_long (λ v. YieldIsOf res (applied row v w)) (λ a. at_int (λ w. YieldIsOf res (applied row (plain (value.Long a)) w)) (f a) w hw) v hv
+
+an_operand_long : (row res : ℕ) → ((a : Long) → YieldIsOf res (applied row void (plain (value.Long a)))) → IsFitting (op row 0 13 res)
+an_operand_long row res f s v w hv hw = at_void (λ v. YieldIsOf res (applied row v w)) (at_long (λ w. YieldIsOf res (applied row void w)) f w hw) v hv
 
 two_truths : (row res : ℕ) → ((a : Bool) (b : Bool) → YieldIsOf res (applied row (plain (value.Bool a)) (plain (value.Bool b)))) → IsFitting (op row 2 2 res)
 two_truths row res f s v w hv hw =
@@ -241,37 +277,37 @@ abbrev EachFits : List SignGroup → Type 0
 EachFits [] = Unit {0}
 EachFits (entry ∷ more) = ByRecursion IsFitting entry.operators × EachFits more
 
-fit_1 : ByRecursion IsFitting (op 1 9 1 9 ∷ op 1 10 7 10 ∷ op 1 10 3 10 ∷ [])
+fit_1 : ByRecursion IsFitting (op 1 9 1 9 ∷ op 1 10 7 10 ∷ op 1 10 3 10 ∷ op 1 14 13 14 ∷ [])
 unfolding applied
 fit_1 = (
   later 1 9 1 9 refl,
   (
     later 1 10 7 10 refl,
-    (later 1 10 3 10 refl, tt),
+    (later 1 10 3 10 refl, (later 1 14 13 14 refl, tt)),
   ),
 )
 
-fit_2 : ByRecursion IsFitting (op 2 9 1 9 ∷ [])
+fit_2 : ByRecursion IsFitting (op 2 9 1 9 ∷ op 2 14 13 14 ∷ [])
 unfolding applied
 fit_2 =
-    (later 2 9 1 9 refl, tt)
+    (later 2 9 1 9 refl, (later 2 14 13 14 refl, tt))
 
-fit_3 : ByRecursion IsFitting (op 3 9 1 9 ∷ op 3 10 1 10 ∷ [])
+fit_3 : ByRecursion IsFitting (op 3 9 1 9 ∷ op 3 10 1 10 ∷ op 3 14 13 14 ∷ [])
 unfolding applied
 fit_3 = (
   later 3 9 1 9 refl,
-  (later 3 10 1 10 refl, tt),
+  (later 3 10 1 10 refl, (later 3 14 13 14 refl, tt)),
 )
 
-fit_4 : ByRecursion IsFitting (op 4 9 1 9 ∷ [])
+fit_4 : ByRecursion IsFitting (op 4 9 1 9 ∷ op 4 14 13 14 ∷ [])
 unfolding applied
 fit_4 =
-    (later 4 9 1 9 refl, tt)
+    (later 4 9 1 9 refl, (later 4 14 13 14 refl, tt))
 
-fit_5 : ByRecursion IsFitting (op 5 9 1 9 ∷ [])
+fit_5 : ByRecursion IsFitting (op 5 9 1 9 ∷ op 5 14 13 14 ∷ [])
 unfolding applied
 fit_5 =
-    (later 5 9 1 9 refl, tt)
+    (later 5 9 1 9 refl, (later 5 14 13 14 refl, tt))
 
 fit_6 : ByRecursion IsFitting (op 6 7 10 10 ∷ op 6 3 10 10 ∷ [])
 unfolding applied
@@ -294,7 +330,7 @@ fit_8 = (
   (two_bits 8 4 (λ a b. refl), tt),
 )
 
-fit_9 : ByRecursion IsFitting (op 9 1 1 2 ∷ op 9 2 2 2 ∷ op 9 3 3 2 ∷ op 9 4 4 2 ∷ op 9 7 7 2 ∷ op 9 7 3 2 ∷ op 9 3 7 2 ∷ [])
+fit_9 : ByRecursion IsFitting (op 9 1 1 2 ∷ op 9 2 2 2 ∷ op 9 3 3 2 ∷ op 9 4 4 2 ∷ op 9 7 7 2 ∷ op 9 7 3 2 ∷ op 9 3 7 2 ∷ op 9 13 13 2 ∷ [])
 unfolding applied
 fit_9 = (
   two_ints 9 2 (λ a b. refl),
@@ -308,7 +344,7 @@ fit_9 = (
           two_texts 9 7 7 2 dyadic.Equal refl of_row of_row (λ a b. refl),
           (
             two_texts 9 7 3 2 dyadic.Equal refl of_row of_char (λ a b. refl),
-            (two_texts 9 3 7 2 dyadic.Equal refl of_char of_row (λ a b. refl), tt),
+            (two_texts 9 3 7 2 dyadic.Equal refl of_char of_row (λ a b. refl), (two_longs 9 2 (λ a b. refl), tt)),
           ),
         ),
       ),
@@ -316,7 +352,7 @@ fit_9 = (
   ),
 )
 
-fit_10 : ByRecursion IsFitting (op 10 1 1 2 ∷ op 10 2 2 2 ∷ op 10 3 3 2 ∷ op 10 4 4 2 ∷ op 10 7 7 2 ∷ op 10 7 3 2 ∷ op 10 3 7 2 ∷ [])
+fit_10 : ByRecursion IsFitting (op 10 1 1 2 ∷ op 10 2 2 2 ∷ op 10 3 3 2 ∷ op 10 4 4 2 ∷ op 10 7 7 2 ∷ op 10 7 3 2 ∷ op 10 3 7 2 ∷ op 10 13 13 2 ∷ [])
 unfolding applied
 fit_10 = (
   two_ints 10 2 (λ a b. refl),
@@ -330,7 +366,7 @@ fit_10 = (
           two_texts 10 7 7 2 dyadic.NotEqual refl of_row of_row (λ a b. refl),
           (
             two_texts 10 7 3 2 dyadic.NotEqual refl of_row of_char (λ a b. refl),
-            (two_texts 10 3 7 2 dyadic.NotEqual refl of_char of_row (λ a b. refl), tt),
+            (two_texts 10 3 7 2 dyadic.NotEqual refl of_char of_row (λ a b. refl), (two_longs 10 2 (λ a b. refl), tt)),
           ),
         ),
       ),
@@ -338,7 +374,7 @@ fit_10 = (
   ),
 )
 
-fit_11 : ByRecursion IsFitting (op 11 1 1 2 ∷ op 11 7 7 2 ∷ op 11 7 3 2 ∷ op 11 3 7 2 ∷ op 11 3 3 2 ∷ [])
+fit_11 : ByRecursion IsFitting (op 11 1 1 2 ∷ op 11 7 7 2 ∷ op 11 7 3 2 ∷ op 11 3 7 2 ∷ op 11 3 3 2 ∷ op 11 13 13 2 ∷ [])
 unfolding applied
 fit_11 = (
   two_ints 11 2 (λ a b. refl),
@@ -348,13 +384,13 @@ fit_11 = (
       two_texts 11 7 3 2 dyadic.Less refl of_row of_char (λ a b. refl),
       (
         two_texts 11 3 7 2 dyadic.Less refl of_char of_row (λ a b. refl),
-        (two_texts 11 3 3 2 dyadic.Less refl of_char of_char (λ a b. refl), tt),
+        (two_texts 11 3 3 2 dyadic.Less refl of_char of_char (λ a b. refl), (two_longs 11 2 (λ a b. refl), tt)),
       ),
     ),
   ),
 )
 
-fit_12 : ByRecursion IsFitting (op 12 1 1 2 ∷ op 12 7 7 2 ∷ op 12 7 3 2 ∷ op 12 3 7 2 ∷ op 12 3 3 2 ∷ op 12 4 4 2 ∷ [])
+fit_12 : ByRecursion IsFitting (op 12 1 1 2 ∷ op 12 7 7 2 ∷ op 12 7 3 2 ∷ op 12 3 7 2 ∷ op 12 3 3 2 ∷ op 12 4 4 2 ∷ op 12 13 13 2 ∷ [])
 unfolding applied
 fit_12 = (
   two_ints 12 2 (λ a b. refl),
@@ -366,14 +402,14 @@ fit_12 = (
         two_texts 12 3 7 2 dyadic.AtMost refl of_char of_row (λ a b. refl),
         (
           two_texts 12 3 3 2 dyadic.AtMost refl of_char of_char (λ a b. refl),
-          (two_bits 12 2 (λ a b. refl), tt),
+          (two_bits 12 2 (λ a b. refl), (two_longs 12 2 (λ a b. refl), tt)),
         ),
       ),
     ),
   ),
 )
 
-fit_13 : ByRecursion IsFitting (op 13 1 1 2 ∷ op 13 7 7 2 ∷ op 13 7 3 2 ∷ op 13 3 7 2 ∷ op 13 3 3 2 ∷ op 13 4 4 2 ∷ [])
+fit_13 : ByRecursion IsFitting (op 13 1 1 2 ∷ op 13 7 7 2 ∷ op 13 7 3 2 ∷ op 13 3 7 2 ∷ op 13 3 3 2 ∷ op 13 4 4 2 ∷ op 13 13 13 2 ∷ [])
 unfolding applied
 fit_13 = (
   two_ints 13 2 (λ a b. refl),
@@ -385,14 +421,14 @@ fit_13 = (
         two_texts 13 3 7 2 dyadic.AtLeast refl of_char of_row (λ a b. refl),
         (
           two_texts 13 3 3 2 dyadic.AtLeast refl of_char of_char (λ a b. refl),
-          (two_bits 13 2 (λ a b. refl), tt),
+          (two_bits 13 2 (λ a b. refl), (two_longs 13 2 (λ a b. refl), tt)),
         ),
       ),
     ),
   ),
 )
 
-fit_14 : ByRecursion IsFitting (op 14 1 1 2 ∷ op 14 7 7 2 ∷ op 14 7 3 2 ∷ op 14 3 7 2 ∷ op 14 3 3 2 ∷ [])
+fit_14 : ByRecursion IsFitting (op 14 1 1 2 ∷ op 14 7 7 2 ∷ op 14 7 3 2 ∷ op 14 3 7 2 ∷ op 14 3 3 2 ∷ op 14 13 13 2 ∷ [])
 unfolding applied
 fit_14 = (
   two_ints 14 2 (λ a b. refl),
@@ -402,13 +438,13 @@ fit_14 = (
       two_texts 14 7 3 2 dyadic.Greater refl of_row of_char (λ a b. refl),
       (
         two_texts 14 3 7 2 dyadic.Greater refl of_char of_row (λ a b. refl),
-        (two_texts 14 3 3 2 dyadic.Greater refl of_char of_char (λ a b. refl), tt),
+        (two_texts 14 3 3 2 dyadic.Greater refl of_char of_char (λ a b. refl), (two_longs 14 2 (λ a b. refl), tt)),
       ),
     ),
   ),
 )
 
-fit_15 : ByRecursion IsFitting (op 15 1 1 1 ∷ op 15 7 7 7 ∷ op 15 7 3 7 ∷ op 15 3 7 7 ∷ op 15 3 3 7 ∷ [])
+fit_15 : ByRecursion IsFitting (op 15 1 1 1 ∷ op 15 7 7 7 ∷ op 15 7 3 7 ∷ op 15 3 7 7 ∷ op 15 3 3 7 ∷ op 15 13 13 13 ∷ [])
 unfolding applied
 fit_15 = (
   two_ints 15 1 (λ a b. an_int (a +ℤ b)),
@@ -418,18 +454,18 @@ fit_15 = (
       two_texts 15 7 3 7 dyadic.Plus refl of_row of_char (λ a b. a_text (a ++ b)),
       (
         two_texts 15 3 7 7 dyadic.Plus refl of_char of_row (λ a b. a_text (a ++ b)),
-        (two_texts 15 3 3 7 dyadic.Plus refl of_char of_char (λ a b. a_text (a ++ b)), tt),
+        (two_texts 15 3 3 7 dyadic.Plus refl of_char of_char (λ a b. a_text (a ++ b)), (two_longs 15 13 (λ a b. a_long (number_of a +ℤ number_of b)), tt)),
       ),
     ),
   ),
 )
 
-fit_16 : ByRecursion IsFitting (op 16 1 1 1 ∷ [])
+fit_16 : ByRecursion IsFitting (op 16 1 1 1 ∷ op 16 13 13 13 ∷ [])
 unfolding applied
 fit_16 =
-    (two_ints 16 1 (λ a b. an_int (a -ℤ b)), tt)
+    (two_ints 16 1 (λ a b. an_int (a -ℤ b)), (two_longs 16 13 (λ a b. a_long (number_of a -ℤ number_of b)), tt))
 
-fit_17 : ByRecursion IsFitting (op 17 1 1 1 ∷ op 17 7 1 7 ∷ op 17 3 1 7 ∷ op 17 1 7 7 ∷ op 17 1 3 7 ∷ [])
+fit_17 : ByRecursion IsFitting (op 17 1 1 1 ∷ op 17 7 1 7 ∷ op 17 3 1 7 ∷ op 17 1 7 7 ∷ op 17 1 3 7 ∷ op 17 13 13 13 ∷ [])
 unfolding applied
 fit_17 = (
   two_ints 17 1 (λ a b. an_int (a *ℤ b)),
@@ -439,31 +475,31 @@ fit_17 = (
       text_and_int 17 3 7 dyadic.Times refl of_char a_repeated,
       (
         int_and_text 17 7 7 dyadic.Times refl of_row a_repeated,
-        (int_and_text 17 3 7 dyadic.Times refl of_char a_repeated, tt),
+        (int_and_text 17 3 7 dyadic.Times refl of_char a_repeated, (two_longs 17 13 (λ a b. a_long (number_of a *ℤ number_of b)), tt)),
       ),
     ),
   ),
 )
 
-fit_18 : ByRecursion IsFitting (op 18 1 1 1 ∷ [])
+fit_18 : ByRecursion IsFitting (op 18 1 1 1 ∷ op 18 13 13 13 ∷ [])
 unfolding applied
 fit_18 =
-    (two_ints 18 1 (λ a b. a_quotient b (int_div a b)), tt)
+    (two_ints 18 1 (λ a b. a_quotient 1 int an_int b (int_div a b)), (two_longs 18 13 (λ a b. a_quotient 13 long a_long (number_of b) (int_div (number_of a) (number_of b))), tt))
 
-fit_19 : ByRecursion IsFitting (op 19 1 1 1 ∷ [])
+fit_19 : ByRecursion IsFitting (op 19 1 1 1 ∷ op 19 13 13 13 ∷ [])
 unfolding applied
 fit_19 =
-    (two_ints 19 1 (λ a b. a_quotient b (modulo a b)), tt)
+    (two_ints 19 1 (λ a b. a_quotient 1 int an_int b (modulo a b)), (two_longs 19 13 (λ a b. a_quotient 13 long a_long (number_of b) (modulo (number_of a) (number_of b))), tt))
 
 fit_20 : ByRecursion IsFitting (op 20 1 4 2 ∷ [])
 unfolding applied
 fit_20 =
     (int_and_bits 20 2 a_place, tt)
 
-fit_21 : ByRecursion IsFitting (op 21 1 1 1 ∷ [])
+fit_21 : ByRecursion IsFitting (op 21 1 1 1 ∷ op 21 13 1 13 ∷ [])
 unfolding applied
 fit_21 =
-    (two_ints 21 1 (λ a b. a_power a b), tt)
+    (two_ints 21 1 (λ a b. a_power 1 int an_int a b), (long_and_int 21 13 (λ a n. a_power 13 long a_long (number_of a) n), tt))
 
 fit_22 : ByRecursion IsFitting (op 22 4 1 4 ∷ [])
 unfolding applied
@@ -485,15 +521,15 @@ unfolding applied
 fit_25 =
     (later 25 1 0 1 refl, tt)
 
-fit_26 : ByRecursion IsFitting (op 26 0 1 1 ∷ [])
+fit_26 : ByRecursion IsFitting (op 26 0 1 1 ∷ op 26 0 13 13 ∷ [])
 unfolding applied
 fit_26 =
-    (an_operand_int 26 1 (λ a. an_int a), tt)
+    (an_operand_int 26 1 (λ a. an_int a), (an_operand_long 26 13 (λ a. a_long (number_of a)), tt))
 
-fit_27 : ByRecursion IsFitting (op 27 0 1 1 ∷ [])
+fit_27 : ByRecursion IsFitting (op 27 0 1 1 ∷ op 27 0 13 13 ∷ [])
 unfolding applied
 fit_27 =
-    (an_operand_int 27 1 (λ a. an_int (neg_ℤ a)), tt)
+    (an_operand_int 27 1 (λ a. an_int (neg_ℤ a)), (an_operand_long 27 13 (λ a. a_long (neg_ℤ (number_of a))), tt))
 
 fit_28 : ByRecursion IsFitting (op 28 0 2 2 ∷ op 28 0 4 4 ∷ [])
 unfolding applied
@@ -502,7 +538,7 @@ fit_28 = (
   (an_operand_bits 28 4 (λ b. refl), tt),
 )
 
-fit_29 : ByRecursion IsFitting (op 29 0 1 1 ∷ op 29 0 2 1 ∷ op 29 0 3 1 ∷ op 29 0 4 1 ∷ [])
+fit_29 : ByRecursion IsFitting (op 29 0 1 1 ∷ op 29 0 2 1 ∷ op 29 0 3 1 ∷ op 29 0 4 1 ∷ op 29 0 13 13 ∷ [])
 unfolding applied
 fit_29 = (
   an_operand_int 29 1 (λ a. an_int (abs_of a)),
@@ -510,20 +546,20 @@ fit_29 = (
     an_operand_truth 29 1 (λ b. an_int (pos (cond b 1 0))),
     (
       an_operand_char 29 1 (λ c. an_int (pos c)),
-      (an_operand_bits 29 1 (λ b. an_int (pos b)), tt),
+      (an_operand_bits 29 1 (λ b. an_int (pos b)), (an_operand_long 29 13 (λ a. a_long (abs_of (number_of a))), tt)),
     ),
   ),
 )
 
-fit_30 : ByRecursion IsFitting (op 30 0 1 1 ∷ [])
+fit_30 : ByRecursion IsFitting (op 30 0 1 1 ∷ op 30 0 13 1 ∷ [])
 unfolding applied
 fit_30 =
-    (an_operand_int 30 1 (λ a. an_int (sign_of a)), tt)
+    (an_operand_int 30 1 (λ a. an_int (sign_of a)), (an_operand_long 30 1 (λ a. an_int (sign_of (number_of a))), tt))
 
-fit_31 : ByRecursion IsFitting (op 31 0 1 2 ∷ [])
+fit_31 : ByRecursion IsFitting (op 31 0 1 2 ∷ op 31 0 13 2 ∷ [])
 unfolding applied
 fit_31 =
-    (an_operand_int 31 2 (λ a. refl), tt)
+    (an_operand_int 31 2 (λ a. refl), (an_operand_long 31 2 (λ a. refl), tt))
 
 fit_32 : ByRecursion IsFitting (op 32 0 1 3 ∷ [])
 unfolding applied
@@ -562,11 +598,21 @@ unfolding applied
 fit_38 =
     (later 38 0 0 1 refl, tt)
 
+fit_39 : ByRecursion IsFitting (op 39 0 1 13 ∷ [])
+unfolding applied
+fit_39 =
+    (an_operand_int 39 13 (λ a. a_long a), tt)
+
+fit_40 : ByRecursion IsFitting (op 40 0 13 1 ∷ [])
+unfolding applied
+fit_40 =
+    (an_operand_long 40 1 (λ a. an_int (number_of a)), tt)
+
 dyadic_fit : EachFits dyadic_entries
 dyadic_fit = (fit_1, (fit_2, (fit_3, (fit_4, (fit_5, (fit_6, (fit_7, (fit_8, (fit_9, (fit_10, (fit_11, (fit_12, (fit_13, (fit_14, (fit_15, (fit_16, (fit_17, (fit_18, (fit_19, (fit_20, (fit_21, (fit_22, (fit_23, (fit_24, (fit_25, tt)))))))))))))))))))))))))
 
 monadic_fit : EachFits monadic_entries
-monadic_fit = (fit_26, (fit_27, (fit_28, (fit_29, (fit_30, (fit_31, (fit_32, (fit_33, (fit_34, (fit_35, (fit_36, (fit_37, (fit_38, tt)))))))))))))
+monadic_fit = (fit_26, (fit_27, (fit_28, (fit_29, (fit_30, (fit_31, (fit_32, (fit_33, (fit_34, (fit_35, (fit_36, (fit_37, (fit_38, (fit_39, (fit_40, tt)))))))))))))))
 
 found_by : (here : Bool) (entry : SignGroup) (rest : Option SignGroup) → ByRecursion IsFitting entry.operators
     → All IsFitting (option_map_or (λ one. one.operators) rest []) → All IsFitting (option_map_or (λ one. one.operators) (cond here (Some entry) rest) [])

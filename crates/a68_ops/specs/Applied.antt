@@ -4,15 +4,16 @@ use Rattle.std.specs.Option.{option_map_or}
 use Rattle.std.specs.declared.option.Option.{Option}
 use Rattle.a68_signs.specs.declared.operators.TheConstants as operators
 use Rattle.a68_values.specs.Content.{Content, void, plain}
+use Rattle.a68_values.specs.Longs.{number_of}
 use Rattle.a68_values.specs.declared.act.FaultKind.TheVariants as fault
 use Rattle.a68_values.specs.declared.plain.Plain.{Plain}
 use Rattle.a68_values.specs.declared.plain.Plain.TheVariants as value
 use Rattle.a68_ops.specs.Bits.{on_bits, shifted, on_place, complement}
 use Rattle.a68_ops.specs.Booleans.{on_truths}
-use Rattle.a68_ops.specs.Integers.{on_ints, on_int}
+use Rattle.a68_ops.specs.Integers.{on_ints, on_int, on_long, on_numbers, to_power}
 use Rattle.a68_ops.specs.Operators.{dyadic_of, monadic_of}
 use Rattle.a68_ops.specs.Texts.{text_of, on_texts, text_times}
-use Rattle.a68_ops.specs.Yields.{Yield, PlainYield, yield_of, is_unset, int, truth, bits}
+use Rattle.a68_ops.specs.Yields.{Yield, PlainYield, yield_of, is_unset, int, long, truth, bits}
 use Rattle.a68_ops.specs.declared.operator.Dyadic.{Dyadic}
 use Rattle.a68_ops.specs.declared.operator.Monadic.{Monadic}
 use Rattle.a68_ops.specs.declared.operator.Monadic.TheVariants as monadic
@@ -22,6 +23,8 @@ abbrev pub between_plain : Dyadic → (p q : Plain) → Option PlainYield
 between_plain operator (value.Int a) (value.Int b) = Some (on_ints operator a b)
 between_plain operator (value.Bool a) (value.Bool b) = Some (on_truths operator a b)
 between_plain operator (value.Bits a) (value.Bits b) = Some (on_bits operator a b)
+between_plain operator (value.Long a) (value.Long b) = Some (on_numbers long operator (number_of a) (number_of b))
+between_plain operator (value.Long a) (value.Int n) = Some (to_power long operator (number_of a) n)
 between_plain operator (value.Bits b) (value.Int n) = Some (shifted operator b n)
 between_plain operator (value.Int n) (value.Bits b) = Some (on_place operator n b)
 between_plain operator _ _ = None
@@ -55,6 +58,7 @@ dyadic_by operator v w = option_map_or yield_of (plain_yield operator v w) (with
 -- an operator before a plain value that is set (Report, 10.2.1, 10.2.3.2, 10.2.3.3 and 10.2.3.8)
 abbrev pub monadic_by : Monadic → Plain → PlainYield
 monadic_by operator (value.Int a) = on_int operator a
+monadic_by operator (value.Long a) = on_long operator (number_of a)
 monadic_by monadic.Not (value.Bool a) = truth (not a)
 monadic_by monadic.Abs (value.Bool a) = int (pos (if a then 1 else 0))
 monadic_by monadic.Not (value.Bits b) = bits (complement b)

@@ -5,17 +5,19 @@ use Rattle.std.specs.Prelude.{ℕ, Bool, false, ◌&&◌, ◌||◌, [], ◌∷�
 use Rattle.a68_modes.specs.declared.standard.TheConstants as standard
 use Rattle.a68_signs.specs.declared.operators.TheConstants as operators
 use Rattle.a68_values.specs.Content.{Content, void, plain, row as row_value}
+use Rattle.a68_values.specs.Longs.{number_of}
 use Rattle.a68_values.specs.declared.act.FaultKind.TheVariants as fault
 use Rattle.a68_values.specs.declared.plain.Plain.TheVariants as value
 use Rattle.a68_ops.specs.Applied.{applied}
 use Rattle.a68_ops.specs.Texts.{are_chars}
-use Rattle.a68_ops.specs.Yields.{Yield, is_int}
+use Rattle.a68_ops.specs.Yields.{Yield, is_int, is_long}
 use Rattle.a68_signs.specs.declared.signs.Operator.{Operator}
 
 -- a value of a standard mode that is set in all its parts; VOID stands for none
 abbrev pub has_mode : (mode : ℕ) → Content → Bool
 has_mode mode void = nat_eq mode standard.VOID
 has_mode mode (plain (value.Int n)) = nat_eq mode standard.INT && is_int n
+has_mode mode (plain (value.Long l)) = nat_eq mode standard.LONG_INT && is_long (number_of l)
 has_mode mode (plain (value.Bool b)) = nat_eq mode standard.BOOL
 has_mode mode (plain (value.Char c)) = nat_eq mode standard.CHAR
 has_mode mode (plain (value.Bits b)) = nat_eq mode standard.BITS
@@ -32,6 +34,7 @@ YieldIsOf mode (Err _) = Unit {0}
 -- the rows that yield at once
 abbrev pub is_silent : (row : ℕ) → Bool
 is_silent row = (nat_le operators.OR row && nat_le row operators.SHR) || (nat_le operators.POSITIVE row && nat_le row operators.BIN)
+    || (nat_le operators.LENG row && nat_le row operators.SHORTEN)
 
 -- what an operator of such a row does with values of the modes of its operands
 abbrev pub IsFitting : Operator → Type 0

@@ -31,7 +31,7 @@ dyadic_of row =
     else (if nat_eq row operators.SHR then Some dyadic.ShiftRight
     else None))))))))))))))))
 
--- monadic + to BIN
+-- monadic + to BIN, LENG and SHORTEN
 abbrev pub monadic_of : (row : ℕ) → Option Monadic
 monadic_of row =
     if nat_eq row operators.POSITIVE then Some monadic.Plus
@@ -42,7 +42,9 @@ monadic_of row =
     else (if nat_eq row operators.ODD then Some monadic.Odd
     else (if nat_eq row operators.REPR then Some monadic.Repr
     else (if nat_eq row operators.BIN then Some monadic.Bin
-    else None)))))))
+    else (if nat_eq row operators.LENG then Some monadic.Leng
+    else (if nat_eq row operators.SHORTEN then Some monadic.Shorten
+    else None)))))))))
 
 -- what a comparison tells of two operands, by whether the left is less than the right and whether they are equal
 abbrev pub compared : Dyadic → (less equal : Bool) → PlainYield

@@ -5,6 +5,7 @@ use Rattle.std.specs.Option.{option_map_or}
 use Rattle.std.specs.declared.option.Option.{Option}
 use Rattle.std.specs.declared.result.Result.{Result}
 use Rattle.a68_values.specs.Content.{Content, plain, layout, united}
+use Rattle.a68_values.specs.Longs.{number_of}
 use Rattle.a68_values.specs.declared.act.FaultKind.{FaultKind}
 use Rattle.a68_values.specs.declared.act.FaultKind.TheVariants as fault
 use Rattle.a68_values.specs.declared.plain.Layout.TheVariants.{Newline, Space}
@@ -43,6 +44,7 @@ places b = map (place_text b) (range_with_len 0 64)
 -- the value of an item as it is printed; None where there is no way to print it (own)
 abbrev pub printed : Content → Option (List ℕ)
 printed (plain (value.Int i)) = Some (whole_text i (pos 20))
+printed (plain (value.Long l)) = Some (whole_text (number_of l) (pos 40))
 printed (plain (value.Bool b)) = Some (if b then codes "T" else codes "F")
 printed (plain (value.Bits b)) = Some (places b)
 printed (layout Newline) = Some (10 ∷ [])

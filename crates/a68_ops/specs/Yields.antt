@@ -4,6 +4,7 @@ use Rattle.std.specs.declared.option.Option.{Option}
 use Rattle.std.specs.declared.result.Result.{Result}
 use Rattle.a68_values.specs.Content.{Content, Contents, plain, structure, row, united, no_parts, ◌and_part◌, contents_of}
 pub use Rattle.a68_values.specs.Content.{is_row}
+use Rattle.a68_values.specs.Longs.{long_of}
 use Rattle.a68_values.specs.declared.act.FaultKind.{FaultKind}
 use Rattle.a68_values.specs.declared.act.FaultKind.TheVariants as fault
 use Rattle.a68_values.specs.declared.plain.Plain.{Plain}
@@ -50,6 +51,15 @@ is_int (negsuc n) = nat_lt (n + 1) (2 ^ 63)
 -- an integer, where it is an INT
 abbrev pub int : ℤ → PlainYield
 int z = if is_int z then Ok (value.Int z) else Err fault.Overflow
+
+-- LONG INT is what 127 bits and a sign hold (2.1.3.1; the range is own)
+abbrev pub is_long : ℤ → Bool
+is_long (pos n) = nat_lt n (2 ^ 127)
+is_long (negsuc n) = nat_lt (n + 1) (2 ^ 127)
+
+-- an integer, where it is a LONG INT
+abbrev pub long : ℤ → PlainYield
+long z = if is_long z then Ok (value.Long (long_of z)) else Err fault.Overflow
 
 -- an INT as a value, or the fault where there is none
 abbrev pub int_or_overflow : Option ℤ → PlainYield

@@ -8,6 +8,7 @@ ghost use Rattle.a68_values.specs.declared.plain.Plain.{Plain};
 use crate::OpStop;
 use crate::bits::{on_bits, on_place, shifted};
 use crate::integers::{difference, on_int, on_ints, on_truths, product, sum};
+use crate::longs::{long_to_power, on_long, on_longs};
 use crate::operator::{Dyadic, Monadic, dyadic_of, monadic_of, truth};
 use crate::texts::{items_of, on_texts, text_times};
 use crate::unset::{is_unset, is_unset_plain};
@@ -24,6 +25,10 @@ fn between_plain(operator: Dyadic, left: Plain, right: Plain) -> Option<Result<P
         (Plain::Int(left), Plain::Int(right)) => Some(on_ints(operator, left, right)),
         (Plain::Bool(left), Plain::Bool(right)) => Some(on_truths(operator, left, right)),
         (Plain::Bits(left), Plain::Bits(right)) => Some(on_bits(operator, left, right)),
+        (Plain::Long(left), Plain::Long(right)) => Some(on_longs(operator, left, right)),
+        (Plain::Long(value), Plain::Int(exponent)) => Some(long_to_power(
+            operator, value, exponent,
+        )),
         (Plain::Bits(bits), Plain::Int(places)) => Some(shifted(operator, bits, places)),
         (Plain::Int(place), Plain::Bits(bits)) => Some(on_place(operator, place, bits)),
         _ => None,
@@ -115,6 +120,7 @@ fn before_plain(operator: Monadic, right: Plain) -> Result<Plain, FaultKind>
 {
     match (operator, right) {
         (_, Plain::Int(value)) => on_int(operator, value),
+        (_, Plain::Long(value)) => on_long(operator, value),
         (Monadic::Not, Plain::Bool(holds)) => truth(!holds),
         (Monadic::Abs, Plain::Bool(holds)) => Ok(Plain::Int(i64::from(holds))),
         (Monadic::Not, Plain::Bits(bits)) => Ok(Plain::Bits(!bits)),
@@ -138,12 +144,12 @@ fn monadic(operator: Monadic, left: &Value, right: &Value) -> Result<Value, OpSt
 }
 
 /// Applies the operator of a row of the table to its operands (Report, 10.2.3). The rows are those that yield at once:
-/// 7 to 23 and 26 to 33. Before one operand `left` is Void.
+/// 7 to 23, 26 to 33, and 39 and 40. Before one operand `left` is Void.
 ///
 /// The faults, in order: Unset where an operand or a part of one is unset; Kind for another row, and where the row does
 /// not take such operands; then those of the row itself (own):
 ///
-/// - Overflow where the result is no INT: `+ - * OVER **` and monadic `+ - ABS`;
+/// - Overflow where the result is no INT, or no LONG INT: `+ - * OVER **`, monadic `+ - ABS`, and SHORTEN;
 /// - Divisor where the right operand of OVER or MOD is 0;
 /// - Domain where the right operand of `**` is negative, the place of ELEM is not one of 1 to 64, the operand of REPR is
 ///   not one of 0 to 255, or that of BIN is negative;
@@ -182,8 +188,8 @@ pub fn updated(alloc: Global, row: u32, old: &Value, operand: &Value) -> Result<
     Err(OpStop::Fault(FaultKind::Kind))
 }
 
-/// Applies the operator of a row between two plain values, as `apply` does, where they are two INT, two BOOL, two BITS, or
-/// an INT and BITS, or one of them is unset, or the row is none between two operands. None where `apply` looks for texts.
+/// Applies the operator of a row between two plain values, as `apply` does, where they are two INT, two LONG INT, two BOOL,
+/// two BITS, a LONG INT and an INT, or an INT and BITS, or one of them is unset, or the row is none between two operands. None where `apply` looks for texts.
 /// It takes no memory.
 #[inline(always)]
 #[tactic(auto, unfolding(crate::specs::Applied::applied))]

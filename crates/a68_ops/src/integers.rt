@@ -7,11 +7,11 @@ ghost use Rattle.a68_ops.specs.Yields as yields;
 ghost use Rattle.a68_ops.specs.declared.operator.Monadic.TheVariants as monadic;
 
 use crate::operator::{Dyadic, Monadic, compared, truth};
-use a68_values::{FaultKind, Plain};
+use a68_values::{FaultKind, Long, Plain};
 
-// Takes a number as an INT, which leaves out the least of the machine's numbers.
+/// Takes a number as an INT, which leaves out the least of the machine's numbers.
 #[inline(always)]
-fn int(value: i64) -> Result<Plain, FaultKind>
+pub fn int(value: i64) -> Result<Plain, FaultKind>
     ensures { result ≡ yields.int value }
 {
     if value == i64::MIN {
@@ -78,7 +78,7 @@ pub fn product(left: i64, right: i64) -> Option<i64>
 // Divides, and cuts the quotient towards 0.
 #[inline(always)]
 fn quotient(left: i64, right: i64) -> Result<Plain, FaultKind>
-    ensures { result ≡ integers.divided right (int_div left right) }
+    ensures { result ≡ integers.divided yields.int right (int_div left right) }
 {
     if right == 0 {
         return Err(FaultKind::Divisor);
@@ -108,7 +108,7 @@ fn lifted(rest: i64, divisor: i64) -> i64
 // Takes the rest of a division that is not negative.
 #[inline(always)]
 fn modulo(left: i64, right: i64) -> Result<Plain, FaultKind>
-    ensures { result ≡ integers.divided right (integers.modulo left right) }
+    ensures { result ≡ integers.divided yields.int right (integers.modulo left right) }
 {
     if right == 0 {
         return Err(FaultKind::Divisor);
@@ -143,7 +143,7 @@ fn raised(value: i64, exponent: u32) -> Result<Plain, FaultKind>
 
 // Raises to a power; a negative exponent is outside what the operator takes.
 fn power(left: i64, right: i64) -> Result<Plain, FaultKind>
-    ensures { result ≡ integers.raised left right }
+    ensures { result ≡ integers.raised yields.int left right }
 {
     if right < 0 {
         return Err(FaultKind::Domain);
@@ -233,6 +233,7 @@ pub fn on_int(operator: Monadic, value: i64) -> Result<Plain, FaultKind>
         Monadic::Odd => truth(value % 2 != 0),
         Monadic::Repr => character(value),
         Monadic::Bin => bits(value),
-        Monadic::Not => Err(FaultKind::Kind),
+        Monadic::Leng => Ok(Plain::Long(Long::of(i128::from(value)))),
+        Monadic::Not | Monadic::Shorten => Err(FaultKind::Kind),
     }
 }

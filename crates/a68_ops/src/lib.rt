@@ -6,6 +6,7 @@ mod applied;
 mod bits;
 mod integers;
 mod laws;
+mod longs;
 mod operator;
 mod printing;
 mod stop;

@@ -39,6 +39,8 @@ pub enum Monadic {
     Odd,
     Repr,
     Bin,
+    Leng,
+    Shorten,
 }
 
 /// Finds the operator of a row.
@@ -82,6 +84,8 @@ pub fn monadic_of(row: u32) -> Option<Monadic>
         operators::ODD => Some(Monadic::Odd),
         operators::REPR => Some(Monadic::Repr),
         operators::BIN => Some(Monadic::Bin),
+        operators::LENG => Some(Monadic::Leng),
+        operators::SHORTEN => Some(Monadic::Shorten),
         _ => None,
     }
 }

@@ -18,6 +18,9 @@ const MOST_PLACES: u64 = 65_536;
 /// In so many places `print` writes an INT.
 const INT_PLACES: i64 = 20;
 
+/// In so many places `print` writes a LONG INT.
+const LONG_PLACES: i64 = 40;
+
 // Writes a sign and digits at the right of so many places, or as briefly as it can where these are 0.
 fn set_right(alloc: Global, places: usize, sign: &[u8], digits: &[u8]) -> Result<Text, NoMemory>
     ensures { IfOk result (λ text. text ≡ spec.set_right places (sign.now ++ digits.now)) }
@@ -34,7 +37,7 @@ fn set_right(alloc: Global, places: usize, sign: &[u8], digits: &[u8]) -> Result
 }
 
 // Finds the sign that stands before the digits of a number.
-fn sign_text(value: i64, width: i64) -> &'static str
+fn sign_text(value: i128, width: i64) -> &'static str
     ensures { result.now ≡ spec.sign_text value width }
 {
     if value < 0 {
@@ -48,7 +51,7 @@ fn sign_text(value: i64, width: i64) -> &'static str
 
 // Writes an integer.
 #[tactic(auto, unfolding(crate::specs::Printed::whole_text))]
-fn whole_text(alloc: Global, value: i64, width: i64) -> Result<Text, NoMemory>
+fn whole_text(alloc: Global, value: i128, width: i64) -> Result<Text, NoMemory>
     ensures { IfOk result (λ text. text ≡ spec.whole_text value width) }
 {
     let mut buffer = Buffer::new();
@@ -58,13 +61,13 @@ fn whole_text(alloc: Global, value: i64, width: i64) -> Result<Text, NoMemory>
     set_right(alloc, places, sign.as_bytes(), digits.as_bytes())
 }
 
-/// Writes an integer as `whole (value, width)` does (Report, 10.3.2.1).
+/// Writes an INT or a LONG INT as `whole (value, width)` does (Report, 10.3.2.1).
 ///
 /// Its size stands right in as many places as the width says without its sign, and as briefly as it can for 0. Where the
 /// width is positive the sign stands before the digits, and else only a minus does. A text that does not fit gives
 /// asterisks in all places. Domain where the width is above 65,536 or below -65,536 (own).
 #[tactic(auto, unfolding(crate::specs::Printed::whole))]
-pub fn whole(alloc: Global, value: i64, width: i64) -> Result<Text, OpStop>
+pub fn whole(alloc: Global, value: i128, width: i64) -> Result<Text, OpStop>
     ensures { IsAsTold (λ text. true) result (spec.whole value width) }
 {
     if width.unsigned_abs() > MOST_PLACES {
@@ -114,7 +117,8 @@ fn written(alloc: Global, value: &Value) -> Result<Text, OpStop>
     ensures { IsAsTold (λ text. true) result (spec.written value.now) }
 {
     let text = match &value.node {
-        ValueNode::Plain(Plain::Int(number)) => whole_text(alloc, *number, INT_PLACES)?,
+        ValueNode::Plain(Plain::Int(number)) => whole_text(alloc, i128::from(*number), INT_PLACES)?,
+        ValueNode::Plain(Plain::Long(number)) => whole_text(alloc, number.number(), LONG_PLACES)?,
         ValueNode::Plain(Plain::Bool(true)) => Text::from_slice(alloc, b"T")?,
         ValueNode::Plain(Plain::Bool(false)) => Text::from_slice(alloc, b"F")?,
         ValueNode::Plain(Plain::Bits(bits)) => places(alloc, *bits)?,
@@ -130,7 +134,7 @@ fn written(alloc: Global, value: &Value) -> Result<Text, OpStop>
 
 /// Writes an item as `print` prints it (own; Report, 10.3.3.1).
 ///
-/// An INT is written as `whole (v, 20)`, BOOL as `T` or `F`, BITS as its 64 places from the left with `T` and `F`, a CHAR
+/// An INT is written as `whole (v, 20)`, a LONG INT as `whole (v, 40)`, BOOL as `T` or `F`, BITS as its 64 places from the left with `T` and `F`, a CHAR
 /// and a row of CHAR of one dimension as their bytes, `newline` as a line feed and `space` as a blank. The item may be
 /// united to a union. Unset where it is unset or has a part that is, and Kind where it is another value.
 #[tactic(auto, unfolding(crate::specs::Printed::item_text))]

@@ -1,5 +1,5 @@
 -- How many symbols a text may have, and where they stand.
-use Rattle.std.proofs.Common.{◌≡◌, ℕ, zero, suc, ◌+◌, ◌≤◌, List, length, map, drop, slice_get, Some, ap, ◌∙◌, arith, length-drop}
+use Rattle.std.proofs.Common.{◌≡◌, ℕ, zero, suc, ◌+◌, ◌≤◌, Bool, List, length, map, drop, slice_get, Some, ap, ◌∙◌, arith, length-drop}
 use Rattle.std.specs.Option.{option_map}
 use Rattle.std.proofs.lemmas.List.{length-map}
 use Rattle.std.proofs.lemmas.Option.{slice_get-map}
@@ -12,7 +12,7 @@ use Rattle.a68_base.specs.declared.refusal.Rule.{Rule}
 
 -- ---- as few symbols as a text may have
 
-cut_few : {at before : ℕ} {text : List ℕ} {pieces : List Piece} → IsCut at before text pieces → before ≤ most_symbols → before + length pieces ≤ most_symbols
+cut_few : {long : Bool} {at before : ℕ} {text : List ℕ} {pieces : List Piece} → IsCut long at before text pieces → before ≤ most_symbols → before + length pieces ≤ most_symbols
 cut_few cut_ended h = omega (arith, h)
 cut_few (cut_passed f c) h = cut_few c h
 cut_few (cut_taken f few c) h = let more = cut_few c (omega (arith, few)) in omega (arith, more)
@@ -24,7 +24,7 @@ symbols_few text found s =
 
 -- ---- within the text
 
-front_within : {text : List ℕ} {g : Given} {n : ℕ} → Front text g n → n ≤ length text
+front_within : {long : Bool} {text : List ℕ} {g : Given} {n : ℕ} → Front long text g n → n ≤ length text
 front_within (front_none some none) = omega (arith, some)
 front_within (front_is l e) = l.within
 
@@ -34,7 +34,7 @@ rest_within at n text from h f = let d = length-drop n text in omega (arith, h, 
 first_from : (x p : Piece) → Some x ≡ Some p → x.span.from ≡ p.span.from
 first_from x p e = let same : x ≡ p = cc in ap (λ (q : Piece). q.span.from) same
 
-cut_within : {at before : ℕ} {text : List ℕ} {pieces : List Piece} → IsCut at before text pieces → (i : ℕ) (p : Piece) → slice_get pieces i ≡ Some p → p.span.from ≤ at + length text
+cut_within : {long : Bool} {at before : ℕ} {text : List ℕ} {pieces : List Piece} → IsCut long at before text pieces → (i : ℕ) (p : Piece) → slice_get pieces i ≡ Some p → p.span.from ≤ at + length text
 cut_within cut_ended i p e = cc
 cut_within {at = at} (cut_passed {n = n} {text = text} f c) i p e = rest_within at n text p.span.from (front_within f) (cut_within c i p e)
 cut_within {at = at} (cut_taken {n = n} {text = text} f few c) zero p e =
@@ -48,7 +48,7 @@ symbols_within text found are i s e =
 
 -- ---- a place where a text has no symbols is within it
 
-stops_within : {at before place : ℕ} {text : List ℕ} {rule : Rule} → StopsAt at before text rule place → place ≤ at + length text
+stops_within : {long : Bool} {at before place : ℕ} {text : List ℕ} {rule : Rule} → StopsAt long at before text rule place → place ≤ at + length text
 stops_within (stop_broken f) = omega arith
 stops_within (stop_full f full) = omega arith
 stops_within {at = at} {place = place} (stop_passed {n = n} {text = text} f more) = rest_within at n text place (front_within f) (stops_within more)

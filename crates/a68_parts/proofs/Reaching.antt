@@ -5,7 +5,7 @@ use Rattle.std.proofs.lemmas.Bool.Decides.{nat_tests}
 use Rattle.std.proofs.lemmas.List.{drop_all, drop_more, length-drop}
 use Rattle.std.proofs.lemmas.Option.{same_Some}
 use Rattle.std.specs.Option.{option_and_then}
-use Rattle.std.specs.Prelude.{if◌then◌else◌, IfSome}
+use Rattle.std.specs.Prelude.{if◌then◌else◌, nat_eq, IfSome}
 use Rattle.std.specs.declared.option.Option.{Option}
 use Rattle.a68_elab.specs.Made.{found_from, is_row_of, rowed_to, unrowed, unrowed_by}
 use Rattle.a68_modes.specs.Nodes.{shape_at}
@@ -13,7 +13,7 @@ use Rattle.a68_modes.specs.declared.coercion.Coercion.{Coercion}
 use Rattle.a68_modes.specs.declared.coercion.Coercion.TheVariants.{Deproc, Deref, Drop, RowUp, RowUpName, Unite, Widen}
 use Rattle.a68_modes.specs.declared.shape.Shape.{Shape}
 use Rattle.a68_modes.specs.declared.shape.Shape.TheVariants.{Rows}
-use Rattle.a68_parts.specs.Rowing.{AreRowings, IsRows, Tells, before, first_row}
+use Rattle.a68_parts.specs.Rowing.{AreInOrder, AreRowings, IsRows, before, row_behind, stands}
 
 -- ---- the first of some modes
 
@@ -87,6 +87,10 @@ pub record RowAt (modes : List Shape) (o : Option ℕ) (dims of : ℕ) : Type 0 
   pub mode : ℕ
   pub is : o ≡ Some mode
   pub row : IsRows dims of (shape_at modes mode)
+
+-- the goal, or behind some rowings the first row of so many dimensions without FLEX
+abbrev pub first_row : List Shape → (goal of count dims : ℕ) → Option ℕ
+first_row modes goal of count dims = if nat_eq count 0 then Some goal else found_from 0 (is_row_of dims of) modes
 
 -- so many rowings lead from a mode: at first the goal, then the first row with as many dimensions fewer
 pub record Reaches (modes : List Shape) (goal : ℕ) (path : List Coercion) (dims of count left : ℕ) : Type 0 where
@@ -168,14 +172,48 @@ same_place at path = go (cases_lt at (length path))
     go (inl less) = let long = length-drop at path in let back : length path - length (drop at path) ≡ at = omega (arith, long, less) in ap (λ (n : ℕ). drop n path) back
     go (inr past) = let long = length-drop at path in drop_all (length path - length (drop at path)) path (omega (arith, long, past)) ∙ sym (drop_all at path past)
 
+-- ---- rows that stand in order
+
+-- where a row stands
+stood : (dims of fewer mode n : ℕ) (s : Shape) → stands dims of fewer mode s ≡ true → n < dims → is_row_of n of s ≡ true → (mode ≤ fewer) × (fewer - mode ≡ dims - 1 - n)
+stood dims of fewer mode n (Rows k false m) e less is =
+    let row = row_is n of (Rows k false m) is in
+    (grind (arith, nat_tests, e, less, row.0, row.1), grind (arith, nat_tests, e, less, row.0, row.1))
+stood dims of fewer mode n _ e less is = absurd (false≢true is)
+
+module _ (modes : List Shape) (goal : ℕ) (path : List Coercion) (dims of : ℕ) where
+  -- the first row is the one in its place
+  in_place : (f n m : ℕ) → AreInOrder modes dims of f → 0 < n → n ≤ dims → found_from 0 (is_row_of (dims - n) of) modes ≡ Some m → Some m ≡ Some (f - (n - 1))
+  in_place f n m order some within e =
+      let there = near_found modes (dims - n) of m e in
+      let place = stood dims of f m (dims - n) (shape_at modes m) (order m there.0) (omega (arith, some, within)) there.1 in
+      let same : m ≡ f - (n - 1) = omega (arith, place.0, place.1, some, within) in
+      ap (λ (k : ℕ). Some k) same
+
+  -- what is told of so many rowings
+  told : (count n : ℕ) (fewer : Option ℕ) → IfSome fewer (AreInOrder modes dims of) → Reaches modes goal path dims of n (dims - n)
+      → rowed_to modes goal (drop (length path - n) path) ≡ row_behind modes goal (record { count = count; dims = dims; of = of; fewer = fewer }) n
+  told count n None order r = sym r.first
+  told count n (Some f) order r = go (cases_eq n 0)
+    where
+      go : (n ≡ 0) ⊎ (n ≡ 0 → ⊥) → rowed_to modes goal (drop (length path - n) path) ≡ (if nat_eq n 0 then Some goal else Some (f - (n - 1)))
+      go (inl e) =
+          let zero_is : nat_eq n 0 ≡ true = grind (arith, nat_tests, e) in
+          sym r.first ∙ ap (λ (b : Bool). if b then Some goal else found_from 0 (is_row_of (dims - n) of) modes) zero_is ∙ sym (ap (λ (b : Bool). if b then Some goal else Some (f - (n - 1))) zero_is)
+      go (inr ne) =
+          let some_is : nat_eq n 0 ≡ false = ne_eqb n 0 ne in
+          let first : found_from 0 (is_row_of (dims - n) of) modes ≡ rowed_to modes goal (drop (length path - n) path) =
+          sym (ap (λ (b : Bool). if b then Some goal else found_from 0 (is_row_of (dims - n) of) modes) some_is) ∙ r.first in
+          r.at.is ∙ in_place f n r.at.mode order (omega (arith, ne)) (omega (arith, r.sum)) (first ∙ r.at.is)
+          ∙ sym (ap (λ (b : Bool). if b then Some goal else Some (f - (n - 1))) some_is)
+
 -- what they tell at each place of the path
 pub all_tell : (modes : List Shape) (goal : ℕ) (path : List Coercion) (dims of count : ℕ) → count ≤ length path → AllReach modes goal path dims of count
-    → AreRowings modes goal path (record { count = count; dims = dims; of = of })
-all_tell modes goal path dims of count within all = λ at less.
+    → (fewer : Option ℕ) → IfSome fewer (AreInOrder modes dims of) → AreRowings modes goal path (record { count = count; dims = dims; of = of; fewer = fewer })
+all_tell modes goal path dims of count within all fewer order = λ at less.
     let n = length (drop at path) in
-    let r = all n less in
     let same : drop (length path - n) path ≡ drop at path = same_place at path in
-    sym (r.first ∙ ap (λ (p : List Coercion). rowed_to modes goal p) same)
+    ap (λ (p : List Coercion). rowed_to modes goal p) (sym same) ∙ told modes goal path dims of count n fewer order (all n less)
 
 -- ---- one coercion before others
 

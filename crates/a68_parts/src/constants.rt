@@ -6,10 +6,10 @@ ghost use Rattle.a68_elab.specs.Made as made;
 
 use a68_annot::{Annotated, Note};
 use a68_base::{NoMemory, find};
-use a68_denote::{bits_of, int_of};
+use a68_denote::{bits_of, int_of, long_of};
 use a68_ops::text_value;
 use a68_tree::Node;
-use a68_values::{Layout, Plain, Value, ValueNode};
+use a68_values::{Layout, Long, Plain, Value, ValueNode};
 use std::alloc::Global;
 
 /// The words that stand for truth values.
@@ -80,6 +80,22 @@ pub fn value_in(alloc: Global, text: &[u8]) -> Result<Option<Value>, NoMemory>
     quoted_in(alloc, text)
 }
 
+/// Reads the value of a number behind LONG by its spelling (Report, 8.1); none where it is the spelling of none.
+pub fn long_value_in(text: &[u8]) -> Option<Value>
+    ensures { result ≡ constants.long_value_in text.now }
+{
+    match long_of(text) {
+        Some(number) => Some(Value::of(Plain::Long(Long::of(number)))),
+        None => None,
+    }
+}
+
+// What LONG MAX INT counts of 2 to the power 64, and what is left of it.
+const LONG_MAX_INT: Long = Long {
+    high: 9_223_372_036_854_775_807,
+    low: 18_446_744_073_709_551_615,
+};
+
 // The tags of the standard environ that stand for plain values.
 fn standard_plain() -> &'static [(&'static str, Plain)]
     ensures { map (λ row. (row.0.now, row.1)) result.now ≡ constants.standard_plain }
@@ -89,6 +105,8 @@ fn standard_plain() -> &'static [(&'static str, Plain)]
         ("intwidth", Plain::Int(19)),
         ("bitswidth", Plain::Int(64)),
         ("maxabschar", Plain::Int(255)),
+        ("longmaxint", Plain::Long(LONG_MAX_INT)),
+        ("longintwidth", Plain::Int(39)),
     ]
 }
 

@@ -7,7 +7,7 @@ mod loops;
 mod nodes;
 mod rowing;
 
-pub use constants::{is_quoted, standard_of, truths, value_in};
+pub use constants::{is_quoted, long_value_in, standard_of, truths, value_in};
 pub use fields::{fields_at, first_goal, selected_fields};
 pub use loops::{LoopParts, loop_parts, only_id};
 pub use nodes::{

@@ -1,9 +1,9 @@
 //! Rowing: the modes between a value and the row that it becomes.
-ghost use Rattle.std.specs.Prelude.{◌≡◌, ◌<◌, ◌≤◌, ◌-◌, true, length, IfSome, IsTrue};
+ghost use Rattle.std.specs.Prelude.{◌≡◌, ◌<◌, ◌≤◌, ◌-◌, ℕ, List, Option, true, length, IfSome, IsTrue};
 ghost use Rattle.a68_elab.specs.Made as made;
 ghost use Rattle.a68_modes.specs.Nodes.{shape_at};
 ghost use Rattle.a68_parts.specs.Rowing as running;
-ghost use Rattle.a68_parts.specs.Rowing.{AreRowings};
+ghost use Rattle.a68_parts.specs.Rowing.{AreInOrder, AreRowings};
 
 use crate::nodes::behind_ref;
 use a68_modes::{Coercion, ModeId, Modes, Shape};
@@ -106,13 +106,18 @@ fn before(modes: &Modes, mode: Option<ModeId>, coercion: Coercion) -> Option<Mod
 }
 
 /// What is known of the end of a path of coercions that leads to a row: the last coercions, so many, are rowings from rows
-/// that are there, each of a dimension fewer. The last row has so many dimensions, and its elements this mode.
+/// that are there, each of a dimension fewer. The last row has so many dimensions, and its elements this mode. Where all rows
+/// of fewer dimensions stand in order, each in front of the one with a dimension more, `fewer` is the last of these.
 #[derive(Clone, Copy)]
 pub struct Rowings {
     pub count: usize,
     pub dims: u32,
     pub of: ModeId,
+    pub fewer: Option<ModeId>,
 }
+
+// Up to so many rowings each row is looked for among all modes.
+const FEW: usize = 2;
 
 // Is it a rowing of a value?
 fn is_row_up(coercion: Coercion) -> bool
@@ -134,15 +139,40 @@ fn near(modes: &Modes, at: ModeId, dims: u32, of: ModeId) -> Option<ModeId>
     row_of(modes, dims, of)
 }
 
-// The goal, or behind some rowings the first row of so many dimensions.
-fn first_row(modes: &Modes, goal: ModeId, of: ModeId, count: usize, dims: u32) -> Option<ModeId>
-    ensures { result ≡ running.first_row modes.now goal of count dims }
+// Does a mode, where it is a row without FLEX of another with fewer dimensions than so many, stand as far in front of a
+// mode as it has dimensions fewer?
+fn stands(shape: &Shape, dims: u32, of: ModeId, fewer: ModeId, mode: ModeId) -> bool
+    ensures { result ≡ running.stands dims of fewer mode shape.now }
 {
-    if count == 0 {
-        Some(goal)
-    } else {
-        row_of(modes, dims, of)
+    match shape {
+        Shape::Rows {
+            dims: n,
+            flex,
+            of: element,
+        } => {
+            if *flex || *element != of || *n >= dims {
+                true
+            } else {
+                mode <= fewer && fewer - mode == dims - 1 - *n
+            }
+        }
+        _ => true,
     }
+}
+
+// The row of a dimension fewer than so many, where all rows of fewer dimensions stand in order in front of it.
+fn in_order(modes: &Modes, dims: u32, of: ModeId) -> Option<ModeId>
+    ensures { IfSome result (AreInOrder modes.now dims of) }
+{
+    let Some(fewer) = row_of(modes, dims.saturating_sub(1), of) else {
+        return None;
+    };
+    for mode in 0..modes.len() {
+        if !stands(modes.shape(mode), dims, of, fewer, mode) {
+            return None;
+        }
+    }
+    Some(fewer)
 }
 
 // How many last rowings of a path that leads to a row start from rows that are there. These rows are not looked for among
@@ -150,7 +180,7 @@ fn first_row(modes: &Modes, goal: ModeId, of: ModeId, count: usize, dims: u32) -
 fn rows_back(modes: &Modes, goal: ModeId, dims: u32, of: ModeId, path: &[Coercion]) -> usize
     requires { running.IsRows dims of (shape_at modes.now goal) }
     ensures within { result ≤ length path.now }
-    ensures rows { AreRowings modes.now goal path.now (record { count = result; dims = dims; of = of }) }
+    ensures rows { (fewer : Option ℕ) → IfSome fewer (AreInOrder modes.now dims of) → AreRowings modes.now goal path.now (record { count = result; dims = dims; of = of; fewer = fewer }) }
 {
     let mut at = goal;
     let mut left = dims;
@@ -167,6 +197,16 @@ fn rows_back(modes: &Modes, goal: ModeId, dims: u32, of: ModeId, path: &[Coercio
     path.len()
 }
 
+// Where rows stand in order, of which there are more than few.
+fn order_of(modes: &Modes, dims: u32, of: ModeId, count: usize) -> Option<ModeId>
+    ensures { IfSome result (AreInOrder modes.now dims of) }
+{
+    if count <= FEW {
+        return None;
+    }
+    in_order(modes, dims, of)
+}
+
 /// What is known of the end of a path that leads to a mode.
 pub fn last_rowings(modes: &Modes, goal: ModeId, path: &[Coercion]) -> Rowings
     ensures within { result.count ≤ length path.now }
@@ -176,6 +216,7 @@ pub fn last_rowings(modes: &Modes, goal: ModeId, path: &[Coercion]) -> Rowings
         count: 0,
         dims: 0,
         of: 0,
+        fewer: None,
     };
     if goal >= modes.len() {
         return none;
@@ -183,10 +224,12 @@ pub fn last_rowings(modes: &Modes, goal: ModeId, path: &[Coercion]) -> Rowings
     match modes.shape(goal) {
         Shape::Rows { dims, of, .. } => {
             let count = rows_back(modes, goal, *dims, *of, path);
+            let fewer = order_of(modes, *dims, *of, count);
             Rowings {
                 count,
                 dims: *dims,
                 of: *of,
+                fewer,
             }
         }
         _ => none,
@@ -195,10 +238,21 @@ pub fn last_rowings(modes: &Modes, goal: ModeId, path: &[Coercion]) -> Rowings
 
 // The mode that so many last rowings reach.
 fn row_behind(modes: &Modes, goal: ModeId, rowings: Rowings, count: usize) -> Option<ModeId>
-    ensures { result ≡ running.first_row modes.now goal rowings.of count (rowings.dims - count) }
+    ensures { result ≡ running.row_behind modes.now goal rowings count }
 {
-    let dims = (rowings.dims as usize).saturating_sub(count);
-    first_row(modes, goal, rowings.of, count, dims as u32)
+    if count == 0 {
+        return Some(goal);
+    }
+    match rowings.fewer {
+        Some(fewer) => {
+            let mode = (fewer as usize).saturating_sub(count - 1);
+            Some(mode as u32)
+        }
+        None => {
+            let dims = (rowings.dims as usize).saturating_sub(count);
+            row_of(modes, dims as u32, rowings.of)
+        }
+    }
 }
 
 /// The mode that a rowing reaches, behind which these coercions lead to a mode; none where it is not there.

@@ -1,5 +1,5 @@
 //! Operations on the values of their parts.
-ghost use Rattle.std.specs.Prelude.{◌≡◌, IfSome, ◌<◌, [], ◌∷◌, ℕ, true, false, length, reverse, List, IfOk, MatchResult, Ok, OnErr};
+ghost use Rattle.std.specs.Prelude.{◌≡◌, ℤ, None, IfSome, ◌<◌, [], ◌∷◌, ℕ, true, false, length, reverse, List, IfOk, MatchResult, Ok, OnErr};
 ghost use Rattle.a68_acts.specs.Fetching as fetching;
 ghost use Rattle.a68_acts.specs.Operations as operations;
 ghost use Rattle.a68_acts.specs.Rowing.{ints_of};
@@ -11,7 +11,7 @@ ghost use Rattle.a68_perform.specs.Told.{is_row_reply};
 ghost use Rattle.a68_modes.specs.Nodes.{shape_at};
 ghost use Rattle.a68_modes.specs.declared.shape.Shape.{Shape};
 ghost use Rattle.a68_ops.specs.Applied.{applied, updated};
-ghost use Rattle.a68_ops.specs.Printed.{item_text, whole as whole_number};
+ghost use Rattle.a68_ops.specs.Printed.{item_text, member, whole as whole_number};
 ghost use Rattle.a68_values.specs.Content.{plain};
 ghost use Rattle.a68_values.specs.declared.plain.Plain.TheVariants as value_of;
 
@@ -182,7 +182,7 @@ pub fn print_next(alloc: Global, mut left: Values) -> Result<Doing, NoMemory>
 }
 
 // A number as a text of a width.
-fn worded(alloc: Global, value: i64, width: i64) -> Result<Doing, NoMemory>
+fn worded(alloc: Global, value: i128, width: i64) -> Result<Doing, NoMemory>
     ensures { IfOk result (λ doing. doing ≡ operations.worded (whole_number value width)) }
 {
     match whole(alloc, value, width) {
@@ -192,14 +192,44 @@ fn worded(alloc: Global, value: i64, width: i64) -> Result<Doing, NoMemory>
     }
 }
 
-/// A number as a text of a width.
+// The number that an INT or a LONG INT is.
+fn number_of(value: &Value) -> Option<i128>
+    ensures { result ≡ operations.number_in value.now }
+{
+    match &value.node {
+        ValueNode::Plain(Plain::Int(number)) => Some(i128::from(*number)),
+        ValueNode::Plain(Plain::Long(number)) => Some(number.number()),
+        _ => None,
+    }
+}
+
+// The same of the member that a value of a union has.
+fn united_number(value: &Value) -> Option<i128>
+    ensures { result ≡ operations.number_in (member value.now) }
+{
+    match &value.node {
+        ValueNode::United { value, .. } => number_of(value),
+        _ => number_of(value),
+    }
+}
+
+// A number, where there is one, as a text of a width.
+fn whole_by(alloc: Global, value: &Value, width: i64) -> Result<Doing, NoMemory>
+    ensures { IfOk result (λ doing. doing ≡ operations.whole_by value.now (operations.number_in (member value.now)) width) }
+{
+    match united_number(value) {
+        Some(number) => worded(alloc, number, width),
+        None if is_unset(value) => Ok(Doing::Meets(FaultKind::Unset)),
+        None => Ok(Doing::Meets(FaultKind::Kind)),
+    }
+}
+
+/// A number, an INT or a LONG INT that may be united, as a text of a width.
 pub fn whole_of(alloc: Global, value: &Value, width: &Value) -> Result<Doing, NoMemory>
     ensures { IfOk result (λ doing. doing ≡ operations.whole_of value.now width.now) }
 {
-    match (&value.node, &width.node) {
-        (ValueNode::Plain(Plain::Int(value)), ValueNode::Plain(Plain::Int(width))) => {
-            worded(alloc, *value, *width)
-        }
+    match &width.node {
+        ValueNode::Plain(Plain::Int(width)) => whole_by(alloc, value, *width),
         _ if is_unset(value) || is_unset(width) => Ok(Doing::Meets(FaultKind::Unset)),
         _ => Ok(Doing::Meets(FaultKind::Kind)),
     }
@@ -216,10 +246,11 @@ pub fn is_update(row: u32) -> bool
 /// An operator that is combined with assignation, on a name and another operand.
 pub fn updating(alloc: Global, row: u32, name: &Value, operand: &Value) -> Result<Doing, NoMemory>
     ensures ok { IfOk result (λ doing. doing ≡ operations.updating row name.now operand.now) }
-    ensures full { OnErr result (rowing.is_integer operand.now ≡ false) }
+    ensures full { OnErr result (rowing.is_number operand.now ≡ false) }
 {
     match &operand.node {
-        ValueNode::Plain(Plain::Int(operand)) => Ok(updating_by(row, name, *operand)),
+        ValueNode::Plain(Plain::Int(number)) => Ok(updating_by(row, name, Plain::Int(*number))),
+        ValueNode::Plain(Plain::Long(number)) => Ok(updating_by(row, name, Plain::Long(*number))),
         _ => {
             let doing = updating_text(alloc, row, name, operand)?;
             Ok(doing)
@@ -228,7 +259,7 @@ pub fn updating(alloc: Global, row: u32, name: &Value, operand: &Value) -> Resul
 }
 
 // The same where the other operand is an integer.
-fn updating_by(row: u32, name: &Value, operand: i64) -> Doing
+fn updating_by(row: u32, name: &Value, operand: Plain) -> Doing
     ensures { result ≡ operations.updating_by row name.now operand }
 {
     match &name.node {
@@ -368,11 +399,11 @@ fn put_value(name: Name, made: &Value) -> Doing
 
 // A name given what an operator makes of the old value and the other operand.
 #[tactic(auto, using(crate::proofs::Wanting::row_yielded))]
-fn put(alloc: Global, row: u32, name: Name, old: Plain, operand: i64) -> Result<Doing, NoMemory>
-    ensures ok { IfOk result (λ doing. doing ≡ operations.put name (updated row (plain old) (plain (value_of.Int operand)))) }
-    ensures full { OnErr result (yields_plain (updated row (plain old) (plain (value_of.Int operand))) ≡ false) }
+fn put(alloc: Global, row: u32, name: Name, old: Plain, operand: Plain) -> Result<Doing, NoMemory>
+    ensures ok { IfOk result (λ doing. doing ≡ operations.put name (updated row (plain old) (plain operand))) }
+    ensures full { OnErr result (yields_plain (updated row (plain old) (plain operand)) ≡ false) }
 {
-    match updated(alloc, row, &Value::of(old), &Value::of(Plain::Int(operand))) {
+    match updated(alloc, row, &Value::of(old), &Value::of(operand)) {
         Ok(made) => Ok(put_value(name, &made)),
         Err(OpStop::Fault(kind)) => Ok(Doing::Meets(kind)),
         Err(OpStop::NoMemory) => Err(NoMemory),
@@ -407,7 +438,7 @@ fn resumed_by(alloc: Global, modes: &Modes, next: Next, row: Descriptor) -> Resu
             name,
             operand,
         } => {
-            let operand = Value::of(Plain::Int(operand));
+            let operand = Value::of(operand);
             let doing = extends(alloc, modes, number, name, operand, &row)?;
             Ok(doing)
         }

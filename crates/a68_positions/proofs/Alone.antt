@@ -1,17 +1,19 @@
 -- What is asked of the nodes of a tree is one, and so are the modes that join the others.
-use Rattle.std.proofs.Common.{◌≡◌, ◌<◌, ◌≤◌, ◌-◌, ◌^◌, ◌∙◌, ℕ, List, Bool, true, false, Some, length, if◌then◌else◌, refl, sym, ap, arith, subst}
-use Rattle.std.specs.Prelude.{nat_eq, nat_lt}
+use Rattle.std.proofs.Common.{◌≡◌, ◌<◌, ◌≤◌, ◌-◌, ◌^◌, ◌∙◌, ℕ, List, Bool, true, false, Option, None, Some, length, if◌then◌else◌, refl, sym, ap, arith, subst}
+use Rattle.std.specs.Prelude.{◌&&◌, nat_eq, nat_lt}
 use Rattle.a68_base.specs.declared.limits.TheConstants.{MOST_MODES}
-use Rattle.a68_declare.proofs.Standing.{thirteen}
+use Rattle.a68_declare.proofs.Standing.{fifteen}
 use Rattle.a68_definitions.proofs.Alone.{AreLonger, longer_on, same_longer}
 use Rattle.a68_definitions.proofs.Defining.{IsLonger, all_longer}
 use Rattle.a68_definitions.specs.Defined.{AllBelow, part_from_end}
+use Rattle.a68_definitions.specs.Tags.{called_by}
 use Rattle.a68_equiv.specs.Dimensions.{HaveDimensions, HasDimensions}
 use Rattle.a68_equiv.specs.Related.{without_flex}
 use Rattle.a68_equiv.specs.declared.mode.Mode.{Mode}
 use Rattle.a68_identify.specs.Operators.{NumbersAreThere}
 use Rattle.a68_identify.specs.declared.identified.Identified.{Identified}
 use Rattle.a68_identify.specs.declared.identified.Identified.TheVariants.{Declared, Standard}
+use Rattle.a68_mode_table.proofs.Numbers.{numbers_keep, numbers_keep_node, numbers_one, numbers_sound}
 use Rattle.a68_mode_table.proofs.Once.{row_keeps, row_keeps_node, row_sound, rows_one}
 use Rattle.a68_mode_table.proofs.Shapes.{one_node}
 use Rattle.a68_mode_table.specs.Growing.{AreSound, IsNode}
@@ -20,7 +22,7 @@ use Rattle.a68_modes.specs.declared.shape.Shape.{Shape}
 use Rattle.a68_modes.specs.declared.shape.Shape.TheVariants.{Ref, Rows}
 use Rattle.a68_positions.proofs.Bounds.{aside_within, fixed_below, parts_within, start_within}
 use Rattle.a68_positions.proofs.Longer.{aside_longer, position_longer, positions_longer, tables_longer, there_longer}
-use Rattle.a68_positions.specs.Aside.{IsAnyRow, IsSetAside, aside_by, mode_or_void, of_display, of_formula, of_operator, of_source, referred, row_within}
+use Rattle.a68_positions.specs.Aside.{IsAnyRow, IsSetAside, aside_by, mode_or_void, of_call, of_display, of_formula, of_operator, of_source, referred, row_within}
 use Rattle.a68_positions.specs.Below.{ArePositionsBelow, IsAsideBelow}
 use Rattle.a68_positions.specs.Given.{finding_at, position_at}
 use Rattle.a68_positions.specs.Positions.{ArePositionsFrom, asker_at, at_start, none_yet, one_more, with_parts}
@@ -52,6 +54,7 @@ module _ (k : Known) (ys : List Yielding) (nodes : List Shape) (sound : AreSound
   aside_one (aside.WithoutFlex of) after other m next below p q = (p.0 ∙ sym q.0, one_node nodes sound (without_flex of) m next p.1 q.1)
   aside_one (aside.Row dims flex of) after other m next below p q = rows_one nodes after other dims flex of m next sound below.1 p q
   aside_one (aside.AnyRow part) after other m next below p q = (p.0 ∙ sym q.0, any_row_one part m next p.1 q.1)
+  aside_one aside.Number after other m next below p q = numbers_one nodes after other m next sound p q
 
 -- the old modes stay where they were
 aside_keeps : (k : Known) (nodes : List Shape) (ys : List Yielding) (a : Aside) (after : List Shape) (m : ℕ) → IsSetAside k nodes ys a after m → AreLonger nodes after
@@ -59,6 +62,7 @@ aside_keeps k nodes ys aside.Nothing after m is = same_longer nodes after is.0
 aside_keeps k nodes ys (aside.WithoutFlex of) after m is = same_longer nodes after is.0
 aside_keeps k nodes ys (aside.Row dims flex of) after m is = let r = row_keeps nodes after dims flex of m is in record { long = r.longer; kept = r.kept }
 aside_keeps k nodes ys (aside.AnyRow part) after m is = same_longer nodes after is.0
+aside_keeps k nodes ys aside.Number after m is = let n = numbers_keep nodes after m is in record { long = n.longer; kept = n.kept }
 
 -- the dimensions of a row that is set aside are a number of 32 bits
 abbrev pub IsSmall : Aside → Type 0
@@ -97,12 +101,21 @@ formula_small : (last : ℕ) (f : Finding) → IsSmall (of_formula last f)
 formula_small last (finding.Operator (Some o)) = operator_small last o
 formula_small last _ = tt
 
-aside_small : (tree : Built) (nodes : List Shape) (node : ℕ) (own : Position) (f : Finding) (k : NodeKind) → HaveDimensions nodes → IsSmall (aside_by tree nodes node own f k)
-aside_small tree nodes node own f kind.Assignation have = source_small nodes f
-aside_small tree nodes node own f kind.Collateral have = display_small nodes own have
-aside_small tree nodes node own f kind.Monadic have = formula_small (part_from_end (parts_at tree node) 1) f
-aside_small tree nodes node own f kind.Dyadic have = formula_small (part_from_end (parts_at tree node) 1) f
-aside_small tree nodes node own f _ have = tt
+call_small : (called : Option ℕ) (count : ℕ) → IsSmall (of_call called count)
+call_small None count = tt
+call_small (Some c) count = by (nat_eq c 8 && nat_eq count 3)
+  where
+    by : (t : Bool) → IsSmall (if t then aside.Number else aside.Nothing)
+    by true = tt
+    by false = tt
+
+aside_small : (k : Known) (nodes : List Shape) (node : ℕ) (own : Position) (f : Finding) (form : NodeKind) → HaveDimensions nodes → IsSmall (aside_by k nodes node own f form)
+aside_small k nodes node own f kind.Assignation have = source_small nodes f
+aside_small k nodes node own f kind.Collateral have = display_small nodes own have
+aside_small k nodes node own f kind.Monadic have = formula_small (part_from_end (parts_at k.tree node) 1) f
+aside_small k nodes node own f kind.Dyadic have = formula_small (part_from_end (parts_at k.tree node) 1) f
+aside_small k nodes node own f kind.Call have = call_small (called_by k.tree k.tags node) (length (parts_at k.tree node))
+aside_small k nodes node own f _ have = tt
 
 aside_sound : (k : Known) (nodes : List Shape) (ys : List Yielding) (a : Aside) (after : List Shape) (m : ℕ) → AreSound nodes → length after ≤ MOST_MODES → IsAsideBelow (length nodes) a → IsSmall a
     → IsSetAside k nodes ys a after m → AreSound after
@@ -110,6 +123,7 @@ aside_sound k nodes ys aside.Nothing after m sound few below small is = subst Ar
 aside_sound k nodes ys (aside.WithoutFlex of) after m sound few below small is = subst AreSound (sym is.0) sound
 aside_sound k nodes ys (aside.Row dims flex of) after m sound few below small is = row_sound nodes after dims flex of m sound few below.0 small below.1 is
 aside_sound k nodes ys (aside.AnyRow part) after m sound few below small is = subst AreSound (sym is.0) sound
+aside_sound k nodes ys aside.Number after m sound few below small is = numbers_sound nodes after m sound few is
 
 aside_node : (k : Known) (nodes : List Shape) (ys : List Yielding) (a : Aside) (after : List Shape) (m : ℕ) → AreSound nodes → length after ≤ MOST_MODES → IsAsideBelow (length nodes) a → IsSmall a
     → IsSetAside k nodes ys a after m → (mode : Mode) (node : ℕ) → mode.id < length nodes → IsNode nodes mode node → IsNode after mode node
@@ -117,18 +131,19 @@ aside_node k nodes ys aside.Nothing after m sound few below small is mode node h
 aside_node k nodes ys (aside.WithoutFlex of) after m sound few below small is mode node h was = subst (λ (xs : List Shape). IsNode xs mode node) (sym is.0) was
 aside_node k nodes ys (aside.Row dims flex of) after m sound few below small is mode node h was = row_keeps_node nodes after dims flex of m sound few below.0 small below.1 is mode node h was
 aside_node k nodes ys (aside.AnyRow part) after m sound few below small is mode node h was = subst (λ (xs : List Shape). IsNode xs mode node) (sym is.0) was
+aside_node k nodes ys aside.Number after m sound few below small is mode node h was = numbers_keep_node nodes after m sound is mode node h was
 
 -- ---- all nodes, from the first to the last
 
 module _ (k : Known) (ys : List Yielding) (fs : List Finding) (start : List Shape) where
   -- what a node sets aside
   needed : (n : ℕ) (before : List Shape) (those : List Position) → Aside
-  needed n before those = aside_by k.tree before n (position_at those n) (finding_at fs n) (kind_at k.tree n)
+  needed n before those = aside_by k before n (position_at those n) (finding_at fs n) (kind_at k.tree n)
 
   pub run_longer : {count : ℕ} {nodes : List Shape} {ps : List Position} → ArePositionsFrom k ys fs start count nodes ps → AreLonger start nodes
   run_longer {nodes = nodes} (none_yet here same begun) = same_longer start nodes same
   run_longer {nodes = nodes} (one_more n m before those rest set is next) =
-      longer_on start before nodes (run_longer rest) (aside_keeps k before ys (aside_by k.tree before n (position_at those n) (finding_at fs n) (kind_at k.tree n)) nodes m set)
+      longer_on start before nodes (run_longer rest) (aside_keeps k before ys (aside_by k before n (position_at those n) (finding_at fs n) (kind_at k.tree n)) nodes m set)
 
   -- what is known of the modes and the positions so far
   pub record AreGood (nodes : List Shape) (ps : List Position) : Type 0 where
@@ -139,18 +154,18 @@ module _ (k : Known) (ys : List Yielding) (fs : List Finding) (start : List Shap
     pub below : ArePositionsBelow (length nodes) ps
 
   many : (nodes : List Shape) → AreSound nodes → 8 < length nodes
-  many nodes sound = omega (arith, thirteen nodes sound.holds)
+  many nodes sound = omega (arith, fifteen nodes sound.holds)
 
   good_more : (n m : ℕ) (before nodes : List Shape) (those ps : List Position) → AreGood before those → length nodes ≤ MOST_MODES
-      → IsSetAside k before ys (aside_by k.tree before n (position_at those n) (finding_at fs n) (kind_at k.tree n)) nodes m
+      → IsSetAside k before ys (aside_by k before n (position_at those n) (finding_at fs n) (kind_at k.tree n)) nodes m
       → ps ≡ with_parts k nodes (asker_at fs those n m) 0 (parts_at k.tree n) those → AreGood nodes ps
   good_more n m before nodes those ps good few set is =
-      let a : Aside = aside_by k.tree before n (position_at those n) (finding_at fs n) (kind_at k.tree n) in
+      let a : Aside = aside_by k before n (position_at those n) (finding_at fs n) (kind_at k.tree n) in
       let below : IsAsideBelow (length before) a =
-      aside_within before good.sound.holds (many before good.sound) k.tree n (position_at those n) (finding_at fs n) (kind_at k.tree n) (good.below n) (good.tables.found n) in
-      let some : 13 ≤ length before = thirteen before good.sound.holds in
+      aside_within before good.sound.holds (many before good.sound) k n (position_at those n) (finding_at fs n) (kind_at k.tree n) (good.below n) (good.tables.found n) in
+      let some : 15 ≤ length before = fifteen before good.sound.holds in
       let long : IsLonger before nodes m = aside_longer k before ys a nodes m some set in
-      let sound : AreSound nodes = aside_sound k before ys a nodes m good.sound few below (aside_small k.tree before n (position_at those n) (finding_at fs n) (kind_at k.tree n) good.sound.rows) set in
+      let sound : AreSound nodes = aside_sound k before ys a nodes m good.sound few below (aside_small k before n (position_at those n) (finding_at fs n) (kind_at k.tree n) good.sound.rows) set in
       let of : NumbersAreThere k.tree nodes k.of = there_longer k.tree before nodes k.of long.long good.of in
       let defined : AllBelow (length nodes) k.defined = all_longer (length before) (length nodes) k.defined long.long good.defined in
       let more : 0 < length nodes = omega (arith, many nodes sound) in
@@ -175,38 +190,38 @@ module _ (k : Known) (ys : List Yielding) (fs : List Finding) (start : List Shap
     pub good : {count : ℕ} {nodes : List Shape} {ps : List Position} → ArePositionsFrom k ys fs start count nodes ps → length nodes ≤ MOST_MODES → AreGood nodes ps
     good {nodes = nodes} {ps = ps} (none_yet here same begun) few = good_begun nodes ps same begun
     good {nodes = nodes} {ps = ps} (one_more n m before those rest set is next) few =
-        let l = (aside_keeps k before ys (aside_by k.tree before n (position_at those n) (finding_at fs n) (kind_at k.tree n)) nodes m set).long in
+        let l = (aside_keeps k before ys (aside_by k before n (position_at those n) (finding_at fs n) (kind_at k.tree n)) nodes m set).long in
         good_more n m before nodes those ps (good rest (omega arith)) few set is
 
     pub kept_node : {count : ℕ} {nodes : List Shape} {ps : List Position} → ArePositionsFrom k ys fs start count nodes ps → length nodes ≤ MOST_MODES → (mode : Mode) (node : ℕ) → mode.id < length start
         → IsNode start mode node → IsNode nodes mode node
     kept_node (none_yet here same begun) few mode node h was = subst (λ (xs : List Shape). IsNode xs mode node) (sym same) was
     kept_node {nodes = nodes} (one_more n m before those rest set is next) few mode node h was =
-        let l = (aside_keeps k before ys (aside_by k.tree before n (position_at those n) (finding_at fs n) (kind_at k.tree n)) nodes m set).long in
+        let l = (aside_keeps k before ys (aside_by k before n (position_at those n) (finding_at fs n) (kind_at k.tree n)) nodes m set).long in
         let r = (run_longer rest).long in
         let g : AreGood before those = good rest (omega arith) in
-        aside_node k before ys (aside_by k.tree before n (position_at those n) (finding_at fs n) (kind_at k.tree n)) nodes m g.sound few
-        (aside_within before g.sound.holds (many before g.sound) k.tree n (position_at those n) (finding_at fs n) (kind_at k.tree n) (g.below n) (g.tables.found n))
-        (aside_small k.tree before n (position_at those n) (finding_at fs n) (kind_at k.tree n) g.sound.rows) set mode node (omega arith) (kept_node rest (omega arith) mode node h was)
+        aside_node k before ys (aside_by k before n (position_at those n) (finding_at fs n) (kind_at k.tree n)) nodes m g.sound few
+        (aside_within before g.sound.holds (many before g.sound) k n (position_at those n) (finding_at fs n) (kind_at k.tree n) (g.below n) (g.tables.found n))
+        (aside_small k before n (position_at those n) (finding_at fs n) (kind_at k.tree n) g.sound.rows) set mode node (omega arith) (kept_node rest (omega arith) mode node h was)
 
     one_step : (n m next : ℕ) (before nodes others : List Shape) (those ps qs : List Position) → AreGood before those
-        → IsSetAside k before ys (aside_by k.tree before n (position_at those n) (finding_at fs n) (kind_at k.tree n)) nodes m
+        → IsSetAside k before ys (aside_by k before n (position_at those n) (finding_at fs n) (kind_at k.tree n)) nodes m
         → ps ≡ with_parts k nodes (asker_at fs those n m) 0 (parts_at k.tree n) those
-        → IsSetAside k before ys (aside_by k.tree before n (position_at those n) (finding_at fs n) (kind_at k.tree n)) others next
+        → IsSetAside k before ys (aside_by k before n (position_at those n) (finding_at fs n) (kind_at k.tree n)) others next
         → qs ≡ with_parts k others (asker_at fs those n next) 0 (parts_at k.tree n) those → (nodes ≡ others) × (ps ≡ qs)
     one_step n m next before nodes others those ps qs good p e q f =
-        let below : IsAsideBelow (length before) (aside_by k.tree before n (position_at those n) (finding_at fs n) (kind_at k.tree n)) =
-        aside_within before good.sound.holds (many before good.sound) k.tree n (position_at those n) (finding_at fs n) (kind_at k.tree n) (good.below n) (good.tables.found n) in
+        let below : IsAsideBelow (length before) (aside_by k before n (position_at those n) (finding_at fs n) (kind_at k.tree n)) =
+        aside_within before good.sound.holds (many before good.sound) k n (position_at those n) (finding_at fs n) (kind_at k.tree n) (good.below n) (good.tables.found n) in
         let same : (nodes ≡ others) × (m ≡ next) =
-        aside_one k ys before good.sound (aside_by k.tree before n (position_at those n) (finding_at fs n) (kind_at k.tree n)) nodes others m next below p q in (
+        aside_one k ys before good.sound (aside_by k before n (position_at those n) (finding_at fs n) (kind_at k.tree n)) nodes others m next below p q in (
           same.0,
           e ∙ ap (λ (xs : List Shape). with_parts k xs (asker_at fs those n m) 0 (parts_at k.tree n) those) same.0
               ∙ ap (λ (x : ℕ). with_parts k others (asker_at fs those n x) 0 (parts_at k.tree n) those) same.1 ∙ sym f,
         )
 
     moved_on : (n j next : ℕ) (before other nodes : List Shape) (those these : List Position) → n ≡ j → before ≡ other → those ≡ these
-        → IsSetAside k other ys (aside_by k.tree other j (position_at these j) (finding_at fs j) (kind_at k.tree j)) nodes next
-        → IsSetAside k before ys (aside_by k.tree before n (position_at those n) (finding_at fs n) (kind_at k.tree n)) nodes next
+        → IsSetAside k other ys (aside_by k other j (position_at these j) (finding_at fs j) (kind_at k.tree j)) nodes next
+        → IsSetAside k before ys (aside_by k before n (position_at those n) (finding_at fs n) (kind_at k.tree n)) nodes next
     moved_on n j next before other nodes those these e f g set = rw (e, f, g) set
 
     moved_parts : (n j next : ℕ) (others : List Shape) (those these qs : List Position) → n ≡ j → those ≡ these → qs ≡ with_parts k others (asker_at fs these j next) 0 (parts_at k.tree j) these
@@ -219,8 +234,8 @@ module _ (k : Known) (ys : List Yielding) (fs : List Finding) (start : List Shap
     one_run (none_yet here same begun) (one_more n m before those rest set is next) e few less = absurd (omega (arith, here, next, e))
     one_run (one_more n m before those rest set is next) (none_yet there equal start_is) e few less = absurd (omega (arith, there, next, e))
     one_run {nodes = nodes} {others = others} {ps = ps} {qs = qs} (one_more n m before those rest set is next) (one_more j x other these more put was after) e few less =
-        let l = (aside_keeps k before ys (aside_by k.tree before n (position_at those n) (finding_at fs n) (kind_at k.tree n)) nodes m set).long in
-        let r = (aside_keeps k other ys (aside_by k.tree other j (position_at these j) (finding_at fs j) (kind_at k.tree j)) others x put).long in
+        let l = (aside_keeps k before ys (aside_by k before n (position_at those n) (finding_at fs n) (kind_at k.tree n)) nodes m set).long in
+        let r = (aside_keeps k other ys (aside_by k other j (position_at these j) (finding_at fs j) (kind_at k.tree j)) others x put).long in
         let same_node : n ≡ j = omega (arith, next, after, e) in
         let same : (before ≡ other) × (those ≡ these) = one_run rest more same_node (omega arith) (omega arith) in
         one_step n m x before nodes others those ps qs (good rest (omega arith)) set is

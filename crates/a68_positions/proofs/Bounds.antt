@@ -2,7 +2,7 @@
 use Rattle.std.proofs.Common.{◌≡◌, ◌<◌, ◌-◌, ◌+◌, ◌++◌, ◌∷◌, [], ℕ, zero, suc, List, Bool, true, false, Option, None, Some, length, map, nat_eq, replicate, refl, arith, if◌then◌else◌}
 use Rattle.std.proofs.lemmas.Bool.{ltb-true}
 use Rattle.std.specs.List.{All}
-use Rattle.std.specs.Prelude.{nat_lt, slice_index_or, slice_set}
+use Rattle.std.specs.Prelude.{◌&&◌, nat_lt, slice_index_or, slice_set}
 use Rattle.a68_declare.specs.Outcome.{ByNode}
 use Rattle.a68_definitions.specs.Defined.{AllBelow, first_declarer, fixed_mode_at, is_declarer, part_from_end, part_number}
 use Rattle.a68_definitions.specs.Tags.{called_by}
@@ -14,7 +14,7 @@ use Rattle.a68_modes.specs.declared.coercion.Sort.{Sort}
 use Rattle.a68_modes.specs.declared.coercion.Sort.TheVariants as by
 use Rattle.a68_modes.specs.declared.shape.Shape.{Shape}
 use Rattle.a68_modes.specs.declared.shape.Shape.TheVariants.{Void, Ref, Rows, Struct, Proc}
-use Rattle.a68_positions.specs.Aside.{aside_by, of_display, of_formula, of_operator, of_source, referred, row_within}
+use Rattle.a68_positions.specs.Aside.{aside_by, of_call, of_display, of_formula, of_operator, of_source, referred, row_within}
 use Rattle.a68_positions.specs.Given as specs
 use Rattle.a68_positions.specs.Given.{given, position_at}
 use Rattle.a68_positions.specs.Positions.{at_start, with_parts}
@@ -167,18 +167,19 @@ module _ (nodes : List Shape) (holds : HoldsNodes nodes) (some : 8 < length node
       either (length nodes) some (nat_eq count 2) (if specs.is_collateral k then position.Items node else specs.goal node 8) position.Unlooked
       (either (length nodes) some (specs.is_collateral k) (position.Items node) (specs.goal node 8) tt some) tt
 
-  whole_within : (node count : ℕ) → IsPositionBelow (length nodes) (specs.whole node count)
-  whole_within node count = either (length nodes) some (nat_eq count 3) (specs.goal node 1) position.Unlooked (omega arith) tt
+  whole_within : (node count place x : ℕ) → x < length nodes → IsPositionBelow (length nodes) (specs.whole node count place x)
+  whole_within node count place x h =
+      either (length nodes) some (nat_eq count 3) (specs.goal node (if nat_eq place 1 then x else 1)) position.Unlooked (either_mode (length nodes) some (nat_eq place 1) x 1 h (omega arith)) tt
 
   primary_within : (called : Option ℕ) (f : Finding) → IsFindingBelow (length nodes) f → IsPositionBelow (length nodes) (specs.primary called f)
   primary_within (Some c) f within = tt
   primary_within None f within = asked_within (length nodes) some by.Meek f within
 
-  argument_within : (node count place : ℕ) (called : Option ℕ) (f : Finding) (k : NodeKind) → IsFindingBelow (length nodes) f
-      → IsPositionBelow (length nodes) (specs.argument nodes node count place called f k)
-  argument_within node count place (Some c) f k within =
-      either (length nodes) some (nat_eq c 8) (specs.whole node count) (specs.item node count k) (whole_within node count) (item_within node count k)
-  argument_within node count place None f k within = parameter_within node count place f within
+  argument_within : (node count place x : ℕ) (called : Option ℕ) (f : Finding) (k : NodeKind) → x < length nodes → IsFindingBelow (length nodes) f
+      → IsPositionBelow (length nodes) (specs.argument nodes node count place x called f k)
+  argument_within node count place x (Some c) f k h within =
+      either (length nodes) some (nat_eq c 8) (specs.whole node count place x) (specs.item node count k) (whole_within node count place x h) (item_within node count k)
+  argument_within node count place x None f k h within = parameter_within node count place f within
 
   parameter_by_within : (defined : List ℕ) (count place : ℕ) (o : Identified) → AllBelow (length nodes) defined → IsOperatorBelow (length nodes) o
       → specs.parameter_by nodes defined count place o < length nodes
@@ -237,9 +238,9 @@ module _ (nodes : List Shape) (holds : HoldsNodes nodes) (some : 8 < length node
   given_within k a place p kind.Slice below all own found h = first_asked (length nodes) some place by.Weak a.found position.Nowhere found tt
   given_within k a place p kind.Call below all own found h =
       either (length nodes) some (nat_eq place 0) (specs.primary (called_by k.tree k.tags a.node) a.found)
-      (specs.argument nodes a.node (length (parts_at k.tree a.node)) place (called_by k.tree k.tags a.node) a.found (kind_at k.tree p))
+      (specs.argument nodes a.node (length (parts_at k.tree a.node)) place a.aside (called_by k.tree k.tags a.node) a.found (kind_at k.tree p))
       (primary_within (called_by k.tree k.tags a.node) a.found found)
-      (argument_within a.node (length (parts_at k.tree a.node)) place (called_by k.tree k.tags a.node) a.found (kind_at k.tree p) found)
+      (argument_within a.node (length (parts_at k.tree a.node)) place a.aside (called_by k.tree k.tags a.node) a.found (kind_at k.tree p) h found)
   given_within k a place p kind.Monadic below all own found h = operand_within k.defined a.node (length (parts_at k.tree a.node)) place a.aside a.found all h found
   given_within k a place p kind.Dyadic below all own found h = operand_within k.defined a.node (length (parts_at k.tree a.node)) place a.aside a.found all h found
   given_within k a place p kind.Collateral below all own found h = display_within a.node (length (parts_at k.tree a.node)) place a.aside a.own h own
@@ -287,11 +288,20 @@ module _ (nodes : List Shape) (holds : HoldsNodes nodes) (some : 8 < length node
   formula_aside last (finding.Operator (Some o)) = operator_aside last o
   formula_aside last _ = tt
 
+  call_aside : (called : Option ℕ) (count : ℕ) → IsAsideBelow (length nodes) (of_call called count)
+  call_aside None count = tt
+  call_aside (Some c) count = by (nat_eq c 8 && nat_eq count 3)
+    where
+      by : (t : Bool) → IsAsideBelow (length nodes) (if t then aside.Number else aside.Nothing)
+      by true = tt
+      by false = tt
+
   -- it is made of modes that are there
-  pub aside_within : (tree : Built) (node : ℕ) (own : Position) (f : Finding) (k : NodeKind) → IsPositionBelow (length nodes) own → IsFindingBelow (length nodes) f
-      → IsAsideBelow (length nodes) (aside_by tree nodes node own f k)
-  aside_within tree node own f kind.Assignation within found = source_aside f found
-  aside_within tree node own f kind.Collateral within found = display_aside own within
-  aside_within tree node own f kind.Monadic within found = formula_aside (part_from_end (parts_at tree node) 1) f
-  aside_within tree node own f kind.Dyadic within found = formula_aside (part_from_end (parts_at tree node) 1) f
-  aside_within tree node own f _ within found = tt
+  pub aside_within : (k : Known) (node : ℕ) (own : Position) (f : Finding) (form : NodeKind) → IsPositionBelow (length nodes) own → IsFindingBelow (length nodes) f
+      → IsAsideBelow (length nodes) (aside_by k nodes node own f form)
+  aside_within k node own f kind.Assignation within found = source_aside f found
+  aside_within k node own f kind.Collateral within found = display_aside own within
+  aside_within k node own f kind.Monadic within found = formula_aside (part_from_end (parts_at k.tree node) 1) f
+  aside_within k node own f kind.Dyadic within found = formula_aside (part_from_end (parts_at k.tree node) 1) f
+  aside_within k node own f kind.Call within found = call_aside (called_by k.tree k.tags node) (length (parts_at k.tree node))
+  aside_within k node own f _ within found = tt

@@ -5,6 +5,7 @@ use Rattle.std.specs.Prelude.{slice_index_or}
 use Rattle.a68_declare.specs.Outcome.{ByNode}
 use Rattle.a68_identify.specs.Operators.{NumbersAreThere}
 use Rattle.a68_modes.specs.declared.shape.Shape.{Shape}
+use Rattle.a68_mode_table.proofs.Numbers.{numbers_keep}
 use Rattle.a68_positions.specs.Aside.{IsSetAside, mode_or_void}
 use Rattle.a68_positions.specs.Given.{finding_at, position_at}
 use Rattle.a68_positions.specs.Below.{ArePositionsBelow, IsPositionBelow}
@@ -53,7 +54,7 @@ row_there nodes (finding.Operator o) some below = some
 row_there nodes finding.Nothing some below = some
 
 -- a mode that is set aside is there, and no mode is lost
-pub aside_longer : (k : Known) (nodes : List Shape) (ys : List Yielding) (a : Aside) (after : List Shape) (m : ℕ) → 13 ≤ length nodes → IsSetAside k nodes ys a after m → IsLonger nodes after m
+pub aside_longer : (k : Known) (nodes : List Shape) (ys : List Yielding) (a : Aside) (after : List Shape) (m : ℕ) → 15 ≤ length nodes → IsSetAside k nodes ys a after m → IsLonger nodes after m
 aside_longer k nodes ys aside.Nothing after m some is = rw is.0 (record { long = omega arith; there = omega (arith, is.1) })
 aside_longer k nodes ys (aside.WithoutFlex of) after m some is = rw is.0 (record { long = omega arith; there = is.1.there })
 aside_longer k nodes ys (aside.Row dims flex of) after m some is =
@@ -61,3 +62,4 @@ aside_longer k nodes ys (aside.Row dims flex of) after m some is =
     let second = interned_long _ _ _ _ is.is in
     record { long = omega (arith, first.long, second.long); there = second.there }
 aside_longer k nodes ys (aside.AnyRow part) after m some is = rw is.0 (record { long = omega arith; there = rw is.1.2 (row_there nodes is.1.0 (omega arith) (found_there k.tree nodes k.of ys part some tt is.1.1)) })
+aside_longer k nodes ys aside.Number after m some is = let keeps = numbers_keep nodes after m is in record { long = keeps.longer; there = keeps.there }

@@ -1,11 +1,12 @@
 -- The one mode that a node has to find, beyond those that are given, before it can say what it asks of its parts.
-use Rattle.std.specs.Prelude.{◌≡◌, ◌-◌, ℕ, List, nat_eq, nat_lt, Some, if◌then◌else◌}
+use Rattle.std.specs.Prelude.{◌≡◌, ◌-◌, ◌&&◌, ℕ, List, length, nat_eq, nat_lt, Option, None, Some, if◌then◌else◌}
 use Rattle.a68_coerce.specs.declared.form.ModeForm.TheVariants as form
 use Rattle.a68_definitions.specs.Defined.{part_from_end}
+use Rattle.a68_definitions.specs.Tags.{called_by}
 use Rattle.a68_equiv.specs.Related.{without_flex}
 use Rattle.a68_identify.specs.declared.identified.Identified.{Identified}
 use Rattle.a68_identify.specs.declared.identified.Identified.TheVariants.{Declared, Standard}
-use Rattle.a68_mode_table.specs.Growing.{IsNode, IsRowInterned}
+use Rattle.a68_mode_table.specs.Growing.{IsNode, IsNumberInterned, IsRowInterned}
 use Rattle.a68_modes.specs.Nodes.{shape_at}
 use Rattle.a68_modes.specs.declared.coercion.Sort.TheVariants as by
 use Rattle.a68_modes.specs.declared.shape.Shape.{Shape}
@@ -15,7 +16,7 @@ use Rattle.a68_positions.specs.declared.aside.Aside.TheVariants as aside
 use Rattle.a68_positions.specs.declared.position.Position.{Position}
 use Rattle.a68_positions.specs.declared.position.Position.TheVariants as position
 use Rattle.a68_ranges.specs.Nodes.{parts_at}
-use Rattle.a68_tree.specs.Trees.{Built}
+use Rattle.a68_ranges.specs.declared.tags.TheConstants as tags
 use Rattle.a68_tree.specs.declared.kind.NodeKind.{NodeKind}
 use Rattle.a68_tree.specs.declared.kind.NodeKind.TheVariants as kind
 use Rattle.a68_yields.specs.Found.{IsFound}
@@ -53,13 +54,19 @@ abbrev pub of_formula : (last : ℕ) → Finding → Aside
 of_formula last (finding.Operator (Some o)) = of_operator last o
 of_formula last _ = aside.Nothing
 
+-- whole takes an INT or a LONG INT (10.3.2.1)
+abbrev pub of_call : (called : Option ℕ) → (count : ℕ) → Aside
+of_call None count = aside.Nothing
+of_call (Some c) count = if nat_eq c tags.WHOLE && nat_eq count 3 then aside.Number else aside.Nothing
+
 -- what a node of that kind has to find, by what is asked of it and what is found of its parts
-abbrev pub aside_by : Built → List Shape → (n : ℕ) → (own : Position) → Finding → NodeKind → Aside
-aside_by tree nodes n own found kind.Assignation = of_source nodes found
-aside_by tree nodes n own found kind.Collateral = of_display nodes own
-aside_by tree nodes n own found kind.Monadic = of_formula (part_from_end (parts_at tree n) 1) found
-aside_by tree nodes n own found kind.Dyadic = of_formula (part_from_end (parts_at tree n) 1) found
-aside_by tree nodes n own found _ = aside.Nothing
+abbrev pub aside_by : Known → List Shape → (n : ℕ) → (own : Position) → Finding → NodeKind → Aside
+aside_by k nodes n own found kind.Assignation = of_source nodes found
+aside_by k nodes n own found kind.Collateral = of_display nodes own
+aside_by k nodes n own found kind.Monadic = of_formula (part_from_end (parts_at k.tree n) 1) found
+aside_by k nodes n own found kind.Dyadic = of_formula (part_from_end (parts_at k.tree n) 1) found
+aside_by k nodes n own found kind.Call = of_call (called_by k.tree k.tags n) (length (parts_at k.tree n))
+aside_by k nodes n own found _ = aside.Nothing
 
 -- VOID where no mode is found
 abbrev pub mode_or_void : Finding → ℕ
@@ -76,3 +83,4 @@ IsSetAside k nodes ys aside.Nothing after m = (after ≡ nodes) × (m ≡ 0)
 IsSetAside k nodes ys (aside.WithoutFlex of) after m = (after ≡ nodes) × IsNode nodes (without_flex of) m
 IsSetAside k nodes ys (aside.Row dims flex of) after m = IsRowInterned nodes dims flex of after m
 IsSetAside k nodes ys (aside.AnyRow part) after m = (after ≡ nodes) × IsAnyRow k nodes ys part m
+IsSetAside k nodes ys aside.Number after m = IsNumberInterned nodes after m

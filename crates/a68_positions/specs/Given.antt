@@ -110,17 +110,17 @@ is_collateral _ = false
 abbrev pub item : (n count : ℕ) → NodeKind → Position
 item n count k = if nat_eq count 2 then (if is_collateral k then position.Items n else goal n standard.PRINTABLE) else position.Unlooked
 
--- whole takes two integers (10.3.2.1)
-abbrev pub whole : (n count : ℕ) → Position
-whole n count = if nat_eq count 3 then goal n 1 else position.Unlooked
+-- whole takes an INT or a LONG INT, and an INT (10.3.2.1)
+abbrev pub whole : (n count place aside : ℕ) → Position
+whole n count place aside = if nat_eq count 3 then goal n (if nat_eq place 1 then aside else standard.INT) else position.Unlooked
 
 abbrev pub primary : (called : Option ℕ) → Finding → Position
 primary (Some c) found = position.Called
 primary None found = asked by.Meek found
 
-abbrev pub argument : List Shape → (n count place : ℕ) → (called : Option ℕ) → Finding → NodeKind → Position
-argument nodes n count place (Some c) found k = if nat_eq c tags.WHOLE then whole n count else item n count k
-argument nodes n count place None found k = parameter nodes n count place found
+abbrev pub argument : List Shape → (n count place aside : ℕ) → (called : Option ℕ) → Finding → NodeKind → Position
+argument nodes n count place aside (Some c) found k = if nat_eq c tags.WHOLE then whole n count place aside else item n count k
+argument nodes n count place aside None found k = parameter nodes n count place found
 
 -- ---- formulas (5.4.2): the mode of an operand is that of the parameter, or where that stands for every row the one that is found aside
 
@@ -193,7 +193,7 @@ given k nodes a place p kind.Selection = at_first place (asked by.Weak a.found) 
 given k nodes a place p kind.Slice = at_first place (asked by.Weak a.found) position.Nowhere
 given k nodes a place p kind.Call =
     at_first place (primary (called_by k.tree k.tags a.node) a.found)
-    (argument nodes a.node (length (parts_at k.tree a.node)) place (called_by k.tree k.tags a.node) a.found (kind_at k.tree p))
+    (argument nodes a.node (length (parts_at k.tree a.node)) place a.aside (called_by k.tree k.tags a.node) a.found (kind_at k.tree p))
 given k nodes a place p kind.Monadic = operand nodes k.defined a.node (length (parts_at k.tree a.node)) place a.aside a.found
 given k nodes a place p kind.Dyadic = operand nodes k.defined a.node (length (parts_at k.tree a.node)) place a.aside a.found
 given k nodes a place p kind.Collateral = display_unit nodes a.node (length (parts_at k.tree a.node)) place a.aside a.own

@@ -29,7 +29,7 @@ asker_at fs ps n aside = record { node = n; own = position_at ps n; found = find
 pub data ArePositionsFrom (k : Known) (ys : List Yielding) (fs : List Finding) (start : List Shape) : (count : ℕ) → (nodes : List Shape) → List Position → Type 0 where
   none_yet : {count : ℕ} {nodes : List Shape} {ps : List Position} → count ≡ 0 → nodes ≡ start → ps ≡ at_start (length k.tree.nodes) → ArePositionsFrom k ys fs start count nodes ps
   one_more : {count : ℕ} {nodes : List Shape} {ps : List Position} (n m : ℕ) (before : List Shape) (those : List Position) → ArePositionsFrom k ys fs start n before those
-      → IsSetAside k before ys (aside_by k.tree before n (position_at those n) (finding_at fs n) (kind_at k.tree n)) nodes m
+      → IsSetAside k before ys (aside_by k before n (position_at those n) (finding_at fs n) (kind_at k.tree n)) nodes m
       → ps ≡ with_parts k nodes (asker_at fs those n m) 0 (parts_at k.tree n) those → count ≡ suc n → ArePositionsFrom k ys fs start count nodes ps
 
 -- those of all nodes

@@ -1,5 +1,6 @@
 //! The mode that a node has to find before it can say what it asks of its parts.
 ghost use Rattle.std.specs.Prelude.{◌≡◌, ◌<◌, ℕ, IfOk, List, Option, length};
+ghost use Rattle.a68_declare.specs.Outcome.{ByNode};
 ghost use Rattle.a68_modes.specs.Nodes.{shape_at};
 ghost use Rattle.a68_positions.specs.Aside as specs;
 ghost use Rattle.a68_positions.specs.Aside.{IsSetAside};
@@ -11,21 +12,24 @@ use crate::position::Position;
 use a68_base::NoMemory;
 use a68_coerce::ModeForm;
 use a68_declare::NodeModes;
-use a68_definitions::{kind_of, part_from_end, parts_of};
+use a68_definitions::{Tags, called_by, kind_of, part_from_end, parts_of};
 use a68_identify::Identified;
 use a68_mode_table::ModeTable;
 use a68_modes::{ModeId, Modes, Shape, Sort};
+use a68_ranges::tags;
 use a68_tree::{NodeId, NodeKind, Tree};
 use a68_yields::{Expectation, Finding, Yielding, part_found};
 use std::alloc::Global;
 
-/// Nothing; a mode without its FLEX; a row; or the row, or name of one, to which the units of that part are balanced.
+/// Nothing; a mode without its FLEX; a row; the row, or name of one, to which the units of that part are balanced; or the union
+/// of INT and LONG INT.
 #[derive(Clone, Copy)]
 pub enum Aside {
     Nothing,
     WithoutFlex(ModeId),
     Row { dims: u32, flex: bool, of: ModeId },
     AnyRow(NodeId),
+    Number,
 }
 
 // Gives what a name refers to, without its FLEX.
@@ -83,11 +87,28 @@ fn of_formula(last: NodeId, found: Finding) -> Aside
     }
 }
 
+// Gives what the first parameter of whole leads to, where that is called with two units.
+fn of_call(called: Option<u32>, count: usize) -> Aside
+    ensures { result ≡ specs.of_call called count }
+{
+    match called {
+        Some(place) if place == tags::WHOLE && count == 3 => Aside::Number,
+        _ => Aside::Nothing,
+    }
+}
+
 /// Tells what a node has to find, by what is asked of it and what is found of its parts.
-pub fn aside_of(tree: &Tree, modes: &Modes, node: NodeId, own: Position, found: Finding) -> Aside
+pub fn aside_of(
+    tree: &Tree,
+    tags: &Tags,
+    modes: &Modes,
+    node: NodeId,
+    own: Position,
+    found: Finding,
+) -> Aside
     requires own { IsPositionBelow (length modes.now) own }
     requires found { IsFindingBelow (length modes.now) found }
-    ensures { result ≡ specs.aside_by tree.now modes.now node own found (kind_at tree.now node) }
+    ensures { (of : ByNode) (defined : List ℕ) → result ≡ specs.aside_by (record { tree = tree.now; tags = tags.now; of = of; defined = defined }) modes.now node own found (kind_at tree.now node) }
 {
     match kind_of(tree, node) {
         NodeKind::Assignation => of_source(modes, found),
@@ -95,6 +116,7 @@ pub fn aside_of(tree: &Tree, modes: &Modes, node: NodeId, own: Position, found: 
         NodeKind::Monadic | NodeKind::Dyadic => {
             of_formula(part_from_end(parts_of(tree, node), 1), found)
         }
+        NodeKind::Call => of_call(called_by(tree, tags, node), parts_of(tree, node).len()),
         _ => Aside::Nothing,
     }
 }
@@ -133,5 +155,6 @@ pub fn set_aside(
             let found = part_found(alloc, tree, modes, of, yields, part, Sort::Weak, row, part)?;
             Ok(mode_or_void(found))
         }
+        Aside::Number => modes.number(alloc),
     }
 }

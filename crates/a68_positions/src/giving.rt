@@ -191,6 +191,7 @@ pub fn given_to(
                 node,
                 count,
                 place,
+                aside,
                 called,
                 found,
                 kind_of(tree, part),

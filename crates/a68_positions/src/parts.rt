@@ -64,14 +64,17 @@ fn item(node: NodeId, count: usize, part: NodeKind) -> Position
     }
 }
 
-// Asks for an integer of whole.
-fn whole(node: NodeId, count: usize) -> Position
-    ensures { result ≡ specs.whole node count }
+// Asks for an INT or a LONG INT of whole, and for an INT.
+fn whole(node: NodeId, count: usize, place: usize, aside: ModeId) -> Position
+    ensures { result ≡ specs.whole node count place aside }
 {
-    if count == 3 {
-        goal(node, 1)
+    if count != 3 {
+        return Position::Unlooked;
+    }
+    if place == 1 {
+        goal(node, aside)
     } else {
-        Position::Unlooked
+        goal(node, standard::INT)
     }
 }
 
@@ -91,17 +94,18 @@ pub fn argument(
     node: NodeId,
     count: usize,
     place: usize,
+    aside: ModeId,
     called: Option<u32>,
     found: Finding,
     part: NodeKind,
 ) -> Position
     requires { IsFindingBelow (length modes.now) found }
-    ensures { result ≡ specs.argument modes.now node count place called found part }
+    ensures { result ≡ specs.argument modes.now node count place aside called found part }
 {
     match called {
         Some(called) => {
             if called == tags::WHOLE {
-                whole(node, count)
+                whole(node, count, place, aside)
             } else {
                 item(node, count, part)
             }

@@ -78,7 +78,7 @@ fn look(
 {
     let own = position_of(positions, node);
     let found = finding_of(findings, node);
-    let needed = aside_of(tree, modes.modes(), node, own, found);
+    let needed = aside_of(tree, tags, modes.modes(), node, own, found);
     let aside = set_aside(alloc, tree, of, modes, yields, needed)?;
     let asker = Asker {
         node,

@@ -235,7 +235,7 @@ const CALLS: &[(&str, NodeKind, u32, Question)] = &[
         "( whole(1, 2); SKIP )",
         NodeKind::Denotation,
         8,
-        Question::Goal(Named::Is(1), Some(NodeKind::Call)),
+        Question::Goal(Named::Union(2), Some(NodeKind::Call)),
     ),
     (
         "( whole(1, 2); SKIP )",

@@ -5,7 +5,7 @@ use Rattle.a68_ranges.specs.Nodes.{kind_at}
 use Rattle.a68_ranges.specs.Definitions.{defines, if_defines, defining, if_joined, unjoined}
 use Rattle.a68_tree.specs.Trees.{Built}
 
-append_nil : (xs : List ℕ) → xs ++ [] ≡ xs
+pub append_nil : (xs : List ℕ) → xs ++ [] ≡ xs
 append_nil [] = refl
 append_nil (x ∷ xs) = ap (λ ys. x ∷ ys) (append_nil xs)
 

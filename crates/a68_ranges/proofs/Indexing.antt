@@ -41,17 +41,17 @@ module _ (tree : Built) (sort : IndicatorKind) where
   named_skips name d [] h = ap (λ b. if b then Some d else None) h
   named_skips name d (x ∷ xs) h = choice (has_name tree sort name x) x _ _ (named_skips name d xs h)
 
-  other_name : (name d : ℕ) → (name_at tree d ≡ name → ⊥) → has_name tree sort name d ≡ false
+  pub other_name : (name d : ℕ) → (name_at tree d ≡ name → ⊥) → has_name tree sort name d ≡ false
   other_name name d apart = ⊎_elim (λ h. absurd (apart h.1)) (λ h. both_false (is_sort sort (defines (kind_at tree d))) (nat_eq (name_at tree d) name) h.0) (eqb_tells (name_at tree d) name)
     where
       both_false : (a b : Bool) → b ≡ false → (a && b) ≡ false
       both_false true b e = e
       both_false false b e = refl
 
-  other_sort : (name d : ℕ) → is_sort sort (defines (kind_at tree d)) ≡ false → has_name tree sort name d ≡ false
+  pub other_sort : (name d : ℕ) → is_sort sort (defines (kind_at tree d)) ≡ false → has_name tree sort name d ≡ false
   other_sort name d e = ap (λ a. a && nat_eq (name_at tree d) name) e
 
-  own_name : (d : ℕ) → is_sort sort (defines (kind_at tree d)) ≡ true → has_name tree sort (name_at tree d) d ≡ true
+  pub own_name : (d : ℕ) → is_sort sort (defines (kind_at tree d)) ≡ true → has_name tree sort (name_at tree d) d ≡ true
   own_name d e = ap (λ a. a && nat_eq (name_at tree d) (name_at tree d)) e ∙ eq-eqb (name_at tree d) (name_at tree d) refl
 
 -- ---- the least

@@ -229,10 +229,10 @@ found_under bound (row ∷ rows) s k all e = go (bytes_eq s row.0) e (λ h. foun
     go true h rest = let e = some_one h in let l = all.0 in omega arith
     go false h rest = rest h
 
-tag_under : (s : Option (List ℕ)) (k : ℕ) → option_and_then (find standard_tags) s ≡ Some k → k < 9
+tag_under : (s : Option (List ℕ)) (k : ℕ) → option_and_then (find standard_tags) s ≡ Some k → k < 11
 unfolding standard_tags
 tag_under None k e = absurd (cc)
-tag_under (Some s) k e = found_under 9 standard_tags s k (lit< tt, (lit< tt, (lit< tt, (lit< tt, (lit< tt, (lit< tt, (lit< tt, (lit< tt, (lit< tt, tt))))))))) e
+tag_under (Some s) k e = found_under 11 standard_tags s k (lit< tt, (lit< tt, (lit< tt, (lit< tt, (lit< tt, (lit< tt, (lit< tt, (lit< tt, (lit< tt, (lit< tt, (lit< tt, tt))))))))))) e
 
 -- ---- the three look-ups
 
@@ -245,7 +245,7 @@ tag_is tree t at name found place answer are there out is one none standard =
     (is ∙ ap (λ (ss : List Standard). option_and_then (λ (s : Standard). s.tag) (slice_get ss name)) are.standard ∙ tags_said tree.spellings name) one none standard are.count are.few
   where
     go : (f p : Option ℕ) → FoundAt tree at sorts.Tag name f → p ≡ spelled tree name standard_tags → ((id : ℕ) → f ≡ Some id → answer ≡ Some id) → (f ≡ None → p ≡ None → answer ≡ None)
-        → ((k : ℕ) → f ≡ None → p ≡ Some k → t.count + k < 2 ^ 32 → answer ≡ Some (t.count + k)) → t.count ≡ length tree.nodes → length tree.nodes + 9 < 2 ^ 32 → IsTagOf tree at name answer
+        → ((k : ℕ) → f ≡ None → p ≡ Some k → t.count + k < 2 ^ 32 → answer ≡ Some (t.count + k)) → t.count ≡ length tree.nodes → length tree.nodes + 11 < 2 ^ 32 → IsTagOf tree at name answer
     go (Some id) p def said one none standard count few = rw (one id refl) (inl def)
     go None None never said one none standard count few = rw (none refl refl) (never, sym said)
     go None (Some k) never said one none standard count few =

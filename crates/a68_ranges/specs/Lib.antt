@@ -7,3 +7,4 @@ pub mod Parents
 pub mod Links
 pub mod Tables
 pub mod Indexed
+pub mod Signed

@@ -1,5 +1,5 @@
 -- The tables of the ranges of a tree (own).
-use Rattle.std.specs.Prelude.{◌≡◌, ◌<◌, ◌+◌, ◌^◌, ◌&&◌, ℕ, Bool, true, false, nat_eq, List, [], ◌∷◌, length, map, slice_get, slice_index_or, Option, Some, None, if◌then◌else◌}
+use Rattle.std.specs.Prelude.{◌≡◌, ◌<◌, ◌+◌, ◌^◌, ◌&&◌, ℕ, Bool, true, false, nat_eq, List, [], ◌∷◌, length, map, slice_get, slice_index_or, Option, Some, None, unwrap_or, if◌then◌else◌}
 use Rattle.std.specs.Map.{lookup}
 use Rattle.a68_ranges.specs.Nodes.{kind_at, name_at, parts_at}
 use Rattle.a68_ranges.specs.Surroundings.{Lies, entered}
@@ -67,19 +67,22 @@ abbrev pub first_named : Built → IndicatorKind → (name : ℕ) → List ℕ �
 first_named tree sort name [] = None
 first_named tree sort name (d ∷ ds) = if has_name tree sort name d then Some d else first_named tree sort name ds
 
--- those of these nodes that define operators
-abbrev pub operators_among : Built → List ℕ → List ℕ
-operators_among tree [] = []
-operators_among tree (d ∷ ds) = if is_sort sorts.Operator (defines (kind_at tree d)) then d ∷ operators_among tree ds else operators_among tree ds
+-- the operator definitions of a sign among these nodes
+abbrev pub operators_named : Built → (sign : ℕ) → List ℕ → List ℕ
+operators_named tree sign [] = []
+operators_named tree sign (d ∷ ds) = if has_name tree sorts.Operator sign d then d ∷ operators_named tree sign ds else operators_named tree sign ds
 
--- the operator definitions among what a range declares, in order of text
-unfoldable pub operators_in : Built → (range : ℕ) → List ℕ
-operators_in tree range = operators_among tree (declared_in tree range)
+-- the operator definitions of a sign among what a range declares, in order of text
+unfoldable pub operators_in : Built → (range sign : ℕ) → List ℕ
+operators_in tree range sign = operators_named tree sign (declared_in tree range)
 
--- the operator definitions of each of the nodes before one
-pub record AreOperators (tree : Built) (count : ℕ) (operators : List (List ℕ)) : Type 0 where
-  pub long : length operators ≡ count
-  pub each : (range : ℕ) → range < count → slice_get operators range ≡ Some (operators_in tree range)
+-- what the entries of a map have for a sign in a range
+abbrev pub at_sign : List ((ℕ × ℕ) × List ℕ) → (range sign : ℕ) → List ℕ
+at_sign entries range sign = unwrap_or (lookup (λ k. nat_eq range k.0 && nat_eq sign k.1) entries) []
+
+-- the operator definitions of each sign in each range
+abbrev pub AreOperators : Built → List ((ℕ × ℕ) × List ℕ) → Type 0
+AreOperators tree entries = (range sign : ℕ) → at_sign entries range sign ≡ operators_in tree range sign
 
 -- what the entries of a map have for a name in a range
 abbrev pub at_key : List ((ℕ × ℕ) × ℕ) → (range name : ℕ) → Option ℕ
@@ -106,7 +109,7 @@ pub record RangeTables : Type 0 where
   pub count : ℕ
   pub nests : Nest
   pub declared : List (List ℕ)
-  pub operators : List (List ℕ)
+  pub operators : List ((ℕ × ℕ) × List ℕ)
   pub tags : List ((ℕ × ℕ) × ℕ)
   pub mode_words : List ((ℕ × ℕ) × ℕ)
   pub priorities : List ((ℕ × ℕ) × ℕ)
@@ -116,10 +119,10 @@ pub record RangeTables : Type 0 where
 -- the tables are those of the tree
 pub record AreRanges (tree : Built) (tables : RangeTables) : Type 0 where
   pub count : tables.count ≡ length tree.nodes
-  pub few : length tree.nodes + 9 < 2 ^ 32
+  pub few : length tree.nodes + 11 < 2 ^ 32
   pub nests : AreNests tree tables.nests
   pub declared : AreDeclared tree (length tree.nodes) tables.declared
-  pub operators : AreOperators tree (length tree.nodes) tables.operators
+  pub operators : AreOperators tree tables.operators
   pub tags : AreFirst tree sorts.Tag tables.tags
   pub mode_words : AreFirst tree sorts.ModeWord tables.mode_words
   pub priorities : AreFirst tree sorts.Priority tables.priorities

@@ -60,7 +60,7 @@ fn tables_of(
     declared: Vec<Parts>,
     indices: Indices,
 ) -> Result<Ranges, NoMemory>
-    requires few { length tree.now.nodes + 9 < 2 ^ 32 }
+    requires few { length tree.now.nodes + 11 < 2 ^ 32 }
     requires declared { AreDeclared tree.now (length tree.now.nodes) declared.items }
     requires tags { AreFirst tree.now sorts.Tag indices.tags.entries }
     requires mode_words { AreFirst tree.now sorts.ModeWord indices.mode_words.entries }
@@ -93,7 +93,7 @@ pub fn ranges(alloc: Global, tree: &Tree) -> Result<Ranges, Stop>
     ensures once { IfOk result (λ ranges. (id : ℕ) → IsTwice tree.now id → ⊥) }
     ensures refused { IfErr result (λ why. StopsBy (RefusesTwice tree.now) why) }
 {
-    if tree.len() >= u32::MAX - 9 {
+    if tree.len() >= u32::MAX - 11 {
         return Err(Stop::NoMemory);
     }
     let declared = declared_of(alloc, tree)?;

@@ -11,11 +11,11 @@ use crate::reading::{earlier, kind_of, name_of};
 use crate::sort::{IndicatorKind, is_sort};
 use a68_base::NoMemory;
 use a68_tree::{NodeId, Parts, Tree};
+use indexmap::IndexMap;
 use std::alloc::Global;
-use std::collections::HashMap;
 
-/// The first definition by range and name.
-pub type Index = HashMap<(NodeId, u32), NodeId>;
+/// The first definition by range and name, in declared order.
+pub type Index = IndexMap<(NodeId, u32), NodeId>;
 
 /// The definitions of one sort, and the first in text of those that another one in their range precedes.
 #[derive(Drop)]
@@ -112,7 +112,7 @@ pub fn index_of(
     ensures first { IfOk result (λ found. AreFirst tree.now sort found.index.entries) }
     ensures late { IfOk result (λ found. IsLeast tree.now (IsLateBefore tree.now sort (length tree.now.nodes)) found.late) }
 {
-    let mut index = HashMap::new(alloc);
+    let mut index = IndexMap::new(alloc);
     let late = note_all(&mut index, tree, sort, declared)?;
     Ok(Indexed { index, late })
 }

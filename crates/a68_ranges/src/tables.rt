@@ -12,6 +12,7 @@ ghost use Rattle.a68_tree.specs.Trees.{Built};
 
 use crate::index::Index;
 use crate::nests::{Layer, Nests};
+use crate::operators::{OperatorIndex, at_sign};
 use crate::standard::Standard;
 use a68_tree::{NodeId, Parts};
 use std::marker::Model;
@@ -24,7 +25,7 @@ pub struct Ranges {
     pub(crate) count: u32,
     pub(crate) nests: Nests,
     pub(crate) declared: Vec<Parts>,
-    pub(crate) operators: Vec<Parts>,
+    pub(crate) operators: OperatorIndex,
     pub(crate) tags: Index,
     pub(crate) mode_words: Index,
     pub(crate) priorities: Index,
@@ -37,7 +38,7 @@ impl Model for Ranges {
 
     ghost Value = { RangeTables };
 
-    ghost view = { λ ranges. record { count = ranges.count; nests = ranges.nests; declared = ranges.declared.items; operators = ranges.operators.items; tags = ranges.tags.entries; mode_words = ranges.mode_words.entries; priorities = ranges.priorities.entries; standard = ranges.standard.items; written = ranges.written.items } };
+    ghost view = { λ ranges. record { count = ranges.count; nests = ranges.nests; declared = ranges.declared.items; operators = ranges.operators.entries; tags = ranges.tags.entries; mode_words = ranges.mode_words.entries; priorities = ranges.priorities.entries; standard = ranges.standard.items; written = ranges.written.items } };
 }
 
 impl Ranges {
@@ -101,12 +102,11 @@ impl Ranges {
         &self.declared[range as usize].items
     }
 
-    /// The operator definitions among what a range declares, in order of text.
-    pub fn operators(&self, range: NodeId) -> &[NodeId]
-        requires { range < length self.now.operators }
-        ensures { (tree : Built) → AreRanges tree self.now → result.now ≡ operators_in tree range }
+    /// The operator definitions of a sign among what a range declares, in order of text.
+    pub fn operators(&self, range: NodeId, sign: u32) -> &[NodeId]
+        ensures { (tree : Built) → AreRanges tree self.now → result.now ≡ operators_in tree range sign }
     {
-        &self.operators[range as usize].items
+        at_sign(&self.operators, range, sign)
     }
 }
 

@@ -1,28 +1,26 @@
 -- What is done with what was read.
-use Rattle.std.proofs.Common.{◌≡◌, true, Option, None, List, [], ◌∷◌, sym, ap, subst, ◌∙◌}
-use Rattle.std.proofs.lemmas.Bool.{false≢true}
+use Rattle.std.proofs.Common.{◌≡◌, true, Option, None, List, [], ◌∷◌, ap, subst}
 use Rattle.a68_tree.specs.declared.kind.NodeKind.{NodeKind}
 use Rattle.a68_tree.specs.declared.kind.NodeKind.TheVariants as k
 use Rattle.a68_symbols.specs.declared.sym.Bracket.{Bracket}
 use Rattle.a68_symbols.specs.declared.sym.Sym.{Sym}
-use Rattle.a68_tree.specs.Forest.{Forest, end, part, aside, shared, forget, spells}
+use Rattle.a68_symbols.specs.declared.sym.Token.{Token}
+use Rattle.a68_tree.specs.Forest.{Forest, end, mark, part, aside, shared, forget, spells}
 use Rattle.a68_tree.specs.Grammar.{IsEnclosed}
+use Rattle.a68_nodes.specs.Closing.{names_first}
 use Rattle.a68_nodes.specs.Stack.{Layer, node, put}
 use Rattle.a68_nodes.specs.Views.{DraftState}
 use Rattle.a68_nodes.specs.Built.{IsDraftOf}
 use Rattle.a68_unit_productions.specs.declared.goal.Goal.{Goal}
 use Rattle.a68_unit_productions.specs.declared.goal.Goal.TheVariants as g
 use Rattle.a68_read.specs.Fits as f
-use Rattle.a68_read.specs.Fits.{Shape, all_fit, names_first}
+use Rattle.a68_read.specs.Fits.{Shape, all_fit}
 use Rattle.a68_read.specs.Awaits as a
 use Rattle.a68_read.specs.Awaits.{Awaited, all_await}
 use Rattle.a68_read.specs.Readings.{IsWhole, IsEnd, Reading, IsDone}
 
 as_node : (x : Layer) → x.bracket ≡ None → x ≡ node x.forest
 as_node x e = ap (λ (b : Option Bracket). let y : Layer = record { bracket = b; forest = x.forest } in y) e
-
-pub not_identity : (j : NodeKind) → names_first j ≡ true → j ≡ k.Identity → ⊥
-not_identity j e h = false≢true (sym (ap names_first h) ∙ e)
 
 abbrev pub Goes : (NodeKind → Forest → Awaited) → List Sym → List Layer → List Sym → Type 0
 Goes K whole S rest = (j : NodeKind) (u : Forest) → IsEnclosed j u → whole ≡ spells u [] → K j u S rest
@@ -50,14 +48,14 @@ module _ (rest : List Sym) (old new : DraftState) where
   leave_does built whole goals r = leave_at built whole goals r.stack r.built r.fits r.awaits
 
   abbrev pub Wraps : NodeKind → Type 0
-  Wraps j = (whole : List Sym) (ls : List Layer) (f : Forest) → (j ≡ k.Identity → ⊥) → IsDraftOf whole (node f ∷ ls) rest old → IsDraftOf whole (node (part j f end) ∷ ls) rest new
+  Wraps j = (whole : List Sym) (ls : List Layer) (f : Forest) → names_first j ≡ true → IsDraftOf whole (node f ∷ ls) rest old → IsDraftOf whole (node (part j f end) ∷ ls) rest new
 
   wrap_at : (j : NodeKind) → Wraps j → (whole : List Sym) (goals : List Goal) (S : List Layer) → IsDraftOf whole S rest old → f.fits_wrap j (all_fit goals IsWhole) S
       → Goes (λ i u. a.awaits_wrap j (all_await goals (IsEnd i u))) whole S rest → Reading whole goals rest new
   wrap_at j built whole goals [] b h w = absurd h
   wrap_at j built whole goals (x ∷ S) b (i, e, h) w = record {
     stack = node (part j x.forest end) ∷ S;
-    built = built whole S x.forest (not_identity j e) (subst (λ (y : Layer). IsDraftOf whole (y ∷ S) rest old) (as_node x i) b);
+    built = built whole S x.forest e (subst (λ (y : Layer). IsDraftOf whole (y ∷ S) rest old) (as_node x i) b);
     fits = h;
     awaits = w;
   }
@@ -84,8 +82,27 @@ module _ (rest : List Sym) (old new : DraftState) where
   pub relate_does : Relates → IsDone g.Relate rest rest old new
   relate_does built whole goals r = relate_at built whole goals r.stack r.built r.fits r.awaits
 
+  abbrev pub Lengthens : Type 0
+  Lengthens = (whole : List Sym) (ls : List Layer) (t : Token) (f : Forest) → IsDraftOf whole (node (mark t f) ∷ ls) rest old → IsDraftOf whole (node (part k.LongDenotation (mark t f) end) ∷ ls) rest new
+
+  lengthened : Lengthens → (whole : List Sym) (S : List Layer) (x : Forest) → f.HasMark x → IsDraftOf whole (node x ∷ S) rest old → IsDraftOf whole (node (part k.LongDenotation x end) ∷ S) rest new
+  lengthened built whole S x (f.has_mark {s = s} {f = y}) b = built whole S s y b
+
+  long_at : Lengthens → (whole : List Sym) (goals : List Goal) (S : List Layer) → IsDraftOf whole S rest old → f.fits_long (all_fit goals IsWhole) S
+      → Goes (λ i u. a.awaits_wrap k.LongDenotation (all_await goals (IsEnd i u))) whole S rest → Reading whole goals rest new
+  long_at built whole goals [] b h w = absurd h
+  long_at built whole goals (x ∷ S) b (i, e, h) w = record {
+    stack = node (part k.LongDenotation x.forest end) ∷ S;
+    built = lengthened built whole S x.forest e (subst (λ (y : Layer). IsDraftOf whole (y ∷ S) rest old) (as_node x i) b);
+    fits = h;
+    awaits = w;
+  }
+
+  pub long_does : Lengthens → IsDone g.WrapLong rest rest old new
+  long_does built whole goals r = long_at built whole goals r.stack r.built r.fits r.awaits
+
   abbrev pub Asides : NodeKind → Type 0
-  Asides j = (whole : List Sym) (l : Layer) (ls : List Layer) (f : Forest) → (j ≡ k.Identity → ⊥) → IsDraftOf whole (node f ∷ l ∷ ls) rest old → IsDraftOf whole (put l (aside j f end) ∷ ls) rest new
+  Asides j = (whole : List Sym) (l : Layer) (ls : List Layer) (f : Forest) → names_first j ≡ true → IsDraftOf whole (node f ∷ l ∷ ls) rest old → IsDraftOf whole (put l (aside j f end) ∷ ls) rest new
 
   aside_at : (j : NodeKind) → Asides j → (whole : List Sym) (goals : List Goal) (S : List Layer) → IsDraftOf whole S rest old → f.fits_aside j (all_fit goals IsWhole) S
       → Goes (λ i u. a.awaits_aside j (all_await goals (IsEnd i u))) whole S rest → Reading whole goals rest new
@@ -93,7 +110,7 @@ module _ (rest : List Sym) (old new : DraftState) where
   aside_at j built whole goals (x ∷ []) b h w = absurd h
   aside_at j built whole goals (x ∷ l ∷ S) b (i, e, h) w = record {
     stack = put l (aside j x.forest end) ∷ S;
-    built = built whole l S x.forest (not_identity j e) (subst (λ (y : Layer). IsDraftOf whole (y ∷ l ∷ S) rest old) (as_node x i) b);
+    built = built whole l S x.forest e (subst (λ (y : Layer). IsDraftOf whole (y ∷ l ∷ S) rest old) (as_node x i) b);
     fits = h;
     awaits = w;
   }
@@ -121,7 +138,7 @@ module _ (rest : List Sym) (old middle new : DraftState) where
   close_at j wraps leaves whole goals (x ∷ []) b h w = absurd h
   close_at j wraps leaves whole goals (x ∷ l ∷ S) b (i, e, h) w = record {
     stack = put l (part j x.forest end) ∷ S;
-    built = leaves whole rest l S (part j x.forest end) (wraps whole (l ∷ S) x.forest (not_identity j e) (subst (λ (y : Layer). IsDraftOf whole (y ∷ l ∷ S) rest old) (as_node x i) b));
+    built = leaves whole rest l S (part j x.forest end) (wraps whole (l ∷ S) x.forest e (subst (λ (y : Layer). IsDraftOf whole (y ∷ l ∷ S) rest old) (as_node x i) b));
     fits = h;
     awaits = w;
   }

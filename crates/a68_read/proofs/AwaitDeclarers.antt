@@ -27,6 +27,7 @@ declarer_node_awaits K S x (a.reads_part_free {l = l} {S = T} {r = r} p h) = a.r
 pub declarer_awaits : (K : Awaited) (S : List Layer) (x : List Sym) → awaits g.Declarer K S x → all_await (declarers.declarer x) K S x
 declarer_awaits K S x (a.reads_free {l = l} {S = T} {r = r} (gr.plain gr.plain_int) h) = a.takes_mark gr.plain_int h
 declarer_awaits K S x (a.reads_free {l = l} {S = T} {r = r} (gr.plain gr.plain_other) h) = a.takes_mark gr.plain_other h
+declarer_awaits K S x (a.reads_free {l = l} {S = T} {r = r} gr.long_int h) = a.takes (a.takes (back K r l T _ _ h))
 declarer_awaits K S x (a.reads_free {l = l} {S = T} {r = r} gr.mode_word h) = a.takes h
 declarer_awaits K S x (a.reads_free {l = l} {S = T} {r = r} (gr.ref p) h) = a.takes (a.reads_part_free p (back K r l T _ _ h))
 declarer_awaits K S x (a.reads_free {l = l} {S = T} {r = r} (gr.rows p q) h) = a.opened (a.reads_square p (a.closed (a.reads_part_free q (back K r l T _ _ h))))

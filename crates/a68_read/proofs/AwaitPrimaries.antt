@@ -31,6 +31,7 @@ unwound K S (gr.cast p q) r o h = a.turns (m.base_cast p q) o h
 unwound K S (gr.cast_void p) r o h = a.turns (m.base_cast_void p) o h
 unwound K S gr.tag r o h = a.turns m.base_tag o h
 unwound K S (gr.denotation p) r o h = a.turns (m.base_denotation p) o h
+unwound K S (gr.long_denotation p) r o h = a.turns (m.base_long_denotation p) o h
 unwound K S (gr.enclosed p) r o h = a.turns (m.base_enclosed p) o h
 
 pub secondary_awaits : (K0 : Shape) (K : Awaited) (S : List Layer) (x : List Sym) → fits g.Secondary K0 S → awaits g.Secondary K S x → all_await (primaries.secondary x) K S x
@@ -47,9 +48,11 @@ base_awaits K0 K S x (f.fresh ends) (a.turns {r = r} (m.base_denotation gr.denot
 base_awaits K0 K S x (f.fresh ends) (a.turns {r = r} (m.base_denotation gr.denotation_quoted) o h) = a.takes_mark gr.denotation_quoted h
 base_awaits K0 K S x (f.fresh ends) (a.turns {r = r} (m.base_denotation gr.denotation_true) o h) = a.takes_mark gr.denotation_true h
 base_awaits K0 K S x (f.fresh ends) (a.turns {r = r} (m.base_denotation gr.denotation_false) o h) = a.takes_mark gr.denotation_false h
+base_awaits K0 K S x (f.fresh ends) (a.turns {r = r} (m.base_long_denotation gr.number_digit) o h) = a.takes (a.takes h)
+base_awaits K0 K S x (f.fresh ends) (a.turns {r = r} (m.base_long_denotation gr.number_other) o h) = a.takes (a.takes h)
 base_awaits K0 K S x (f.fresh ends) (a.turns {r = r} (m.base_cast_void p) o h) = a.takes (a.turns_free p h)
-base_awaits K0 K S x (f.fresh ends) (a.turns {r = r} (m.base_cast {u = z} p q) o h) = rw (no_first set.begins_declarer (Is t.Tag) refl (first.first_declarer p (spells z r)), test.declarer_no_denotation p (spells z r), no_first set.begins_declarer (Is t.Void) refl (first.first_declarer p (spells z r)), test.declarer_first p (spells z r)) (a.reads_part_free p (a.turns_free q h))
-base_awaits K0 K S x (f.fresh ends) (a.turns {r = r} (m.base_enclosed p) o h) = rw (no_first set.begins_enclosed (Is t.Tag) refl (first.first_enclosed p r), test.enclosed_no_denotation p r, no_first set.begins_enclosed (Is t.Void) refl (first.first_enclosed p r), test.enclosed_no_declarer p r) (a.turns_free p h)
+base_awaits K0 K S x (f.fresh ends) (a.turns {r = r} (m.base_cast {u = z} p q) o h) = rw (no_first set.begins_declarer (Is t.Tag) refl (first.first_declarer p (spells z r)), test.declarer_no_denotation p (spells z r), test.declarer_no_long p gr.number_digit (spells z r), test.declarer_no_long p gr.number_other (spells z r), no_first set.begins_declarer (Is t.Void) refl (first.first_declarer p (spells z r)), test.declarer_first p (spells z r)) (a.reads_part_free p (a.turns_free q h))
+base_awaits K0 K S x (f.fresh ends) (a.turns {r = r} (m.base_enclosed p) o h) = rw (no_first set.begins_enclosed (Is t.Tag) refl (first.first_enclosed p r), test.enclosed_no_denotation p r, test.enclosed_no_long p (Is t.Digit) r, test.enclosed_no_long p (Is t.Number) r, no_first set.begins_enclosed (Is t.Void) refl (first.first_enclosed p r), test.enclosed_no_declarer p r) (a.turns_free p h)
 
 pub primary_tail_awaits : (K0 : Shape) (K : Awaited) (S : List Layer) (x : List Sym) → fits g.PrimaryTail K0 S → awaits g.PrimaryTail K S x → all_await (primaries.primary_tail x) K S x
 primary_tail_awaits K0 K S x (f.tails p ends) (a.primary_stays o h) = rw (no_next set.ends_secondary (Opens b.Square) refl o, no_next set.ends_secondary (Opens b.Round) refl o) h

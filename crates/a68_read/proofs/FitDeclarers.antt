@@ -39,18 +39,19 @@ field_more_fits K l S text h = field_more_by K l S (starts (Is t.Tag) text) h
 pub declarer_node_fits : (K : Shape) (l : Layer) (S : List Layer) → fits g.DeclarerNode K (l ∷ S) → all_fit declarers.declarer_node K (l ∷ S)
 declarer_node_fits K l S h = λ x p. (refl, refl, h x p)
 
-declarer_by : (K : Shape) (l : Layer) (S : List Layer) (c1 c2 c3 c4 c5 c6 c7 : Bool) → fits g.Declarer K (l ∷ S) → all_fit (if c1 then (g.Take t.ModeWord ∷ []) else (if c2 then (g.Take t.Ref ∷ g.DeclarerNode ∷ []) else (if c3 then (g.Opens b.Square ∷ g.Bounds ∷ g.Closes b.Square ∷ g.DeclarerNode ∷ []) else (if c4 then (g.Take t.Flex ∷ g.Opens b.Square ∷ g.Bounds ∷ g.Closes b.Square ∷ g.DeclarerNode ∷ []) else (if c5 then (g.Take t.Struct ∷ g.Opens b.Round ∷ g.Fields ∷ g.Closes b.Round ∷ []) else (if c6 then (g.Take t.Union ∷ g.Opens b.Round ∷ g.DeclarerNode ∷ g.Take t.Comma ∷ g.Declarers ∷ g.Closes b.Round ∷ []) else (if c7 then (g.Take t.Proc ∷ g.ProcedurePlan ∷ []) else ((g.Plain ∷ []))))))))) K (l ∷ S)
-declarer_by K l S true c2 c3 c4 c5 c6 c7 h = h _ gr.mode_word
-declarer_by K l S false true c3 c4 c5 c6 c7 h = λ e p. back K l S _ _ (h _ (gr.ref p))
-declarer_by K l S false false true c4 c5 c6 c7 h = λ x p. (refl, λ e q. back K l S _ _ (h _ (gr.rows p q)))
-declarer_by K l S false false false true c5 c6 c7 h = λ x p. (refl, λ e q. back3 K l S _ _ _ (h _ (gr.flex p q)))
-declarer_by K l S false false false false true c6 c7 h = λ x p. (refl, back K l S _ _ (h _ (gr.struct_ p)))
-declarer_by K l S false false false false false true c7 h = λ e p x q. (refl, back K l S _ _ (h _ (gr.union_ p q)))
-declarer_by K l S false false false false false false true h = λ x p. back K l S _ _ (h _ (forms.proc_from p))
-declarer_by K l S false false false false false false false h = λ s p. h _ (gr.plain p)
+declarer_by : (K : Shape) (l : Layer) (S : List Layer) (c1 c2 c3 c4 c5 c6 c7 c8 : Bool) → fits g.Declarer K (l ∷ S) → all_fit (if c1 then (g.Take t.ModeWord ∷ []) else (if c2 then (g.Take t.Ref ∷ g.DeclarerNode ∷ []) else (if c3 then (g.Opens b.Square ∷ g.Bounds ∷ g.Closes b.Square ∷ g.DeclarerNode ∷ []) else (if c4 then (g.Take t.Flex ∷ g.Opens b.Square ∷ g.Bounds ∷ g.Closes b.Square ∷ g.DeclarerNode ∷ []) else (if c5 then (g.Take t.Struct ∷ g.Opens b.Round ∷ g.Fields ∷ g.Closes b.Round ∷ []) else (if c6 then (g.Take t.Union ∷ g.Opens b.Round ∷ g.DeclarerNode ∷ g.Take t.Comma ∷ g.Declarers ∷ g.Closes b.Round ∷ []) else (if c7 then (g.Take t.Proc ∷ g.ProcedurePlan ∷ []) else (if c8 then (g.Take t.Long ∷ g.Take t.Int ∷ []) else ((g.Plain ∷ [])))))))))) K (l ∷ S)
+declarer_by K l S true c2 c3 c4 c5 c6 c7 c8 h = h _ gr.mode_word
+declarer_by K l S false true c3 c4 c5 c6 c7 c8 h = λ e p. back K l S _ _ (h _ (gr.ref p))
+declarer_by K l S false false true c4 c5 c6 c7 c8 h = λ x p. (refl, λ e q. back K l S _ _ (h _ (gr.rows p q)))
+declarer_by K l S false false false true c5 c6 c7 c8 h = λ x p. (refl, λ e q. back3 K l S _ _ _ (h _ (gr.flex p q)))
+declarer_by K l S false false false false true c6 c7 c8 h = λ x p. (refl, back K l S _ _ (h _ (gr.struct_ p)))
+declarer_by K l S false false false false false true c7 c8 h = λ e p x q. (refl, back K l S _ _ (h _ (gr.union_ p q)))
+declarer_by K l S false false false false false false true c8 h = λ x p. back K l S _ _ (h _ (forms.proc_from p))
+declarer_by K l S false false false false false false false true h = back K l S _ _ (h _ gr.long_int)
+declarer_by K l S false false false false false false false false h = λ s p. h _ (gr.plain p)
 
 pub declarer_fits : (K : Shape) (l : Layer) (S : List Layer) (text : List Sym) → fits g.Declarer K (l ∷ S) → all_fit (declarers.declarer text) K (l ∷ S)
-declarer_fits K l S text h = declarer_by K l S (starts (Is t.ModeWord) text) (starts (Is t.Ref) text) (starts (Opens b.Square) text) (starts (Is t.Flex) text) (starts (Is t.Struct) text) (starts (Is t.Union) text) (starts (Is t.Proc) text) h
+declarer_fits K l S text h = declarer_by K l S (starts (Is t.ModeWord) text) (starts (Is t.Ref) text) (starts (Opens b.Square) text) (starts (Is t.Flex) text) (starts (Is t.Struct) text) (starts (Is t.Union) text) (starts (Is t.Proc) text) (starts (Is t.Long) text) h
 
 procedure_plan_by : (K : Shape) (l : Layer) (S : List Layer) (c1 : Bool) → fits g.ProcedurePlan K (l ∷ S) → all_fit (if c1 then (g.Opens b.Round ∷ g.Declarers ∷ g.Closes b.Round ∷ g.Yields ∷ []) else ((g.Yields ∷ []))) K (l ∷ S)
 procedure_plan_by K l S true h = λ x p. (refl, λ y q. back K l S _ _ (h _ (m.plan_some p q)))

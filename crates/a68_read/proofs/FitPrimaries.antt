@@ -25,15 +25,17 @@ secondary_by K _ false false false (f.fresh ends) = f.fresh (λ j u p. f.tails (
 pub secondary_fits : (K : Shape) (S : List Layer) (text : List Sym) → fits g.Secondary K S → all_fit (primaries.secondary text) K S
 secondary_fits K S text h = secondary_by K S (starts_pair (Is t.Tag) (Is t.Of) text) (starts (Is t.Loc) text) (starts (Is t.Heap) text) h
 
-base_by : (K : Shape) (S : List Layer) (c1 c2 c3 c4 : Bool) → fits g.Base K S → all_fit (if c1 then (g.Take t.Tag ∷ g.Wrap k.Tag ∷ []) else (if c2 then (g.Denotation ∷ g.Wrap k.Denotation ∷ []) else (if c3 then (g.Begin ∷ g.Take t.Void ∷ g.Close k.VoidWord ∷ g.Begin ∷ g.Enclosed ∷ g.Leave ∷ g.Wrap k.Cast ∷ []) else (if c4 then (g.DeclarerNode ∷ g.Begin ∷ g.Enclosed ∷ g.Leave ∷ g.Wrap k.Cast ∷ []) else ((g.Enclosed ∷ [])))))) K S
-base_by K _ true c2 c3 c4 (f.fresh ends) = (refl, refl, ends _ _ m.base_tag)
-base_by K _ false true c3 c4 (f.fresh ends) = λ s p. (refl, refl, ends _ _ (m.base_denotation p))
-base_by K _ false false true c4 (f.fresh ends) = (refl, refl, f.fresh (λ j u p. (refl, (refl, refl, ends _ _ (m.base_cast_void p)))))
-base_by K _ false false false true (f.fresh ends) = λ e p. f.fresh (λ j u q. (refl, (refl, refl, ends _ _ (m.base_cast p q))))
-base_by K _ false false false false (f.fresh ends) = f.fresh (λ j u p. ends _ _ (m.base_enclosed p))
+base_by : (K : Shape) (S : List Layer) (c1 c2 c3 c4 c5 c6 : Bool) → fits g.Base K S → all_fit (if c1 then (g.Take t.Tag ∷ g.Wrap k.Tag ∷ []) else (if c2 then (g.Denotation ∷ g.Wrap k.Denotation ∷ []) else (if c3 then (g.Take t.Long ∷ g.Take t.Digit ∷ g.WrapLong ∷ []) else (if c4 then (g.Take t.Long ∷ g.Take t.Number ∷ g.WrapLong ∷ []) else (if c5 then (g.Begin ∷ g.Take t.Void ∷ g.Close k.VoidWord ∷ g.Begin ∷ g.Enclosed ∷ g.Leave ∷ g.Wrap k.Cast ∷ []) else (if c6 then (g.DeclarerNode ∷ g.Begin ∷ g.Enclosed ∷ g.Leave ∷ g.Wrap k.Cast ∷ []) else ((g.Enclosed ∷ [])))))))) K S
+base_by K _ true c2 c3 c4 c5 c6 (f.fresh ends) = (refl, refl, ends _ _ m.base_tag)
+base_by K _ false true c3 c4 c5 c6 (f.fresh ends) = λ s p. (refl, refl, ends _ _ (m.base_denotation p))
+base_by K _ false false true c4 c5 c6 (f.fresh ends) = (refl, f.has_mark, ends _ _ (m.base_long_denotation gr.number_digit))
+base_by K _ false false false true c5 c6 (f.fresh ends) = (refl, f.has_mark, ends _ _ (m.base_long_denotation gr.number_other))
+base_by K _ false false false false true c6 (f.fresh ends) = (refl, refl, f.fresh (λ j u p. (refl, (refl, refl, ends _ _ (m.base_cast_void p)))))
+base_by K _ false false false false false true (f.fresh ends) = λ e p. f.fresh (λ j u q. (refl, (refl, refl, ends _ _ (m.base_cast p q))))
+base_by K _ false false false false false false (f.fresh ends) = f.fresh (λ j u p. ends _ _ (m.base_enclosed p))
 
 pub base_fits : (K : Shape) (S : List Layer) (text : List Sym) → fits g.Base K S → all_fit (primaries.base text) K S
-base_fits K S text h = base_by K S (starts (Is t.Tag) text) (is_denotation text) (starts (Is t.Void) text) (is_declarer text) h
+base_fits K S text h = base_by K S (starts (Is t.Tag) text) (is_denotation text) (starts_pair (Is t.Long) (Is t.Digit) text) (starts_pair (Is t.Long) (Is t.Number) text) (starts (Is t.Void) text) (is_declarer text) h
 
 primary_tail_by : (K : Shape) (S : List Layer) (c1 c2 : Bool) → fits g.PrimaryTail K S → all_fit (if c1 then (g.Opens b.Square ∷ g.Indexes ∷ g.Closes b.Square ∷ g.Wrap k.Slice ∷ g.PrimaryTail ∷ []) else (if c2 then (g.Opens b.Round ∷ g.Units ∷ g.Closes b.Round ∷ g.Wrap k.Call ∷ g.PrimaryTail ∷ []) else (([])))) K S
 primary_tail_by K _ true c2 (f.tails p ends) = λ i q. (refl, (refl, refl, f.tails (gr.slice p q) ends))

@@ -7,7 +7,7 @@ use Rattle.a68_symbols.specs.declared.sym.Bracket.TheVariants as b
 use Rattle.a68_tree.specs.Forest.{Forest, end, mark, group, part, joined}
 use Rattle.a68_tree.specs.Grammar as gr
 use Rattle.a68_tree.specs.Grammar.{IsSign, IsEnquiry, IsSerial, IsUnit, IsUnits, IsSpec, IsChoices, IsDeclaration, IsTags, IsSecondary, IsOperands, IsPrimary, IsIndex, IsIndexes, IsDeclarer, IsDeclarers, IsBound, IsBounds, IsYield, IsPlan}
-use Rattle.a68_read.specs.Middles.{IsCommaTail, comma_end, comma_on, IsSerialTail, serial_end, serial_on, IsOperandsTail, operands_end, operands_on, IsSpecTag, no_spec_tag, a_spec_tag, IsPlanTail, plan_end, plan_on, IsTagsMore, tags_again, params_again, IsProcedurePlan, plan_none, plan_some, IsBase, base_cast, base_cast_void, base_tag, base_denotation, base_enclosed}
+use Rattle.a68_read.specs.Middles.{IsCommaTail, comma_end, comma_on, IsSerialTail, serial_end, serial_on, IsOperandsTail, operands_end, operands_on, IsSpecTag, no_spec_tag, a_spec_tag, IsPlanTail, plan_end, plan_on, IsTagsMore, tags_again, params_again, IsProcedurePlan, plan_none, plan_some, IsBase, base_cast, base_cast_void, base_tag, base_denotation, base_long_denotation, base_enclosed}
 use Rattle.a68_tree.proofs.Joining.{joined_assoc}
 
 -- an enquiry is a serial clause
@@ -54,6 +54,7 @@ base_primary (base_cast p q) = gr.cast p q
 base_primary (base_cast_void p) = gr.cast_void p
 base_primary base_tag = gr.tag
 base_primary (base_denotation p) = gr.denotation p
+base_primary (base_long_denotation p) = gr.long_denotation p
 base_primary (base_enclosed p) = gr.enclosed p
 
 pub indexes_from : {i x : Forest} → IsIndex i → IsCommaTail IsIndexes x → IsIndexes (part k.Index i x)

@@ -15,7 +15,7 @@ use Rattle.a68_read.specs.Fits.{all_fit}
 use Rattle.a68_read.specs.Awaits as a
 use Rattle.a68_read.specs.Awaits.{Awaited, all_await}
 use Rattle.a68_read.specs.Readings.{IsWhole, IsEnd, Reading, IsDone}
-use Rattle.a68_read.proofs.Acting.{Leaves, Wraps, Goes, not_identity}
+use Rattle.a68_read.proofs.Acting.{Leaves, Wraps, Goes}
 
 none : (b : Bool) → b ≡ true → b ≡ false → ⊥
 none b e f = false≢true (sym f ∙ e)
@@ -61,7 +61,7 @@ module _ (rest : List Sym) (old : DraftState) (single : Bool) where
       let s : Several x = chosen x (phrases.one_or_several p) no_ in
       record {
         stack = put l (part k.Joined (forget x) end) ∷ T;
-        built = leaves whole rest l T (part k.Joined (forget x) end) (wraps whole (l ∷ T) (forget x) (not_identity k.Joined refl) b);
+        built = leaves whole rest l T (part k.Joined (forget x) end) (wraps whole (l ∷ T) (forget x) refl b);
         fits = more_ s;
         awaits = λ j u q h. more_awaits (all_await goals (IsEnd j u)) x l T rest no_ (node (forget x)) l refl refl (w j u q h);
       }

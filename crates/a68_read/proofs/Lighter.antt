@@ -180,12 +180,14 @@ secondary_light false true c3 = refl
 secondary_light false false true = refl
 secondary_light false false false = refl
 
-base_light : (c1 c2 c3 c4 : Bool) → is_lighter g.Base (if c1 then (g.Take t.Tag ∷ g.Wrap k.Tag ∷ []) else (if c2 then (g.Denotation ∷ g.Wrap k.Denotation ∷ []) else (if c3 then (g.Begin ∷ g.Take t.Void ∷ g.Close k.VoidWord ∷ g.Begin ∷ g.Enclosed ∷ g.Leave ∷ g.Wrap k.Cast ∷ []) else (if c4 then (g.DeclarerNode ∷ g.Begin ∷ g.Enclosed ∷ g.Leave ∷ g.Wrap k.Cast ∷ []) else ((g.Enclosed ∷ [])))))) ≡ true
-base_light true c2 c3 c4 = refl
-base_light false true c3 c4 = refl
-base_light false false true c4 = refl
-base_light false false false true = refl
-base_light false false false false = refl
+base_light : (c1 c2 c3 c4 c5 c6 : Bool) → is_lighter g.Base (if c1 then (g.Take t.Tag ∷ g.Wrap k.Tag ∷ []) else (if c2 then (g.Denotation ∷ g.Wrap k.Denotation ∷ []) else (if c3 then (g.Take t.Long ∷ g.Take t.Digit ∷ g.WrapLong ∷ []) else (if c4 then (g.Take t.Long ∷ g.Take t.Number ∷ g.WrapLong ∷ []) else (if c5 then (g.Begin ∷ g.Take t.Void ∷ g.Close k.VoidWord ∷ g.Begin ∷ g.Enclosed ∷ g.Leave ∷ g.Wrap k.Cast ∷ []) else (if c6 then (g.DeclarerNode ∷ g.Begin ∷ g.Enclosed ∷ g.Leave ∷ g.Wrap k.Cast ∷ []) else ((g.Enclosed ∷ [])))))))) ≡ true
+base_light true c2 c3 c4 c5 c6 = refl
+base_light false true c3 c4 c5 c6 = refl
+base_light false false true c4 c5 c6 = refl
+base_light false false false true c5 c6 = refl
+base_light false false false false true c6 = refl
+base_light false false false false false true = refl
+base_light false false false false false false = refl
 
 primary_tail_light : (c1 c2 : Bool) → is_lighter g.PrimaryTail (if c1 then (g.Opens b.Square ∷ g.Indexes ∷ g.Closes b.Square ∷ g.Wrap k.Slice ∷ g.PrimaryTail ∷ []) else (if c2 then (g.Opens b.Round ∷ g.Units ∷ g.Closes b.Round ∷ g.Wrap k.Call ∷ g.PrimaryTail ∷ []) else (([])))) ≡ true
 primary_tail_light true c2 = refl
@@ -213,15 +215,16 @@ at_part_light : (c1 : Bool) → is_lighter g.AtPart (if c1 then (g.Take t.At ∷
 at_part_light true = refl
 at_part_light false = refl
 
-declarer_light : (c1 c2 c3 c4 c5 c6 c7 : Bool) → is_lighter g.Declarer (if c1 then (g.Take t.ModeWord ∷ []) else (if c2 then (g.Take t.Ref ∷ g.DeclarerNode ∷ []) else (if c3 then (g.Opens b.Square ∷ g.Bounds ∷ g.Closes b.Square ∷ g.DeclarerNode ∷ []) else (if c4 then (g.Take t.Flex ∷ g.Opens b.Square ∷ g.Bounds ∷ g.Closes b.Square ∷ g.DeclarerNode ∷ []) else (if c5 then (g.Take t.Struct ∷ g.Opens b.Round ∷ g.Fields ∷ g.Closes b.Round ∷ []) else (if c6 then (g.Take t.Union ∷ g.Opens b.Round ∷ g.DeclarerNode ∷ g.Take t.Comma ∷ g.Declarers ∷ g.Closes b.Round ∷ []) else (if c7 then (g.Take t.Proc ∷ g.ProcedurePlan ∷ []) else ((g.Plain ∷ []))))))))) ≡ true
-declarer_light true c2 c3 c4 c5 c6 c7 = refl
-declarer_light false true c3 c4 c5 c6 c7 = refl
-declarer_light false false true c4 c5 c6 c7 = refl
-declarer_light false false false true c5 c6 c7 = refl
-declarer_light false false false false true c6 c7 = refl
-declarer_light false false false false false true c7 = refl
-declarer_light false false false false false false true = refl
-declarer_light false false false false false false false = refl
+declarer_light : (c1 c2 c3 c4 c5 c6 c7 c8 : Bool) → is_lighter g.Declarer (if c1 then (g.Take t.ModeWord ∷ []) else (if c2 then (g.Take t.Ref ∷ g.DeclarerNode ∷ []) else (if c3 then (g.Opens b.Square ∷ g.Bounds ∷ g.Closes b.Square ∷ g.DeclarerNode ∷ []) else (if c4 then (g.Take t.Flex ∷ g.Opens b.Square ∷ g.Bounds ∷ g.Closes b.Square ∷ g.DeclarerNode ∷ []) else (if c5 then (g.Take t.Struct ∷ g.Opens b.Round ∷ g.Fields ∷ g.Closes b.Round ∷ []) else (if c6 then (g.Take t.Union ∷ g.Opens b.Round ∷ g.DeclarerNode ∷ g.Take t.Comma ∷ g.Declarers ∷ g.Closes b.Round ∷ []) else (if c7 then (g.Take t.Proc ∷ g.ProcedurePlan ∷ []) else (if c8 then (g.Take t.Long ∷ g.Take t.Int ∷ []) else ((g.Plain ∷ [])))))))))) ≡ true
+declarer_light true c2 c3 c4 c5 c6 c7 c8 = refl
+declarer_light false true c3 c4 c5 c6 c7 c8 = refl
+declarer_light false false true c4 c5 c6 c7 c8 = refl
+declarer_light false false false true c5 c6 c7 c8 = refl
+declarer_light false false false false true c6 c7 c8 = refl
+declarer_light false false false false false true c7 c8 = refl
+declarer_light false false false false false false true c8 = refl
+declarer_light false false false false false false false true = refl
+declarer_light false false false false false false false false = refl
 
 procedure_plan_light : (c1 : Bool) → is_lighter g.ProcedurePlan (if c1 then (g.Opens b.Round ∷ g.Declarers ∷ g.Closes b.Round ∷ g.Yields ∷ []) else ((g.Yields ∷ []))) ≡ true
 procedure_plan_light true = refl
@@ -346,7 +349,7 @@ lighter_on g.TertiaryTail text = tertiary_tail_light (is_operator text)
 lighter_on g.Operands text = operands_light (is_monadic text)
 lighter_on g.OperandsTail text = operands_tail_light (is_operator text)
 lighter_on g.Secondary text = secondary_light (starts_pair (Is t.Tag) (Is t.Of) text) (starts (Is t.Loc) text) (starts (Is t.Heap) text)
-lighter_on g.Base text = base_light (starts (Is t.Tag) text) (is_denotation text) (starts (Is t.Void) text) (is_declarer text)
+lighter_on g.Base text = base_light (starts (Is t.Tag) text) (is_denotation text) (starts_pair (Is t.Long) (Is t.Digit) text) (starts_pair (Is t.Long) (Is t.Number) text) (starts (Is t.Void) text) (is_declarer text)
 lighter_on g.PrimaryTail text = primary_tail_light (starts (Opens b.Square) text) (starts (Opens b.Round) text)
 lighter_on g.Indexes text = refl
 lighter_on g.IndexesTail text = indexes_tail_light (starts (Is t.Comma) text)
@@ -355,7 +358,7 @@ lighter_on g.IndexTail text = index_tail_light (starts (Is t.Colon) text)
 lighter_on g.Trimmer text = trimmer_light (ends_trimmer text)
 lighter_on g.AtPart text = at_part_light (starts (Is t.At) text)
 lighter_on g.DeclarerNode text = refl
-lighter_on g.Declarer text = declarer_light (starts (Is t.ModeWord) text) (starts (Is t.Ref) text) (starts (Opens b.Square) text) (starts (Is t.Flex) text) (starts (Is t.Struct) text) (starts (Is t.Union) text) (starts (Is t.Proc) text)
+lighter_on g.Declarer text = declarer_light (starts (Is t.ModeWord) text) (starts (Is t.Ref) text) (starts (Opens b.Square) text) (starts (Is t.Flex) text) (starts (Is t.Struct) text) (starts (Is t.Union) text) (starts (Is t.Proc) text) (starts (Is t.Long) text)
 lighter_on g.ProcedurePlan text = procedure_plan_light (starts (Opens b.Round) text)
 lighter_on g.Yields text = yields_light (starts (Is t.Void) text)
 lighter_on g.Declarers text = refl

@@ -101,6 +101,7 @@ only_acts g.Begin text e h = refl
 only_acts g.Leave text e h = refl
 only_acts (g.Wrap x) text e h = refl
 only_acts g.Relate text e h = refl
+only_acts g.WrapLong text e h = refl
 only_acts (g.Close x) text e h = refl
 only_acts (g.SetAside x) text e h = refl
 only_acts g.Share text e h = refl

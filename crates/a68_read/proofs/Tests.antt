@@ -81,6 +81,7 @@ sign_follows gr.sign_other r = next refl
 pub declarer_first : {c : Forest} → gr.IsDeclarer c → (r : List Sym) → is_declarer (spells c r) ≡ true
 declarer_first (gr.plain gr.plain_int) r = refl
 declarer_first (gr.plain gr.plain_other) r = refl
+declarer_first gr.long_int r = refl
 declarer_first gr.mode_word r = refl
 declarer_first (gr.ref p) r = refl
 declarer_first (gr.rows p q) r = refl
@@ -100,13 +101,31 @@ enclosed_no_denotation p r =
     let e = first.first_enclosed p r in
     or6 (no_first set.begins_enclosed (Is t.Digit) refl e) (no_first set.begins_enclosed (Is t.Number) refl e) (no_first set.begins_enclosed (Is t.BitsNumber) refl e) (no_first set.begins_enclosed (Is t.Quoted) refl e) (no_first set.begins_enclosed (Is t.True) refl e) (no_first set.begins_enclosed (Is t.False) refl e)
 
-or8 : {a b c d e f g h : Bool} → a ≡ false → b ≡ false → c ≡ false → d ≡ false → e ≡ false → f ≡ false → g ≡ false → h ≡ false → (a || (b || (c || (d || (e || (f || (g || h))))))) ≡ false
-or8 i j k l m n o p = rw (i, j, k, l, m, n, o, p) refl
+-- the same of LONG and a number
+pub declarer_no_long : {c : Forest} → gr.IsDeclarer c → {s : Token} → gr.IsNumber s → (r : List Sym) → starts_pair (Is t.Long) (Is s) (spells c r) ≡ false
+declarer_no_long (gr.plain gr.plain_int) n r = refl
+declarer_no_long (gr.plain gr.plain_other) n r = refl
+declarer_no_long gr.long_int gr.number_digit r = refl
+declarer_no_long gr.long_int gr.number_other r = refl
+declarer_no_long gr.mode_word n r = refl
+declarer_no_long (gr.ref p) n r = refl
+declarer_no_long (gr.rows p q) n r = refl
+declarer_no_long (gr.flex p q) n r = refl
+declarer_no_long (gr.struct_ p) n r = refl
+declarer_no_long (gr.union_ p q) n r = refl
+declarer_no_long (gr.proc p) n r = refl
+declarer_no_long (gr.proc_params p q) n r = refl
+
+pub enclosed_no_long : {j : NodeKind} {u : Forest} → gr.IsEnclosed j u → (s : Sym) (r : List Sym) → starts_pair (Is t.Long) s (spells u r) ≡ false
+enclosed_no_long p s r = no_first_pair set.begins_enclosed (Is t.Long) s refl (first.first_enclosed p r)
+
+or9 : {a b c d e f g h i : Bool} → a ≡ false → b ≡ false → c ≡ false → d ≡ false → e ≡ false → f ≡ false → g ≡ false → h ≡ false → i ≡ false → (a || (b || (c || (d || (e || (f || (g || (h || i)))))))) ≡ false
+or9 j k l m n o p q r = rw (j, k, l, m, n, o, p, q, r) refl
 
 pub enclosed_no_declarer : {j : NodeKind} {u : Forest} → gr.IsEnclosed j u → (r : List Sym) → is_declarer (spells u r) ≡ false
 enclosed_no_declarer p r =
     let e = first.first_enclosed p r in
-    or8 (or2 (no_first set.begins_enclosed (Is t.Int) refl e) (no_first set.begins_enclosed (Is t.Plain) refl e)) (no_first set.begins_enclosed (Is t.ModeWord) refl e) (no_first set.begins_enclosed (Is t.Ref) refl e) (no_first set.begins_enclosed (Is t.Flex) refl e) (no_first set.begins_enclosed (Is t.Struct) refl e) (no_first set.begins_enclosed (Is t.Union) refl e) (no_first set.begins_enclosed (Is t.Proc) refl e) (no_first set.begins_enclosed (Opens b.Square) refl e)
+    or9 (or2 (no_first set.begins_enclosed (Is t.Int) refl e) (no_first set.begins_enclosed (Is t.Plain) refl e)) (no_first set.begins_enclosed (Is t.Long) refl e) (no_first set.begins_enclosed (Is t.ModeWord) refl e) (no_first set.begins_enclosed (Is t.Ref) refl e) (no_first set.begins_enclosed (Is t.Flex) refl e) (no_first set.begins_enclosed (Is t.Struct) refl e) (no_first set.begins_enclosed (Is t.Union) refl e) (no_first set.begins_enclosed (Is t.Proc) refl e) (no_first set.begins_enclosed (Opens b.Square) refl e)
 
 -- a tag before OF is no primary
 pub no_selection : {j : NodeKind} {u : Forest} → gr.IsPrimary j u → (r : List Sym) → Follows set.ends_base r → starts_pair (Is t.Tag) (Is t.Of) (spells u r) ≡ false
@@ -121,6 +140,7 @@ no_selection (gr.denotation gr.denotation_bits) r o = refl
 no_selection (gr.denotation gr.denotation_quoted) r o = refl
 no_selection (gr.denotation gr.denotation_true) r o = refl
 no_selection (gr.denotation gr.denotation_false) r o = refl
+no_selection (gr.long_denotation p) r o = refl
 no_selection (gr.enclosed p) r o = no_first_pair set.begins_enclosed (Is t.Tag) (Is t.Of) refl (first.first_enclosed p r)
 
 -- ---- places in square brackets
@@ -154,6 +174,7 @@ yield_no_bracket gr.yield_void r = refl
 pub declarer_no_procedure : {c : Forest} → gr.IsDeclarer c → (r : List Sym) → starts_pair (Is t.Proc) (Is t.Tag) (spells c r) ≡ false
 declarer_no_procedure (gr.plain gr.plain_int) r = refl
 declarer_no_procedure (gr.plain gr.plain_other) r = refl
+declarer_no_procedure gr.long_int r = refl
 declarer_no_procedure gr.mode_word r = refl
 declarer_no_procedure (gr.ref p) r = refl
 declarer_no_procedure (gr.rows p q) r = refl
@@ -189,6 +210,7 @@ anew_mode (a.declares_local p q) r = refl
 anew_mode (a.declares_heap p q) r = refl
 anew_mode (a.declares_named (gr.plain gr.plain_int) n) r = refl
 anew_mode (a.declares_named (gr.plain gr.plain_other) n) r = refl
+anew_mode (a.declares_named gr.long_int n) r = refl
 anew_mode (a.declares_named gr.mode_word n) r = named_tag n r
 anew_mode (a.declares_named (gr.ref v) n) r = refl
 anew_mode (a.declares_named (gr.rows v w) n) r = refl
@@ -207,6 +229,7 @@ anew_operator (a.declares_local p q) r = refl
 anew_operator (a.declares_heap p q) r = refl
 anew_operator (a.declares_named (gr.plain gr.plain_int) n) r = refl
 anew_operator (a.declares_named (gr.plain gr.plain_other) n) r = refl
+anew_operator (a.declares_named gr.long_int n) r = refl
 anew_operator (a.declares_named gr.mode_word n) r = refl
 anew_operator (a.declares_named (gr.ref v) n) r = refl
 anew_operator (a.declares_named (gr.rows v w) n) r = refl
@@ -225,6 +248,7 @@ anew_tag (a.declares_local p q) r = refl
 anew_tag (a.declares_heap p q) r = refl
 anew_tag (a.declares_named (gr.plain gr.plain_int) n) r = refl
 anew_tag (a.declares_named (gr.plain gr.plain_other) n) r = refl
+anew_tag (a.declares_named gr.long_int n) r = refl
 anew_tag (a.declares_named gr.mode_word n) r = refl
 anew_tag (a.declares_named (gr.ref v) n) r = refl
 anew_tag (a.declares_named (gr.rows v w) n) r = refl

@@ -203,6 +203,7 @@ awaits g.Begin K S x = K (node end ∷ S) x
 awaits g.Leave K S x = awaits_leave K S x
 awaits (g.Wrap j) K S x = awaits_wrap j K S x
 awaits g.Relate K S x = awaits_wrap k.Identity K S x
+awaits g.WrapLong K S x = awaits_wrap k.LongDenotation K S x
 awaits (g.Close j) K S x = awaits_close j K S x
 awaits (g.SetAside j) K S x = awaits_aside j K S x
 awaits g.Share K S x = awaits_put (shared end) K S x

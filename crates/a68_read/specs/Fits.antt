@@ -1,6 +1,6 @@
 -- Inner: the headline does not rest on this file.
 -- What goals lead to, whatever text is read: behind all forms that a goal stands for, what was opened is of that shape.
-use Rattle.std.specs.Prelude.{◌≡◌, Bool, true, false, List, [], ◌∷◌, None, Some}
+use Rattle.std.specs.Prelude.{◌≡◌, true, List, [], ◌∷◌, None, Some}
 use Rattle.a68_tree.specs.declared.kind.NodeKind.{NodeKind}
 use Rattle.a68_tree.specs.declared.kind.NodeKind.TheVariants as k
 use Rattle.a68_symbols.specs.declared.sym.Bracket.{Bracket}
@@ -9,6 +9,7 @@ use Rattle.a68_symbols.specs.declared.sym.Token.{Token}
 use Rattle.a68_symbols.specs.declared.sym.Token.TheVariants as t
 use Rattle.a68_tree.specs.Forest.{Forest, end, mark, group, part, sign, aside, shared, forget, Single, Several}
 use Rattle.a68_tree.specs.Grammar.{IsMonadic, IsSign, IsDenotation, IsPlain, IsEnclosed, IsElse, IsElseBrief, IsOut, IsOutBrief, IsOutC, IsOutCBrief, IsFrom, IsBy, IsTo, IsWhile, IsChoices, IsSpec, IsSerial, IsUnits, IsUnit, IsRoutine, IsResult, IsParams, IsTags, IsTertiary, IsOperands, IsSecondary, IsPrimary, IsIndexes, IsIndex, IsTrimmer, IsAt, IsDeclarer, IsYield, IsDeclarers, IsBounds, IsBound, IsDeclaration, IsDefinitions, IsPlan}
+use Rattle.a68_nodes.specs.Closing.{names_first}
 use Rattle.a68_nodes.specs.Stack.{Layer, node, inside, put}
 use Rattle.a68_unit_productions.specs.declared.goal.Goal.{Goal}
 use Rattle.a68_unit_productions.specs.declared.goal.Goal.TheVariants as g
@@ -18,14 +19,13 @@ use Rattle.a68_read.specs.Middles.{IsCommaTail, IsSerialTail, IsOperandsTail, Is
 abbrev pub Shape : Type 1
 Shape = List Layer → Type 0
 
--- whether a node of that kind is named by its first symbol
-abbrev pub names_first : NodeKind → Bool
-names_first k.Identity = false
-names_first j = true
-
 -- an identity relation has its left side as its first part
 pub data HasFirst : Forest → Type 0 where
   has_first : {j : NodeKind} {u f : Forest} → HasFirst (part j u f)
+
+-- a denotation of LONG INT begins with a symbol that does not name it
+pub data HasMark : Forest → Type 0 where
+  has_mark : {s : Token} {f : Forest} → HasMark (mark s f)
 
 -- ---- symbols, and what is done with what was read
 
@@ -58,6 +58,10 @@ fits_wrap j K (x ∷ S) = (x.bracket ≡ None) × (names_first j ≡ true) × K 
 abbrev pub fits_relate : Shape → Shape
 fits_relate K [] = ⊥
 fits_relate K (x ∷ S) = (x.bracket ≡ None) × HasFirst x.forest × K (node (part k.Identity x.forest end) ∷ S)
+
+abbrev pub fits_long : Shape → Shape
+fits_long K [] = ⊥
+fits_long K (x ∷ S) = (x.bracket ≡ None) × HasMark x.forest × K (node (part k.LongDenotation x.forest end) ∷ S)
 
 abbrev pub fits_close : NodeKind → Shape → Shape
 fits_close j K [] = ⊥
@@ -155,6 +159,7 @@ fits g.Begin K S = K (node end ∷ S)
 fits g.Leave K S = fits_leave K S
 fits (g.Wrap j) K S = fits_wrap j K S
 fits g.Relate K S = fits_relate K S
+fits g.WrapLong K S = fits_long K S
 fits (g.Close j) K S = fits_close j K S
 fits (g.SetAside j) K S = fits_aside j K S
 fits g.Share K S = fits_put (shared end) K S

@@ -6,7 +6,7 @@ use Rattle.a68_symbols.specs.declared.sym.Bracket.TheVariants as b
 use Rattle.a68_symbols.specs.declared.sym.Token.{Token}
 use Rattle.a68_symbols.specs.declared.sym.Token.TheVariants as t
 use Rattle.a68_tree.specs.Forest.{Forest, end, mark, group, part, sign, shared, forget, joined}
-use Rattle.a68_tree.specs.Grammar.{IsEnclosed, IsElseBrief, IsOut, IsOutBrief, IsOutC, IsOutCBrief, IsChoices, IsSerial, IsUnits2, IsUnit, IsRoutine, IsParams, IsTags, IsTertiary, IsOperands, IsDeclarer, IsDenotation, IsYield, IsDeclarers, IsDefinitions, IsSign}
+use Rattle.a68_tree.specs.Grammar.{IsEnclosed, IsElseBrief, IsOut, IsOutBrief, IsOutC, IsOutCBrief, IsChoices, IsSerial, IsUnits2, IsUnit, IsRoutine, IsParams, IsTags, IsTertiary, IsOperands, IsDeclarer, IsDenotation, IsNumber, IsYield, IsDeclarers, IsDefinitions, IsSign}
 use Rattle.a68_unit_productions.specs.declared.goal.Defining.{Defining}
 use Rattle.a68_unit_productions.specs.declared.goal.Defining.TheVariants as d
 
@@ -96,6 +96,7 @@ pub data IsBase : NodeKind → Forest → Type 0 where
   base_cast_void : {j : NodeKind} {u : Forest} → IsEnclosed j u → IsBase k.Cast (part k.VoidWord (mark t.Void end) (part j u end))
   base_tag : IsBase k.Tag (mark t.Tag end)
   base_denotation : {s : Token} → IsDenotation s → IsBase k.Denotation (mark s end)
+  base_long_denotation : {s : Token} → IsNumber s → IsBase k.LongDenotation (mark t.Long (mark s end))
   base_enclosed : {j : NodeKind} {u : Forest} → IsEnclosed j u → IsBase j u
 
 -- ---- definitions

@@ -130,6 +130,7 @@ is_sure g.Begin = false
 is_sure g.Leave = false
 is_sure (g.Wrap j) = false
 is_sure g.Relate = false
+is_sure g.WrapLong = false
 is_sure (g.Close j) = false
 is_sure (g.SetAside j) = false
 is_sure g.Share = false

@@ -47,6 +47,7 @@ pub fn act(alloc: Global, goal: Goal, rest: &[Sym], drafting: &mut Drafting) -> 
         Goal::Begin => drafting.open(rest),
         Goal::Wrap(kind) => drafting.wrap(alloc, kind, rest),
         Goal::Relate => drafting.wrap_identity(alloc, rest),
+        Goal::WrapLong => drafting.wrap_long(alloc, rest),
         Goal::Close(kind) => close(alloc, kind, rest, drafting),
         Goal::SetAside(kind) => drafting.set_aside(alloc, kind, rest),
         Goal::Share => drafting.share(),

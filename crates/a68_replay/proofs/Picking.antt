@@ -20,7 +20,7 @@ use Rattle.a68_values.specs.declared.act.Entry.{Entry}
 use Rattle.a68_values.specs.declared.kept.End.{End}
 use Rattle.a68_values.specs.declared.kept.End.TheVariants as ends
 use Rattle.a68_values.specs.declared.kept.Kept.{Kept}
-use Rattle.a68_world.proofs.Kin.{turn_open}
+use Rattle.a68_world.proofs.Ended.{turn_open}
 use Rattle.a68_world.proofs.Places.{get_one, is_there, is_within, length_map}
 use Rattle.a68_world.proofs.Showing.{turn_there}
 use Rattle.a68_world.specs.Alone.{ActsAlone, AllOwn, GoneAlone}

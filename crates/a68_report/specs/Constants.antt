@@ -3,14 +3,16 @@ use Rattle.std.specs.Prelude.{ℕ, List, [], ◌++◌, ◌+◌, codes, if◌then
 use Rattle.std.specs.Fmt.{signed_decimal}
 use Rattle.a68_report.specs.Put.{behind, number}
 use Rattle.a68_values.specs.Content.{Content, Contents, plain, layout, row, no_parts, ◌and_part◌}
+use Rattle.a68_values.specs.Longs.{number_of}
 use Rattle.a68_values.specs.declared.plain.Layout.TheVariants.{Newline, Space}
 use Rattle.a68_values.specs.declared.plain.Plain.{Plain}
-use Rattle.a68_values.specs.declared.plain.Plain.TheVariants.{Int, Bool, Char, Bits}
+use Rattle.a68_values.specs.declared.plain.Plain.TheVariants.{Int, Long, Bool, Char, Bits}
 
--- INT and BITS are written as their numbers, BOOL as T or F, and CHAR as the number of its byte. Other values are not
+-- INT, LONG INT and BITS are written as their numbers, BOOL as T or F, and CHAR as the number of its byte. Other values are not
 -- constants, and nothing is written of them.
 abbrev pub plain_constant : Plain → List ℕ
 plain_constant (Int i) = behind (signed_decimal i)
+plain_constant (Long l) = behind (signed_decimal (number_of l))
 plain_constant (Bool b) = behind (if b then codes "T" else codes "F")
 plain_constant (Char c) = number c
 plain_constant (Bits b) = number b

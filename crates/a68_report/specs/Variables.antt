@@ -1,5 +1,5 @@
 -- The lines that tell what the variables of a program refer to when its run has ended (own).
-use Rattle.std.specs.Prelude.{ℕ, pos, Bool, true, false, ◌&&◌, nat_eq, nat_le, List, [], ◌∷◌, ◌++◌, codes, None, Some, Ok, Err, slice_get, if◌then◌else◌}
+use Rattle.std.specs.Prelude.{ℕ, pos, Bool, true, false, ◌&&◌, ◌||◌, nat_eq, nat_le, List, [], ◌∷◌, ◌++◌, codes, None, Some, Ok, Err, slice_get, if◌then◌else◌}
 use Rattle.std.specs.Option.{option_and_then, option_map_or}
 use Rattle.std.specs.declared.option.Option.{Option}
 use Rattle.std.specs.declared.result.Result.{Result}
@@ -16,6 +16,7 @@ use Rattle.a68_tree.specs.Trees.{Built}
 use Rattle.a68_tree.specs.declared.kind.NodeKind.{NodeKind}
 use Rattle.a68_tree.specs.declared.kind.NodeKind.TheVariants.{Closed, Variable}
 use Rattle.a68_values.specs.Content.{Content, plain}
+use Rattle.a68_values.specs.Longs.{number_of}
 use Rattle.a68_values.specs.declared.act.FaultKind.{FaultKind}
 use Rattle.a68_values.specs.declared.held.Held.{Held}
 use Rattle.a68_values.specs.declared.held.Held.TheVariants as held
@@ -38,17 +39,19 @@ plain_in _ = None
 abbrev pub value_of : Kept → (slot : ℕ) → Option Plain
 value_of kept slot = option_and_then (λ (name : Name). plain_in (slice_get kept.cells name.cell)) (name_in (slice_get kept.outer slot))
 
--- the mode of a value of INT, BOOL, CHAR or BITS, by its number; VOID of every other
+-- the mode of a value of INT, LONG INT, BOOL, CHAR or BITS, by its number; VOID of every other
 abbrev pub mode_of : Plain → ℕ
 mode_of (value.Int v) = standard.INT
+mode_of (value.Long v) = standard.LONG_INT
 mode_of (value.Bool v) = standard.BOOL
 mode_of (value.Char v) = standard.CHAR
 mode_of (value.Bits v) = standard.BITS
 mode_of _ = standard.VOID
 
--- an INT as `whole (v, 0)` writes it, the others as `print` does
+-- an INT and a LONG INT as `whole (v, 0)` writes it, the others as `print` does
 abbrev pub written : Plain → Result (List ℕ) FaultKind
 written (value.Int v) = whole v (pos 0)
+written (value.Long v) = whole (number_of v) (pos 0)
 written p = item_text (plain p)
 
 abbrev pub or_unset : Result (List ℕ) FaultKind → List ℕ
@@ -64,9 +67,9 @@ value_text mode (Some p) = if nat_eq (mode_of p) mode then or_unset (written p) 
 abbrev pub line : (tag : List ℕ) (mode : ℕ) → Option Plain → List ℕ
 line tag mode value = tag ++ codes " = " ++ value_text mode value ++ 10 ∷ []
 
--- the mode to which names of a mode refer, where it is INT, BOOL, CHAR or BITS
+-- the mode to which names of a mode refer, where it is INT, LONG INT, BOOL, CHAR or BITS
 abbrev pub told_mode : Shape → Option ℕ
-told_mode (Ref mode) = if nat_le standard.INT mode && nat_le mode standard.BITS then Some mode else None
+told_mode (Ref mode) = if (nat_le standard.INT mode && nat_le mode standard.BITS) || nat_eq mode standard.LONG_INT then Some mode else None
 told_mode _ = None
 
 abbrev pub is_variable : NodeKind → Bool

@@ -13,7 +13,8 @@ fn put_plain(text: &mut Text, held: Plain) -> Result<(), NoMemory>
     ensures { OnOk result (text.new ≡ text.old ++ plain_constant held) }
 {
     match held {
-        Plain::Int(integer) => put_integer(text, integer),
+        Plain::Int(integer) => put_integer(text, i128::from(integer)),
+        Plain::Long(integer) => put_integer(text, integer.number()),
         Plain::Bool(true) => put_behind(text, b"T"),
         Plain::Bool(false) => put_behind(text, b"F"),
         Plain::Char(code) => put_number(text, u64::from(code)),

@@ -39,7 +39,7 @@ pub fn put_number(text: &mut Text, number: u64) -> Result<(), NoMemory>
 }
 
 /// Puts an integer.
-pub fn put_integer(text: &mut Text, integer: i64) -> Result<(), NoMemory>
+pub fn put_integer(text: &mut Text, integer: i128) -> Result<(), NoMemory>
     ensures { OnOk result (text.new ≡ text.old ++ put.behind (signed_decimal integer)) }
 {
     let mut buffer = Buffer::new();

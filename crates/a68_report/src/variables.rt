@@ -1,6 +1,7 @@
 //! The lines that tell what the variables of a program refer to when its run has ended.
-ghost use Rattle.std.specs.Prelude.{◌≡◌, ◌++◌, true, slice_get, IfOk, OnOk};
+ghost use Rattle.std.specs.Prelude.{◌≡◌, ◌&&◌, ◌||◌, nat_eq, nat_le, ◌++◌, true, slice_get, IfOk, OnOk};
 ghost use Rattle.a68_modes.specs.Nodes.{shape_at};
+ghost use Rattle.a68_modes.specs.declared.standard.TheConstants as standard;
 ghost use Rattle.a68_ops.specs.Yields.{IsAsTold};
 ghost use Rattle.a68_ranges.specs.Definitions.{if_joined, unjoined};
 ghost use Rattle.a68_ranges.specs.Nodes.{kind_at, parts_at};
@@ -18,12 +19,13 @@ use std::alloc::Global;
 /// Stands in a line for a value that is not there.
 const UNSET: &str = "unset";
 
-// Finds the mode of a value of INT, BOOL, CHAR or BITS.
+// Finds the mode of a value of INT, LONG INT, BOOL, CHAR or BITS.
 fn mode_of(held: Plain) -> ModeId
     ensures { result ≡ spec.mode_of held }
 {
     match held {
         Plain::Int(_) => standard::INT,
+        Plain::Long(_) => standard::LONG_INT,
         Plain::Bool(_) => standard::BOOL,
         Plain::Char(_) => standard::CHAR,
         Plain::Bits(_) => standard::BITS,
@@ -36,7 +38,8 @@ fn written(alloc: Global, held: Plain) -> Result<Text, OpStop>
     ensures { IsAsTold (λ text. true) result (spec.written held) }
 {
     match held {
-        Plain::Int(number) => whole(alloc, number, 0),
+        Plain::Int(number) => whole(alloc, i128::from(number), 0),
+        Plain::Long(number) => whole(alloc, number.number(), 0),
         _ => item_text(alloc, &Value::of(held)),
     }
 }
@@ -131,18 +134,19 @@ fn value_of(kept: &Kept, slot: u32) -> Option<Plain>
     }
 }
 
+// Have variables of names of this mode a line?
+fn is_told(mode: ModeId) -> bool
+    ensures { result ≡ ((nat_le standard.INT mode && nat_le mode standard.BITS) || nat_eq mode standard.LONG_INT) }
+{
+    (mode >= standard::INT && mode <= standard::BITS) || mode == standard::LONG_INT
+}
+
 // Finds the mode to which names of a shape refer, where variables of it have a line.
 fn told_by(shape: &Shape) -> Option<ModeId>
     ensures { result ≡ spec.told_mode shape.now }
 {
     match shape {
-        Shape::Ref(mode) => {
-            if *mode >= standard::INT && *mode <= standard::BITS {
-                Some(*mode)
-            } else {
-                None
-            }
-        }
+        Shape::Ref(mode) => { if is_told(*mode) { Some(*mode) } else { None } }
         _ => None,
     }
 }
@@ -276,7 +280,7 @@ fn own_phrases(tree: &Tree) -> &[NodeId]
 /// Writes a line for each variable of the range of a program that is a closed clause, in order of text (own): its tag,
 /// and what it refers to when the run has ended, as `whole (v, 0)` or `print` writes it.
 ///
-/// The variables are those of the modes REF INT, REF BOOL, REF CHAR and REF BITS. `unset` stands where the variable is
+/// The variables are those of the modes REF INT, REF LONG INT, REF BOOL, REF CHAR and REF BITS. `unset` stands where the variable is
 /// not bound yet or nothing was assigned to it. Inner ranges have no lines, and neither has any other program.
 pub fn names_text(alloc: Global, program: &Annotated, kept: &Kept) -> Result<Text, NoMemory>
     ensures { IfOk result (λ text. text ≡ spec.names_text program.now kept.now) }

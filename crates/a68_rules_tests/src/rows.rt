@@ -14,13 +14,13 @@ use std::panic::Expect;
 use std::process::Abort;
 
 /// [] INT.
-const LIST: ModeId = 13;
+const LIST: ModeId = 15;
 
 /// [,] INT.
-const TABLE: ModeId = 14;
+const TABLE: ModeId = 16;
 
 /// FLEX [] INT.
-const FLEXIBLE: ModeId = 15;
+const FLEXIBLE: ModeId = 17;
 
 // A row of INT.
 fn row_of_ints(dims: u32, flex: bool) -> Shape {

@@ -118,7 +118,7 @@ const FETCHED: &[(ModeId, Acts, &str)] = &[
             ("Fetch 20", Told::Int(3)),
             ("Fetch 21", Told::Int(4)),
         ],
-        "(Bool(true) (Int(1) Int(2)) 13: (Int(3) Int(4)))",
+        "(Bool(true) (Int(1) Int(2)) 15: (Int(3) Int(4)))",
     ),
     (
         NAMED,
@@ -218,7 +218,7 @@ const WHOLE_ACTS: Acts = &[
     ("Make 2", Told::Base(30)),
     ("Assign 30 Int(3)", Told::Go),
     ("Assign 31 Int(4)", Told::Go),
-    ("Assign 10 Member 13 30", Told::Go),
+    ("Assign 10 Member 15 30", Told::Go),
 ];
 
 // A value is assigned to the name by these acts, and this comes of it.

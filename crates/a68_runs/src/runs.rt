@@ -22,7 +22,7 @@ use crate::slices::slice_runs;
 use a68_annot::{Annotated, Note};
 use a68_base::{NoMemory, find};
 use a68_code::operands_of;
-use a68_denote::{bits_of, int_of};
+use a68_denote::{bits_of, int_of, long_of};
 use a68_modes::{ModeId, Shape};
 use a68_parts::{
     LoopParts, before_out, begins_in_heap, begins_with_declarer, behind_heap, called, fields_at,
@@ -43,11 +43,18 @@ fn has_value(text: &[u8]) -> bool
     find(truths(), text).is_some() || is_quoted(text)
 }
 
+// Does a spelling behind LONG stand for a value?
+fn has_long_value(text: &[u8]) -> bool
+    ensures { result ≡ is_some (constants.long_value_in text.now) }
+{
+    long_of(text).is_some()
+}
+
 // Does an operator run, by its row: is it one of the table?
 fn applies(row: u32) -> bool
     ensures { result ≡ runs.applies row }
 {
-    operators::PLUSAB <= row && row <= operators::UPB
+    operators::PLUSAB <= row && row <= operators::SHORTEN
 }
 
 // Does an operator leave a value, by its row: is it neither UP nor DOWN?
@@ -299,6 +306,9 @@ fn leaves_as(
     let asked = asks_value(program, note);
     let left = match node.kind {
         NodeKind::Denotation => if_so(has_value(program.tree.spelling(node.name)), true),
+        NodeKind::LongDenotation => {
+            if_so(has_long_value(program.tree.spelling(node.name)), true)
+        }
         NodeKind::Skip => if_so(is_there(&program.modes, note.goal), asked),
         NodeKind::Nil | NodeKind::Tag => Some(true),
         NodeKind::RoutineText => if_so(

@@ -5,7 +5,7 @@ ghost use Rattle.a68_coerce.specs.Below.{IsLeafBelow};
 ghost use Rattle.a68_equiv.specs.Classes.{AreKept};
 ghost use Rattle.a68_equiv.specs.Dimensions.{HaveDimensions};
 ghost use Rattle.a68_equiv.specs.Ways.{AreWellFormed};
-ghost use Rattle.a68_identify.specs.Operators.{NumbersAreThere};
+ghost use Rattle.a68_identify.specs.Operators.{AreListed, NumbersAreThere};
 ghost use Rattle.a68_ranges.specs.Tables.{AreRanges};
 
 use crate::shapes::{operator_at, shaped};
@@ -13,8 +13,8 @@ use crate::table::holds;
 use a68_coerce::Leaf;
 use a68_declare::{Declared, declare};
 use a68_identify::{
-    Identified, declared_modes_are_there, identify, interning_keeps_operators, operators_are_one,
-    related_pair,
+    Identified, OperatorModes, declared_modes_are_there, identify, interning_keeps_operators,
+    operators_are_one, related_pair,
 };
 use a68_modes::ModeId;
 use a68_ranges::{Ranges, ranges};
@@ -406,6 +406,46 @@ const FORMULAS: &[(&str, u32, &str, &str, &str)] = &[
     ),
 ];
 
+/// The same with operands of LONG INT, 13, and its name, 14.
+const LONG_FORMULAS: &[(&str, u32, &str, &str, &str)] = &[
+    ("( LONG 1 + LONG 2 )", 2, "13", "13", "15 13 13"),
+    ("( LONG 1 - LONG 2 )", 2, "13", "13", "16 13 13"),
+    ("( LONG 1 * LONG 2 )", 2, "13", "13", "17 13 13"),
+    ("( LONG 1 OVER LONG 2 )", 2, "13", "13", "18 13 13"),
+    ("( LONG 1 %* LONG 2 )", 2, "13", "13", "19 13 13"),
+    ("( LONG 2 ** 3 )", 2, "13", "1", "21 13 1"),
+    ("( LONG 2 ** LONG 3 )", 2, "13", "13", "none"),
+    ("( 2 ** LONG 3 )", 2, "1", "13", "none"),
+    ("( LONG 1 + 1 )", 2, "13", "1", "none"),
+    ("( 1 + LONG 1 )", 2, "1", "13", "none"),
+    ("( LONG 1 = LONG 2 )", 2, "13", "13", "9 13 13"),
+    ("( LONG 1 /= LONG 2 )", 2, "13", "13", "10 13 13"),
+    ("( LONG 1 < LONG 2 )", 2, "13", "13", "11 13 13"),
+    ("( LONG 1 LE LONG 2 )", 2, "13", "13", "12 13 13"),
+    ("( LONG 1 >= LONG 2 )", 2, "13", "13", "13 13 13"),
+    ("( LONG 1 GT LONG 2 )", 2, "13", "13", "14 13 13"),
+    ("( LONG 1 = 1 )", 2, "13", "1", "none"),
+    ("( LONG INT x; x +:= LONG 1 )", 14, "14", "13", "1 14 13"),
+    ("( LONG INT x; x MINUSAB x )", 14, "14", "14", "2 14 13"),
+    ("( LONG INT x; x *:= LONG 1 )", 14, "14", "13", "3 14 13"),
+    ("( LONG INT x; x %:= LONG 1 )", 14, "14", "13", "4 14 13"),
+    ("( LONG INT x; x %*:= LONG 1 )", 14, "14", "13", "5 14 13"),
+    ("( LONG INT x; x +:= 1 )", 14, "14", "1", "none"),
+    ("( INT x; x +:= LONG 1 )", 9, "9", "13", "none"),
+    ("( - LONG 1 )", 2, "", "13", "27 0 13"),
+    ("( + LONG 1 )", 2, "", "13", "26 0 13"),
+    ("( ABS LONG 1 )", 2, "", "13", "29 0 13"),
+    ("( SIGN LONG 1 )", 2, "", "13", "30 0 13"),
+    ("( ODD LONG 1 )", 2, "", "13", "31 0 13"),
+    ("( LENG 1 )", 2, "", "1", "39 0 1"),
+    ("( LENG LONG 1 )", 2, "", "13", "none"),
+    ("( SHORTEN LONG 1 )", 2, "", "13", "40 0 13"),
+    ("( SHORTEN 1 )", 2, "", "1", "none"),
+    ("( REPR LONG 1 )", 2, "", "13", "none"),
+    ("( BIN LONG 1 )", 2, "", "13", "none"),
+    ("( LEVEL LONG 1 )", 2, "", "13", "none"),
+];
+
 /// Such rows of operators that stand beside variables, and outside ranges that declare none or nothing at all.
 const BESIDE_OTHERS: &[(&str, u32, &str, &str, &str)] = &[
     (
@@ -601,6 +641,39 @@ fn leaves(rt: &impl Abort, alloc: Global, tree: &Tree, found: &Declared, words: 
     leaves
 }
 
+// The operator of a formula with operands that may yield these units, where the modes of parameters are listed.
+fn operator_of(
+    rt: &impl Abort,
+    alloc: Global,
+    tree: &Tree,
+    ranges: &Ranges,
+    found: &Declared,
+    of: &OperatorModes<'_>,
+    at: NodeId,
+    left: &[Leaf],
+    right: &[Leaf],
+) -> Option<Identified>
+    requires at { at < length tree.now.nodes }
+    requires ranges { AreRanges tree.now ranges.now }
+    requires formed { AreWellFormed found.now.modes }
+    requires rows { HaveDimensions found.now.modes }
+    requires kept { AreKept found.now.modes found.now.classes }
+    requires there { NumbersAreThere tree.now found.now.modes of.now.of }
+    requires listed { AreListed tree.now of.now }
+    requires left { All (IsLeafBelow (length found.now.modes)) left.now }
+    requires right { All (IsLeafBelow (length found.now.modes)) right.now }
+{
+    holds(rt, left.len() < 99_999 && right.len() < 99_999, "few units");
+    let modes = &found.modes;
+    let classes = &found.classes;
+    let told = if left.is_empty() {
+        identify(alloc, tree, ranges, modes, classes, of, at, &[right])
+    } else {
+        identify(alloc, tree, ranges, modes, classes, of, at, &[left, right])
+    };
+    told.expect(rt, "memory")
+}
+
 // The operator of a formula with operands that may yield these units.
 fn identified(
     rt: &impl Abort,
@@ -621,24 +694,8 @@ fn identified(
     requires left { All (IsLeafBelow (length found.now.modes)) left.now }
     requires right { All (IsLeafBelow (length found.now.modes)) right.now }
 {
-    holds(rt, left.len() < 99_999 && right.len() < 99_999, "few units");
-    let modes = &found.modes;
-    let classes = &found.classes;
-    let told = if left.is_empty() {
-        identify(alloc, tree, ranges, modes, classes, &found.of, at, &[right])
-    } else {
-        identify(
-            alloc,
-            tree,
-            ranges,
-            modes,
-            classes,
-            &found.of,
-            at,
-            &[left, right],
-        )
-    };
-    told.expect(rt, "memory")
+    let of = OperatorModes::new(alloc, tree, &found.of).expect(rt, "memory");
+    operator_of(rt, alloc, tree, ranges, found, &of, at, left, right)
 }
 
 fn is_next(rt: &impl Abort, words: &mut SplitWhitespace<'_>, told: u32, case: &str) {
@@ -688,6 +745,15 @@ fn operators_of_formulas(rt: HostRuntime) {
     operators_are_one();
     interning_keeps_operators();
     for row in FORMULAS {
+        operator_is_told(&rt, rt.alloc(), row);
+    }
+}
+
+#[test]
+fn operators_on_long_integers(rt: HostRuntime) {
+    operators_are_one();
+    interning_keeps_operators();
+    for row in LONG_FORMULAS {
         operator_is_told(&rt, rt.alloc(), row);
     }
 }

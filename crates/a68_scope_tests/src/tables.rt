@@ -16,6 +16,8 @@ const LISTED: &[(&str, u32)] = &[
     ("print", tags::PRINT),
     ("write", tags::WRITE),
     ("whole", tags::WHOLE),
+    ("longmaxint", tags::LONGMAXINT),
+    ("longintwidth", tags::LONGINTWIDTH),
 ];
 
 #[test]

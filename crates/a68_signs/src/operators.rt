@@ -81,6 +81,10 @@ pub const DOWN: u32 = 36;
 pub const LWB: u32 = 37;
 /// UPB of the first dimension.
 pub const UPB: u32 = 38;
+/// From INT to LONG INT.
+pub const LENG: u32 = 39;
+/// From LONG INT to INT.
+pub const SHORTEN: u32 = 40;
 
 /// So many rows behind each operator that is combined with assignation, from [`PLUSAB`] to [`MODAB`], stands the one that it
 /// combines, from [`PLUS`] to [`MOD`].

@@ -48,12 +48,16 @@ const DYADIC: &[SignGroup] = &[
             op!(PLUSAB, REF_INT, INT, REF_INT),
             op!(PLUSAB, REF_STRING, ROW_OF_CHAR, REF_STRING),
             op!(PLUSAB, REF_STRING, CHAR, REF_STRING),
+            op!(PLUSAB, REF_LONG_INT, LONG_INT, REF_LONG_INT),
         ],
     },
     SignGroup {
         signs: &["-:=", "MINUSAB"],
         priority: 1,
-        operators: &[op!(MINUSAB, REF_INT, INT, REF_INT)],
+        operators: &[
+            op!(MINUSAB, REF_INT, INT, REF_INT),
+            op!(MINUSAB, REF_LONG_INT, LONG_INT, REF_LONG_INT),
+        ],
     },
     SignGroup {
         signs: &["*:=", "TIMESAB"],
@@ -61,17 +65,24 @@ const DYADIC: &[SignGroup] = &[
         operators: &[
             op!(TIMESAB, REF_INT, INT, REF_INT),
             op!(TIMESAB, REF_STRING, INT, REF_STRING),
+            op!(TIMESAB, REF_LONG_INT, LONG_INT, REF_LONG_INT),
         ],
     },
     SignGroup {
         signs: &["%:=", "OVERAB"],
         priority: 1,
-        operators: &[op!(OVERAB, REF_INT, INT, REF_INT)],
+        operators: &[
+            op!(OVERAB, REF_INT, INT, REF_INT),
+            op!(OVERAB, REF_LONG_INT, LONG_INT, REF_LONG_INT),
+        ],
     },
     SignGroup {
         signs: &["%*:=", "MODAB"],
         priority: 1,
-        operators: &[op!(MODAB, REF_INT, INT, REF_INT)],
+        operators: &[
+            op!(MODAB, REF_INT, INT, REF_INT),
+            op!(MODAB, REF_LONG_INT, LONG_INT, REF_LONG_INT),
+        ],
     },
     SignGroup {
         signs: &["+=:", "PLUSTO"],
@@ -102,6 +113,7 @@ const DYADIC: &[SignGroup] = &[
             op!(EQ, ROW_OF_CHAR, ROW_OF_CHAR, BOOL),
             op!(EQ, ROW_OF_CHAR, CHAR, BOOL),
             op!(EQ, CHAR, ROW_OF_CHAR, BOOL),
+            op!(EQ, LONG_INT, LONG_INT, BOOL),
         ],
     },
     SignGroup {
@@ -115,6 +127,7 @@ const DYADIC: &[SignGroup] = &[
             op!(NE, ROW_OF_CHAR, ROW_OF_CHAR, BOOL),
             op!(NE, ROW_OF_CHAR, CHAR, BOOL),
             op!(NE, CHAR, ROW_OF_CHAR, BOOL),
+            op!(NE, LONG_INT, LONG_INT, BOOL),
         ],
     },
     SignGroup {
@@ -126,6 +139,7 @@ const DYADIC: &[SignGroup] = &[
             op!(LT, ROW_OF_CHAR, CHAR, BOOL),
             op!(LT, CHAR, ROW_OF_CHAR, BOOL),
             op!(LT, CHAR, CHAR, BOOL),
+            op!(LT, LONG_INT, LONG_INT, BOOL),
         ],
     },
     SignGroup {
@@ -138,6 +152,7 @@ const DYADIC: &[SignGroup] = &[
             op!(LE, CHAR, ROW_OF_CHAR, BOOL),
             op!(LE, CHAR, CHAR, BOOL),
             op!(LE, BITS, BITS, BOOL),
+            op!(LE, LONG_INT, LONG_INT, BOOL),
         ],
     },
     SignGroup {
@@ -150,6 +165,7 @@ const DYADIC: &[SignGroup] = &[
             op!(GE, CHAR, ROW_OF_CHAR, BOOL),
             op!(GE, CHAR, CHAR, BOOL),
             op!(GE, BITS, BITS, BOOL),
+            op!(GE, LONG_INT, LONG_INT, BOOL),
         ],
     },
     SignGroup {
@@ -161,6 +177,7 @@ const DYADIC: &[SignGroup] = &[
             op!(GT, ROW_OF_CHAR, CHAR, BOOL),
             op!(GT, CHAR, ROW_OF_CHAR, BOOL),
             op!(GT, CHAR, CHAR, BOOL),
+            op!(GT, LONG_INT, LONG_INT, BOOL),
         ],
     },
     SignGroup {
@@ -172,12 +189,16 @@ const DYADIC: &[SignGroup] = &[
             op!(PLUS, ROW_OF_CHAR, CHAR, ROW_OF_CHAR),
             op!(PLUS, CHAR, ROW_OF_CHAR, ROW_OF_CHAR),
             op!(PLUS, CHAR, CHAR, ROW_OF_CHAR),
+            op!(PLUS, LONG_INT, LONG_INT, LONG_INT),
         ],
     },
     SignGroup {
         signs: &["-"],
         priority: 6,
-        operators: &[op!(MINUS, INT, INT, INT)],
+        operators: &[
+            op!(MINUS, INT, INT, INT),
+            op!(MINUS, LONG_INT, LONG_INT, LONG_INT),
+        ],
     },
     SignGroup {
         signs: &["*"],
@@ -188,17 +209,24 @@ const DYADIC: &[SignGroup] = &[
             op!(TIMES, CHAR, INT, ROW_OF_CHAR),
             op!(TIMES, INT, ROW_OF_CHAR, ROW_OF_CHAR),
             op!(TIMES, INT, CHAR, ROW_OF_CHAR),
+            op!(TIMES, LONG_INT, LONG_INT, LONG_INT),
         ],
     },
     SignGroup {
         signs: &["OVER", "%"],
         priority: 7,
-        operators: &[op!(OVER, INT, INT, INT)],
+        operators: &[
+            op!(OVER, INT, INT, INT),
+            op!(OVER, LONG_INT, LONG_INT, LONG_INT),
+        ],
     },
     SignGroup {
         signs: &["MOD", "%*"],
         priority: 7,
-        operators: &[op!(MOD, INT, INT, INT)],
+        operators: &[
+            op!(MOD, INT, INT, INT),
+            op!(MOD, LONG_INT, LONG_INT, LONG_INT),
+        ],
     },
     SignGroup {
         signs: &["ELEM"],
@@ -208,7 +236,10 @@ const DYADIC: &[SignGroup] = &[
     SignGroup {
         signs: &["**"],
         priority: 8,
-        operators: &[op!(POWER, INT, INT, INT)],
+        operators: &[
+            op!(POWER, INT, INT, INT),
+            op!(POWER, LONG_INT, INT, LONG_INT),
+        ],
     },
     SignGroup {
         signs: &["SHL"],
@@ -237,12 +268,18 @@ const MONADIC: &[SignGroup] = &[
     SignGroup {
         signs: &["+"],
         priority: 10,
-        operators: &[op!(POSITIVE, VOID, INT, INT)],
+        operators: &[
+            op!(POSITIVE, VOID, INT, INT),
+            op!(POSITIVE, VOID, LONG_INT, LONG_INT),
+        ],
     },
     SignGroup {
         signs: &["-"],
         priority: 10,
-        operators: &[op!(NEGATIVE, VOID, INT, INT)],
+        operators: &[
+            op!(NEGATIVE, VOID, INT, INT),
+            op!(NEGATIVE, VOID, LONG_INT, LONG_INT),
+        ],
     },
     SignGroup {
         signs: &["NOT"],
@@ -257,17 +294,18 @@ const MONADIC: &[SignGroup] = &[
             op!(ABS, VOID, BOOL, INT),
             op!(ABS, VOID, CHAR, INT),
             op!(ABS, VOID, BITS, INT),
+            op!(ABS, VOID, LONG_INT, LONG_INT),
         ],
     },
     SignGroup {
         signs: &["SIGN"],
         priority: 10,
-        operators: &[op!(SIGN, VOID, INT, INT)],
+        operators: &[op!(SIGN, VOID, INT, INT), op!(SIGN, VOID, LONG_INT, INT)],
     },
     SignGroup {
         signs: &["ODD"],
         priority: 10,
-        operators: &[op!(ODD, VOID, INT, BOOL)],
+        operators: &[op!(ODD, VOID, INT, BOOL), op!(ODD, VOID, LONG_INT, BOOL)],
     },
     SignGroup {
         signs: &["REPR"],
@@ -303,6 +341,16 @@ const MONADIC: &[SignGroup] = &[
         signs: &["UPB"],
         priority: 10,
         operators: &[op!(UPB, VOID, VOID, INT)],
+    },
+    SignGroup {
+        signs: &["LENG"],
+        priority: 10,
+        operators: &[op!(LENG, VOID, INT, LONG_INT)],
+    },
+    SignGroup {
+        signs: &["SHORTEN"],
+        priority: 10,
+        operators: &[op!(SHORTEN, VOID, LONG_INT, INT)],
     },
 ];
 

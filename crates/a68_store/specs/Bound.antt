@@ -11,6 +11,7 @@ abbrev pub bound_of : SlotNode → Option Content
 bound_of slot.Unbound = None
 bound_of slot.Unset = Some (plain value.Unset)
 bound_of (slot.Int z) = Some (plain (value.Int z))
+bound_of (slot.Long l) = Some (plain (value.Long l))
 bound_of (slot.Bool b) = Some (plain (value.Bool b))
 bound_of (slot.Char c) = Some (plain (value.Char c))
 bound_of (slot.Bits b) = Some (plain (value.Bits b))

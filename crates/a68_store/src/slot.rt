@@ -8,7 +8,7 @@ ghost use Rattle.a68_values.specs.declared.plain.Plain.{Plain};
 
 use crate::weight::weight;
 use a68_base::NoMemory;
-use a68_values::{Name, Plain, Routine, Value};
+use a68_values::{Long, Name, Plain, Routine, Value};
 use std::alloc::Global;
 use std::marker::Model;
 
@@ -22,6 +22,7 @@ pub struct Slot {
 pub enum SlotNode {
     Unset,
     Int(i64),
+    Long(Long),
     Bool(bool),
     Char(u8),
     Bits(u64),
@@ -44,6 +45,7 @@ impl Drop for SlotNode {
         match self {
             SlotNode::Unset
             | SlotNode::Int(_)
+            | SlotNode::Long(_)
             | SlotNode::Bool(_)
             | SlotNode::Char(_)
             | SlotNode::Bits(_)
@@ -66,6 +68,7 @@ impl SlotNode {
         match held {
             Plain::Unset => SlotNode::Unset,
             Plain::Int(number) => SlotNode::Int(number),
+            Plain::Long(number) => SlotNode::Long(number),
             Plain::Bool(holds) => SlotNode::Bool(holds),
             Plain::Char(code) => SlotNode::Char(code),
             Plain::Bits(bits) => SlotNode::Bits(bits),
@@ -84,6 +87,7 @@ impl SlotNode {
         match self {
             SlotNode::Unset => Some(Plain::Unset),
             SlotNode::Int(number) => Some(Plain::Int(*number)),
+            SlotNode::Long(number) => Some(Plain::Long(*number)),
             SlotNode::Bool(holds) => Some(Plain::Bool(*holds)),
             SlotNode::Char(code) => Some(Plain::Char(*code)),
             SlotNode::Bits(bits) => Some(Plain::Bits(*bits)),

@@ -1,5 +1,5 @@
 -- What the front of a text gives is one.
-use Rattle.std.proofs.Common.{◌≡◌, ℕ, ◌-◌, ◌≤◌, List, [], ◌∷◌, ◌++◌, length, slice_index, take, refl, sym, ap, subst, ◌∙◌, inl, inr, arith}
+use Rattle.std.proofs.Common.{◌≡◌, ℕ, ◌-◌, ◌≤◌, Bool, List, [], ◌∷◌, ◌++◌, length, slice_index, take, refl, sym, ap, subst, ◌∙◌, inl, inr, arith}
 use Rattle.a68_denote.specs.Strings.{IsQuoted}
 use Rattle.a68_symbols.specs.declared.form.StretchForm.{StretchForm}
 use Rattle.a68_symbols.specs.declared.form.StretchForm.TheVariants.{Layout, SharpComment, WordComment, OpenComment, Word, Tag, Number, Quoted, OpenString, Mark}
@@ -62,15 +62,15 @@ same_form text f g n m a b =
     let here : Is g text n = subst (λ (k : ℕ). Is g text k) (same_length text f g n m a b) b.is in
     one_form f g text n a.within (one_start (start_of f) (start_of g) (slice_index text 0) (begins f text n a.is) (begins g text m b.is)) a.is here
 
-pub one_front : {text : List ℕ} {g h : Given} {n m : ℕ} → Front text g n → Front text h m → (h ≡ g) × (m ≡ n)
+pub one_front : {long : Bool} {text : List ℕ} {g h : Given} {n m : ℕ} → Front long text g n → Front long text h m → (h ≡ g) × (m ≡ n)
 one_front (front_none some none) (front_none some' none') = (refl, refl)
 one_front (front_none some none) (front_is {f = f} {n = n} l e) = absurd (none f n l.within l.is)
 one_front (front_is {f = f} {n = n} l e) (front_none some none) = absurd (none f n l.within l.is)
-one_front {text} (front_is {f = f} {n = n} l e) (front_is {f = f'} {n = m} l' e') =
-    let long = same_length text f f' n m l l' in
+one_front {long} {text} (front_is {f = f} {n = n} l e) (front_is {f = f'} {n = m} l' e') =
+    let width = same_length text f f' n m l l' in
     let form = same_form text f f' n m l l' in
-    (sym e' ∙ ap (λ (k : StretchForm). gives k (take m text)) form ∙ ap (λ (k : ℕ). gives f (take k text)) long ∙ e, long)
+    (sym e' ∙ ap (λ (k : StretchForm). gives long k (take m text)) form ∙ ap (λ (k : ℕ). gives long f (take k text)) width ∙ e, width)
 
-pub no_front : {g : Given} {n : ℕ} → Front [] g n → ⊥
+pub no_front : {long : Bool} {g : Given} {n : ℕ} → Front long [] g n → ⊥
 no_front (front_none some none) = omega arith
 no_front (front_is {f = f} {n = n} l e) = omega (arith, l.within, is_some f [] n l.is)

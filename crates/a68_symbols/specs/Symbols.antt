@@ -1,5 +1,5 @@
 -- The one list of symbols of a text, and the one place where there is none.
-use Rattle.std.specs.Prelude.{◌≡◌, ℕ, ◌+◌, ◌<◌, ◌≤◌, List, [], ◌∷◌, length, take, drop, map, Result, Ok, Err}
+use Rattle.std.specs.Prelude.{◌≡◌, ℕ, ◌+◌, ◌<◌, ◌≤◌, Bool, false, List, [], ◌∷◌, length, take, drop, map, Result, Ok, Err}
 use Rattle.a68_base.specs.declared.refusal.Span.{Span}
 use Rattle.a68_base.specs.declared.refusal.Rule.{Rule}
 use Rattle.a68_base.specs.declared.refusal.Rule.TheVariants.{S2, L1, L2}
@@ -14,6 +14,7 @@ use Rattle.a68_symbols.specs.Forms.{Longest, NoForm}
 use Rattle.a68_symbols.specs.Gives.{gives}
 use Rattle.a68_symbols.specs.Limits.{most_bytes, most_symbols}
 use Rattle.a68_symbols.specs.Names.{Named, AreNamed}
+use Rattle.a68_symbols.specs.Words.{is_long}
 
 -- a symbol without its name: its kind, and its stretch of the text
 pub record Piece : Type 0 where
@@ -24,41 +25,41 @@ abbrev pub piece_of : Symbol → Piece
 piece_of s = record { kind = s.kind; span = s.span }
 
 -- What the front of a text gives, and how many bytes do: its longest stretch, or the refusal of a byte at which no
--- stretch has a form.
-pub data Front : List ℕ → Given → ℕ → Type 0 where
-  front_none : {text : List ℕ} → 0 < length text → NoForm text → Front text (given.Broken S2) 0
-  front_is : {text : List ℕ} {g : Given} {f : StretchForm} {n : ℕ} → Longest text f n → gives f (take n text) ≡ g → Front text g n
+-- stretch has a form. `long` is true where the symbol before is LONG.
+pub data Front : Bool → List ℕ → Given → ℕ → Type 0 where
+  front_none : {long : Bool} {text : List ℕ} → 0 < length text → NoForm text → Front long text (given.Broken S2) 0
+  front_is : {long : Bool} {text : List ℕ} {g : Given} {f : StretchForm} {n : ℕ} → Longest text f n → gives long f (take n text) ≡ g → Front long text g n
 
--- The text, which begins at byte `at` behind `before` symbols, is cut into longest stretches, to its end, and these
--- give the symbols. Layout, comments and pragmats give none.
-pub data IsCut : ℕ → ℕ → List ℕ → List Piece → Type 0 where
-  cut_ended : {at before : ℕ} → IsCut at before [] []
-  cut_passed : {at before n : ℕ} {text : List ℕ} {more : List Piece}
-      → Front text given.Nothing n → IsCut (at + n) before (drop n text) more → IsCut at before text more
-  cut_taken : {at before n : ℕ} {text : List ℕ} {kind : SymbolKind} {more : List Piece}
-      → Front text (given.Symbol kind) n → before < most_symbols → IsCut (at + n) (before + 1) (drop n text) more
-      → IsCut at before text (record { kind = kind; span = record { from = at; to = at + n } } ∷ more)
+-- The text, which begins at byte `at` behind `before` symbols, the last of which is LONG or not, is cut into longest
+-- stretches, to its end, and these give the symbols. Layout, comments and pragmats give none.
+pub data IsCut : Bool → ℕ → ℕ → List ℕ → List Piece → Type 0 where
+  cut_ended : {long : Bool} {at before : ℕ} → IsCut long at before [] []
+  cut_passed : {long : Bool} {at before n : ℕ} {text : List ℕ} {more : List Piece}
+      → Front long text given.Nothing n → IsCut long (at + n) before (drop n text) more → IsCut long at before text more
+  cut_taken : {long : Bool} {at before n : ℕ} {text : List ℕ} {kind : SymbolKind} {more : List Piece}
+      → Front long text (given.Symbol kind) n → before < most_symbols → IsCut (is_long kind (take n text)) (at + n) (before + 1) (drop n text) more
+      → IsCut long at before text (record { kind = kind; span = record { from = at; to = at + n } } ∷ more)
 
 -- The first byte at which no list can go on, and the rule that is broken there: what stands there breaks it, or it is
 -- one symbol too many.
-pub data StopsAt : ℕ → ℕ → List ℕ → Rule → ℕ → Type 0 where
-  stop_broken : {at before n : ℕ} {text : List ℕ} {rule : Rule} → Front text (given.Broken rule) n → StopsAt at before text rule at
-  stop_full : {at before n : ℕ} {text : List ℕ} {kind : SymbolKind}
-      → Front text (given.Symbol kind) n → most_symbols ≤ before → StopsAt at before text L2 at
-  stop_passed : {at before n place : ℕ} {text : List ℕ} {rule : Rule}
-      → Front text given.Nothing n → StopsAt (at + n) before (drop n text) rule place → StopsAt at before text rule place
-  stop_taken : {at before n place : ℕ} {text : List ℕ} {kind : SymbolKind} {rule : Rule}
-      → Front text (given.Symbol kind) n → before < most_symbols → StopsAt (at + n) (before + 1) (drop n text) rule place
-      → StopsAt at before text rule place
+pub data StopsAt : Bool → ℕ → ℕ → List ℕ → Rule → ℕ → Type 0 where
+  stop_broken : {long : Bool} {at before n : ℕ} {text : List ℕ} {rule : Rule} → Front long text (given.Broken rule) n → StopsAt long at before text rule at
+  stop_full : {long : Bool} {at before n : ℕ} {text : List ℕ} {kind : SymbolKind}
+      → Front long text (given.Symbol kind) n → most_symbols ≤ before → StopsAt long at before text L2 at
+  stop_passed : {long : Bool} {at before n place : ℕ} {text : List ℕ} {rule : Rule}
+      → Front long text given.Nothing n → StopsAt long (at + n) before (drop n text) rule place → StopsAt long at before text rule place
+  stop_taken : {long : Bool} {at before n place : ℕ} {text : List ℕ} {kind : SymbolKind} {rule : Rule}
+      → Front long text (given.Symbol kind) n → before < most_symbols → StopsAt (is_long kind (take n text)) (at + n) (before + 1) (drop n text) rule place
+      → StopsAt long at before text rule place
 
 -- the text has these symbols
 abbrev pub HasSymbols : List ℕ → List Piece → Type 0
-HasSymbols text pieces = (length text ≤ most_bytes) × IsCut 0 0 text pieces
+HasSymbols text pieces = (length text ≤ most_bytes) × IsCut false 0 0 text pieces
 
 -- the text breaks this rule of symbols first, at this place
 pub data IsRefused (text : List ℕ) : Rule → ℕ → Type 0 where
   too_long : most_bytes < length text → IsRefused text L1 most_bytes
-  stopped : {rule : Rule} {place : ℕ} → length text ≤ most_bytes → StopsAt 0 0 text rule place → IsRefused text rule place
+  stopped : {rule : Rule} {place : ℕ} → length text ≤ most_bytes → StopsAt false 0 0 text rule place → IsRefused text rule place
 
 -- these symbols and no others, and no refusal
 pub record SymbolsAre (text : List ℕ) (pieces : List Piece) : Type 0 where

@@ -10,7 +10,7 @@ ghost use Rattle.a68_symbols.specs.Symbols.{Answers, Collects, HasSymbols, IsRef
 use crate::Symbols;
 use crate::collector::Collector;
 use crate::form::{Given, StretchForm};
-use crate::judge::judge;
+use crate::judge::{is_long, judge};
 use crate::stretch::longest;
 use a68_base::{MOST_BYTES, MOST_SYMBOLS, Refusal, Rule, Span, Stop};
 use std::alloc::Global;
@@ -21,25 +21,26 @@ fn refused(rule: Rule, place: u32) -> Stop
     Stop::Refused(Refusal { rule, place })
 }
 
-// Takes in what a stretch of that form gives.
+// Takes in what a stretch of that form gives. Is LONG the last symbol, before it and then?
 fn keep(
     alloc: Global,
+    long: bool,
     found: &mut Collector,
     form: StretchForm,
     stretch: &[u8],
     span: Span,
-) -> Result<(), Stop>
-    ensures { Keeps found.old found.new (specs.gives form stretch.now) stretch.now span result }
+) -> Result<bool, Stop>
+    ensures { Keeps long found.old found.new (specs.gives long form stretch.now) stretch.now span result }
 {
-    match judge(alloc, form, stretch)? {
-        Given::Nothing => Ok(()),
+    match judge(alloc, long, form, stretch)? {
+        Given::Nothing => Ok(long),
         Given::Broken(rule) => Err(refused(rule, span.from)),
         Given::Symbol(kind) => {
             if found.len() >= MOST_SYMBOLS {
                 return Err(refused(Rule::L2, span.from));
             }
             found.push(alloc, kind, stretch, span)?;
-            Ok(())
+            Ok(is_long(kind, stretch))
         }
     }
 }
@@ -52,13 +53,14 @@ fn collect(alloc: Global, bytes: &[u8], found: &mut Collector) -> Result<(), Sto
 {
     let mut rest = bytes;
     let mut at = 0;
+    let mut long = false;
     while !rest.is_empty() {
         let Some((form, n)) = longest(rest) else {
             return Err(refused(Rule::S2, at));
         };
         let (stretch, behind) = rest.split_at(n);
         let to = at + n as u32;
-        keep(alloc, found, form, stretch, Span { from: at, to })?;
+        long = keep(alloc, long, found, form, stretch, Span { from: at, to })?;
         rest = behind;
         at = to;
     }
@@ -68,7 +70,8 @@ fn collect(alloc: Global, bytes: &[u8], found: &mut Collector) -> Result<(), Sto
 /// The symbols of a text, each the longest that begins at its byte; or the refusal of the text by the first rule of
 /// symbols that it breaks: L1 at byte 1,048,576 of a longer text, else the first byte at which no list of symbols can
 /// go on, with S2 where no symbol begins, S1 where a string, comment or pragmat has no end, S3 at a word of a part of
-/// the language that is left out, S5 at a misformed or too large number, and L2 at a symbol behind 262,144 others
+/// the language that is left out, S5 at a misformed number or one that is too large for an INT, or behind the word LONG for
+/// a LONG INT, and L2 at a symbol behind 262,144 others
 /// (Report, 8 and 9; the limits and S3 are this project's own).
 pub fn symbols(alloc: Global, bytes: &[u8]) -> Result<Symbols, Stop>
     ensures answer { Answers bytes.now result }

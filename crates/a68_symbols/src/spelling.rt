@@ -11,7 +11,7 @@ use std::alloc::Global;
 /// The symbols that the grammar tells apart by their spellings (Report, 9.4; which there are is own): the brackets; the
 /// words within choices and loops; those that begin declarations and parallel clauses, LOC, HEAP and OF; those of
 /// declarers; those within units; the brackets that are marks; the marks that are no operators; the operators.
-pub const SYMBOLS: [(&str, Sym); 67] = [
+pub const SYMBOLS: [(&str, Sym); 68] = [
     ("BEGIN", Sym::Opens(Bracket::Begin)),
     ("END", Sym::Closes(Bracket::Begin)),
     ("IF", Sym::Opens(Bracket::If)),
@@ -43,6 +43,7 @@ pub const SYMBOLS: [(&str, Sym); 67] = [
     ("FLEX", Sym::Is(Token::Flex)),
     ("STRUCT", Sym::Is(Token::Struct)),
     ("UNION", Sym::Is(Token::Union)),
+    ("LONG", Sym::Is(Token::Long)),
     ("INT", Sym::Is(Token::Int)),
     ("BOOL", Sym::Is(Token::Plain)),
     ("CHAR", Sym::Is(Token::Plain)),

@@ -81,6 +81,8 @@ pub enum Token {
     Nil,
     True,
     False,
+    /// LONG, before INT or a number.
+    Long,
     Int,
     /// BOOL, CHAR, BITS, SEMA or STRING.
     Plain,

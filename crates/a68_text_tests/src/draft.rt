@@ -54,6 +54,14 @@ Identity [3, 0, 2] [0, 1]
 ",
     ),
     (
+        4,
+        ". open . . LONG leave . Formula",
+        "\
+LongDenotation [3, 1, 2] []
+Formula [4, 0, 4] [0]
+",
+    ),
+    (
         6,
         "+ ( + open . Tag leave ) + Formula",
         "\
@@ -121,6 +129,7 @@ enum Call {
     Share,
     Forget,
     Identity,
+    Long,
 }
 
 const WORDS: &[(&str, Call)] = &[
@@ -133,6 +142,7 @@ const WORDS: &[(&str, Call)] = &[
     ("share", Call::Share),
     ("forget", Call::Forget),
     ("IS", Call::Identity),
+    ("LONG", Call::Long),
 ];
 
 fn make_call(
@@ -151,6 +161,7 @@ fn make_call(
         Call::Share => return drafting.share(),
         Call::Forget => drafting.forget(),
         Call::Identity => return drafting.wrap_identity(alloc, rest),
+        Call::Long => return drafting.wrap_long(alloc, rest),
     }
     Ok(())
 }

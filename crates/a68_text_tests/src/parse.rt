@@ -68,6 +68,30 @@ const TEXTS: &[(&str, &str)] = &[
     ),
     ("( LOC INT; NIL )", "Closed Serial Nil Generator Declarer"),
     ("( a IS NIL )", "Closed Serial Identity Nil Tag"),
+    (
+        "( LONG INT i = LONG 1; - LONG 23 )",
+        "Closed Serial Formula Sign LongDenotation IdentityDefinition LongDenotation Declarer",
+    ),
+    (
+        "( LONG 3 + LONG INT (x) )",
+        "Closed Serial Formula Sign Cast Closed Serial Tag Declarer LongDenotation",
+    ),
+    (
+        "( OP M = (LONG INT a) LONG INT: a; M LOC LONG INT )",
+        "Closed Serial Formula Sign Generator Declarer OpDefinition RoutineText Tag Declarer Parameter Declarer",
+    ),
+    (
+        "( [LONG 1:2] LONG INT a, b := LONG 1; a[LONG 1:] )",
+        "Closed Serial Slice Index Lower LongDenotation Tag Joined Variable LongDenotation Variable Declarer Declarer Bound Upper Denotation Lower LongDenotation",
+    ),
+    (
+        "CASE 1 IN (LONG INT i): LONG 1, (STRUCT (LONG INT a, b) s): 2 ESAC",
+        "Conformity Denotation Spec Parameter Declarer Field Field Declarer LongDenotation Spec Parameter Declarer Serial Denotation",
+    ),
+    (
+        "FOR i FROM LONG 1 BY LONG 2 DO PROC (LONG INT, REF LONG INT) LONG INT p; i OD",
+        "Loop Serial Tag Variable Declarer Declarer Declarer Declarer Declarer By LongDenotation From LongDenotation For",
+    ),
 ];
 
 /// Texts that have no tree, and the byte at which they are refused.
@@ -131,6 +155,16 @@ const BROKEN: &[(&str, u32)] = &[
     ("( a() ) ", 4),
     ("( a(1;2) ) ", 5),
     ("( INT 1 ) ", 6),
+    ("( LONG LONG 1 ) ", 7),
+    ("( LONG 2r1 ) ", 7),
+    ("( LONG x ) ", 7),
+    ("( LONG TRUE ) ", 7),
+    ("( LONG (1) ) ", 7),
+    ("( LONG BITS x; 1 ) ", 7),
+    ("( LONG INT 1 ) ", 11),
+    ("( REF LONG 1 ) ", 11),
+    ("( LONG 1 TRUE ) ", 9),
+    ("( INT LONG a; 1 ) ", 6),
     ("( VOID x ) ", 7),
     ("( INT: ) ", 7),
     ("( REF := 1 ) ", 6),

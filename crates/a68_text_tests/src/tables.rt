@@ -45,6 +45,7 @@ const DECLARERS: &[(&str, Token)] = &[
     ("FLEX", Token::Flex),
     ("STRUCT", Token::Struct),
     ("UNION", Token::Union),
+    ("LONG", Token::Long),
     ("INT", Token::Int),
     ("BOOL", Token::Plain),
     ("CHAR", Token::Plain),
@@ -84,7 +85,7 @@ const MARKS: &[(&str, Token)] = &[
 ];
 
 const LEFT: &[&str] = &[
-    "REAL", "COMPL", "BYTES", "FORMAT", "SHORT", "EMPTY", "LONG", "GO", "GOTO", "EXIT",
+    "REAL", "COMPL", "BYTES", "FORMAT", "SHORT", "EMPTY", "GO", "GOTO", "EXIT",
 ];
 
 fn is_row(rt: &impl Abort, spelling: &str, sym: Sym) {
@@ -111,7 +112,11 @@ fn symbols_are_those_of_the_pages(rt: HostRuntime) {
     are_rows(&rt, DECLARERS);
     are_rows(&rt, MARKS);
     let listed = 2 * BRACKETS.len() + CLAUSES.len() + DECLARERS.len() + MARKS.len();
-    holds(&rt, listed == SYMBOLS.len(), "no other symbol");
+    holds(
+        &rt,
+        listed == SYMBOLS.len() && listed == 68,
+        "no other symbol",
+    );
 }
 
 #[test]

@@ -6,6 +6,8 @@ mod calls;
 #[cfg(test)]
 mod hostile;
 #[cfg(test)]
+mod longs;
+#[cfg(test)]
 mod parallel;
 #[cfg(test)]
 mod races;

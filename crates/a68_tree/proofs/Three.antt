@@ -221,6 +221,7 @@ mutual
   few_IsPrimary (g.cast_void p0) = omega (arith, few_IsEnclosed p0)
   few_IsPrimary g.tag = omega arith
   few_IsPrimary (g.denotation p0) = omega arith
+  few_IsPrimary (g.long_denotation p0) = omega arith
   few_IsPrimary (g.enclosed p0) = omega (arith, few_IsEnclosed p0)
 
   few_IsIndexes : {x : Forest} → IsIndexes x → count x ≤ 3 * marks x + 1
@@ -243,6 +244,7 @@ mutual
 
   few_IsDeclarer : {x : Forest} → IsDeclarer x → count x + 1 ≤ 3 * marks x
   few_IsDeclarer (g.plain p0) = omega arith
+  few_IsDeclarer g.long_int = omega arith
   few_IsDeclarer g.mode_word = omega arith
   few_IsDeclarer (g.ref p0) = omega (arith, few_IsDeclarer p0)
   few_IsDeclarer (g.rows p0 p1) = omega (arith, few_IsBounds p0, few_IsDeclarer p1)

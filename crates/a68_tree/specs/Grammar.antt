@@ -41,6 +41,11 @@ pub data IsDenotation : Token → Type 0 where
   denotation_true : IsDenotation t.True
   denotation_false : IsDenotation t.False
 
+-- digits alone
+pub data IsNumber : Token → Type 0 where
+  number_digit : IsNumber t.Digit
+  number_other : IsNumber t.Number
+
 -- the name of a mode
 pub data IsPlain : Token → Type 0 where
   plain_int : IsPlain t.Int
@@ -200,7 +205,7 @@ mutual
     generator_heap : {d : Forest} → IsDeclarer d → IsSecondary k.Generator (mark t.Heap (part k.Declarer d end))
     primary : {j : NodeKind} {u : Forest} → IsPrimary j u → IsSecondary j u
 
-  -- Slice | Call | Cast | Tag | Denotation | enclosed
+  -- Slice | Call | Cast | Tag | Denotation | LongDenotation | enclosed
   pub data IsPrimary : NodeKind → Forest → Type 0 where
     slice : {j : NodeKind} {u i : Forest} → IsPrimary j u → IsIndexes i → IsPrimary k.Slice (part j u (group b.Square i end))
     call : {j : NodeKind} {u f : Forest} → IsPrimary j u → IsUnits f → IsPrimary k.Call (part j u (group b.Round f end))
@@ -208,6 +213,7 @@ mutual
     cast_void : {j : NodeKind} {u : Forest} → IsEnclosed j u → IsPrimary k.Cast (part k.VoidWord (mark t.Void end) (part j u end))
     tag : IsPrimary k.Tag (mark t.Tag end)
     denotation : {d : Token} → IsDenotation d → IsPrimary k.Denotation (mark d end)
+    long_denotation : {d : Token} → IsNumber d → IsPrimary k.LongDenotation (mark t.Long (mark d end))
     enclosed : {j : NodeKind} {u : Forest} → IsEnclosed j u → IsPrimary j u
 
   -- index {',' index}
@@ -232,9 +238,10 @@ mutual
     at_ : {j : NodeKind} {u : Forest} → IsUnit j u → IsAt (mark t.At (part k.At (part j u end) end))
     no_at : IsAt end
 
-  -- INT .. | word | REF declarer | [FLEX] '[' bounds ']' declarer | STRUCT | UNION | PROC
+  -- INT .. | LONG INT | word | REF declarer | [FLEX] '[' bounds ']' declarer | STRUCT | UNION | PROC
   pub data IsDeclarer : Forest → Type 0 where
     plain : {s : Token} → IsPlain s → IsDeclarer (mark s end)
+    long_int : IsDeclarer (mark t.Long (mark t.Int end))
     mode_word : IsDeclarer (mark t.ModeWord end)
     ref : {d : Forest} → IsDeclarer d → IsDeclarer (mark t.Ref (part k.Declarer d end))
     rows : {f d : Forest} → IsBounds f → IsDeclarer d → IsDeclarer (group b.Square f (part k.Declarer d end))

@@ -23,8 +23,9 @@ declarer text =
     if starts (Is t.Flex) text then g.Take t.Flex ∷ g.Opens b.Square ∷ g.Bounds ∷ g.Closes b.Square ∷ g.DeclarerNode ∷ [] else (
     if starts (Is t.Struct) text then g.Take t.Struct ∷ g.Opens b.Round ∷ g.Fields ∷ g.Closes b.Round ∷ [] else (
     if starts (Is t.Union) text then g.Take t.Union ∷ g.Opens b.Round ∷ g.DeclarerNode ∷ g.Take t.Comma ∷ g.Declarers ∷ g.Closes b.Round ∷ [] else (
-    if starts (Is t.Proc) text then g.Take t.Proc ∷ g.ProcedurePlan ∷ [] else
-    g.Plain ∷ []))))))
+    if starts (Is t.Proc) text then g.Take t.Proc ∷ g.ProcedurePlan ∷ [] else (
+    if starts (Is t.Long) text then g.Take t.Long ∷ g.Take t.Int ∷ [] else
+    g.Plain ∷ [])))))))
 
 -- ['(' declarers ')'] (declarer | VOID)
 abbrev pub procedure_plan : List Sym → List Goal

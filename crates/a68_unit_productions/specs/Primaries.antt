@@ -23,9 +23,11 @@ abbrev pub base : List Sym → List Goal
 base text =
     if starts (Is t.Tag) text then g.Take t.Tag ∷ g.Wrap k.Tag ∷ [] else (
     if is_denotation text then g.Denotation ∷ g.Wrap k.Denotation ∷ [] else (
+    if starts_pair (Is t.Long) (Is t.Digit) text then g.Take t.Long ∷ g.Take t.Digit ∷ g.WrapLong ∷ [] else (
+    if starts_pair (Is t.Long) (Is t.Number) text then g.Take t.Long ∷ g.Take t.Number ∷ g.WrapLong ∷ [] else (
     if starts (Is t.Void) text then g.Begin ∷ g.Take t.Void ∷ g.Close k.VoidWord ∷ g.Begin ∷ g.Enclosed ∷ g.Leave ∷ g.Wrap k.Cast ∷ [] else (
     if is_declarer text then g.DeclarerNode ∷ g.Begin ∷ g.Enclosed ∷ g.Leave ∷ g.Wrap k.Cast ∷ [] else
-    g.Enclosed ∷ [])))
+    g.Enclosed ∷ [])))))
 
 -- {'[' indexes ']' | '(' units ')'}
 abbrev pub primary_tail : List Sym → List Goal

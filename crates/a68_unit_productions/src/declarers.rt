@@ -15,7 +15,7 @@ pub fn declarer_node() -> &'static [Goal]
 }
 
 /// `word | REF declarer | [FLEX] '[' bounds ']' declarer | STRUCT '(' fields ')' | UNION '(' declarer ',' declarers ')' |
-/// PROC plan | INT | ..`
+/// PROC plan | LONG INT | INT | ..`
 pub fn declarer(text: &[Sym]) -> &'static [Goal]
     ensures { result.now ≡ spec.declarer text.now }
 {
@@ -56,6 +56,8 @@ pub fn declarer(text: &[Sym]) -> &'static [Goal]
         ]
     } else if starts(text, Sym::Is(Token::Proc)) {
         &[Goal::Take(Token::Proc), Goal::ProcedurePlan]
+    } else if starts(text, Sym::Is(Token::Long)) {
+        &[Goal::Take(Token::Long), Goal::Take(Token::Int)]
     } else {
         &[Goal::Plain]
     }

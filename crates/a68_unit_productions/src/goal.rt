@@ -49,6 +49,8 @@ pub enum Goal {
     Wrap(NodeKind),
     /// It becomes an identity relation.
     Relate,
+    /// It becomes a denotation of LONG INT.
+    WrapLong,
     /// It becomes a node of that kind, a part of what stands about it.
     Close(NodeKind),
     /// It becomes a node that definitions share.

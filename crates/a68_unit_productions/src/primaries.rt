@@ -37,7 +37,7 @@ pub fn secondary(text: &[Sym]) -> &'static [Goal]
     }
 }
 
-/// `enclosed | (declarer | VOID) enclosed | tag | denotation`: a primary that is neither a slice nor a call.
+/// `enclosed | (declarer | VOID) enclosed | tag | denotation | LONG number`: a primary that is neither a slice nor a call.
 pub fn base(text: &[Sym]) -> &'static [Goal]
     ensures { result.now ≡ spec.base text.now }
 {
@@ -45,6 +45,18 @@ pub fn base(text: &[Sym]) -> &'static [Goal]
         &[Goal::Take(Token::Tag), Goal::Wrap(NodeKind::Tag)]
     } else if is_denotation(text) {
         &[Goal::Denotation, Goal::Wrap(NodeKind::Denotation)]
+    } else if starts_pair(text, Sym::Is(Token::Long), Sym::Is(Token::Digit)) {
+        &[
+            Goal::Take(Token::Long),
+            Goal::Take(Token::Digit),
+            Goal::WrapLong,
+        ]
+    } else if starts_pair(text, Sym::Is(Token::Long), Sym::Is(Token::Number)) {
+        &[
+            Goal::Take(Token::Long),
+            Goal::Take(Token::Number),
+            Goal::WrapLong,
+        ]
     } else if starts(text, Sym::Is(Token::Void)) {
         &[
             Goal::Begin,

@@ -4,7 +4,7 @@ use Rattle.std.proofs.Common.{ap, arith}
 use Rattle.std.specs.Coded.{Coded, code_by, coded×, coded_ℕ, coded_ℤ, coded_bool, coded_list}
 use base.Stored.{Gv, gnil, gnum, gcons}
 use Rattle.a68_values.specs.declared.plain.Plain.{Plain}
-use Rattle.a68_values.specs.declared.plain.Plain.TheVariants.{Unset, Int, Bool as Truth, Char, Bits, Nil, Name, Routine, Sema}
+use Rattle.a68_values.specs.declared.plain.Plain.TheVariants.{Unset, Int, Long, Bool as Truth, Char, Bits, Nil, Name, Routine, Sema}
 use Rattle.a68_values.specs.declared.plain.Layout.{Layout}
 use Rattle.a68_values.specs.declared.plain.Layout.TheVariants.{Newline, Space}
 use Rattle.a68_values.specs.Content.{Content, Contents, void, plain, layout, structure, row, united, no_parts, ◌and_part◌}
@@ -21,12 +21,14 @@ plain_parts Nil = (6, (pos 0, (0, (0, 0))))
 plain_parts (Name n) = (7, (pos 0, (n.cell, (n.scope, 0))))
 plain_parts (Routine r) = (8, (pos 0, (r.text, (r.frame, r.scope))))
 plain_parts (Sema s) = (9, (pos 0, (s, (0, 0))))
+plain_parts (Long l) = (10, (l.high, (l.low, (0, 0))))
 
 abbrev plain_from : ℕ × (ℤ × (ℕ × (ℕ × ℕ))) → Plain
 plain_from (kind, (i, (m, (n, o)))) =
     cond (kind == 0) Unset (cond (kind == 1) (Int i) (cond (kind == 2) (Truth true) (cond (kind == 3) (Truth false) (cond (kind == 4) (Char m)
     (cond (kind == 5) (Bits m) (cond (kind == 6) Nil (cond (kind == 7) (Name (record { cell = m; scope = n }))
-    (cond (kind == 8) (Routine (record { text = m; frame = n; scope = o })) (Sema m)))))))))
+    (cond (kind == 8) (Routine (record { text = m; frame = n; scope = o }))
+    (cond (kind == 9) (Sema m) (Long (record { high = i; low = m })))))))))))
 
 pub plain_from-plain_parts : (p : Plain) → plain_from (plain_parts p) ≡ p
 plain_from-plain_parts Unset = refl
@@ -39,6 +41,7 @@ plain_from-plain_parts Nil = refl
 plain_from-plain_parts (Name n) = refl
 plain_from-plain_parts (Routine r) = refl
 plain_from-plain_parts (Sema s) = refl
+plain_from-plain_parts (Long l) = refl
 
 abbrev pub plain_code : Coded Plain
 plain_code =

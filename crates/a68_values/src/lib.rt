@@ -14,5 +14,5 @@ pub use chain::{Chain, Entrances, Environ};
 pub use held::{Cells, Descriptor, Dim, Dims, Held, Slots};
 pub use kept::{End, Journal, Kept};
 pub use log::{Brief, Entries, Log};
-pub use plain::{Layout, Name, Plain, Routine};
+pub use plain::{Layout, Long, Name, Plain, Routine};
 pub use value::{Bounds, Value, ValueNode, Values};

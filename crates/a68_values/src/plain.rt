@@ -17,6 +17,17 @@ pub struct Routine {
     pub scope: u32,
 }
 
+// What a word counts beside the one below it: 2 to the power 64.
+const WORD: i128 = 18_446_744_073_709_551_616;
+
+/// A LONG INT: how often 2 to the power 64 goes into it, and what is left, at least 0. In two words, so that a value takes
+/// no more than they and a kind.
+#[derive(Clone, Copy, Debug, PartialEq, Eq)]
+pub struct Long {
+    pub high: i64,
+    pub low: u64,
+}
+
 /// A value that fits one cell: a plain value, a name or a routine (Report, 2.1.3), or none yet.
 #[derive(Clone, Copy, Debug, PartialEq, Eq)]
 pub enum Plain {
@@ -24,6 +35,8 @@ pub enum Plain {
     Unset,
     /// An integer of the range of INT (2.1.3.1).
     Int(i64),
+    /// An integer of the range of LONG INT (2.1.3.1).
+    Long(Long),
     Bool(bool),
     /// A character, by its byte.
     Char(u8),
@@ -42,6 +55,28 @@ pub enum Plain {
 pub enum Layout {
     Newline,
     Space,
+}
+
+impl Long {
+    ghost use Rattle.std.specs.Prelude.{◌≡◌};
+    ghost use Rattle.a68_values.specs.Longs.{long_of, number_of};
+
+    /// This number as a LONG INT.
+    pub fn of(number: i128) -> Long
+        ensures { result ≡ long_of number }
+    {
+        Long {
+            high: number.div_euclid(WORD) as i64,
+            low: number.rem_euclid(WORD) as u64,
+        }
+    }
+
+    /// The number that it is.
+    pub fn number(self) -> i128
+        ensures { result ≡ number_of self }
+    {
+        i128::from(self.high) * WORD + i128::from(self.low)
+    }
 }
 
 impl Plain {

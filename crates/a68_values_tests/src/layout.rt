@@ -39,22 +39,22 @@ fn widths(rt: HostRuntime) {
 // Modes behind the standard ones.
 
 /// [] INT.
-const LIST: ModeId = 13;
+const LIST: ModeId = 15;
 
 /// STRUCT (INT x, y).
-const PAIR: ModeId = 14;
+const PAIR: ModeId = 16;
 
 /// [,] STRUCT (INT x, y).
-const PAIRS: ModeId = 15;
+const PAIRS: ModeId = 17;
 
 /// STRUCT (INT i, [] INT l).
-const LINE: ModeId = 16;
+const LINE: ModeId = 18;
 
 /// [] STRUCT (INT i, [] INT l).
-const LINES: ModeId = 17;
+const LINES: ModeId = 19;
 
 /// [] [] INT.
-const LISTS: ModeId = 18;
+const LISTS: ModeId = 20;
 
 fn add_rows(alloc: Global, modes: &mut Modes, dims: u32, of: ModeId) -> Option<()> {
     let shape = Shape::Rows {

@@ -4,6 +4,8 @@
 mod cells;
 #[cfg(test)]
 mod layout;
+#[cfg(test)]
+mod longs;
 pub mod modes;
 #[cfg(test)]
 mod ops;

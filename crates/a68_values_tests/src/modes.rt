@@ -13,25 +13,25 @@ pub const BOOL: ModeId = 2;
 pub const STRING: ModeId = 12;
 
 /// STRUCT (INT x, y).
-pub const POINT: ModeId = 13;
+pub const POINT: ModeId = 15;
 
 /// UNION (INT, POINT).
-pub const EITHER: ModeId = 14;
+pub const EITHER: ModeId = 16;
 
 /// STRUCT (BOOL b, POINT p, EITHER e).
-pub const BOX: ModeId = 15;
+pub const BOX: ModeId = 17;
 
 /// REF BOX.
-pub const REF_BOX: ModeId = 16;
+pub const REF_BOX: ModeId = 18;
 
 /// STRUCT (INT i, STRING s).
-pub const NAMED: ModeId = 17;
+pub const NAMED: ModeId = 19;
 
 /// STRUCT (INT i, REF BOX next).
-pub const LINK: ModeId = 18;
+pub const LINK: ModeId = 20;
 
 /// A structure of two of a mode, 60 deep, which is of INT at last.
-pub const DEEP: ModeId = 78;
+pub const DEEP: ModeId = 80;
 
 // Are these modes among the first so many?
 fn are_there(modes: &[ModeId], count: u32) -> bool
@@ -75,7 +75,7 @@ pub fn modes(alloc: Global) -> Option<Modes> {
 
 fn add_deep(alloc: Global, modes: &mut Modes) -> Option<()> {
     add_structure(alloc, modes, &[INT, INT])?;
-    for deep in 19..DEEP {
+    for deep in 21..DEEP {
         add_structure(alloc, modes, &[deep, deep])?;
     }
     Some(())

@@ -3,7 +3,7 @@ use crate::table::{agrees, cut, holds};
 use a68_base::Text;
 use a68_ops::{OpStop, apply, apply_monadic, apply_plain, item_text, updated, whole};
 use a68_signs::{candidates, priority_of};
-use a68_values::{Bounds, Layout, Plain, Value, ValueNode, Values};
+use a68_values::{Bounds, Layout, Long, Plain, Value, ValueNode, Values};
 use std::alloc::Global;
 use std::panic::Expect;
 use std::process::Abort;
@@ -11,7 +11,7 @@ use std::string::String;
 
 /// A row of the table of operators, the operand on the left and the one on the right, and what comes of it, from the
 /// definitions of the Report, 10.2.3. Values are: an INT in digits; T and F; BITS behind `#` in sixteens; a CHAR behind
-/// `'`; a row of CHAR behind a quote; `.` where there is none; `?` an unset value; `!` a row of an unset value.
+/// `'`; a LONG INT behind `L`; a row of CHAR behind a quote; `.` where there is none; `?` an unset value; `!` a row of an unset value.
 const APPLICATIONS: &str = "\
 7 T T = T
 7 T F = T
@@ -308,7 +308,8 @@ const APPLICATIONS: &str = "\
 35 . 1 = Kind
 37 . \"a = Kind
 38 . \"a = Kind
-39 . 1 = Kind
+41 . 1 = Kind
+0 . 1 = Kind
 ";
 
 /// An integer and a width, and what `whole` gives behind a colon, with `_` for a blank (Report, 10.3.2.1).
@@ -333,6 +334,13 @@ const WHOLES: &str = "\
 9223372036854775807 -19 = :9223372036854775807
 -9223372036854775807 -19 = :*******************
 -9223372036854775807 0 = :-9223372036854775807
+170141183460469231731687303715884105727 40 = :+170141183460469231731687303715884105727
+-170141183460469231731687303715884105727 40 = :-170141183460469231731687303715884105727
+170141183460469231731687303715884105727 -39 = :170141183460469231731687303715884105727
+170141183460469231731687303715884105727 39 = :***************************************
+-170141183460469231731687303715884105727 0 = :-170141183460469231731687303715884105727
+-170141183460469231731687303715884105727 -39 = :***************************************
+170141183460469231731687303715884105727 65537 = Domain
 1 65537 = Domain
 1 -65537 = Domain
 1 9223372036854775807 = Domain
@@ -343,6 +351,9 @@ const WHOLES: &str = "\
 const ITEMS: &str = "\
 3 = :__________________+3
 -9223372036854775807 = :-9223372036854775807
+L3 = :______________________________________+3
+L170141183460469231731687303715884105727 = :+170141183460469231731687303715884105727
+L-170141183460469231731687303715884105727 = :-170141183460469231731687303715884105727
 T = :T
 F = :F
 'a = :a
@@ -417,6 +428,10 @@ fn named(rt: &impl Abort, alloc: Global, word: &str) -> Value {
 
 // The value that a word of a table tells.
 fn value(rt: &impl Abort, alloc: Global, word: &str) -> Value {
+    if let Some(digits) = word.strip_prefix("L") {
+        let number: i128 = digits.parse().expect(rt, "a LONG INT");
+        return Value::of(Plain::Long(Long::of(number)));
+    }
     if let Some(digits) = word.strip_prefix("#") {
         let bits = u64::from_str_radix(digits, 16).expect(rt, "BITS");
         return Value::of(Plain::Bits(bits));
@@ -455,11 +470,17 @@ fn add_row(rt: &impl Abort, told: &mut String, bounds: &Bounds, parts: &Values) 
     }
 }
 
+fn add_long(rt: &impl Abort, told: &mut String, number: Long) {
+    let number = number.number();
+    write!(told, "L{number}").expect(rt, "memory");
+}
+
 // A value in the words of the table.
 fn shown(rt: &impl Abort, alloc: Global, value: &Value) -> String {
     let mut told = String::new(alloc);
     match &value.node {
         ValueNode::Plain(Plain::Int(number)) => write!(&mut told, "{number}").expect(rt, "memory"),
+        ValueNode::Plain(Plain::Long(number)) => add_long(rt, &mut told, *number),
         ValueNode::Plain(Plain::Bits(bits)) => write!(&mut told, "#{bits:x}").expect(rt, "memory"),
         ValueNode::Plain(Plain::Bool(true)) => told.push('T').expect(rt, "memory"),
         ValueNode::Plain(Plain::Bool(false)) => told.push('F').expect(rt, "memory"),
@@ -484,6 +505,15 @@ const UPDATES: &str = "\
 4 -7 2 = -3
 4 7 0 = Divisor
 5 -7 3 = 2
+1 L170141183460469231731687303715884105726 L1 = L170141183460469231731687303715884105727
+1 L170141183460469231731687303715884105727 L1 = Overflow
+2 L-170141183460469231731687303715884105727 L1 = Overflow
+3 L-4 L5 = L-20
+4 L-7 L2 = L-3
+4 L7 L0 = Divisor
+5 L-7 L3 = L2
+1 L3 4 = Kind
+1 3 L4 = Kind
 6 \"ab 'c = \"cab
 6 \"ab \"cd = \"cdab
 1 ? 4 = Unset
@@ -515,8 +545,8 @@ fn outcome(rt: &impl Abort, alloc: Global, application: &str, is_update: bool) -
     }
 }
 
-// What comes of a row and its operands is what the line says.
-fn is_outcome(rt: &impl Abort, alloc: Global, line: &str, is_update: bool) {
+/// What comes of a row and its operands is what the line says.
+pub fn is_outcome(rt: &impl Abort, alloc: Global, line: &str, is_update: bool) {
     let (application, expected) = cut(rt, line, " = ");
     let told = outcome(rt, alloc, application, is_update);
     agrees(rt, &told, expected, application);
@@ -586,28 +616,30 @@ fn items(rt: HostRuntime) {
 /// Signs, their priority between two operands, and how many operators they have between two and before one operand
 /// (Report, 10.2.3.0; the counts by hand).
 const SIGNS: &str = "\
-+:= 1 3 0
-MODAB 1 1 0
++:= 1 4 0
+MODAB 1 2 0
 +=: 1 2 0
 OR 2 2 0
 & 3 2 0
-EQ 4 7 0
-/= 4 7 0
-< 5 5 0
-GE 5 6 0
-+ 6 5 1
-- 6 1 1
-* 7 5 0
-% 7 1 0
-%* 7 1 0
+EQ 4 8 0
+/= 4 8 0
+< 5 6 0
+GE 5 7 0
++ 6 6 2
+- 6 2 2
+* 7 6 0
+% 7 2 0
+%* 7 2 0
 ELEM 7 1 0
-** 8 1 0
+** 8 2 0
 SHR 8 1 0
 UPB 8 1 1
 NOT 0 0 2
-ABS 0 0 4
+ABS 0 0 5
 LEVEL 0 0 2
 DOWN 0 0 1
+LENG 0 0 1
+SHORTEN 0 0 1
 QUID 0 0 0
 ";
 

@@ -17,7 +17,7 @@ use Rattle.a68_values.specs.declared.held.Held.{Held}
 use Rattle.a68_values.specs.declared.kept.End.{End}
 use Rattle.a68_values.specs.declared.kept.End.TheVariants as ends
 use Rattle.a68_values.specs.declared.kept.Kept.{Kept}
-use Rattle.a68_world.proofs.Kin.{ended_still}
+use Rattle.a68_world.proofs.Ended.{ended_still}
 use Rattle.a68_world.proofs.Steady.{steady_goes, steady_opening}
 use Rattle.a68_workers.proofs.Turning.{machine_more, no_fault, one_turn_of}
 

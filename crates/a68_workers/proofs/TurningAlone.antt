@@ -16,7 +16,7 @@ use Rattle.a68_world.specs.Alone.{ActsAlone, GoneAlone, IsLonger, OthersClosed}
 use Rattle.a68_world.specs.Run.{Run, world}
 use Rattle.a68_world.proofs.Awaited.{closed_there}
 use Rattle.a68_world.proofs.Beside.{grows, grows_one}
-use Rattle.a68_world.proofs.Kin.{closed_stance}
+use Rattle.a68_world.proofs.Ended.{closed_stance}
 use Rattle.a68_world.proofs.Closing.{closed_on}
 use Rattle.a68_world.proofs.Places.{is_within}
 use Rattle.a68_world.proofs.Showing.{next_fault, no-turn, no_act, turn_there}

@@ -7,7 +7,7 @@ use Rattle.std.specs.declared.result.Result.{Result}
 use Rattle.a68_acts.specs.Fetching.{fetch_steps, fetch_elements, assign_steps, assign_elements}
 use Rattle.a68_acts.specs.Rowing.{yielding, ints_of, sliced, sliced_by, sliced_set, sliced_with, trims_of, names_part, names_row, bounds_of_rows, row_of, row_of_rows, displayed_in, displayed_rows, dims_of_shape, no_bounds, vacuous, widened_row, rowed_as, names_one, rowed_in, rowed_name, widened, bound_of, bounded, bounded_by, extending, updating_text, extended, extends}
 use Rattle.a68_acts.specs.Steps.{silent, last_left, told, makes, updates, replaces, asked, acting, goes, is_beyond, fetches_row, assigns_elements, same_bounds, assigns_new, assigns, replied, stepped}
-use Rattle.a68_acts.specs.Operations.{Operation, constant, skip, nil, routine, tag, make, heap, bind, deref, store, apply, same, slice, display, vacuum, compose, select, unite, row_up, row_up_name, widen, drop, print, whole, start, resumed, resumed_by, resumed_with, skipped, skipped_parts, skip_within, routine_of, fetched, fetched_parts, making, made_by, given, given_parts, assigned, composed, part_at, fields_at, fields_of, names_rows, name_behind, named_rows, selects_from_row, selected_from, selected_in, shape_behind, is_update, updating_by, updating, put, is_same, related, printing, print_next, worded, whole_of, leveled, counted, on_sema, applied_to_two, applied_to_one}
+use Rattle.a68_acts.specs.Operations.{Operation, constant, skip, nil, routine, tag, make, heap, bind, deref, store, apply, same, slice, display, vacuum, compose, select, unite, row_up, row_up_name, widen, drop, print, whole, start, resumed, resumed_by, resumed_with, skipped, skipped_parts, skip_within, routine_of, fetched, fetched_parts, making, made_by, given, given_parts, assigned, composed, part_at, fields_at, fields_of, names_rows, name_behind, named_rows, selects_from_row, selected_from, selected_in, shape_behind, is_update, updating_by, updating, put, is_same, related, printing, print_next, worded, number_in, whole_by, whole_of, leveled, counted, on_sema, applied_to_two, applied_to_one}
 use Rattle.a68_acts.specs.declared.operation.Doing.{Doing}
 use Rattle.a68_acts.specs.declared.operation.Doing.TheVariants.{Yields, Asks, Meets}
 use Rattle.a68_acts.specs.declared.operation.Next.{Next}
@@ -27,7 +27,7 @@ use Rattle.a68_layout.specs.declared.types.Trim.{Trim}
 use Rattle.a68_modes.specs.Nodes.{shape_at, is_plain, is_void}
 use Rattle.a68_modes.specs.declared.shape.Shape.{Shape}
 use Rattle.a68_ops.specs.Applied.{applied, updated}
-use Rattle.a68_ops.specs.Printed.{item_text, whole as whole_number}
+use Rattle.a68_ops.specs.Printed.{item_text, member, whole as whole_number}
 use Rattle.a68_ops.specs.Texts.{text_of}
 use Rattle.a68_ops.specs.Yields.{Yield, is_unset}
 use Rattle.a68_values.specs.Content.{Content, void, plain, structure, row, contents_of, scope_of}
@@ -179,7 +179,7 @@ yielding-below : (n : ℕ) (y : Yield) → DoingBelow n (yielding y)
 yielding-below n (Ok v) = tt
 yielding-below n (Err why) = tt
 
-updating_by-below : (n row : ℕ) (name : Content) (k : ℤ) → DoingBelow n (updating_by row name k)
+updating_by-below : (n row : ℕ) (name : Content) (k : Plain) → DoingBelow n (updating_by row name k)
 updating_by-below n r (plain (value.Name m)) k = tt
 updating_by-below n r (plain value.Nil) k = tt
 updating_by-below n r v k = choose-below n (is_unset v) (Meets fault.Unset) (Meets fault.Kind) tt tt
@@ -195,7 +195,8 @@ updating_text-below n r v w =
     (choose-below n (is_some (text_of w)) (extending r v w) (Meets fault.Kind) (extending-below n r v w) tt)
 
 updating-below : (n row : ℕ) (name v : Content) → DoingBelow n (updating row name v)
-updating-below n r v (plain (value.Int k)) = updating_by-below n r v k
+updating-below n r v (plain (value.Int k)) = updating_by-below n r v (value.Int k)
+updating-below n r v (plain (value.Long l)) = updating_by-below n r v (value.Long l)
 updating-below n r v w = updating_text-below n r v w
 
 bounded-below : (n : ℕ) (upper : Bool) (i : ℤ) (v : Content) → DoingBelow n (bounded upper i v)
@@ -334,8 +335,12 @@ worded-below : (n : ℕ) (o : Result (List ℕ) FaultKind) → DoingBelow n (wor
 worded-below n (Ok text) = tt
 worded-below n (Err why) = tt
 
+whole_by-below : (n : ℕ) (v : Content) (number : Option ℤ) (width : ℤ) → DoingBelow n (whole_by v number width)
+whole_by-below n v (Some z) width = worded-below n (whole_number z width)
+whole_by-below n v None width = choose-below n (is_unset v) (Meets fault.Unset) (Meets fault.Kind) tt tt
+
 whole-below : (n : ℕ) (v w : Content) → DoingBelow n (whole_of v w)
-whole-below n (plain (value.Int v)) (plain (value.Int w)) = worded-below n (whole_number v w)
+whole-below n v (plain (value.Int w)) = whole_by-below n v (number_in (member v)) w
 whole-below n v w = choose-below n (is_unset v || is_unset w) (Meets fault.Unset) (Meets fault.Kind) tt tt
 
 routine-below : (n t : ℕ) (d : Option ℕ) (chain : List Environ) (e : Environ) → DoingBelow n (routine_of t d chain e)
@@ -381,7 +386,7 @@ counted-below n (value.Int i) = tt
 counted-below n p = tt
 
 resumed_by-below : (n : ℕ) (modes : List Shape) (go : Next) (d : Descriptor) → DoingBelow n (resumed_by modes go d)
-resumed_by-below n modes (next.Update r m k) d = extends-below n modes r m (plain (value.Int k)) d
+resumed_by-below n modes (next.Update r m p) d = extends-below n modes r m (plain p) d
 resumed_by-below n modes (next.Extend r m w) d = extends-below n modes r m w d
 resumed_by-below n modes (next.Sliced trims scope) d = names_part-below n scope (view d trims)
 resumed_by-below n modes (next.Selected offset scope) d = named_rows-below n scope offset d
@@ -394,7 +399,7 @@ resumed_with-below n next.Value (reply.Value v) = tt
 resumed_with-below n next.Held (reply.Held (held.Plain p)) = tt
 resumed_with-below n next.Void reply.Go = tt
 resumed_with-below n (next.Name m) reply.Go = tt
-resumed_with-below n (next.Update r m k) (reply.Held (held.Plain p)) = put-below n m (updated r (plain p) (plain (value.Int k)))
+resumed_with-below n (next.Update r m p) (reply.Held (held.Plain old)) = put-below n m (updated r (plain old) (plain p))
 resumed_with-below n (next.Raised k) (reply.Base cell) = tt
 resumed_with-below n (next.Sema cell) reply.Go = tt
 resumed_with-below n next.Count (reply.Held (held.Plain p)) = counted-below n p

@@ -1,6 +1,6 @@
 -- A strand that has not closed is the first one, or a unit for which an earlier strand waits.
-use Rattle.std.proofs.Common.{◌≡◌, ◌∙◌, ◌⊎◌, inl, inr, ℕ, zero, suc, ◌+◌, ◌<◌, ◌≤◌, Bool, true, false, List, [], ◌∷◌, ◌++◌, length, map, refl, ap, sym, subst, arith, true≢false}
-use Rattle.std.specs.Prelude.{◌&&◌, None, Some, slice_get, slice_set, nat_lt, if◌then◌else◌}
+use Rattle.std.proofs.Common.{◌≡◌, ◌∙◌, ◌⊎◌, inl, inr, ℕ, zero, suc, ◌+◌, ◌<◌, ◌≤◌, Bool, true, false, List, ◌++◌, length, map, refl, ap, sym, subst, arith, true≢false}
+use Rattle.std.specs.Prelude.{◌&&◌, Some, slice_get, slice_set, nat_lt, if◌then◌else◌}
 use Rattle.std.specs.Option.{option_map_or}
 use Rattle.std.proofs.Math.ListN.{length-set}
 use Rattle.a68_acts.specs.Does.{did, refuses, does}
@@ -14,7 +14,7 @@ use Rattle.a68_exec.proofs.Settled.{settle_still}
 use Rattle.a68_exec.specs.Runs.{has_closed, is_closed, all_closed, woken}
 use Rattle.a68_instructions.specs.Machine.{State, settle, replied, replied_in, told_by}
 use Rattle.a68_instructions.specs.declared.ask.Stance.{Stance}
-use Rattle.a68_instructions.specs.declared.ask.Stance.TheVariants.{Idle, Asking, Failed, Waits, Closed}
+use Rattle.a68_instructions.specs.declared.ask.Stance.TheVariants.{Asking, Waits}
 use Rattle.a68_instructions.specs.declared.ask.Waiting.{Waiting}
 use Rattle.a68_instructions.specs.declared.ask.Waiting.TheVariants as waiting
 use Rattle.a68_strand.proofs.Waking.{woken_still, woken_closed}

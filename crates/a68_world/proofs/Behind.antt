@@ -1,5 +1,5 @@
 -- The run behind an act.
-use Rattle.std.proofs.Common.{◌≡◌, ◌∙◌, inl, inr, ℕ, ◌+◌, ◌<◌, ◌≤◌, true, false, List, [], ◌∷◌, ◌++◌, length, length-append, map, refl, ap, sym, subst, arith}
+use Rattle.std.proofs.Common.{◌≡◌, ◌∙◌, ◌⊎◌, inl, inr, ℕ, ◌+◌, ◌-◌, ◌<◌, ◌≤◌, true, false, List, [], ◌∷◌, ◌++◌, length, length-append, map, refl, ap, sym, subst, arith, true≢false}
 use Rattle.std.specs.Prelude.{Some, slice_get, slice_set, if◌then◌else◌}
 use Rattle.std.specs.Option.{is_some, option_map_or}
 use Rattle.std.proofs.Math.ListN.{length-set}
@@ -12,7 +12,7 @@ use Rattle.a68_code.specs.declared.code.Code.{Code}
 use Rattle.a68_exec.proofs.Settled.{settle_rests}
 use Rattle.a68_strand.proofs.Waking.{Goes, begun_goes, none_woken, goes_open, goes_waits}
 use Rattle.a68_instructions.specs.Machine.{State, settle, next_state, replied}
-use Rattle.a68_exec.specs.Runs.{World, acted, after, woken, has_closed, is_passive, is_closed, begun, strands_after}
+use Rattle.a68_exec.specs.Runs.{World, acted, after, woken, has_closed, is_passive, is_closed, all_closed, begun, strands_after}
 use Rattle.a68_strand.specs.Strands.{standing}
 use Rattle.a68_instructions.specs.declared.ask.Ask.{Ask}
 use Rattle.a68_instructions.specs.declared.ask.Stance.TheVariants.{Waits}
@@ -27,14 +27,17 @@ use Rattle.a68_world.specs.Stepping.{DoneFor, AreUnits, IsNewSeat, units_asked, 
 use Rattle.a68_world.specs.Turns.{GoesOn, IsReadyAs}
 use Rattle.a68_world.specs.declared.status.StrandState.{StrandState}
 use Rattle.a68_world.specs.declared.status.StrandState.TheVariants.{Spent}
-use Rattle.a68_world.specs.Waking.{AllRest, WaitBelow}
+use Rattle.a68_world.specs.Kin.{AreKin, Forks, OnlyBehind, forker_at, pending_at}
+use Rattle.a68_world.specs.Waking.{AllRest}
+use Rattle.a68_world.specs.declared.kin.Kin.{Kin}
 use Rattle.a68_world.specs.declared.seat.Seat.{Seat}
 use Rattle.a68_world.specs.declared.seat.Seat.TheVariants as seat
 use Rattle.a68_world.specs.declared.world.World.TheInside.{Inside}
 use Rattle.a68_world.proofs.Kept.{none_spent}
-use Rattle.a68_world.proofs.Places.{get_map, get_front, get_behind, get_other, is_there, is_within, parted, set_parted, set_same, length_map}
+use Rattle.a68_world.proofs.Places.{below_or_not, get_map, get_front, get_behind, get_other, is_there, is_within, parted, set_parted, set_same, length_map}
 use Rattle.a68_world.proofs.Showing.{asking, next_act}
-use Rattle.a68_world.proofs.Steady.{Steady, steady_run}
+use Rattle.a68_world.proofs.Forking.{all_by, closed_all}
+use Rattle.a68_world.proofs.Steady.{Steady, steady_run, waits_for}
 
 -- ---- a run that goes on
 
@@ -188,15 +191,87 @@ module _ (s : Inside) (n : ℕ) (act : Act) (store : Store) (units : List Seat) 
     | inr born ↦ here_ k y (born-here k born.0 y (omega (arith, born.1, length-set s.seats.items n x)) (are_new.each born.0 y born.2))
   ]
 
-  -- those that wait have smaller numbers than before, but for this one
-  pub wait_all : (below : ℕ) → s.waits_below ≤ below → ((f c : ℕ) → next.stance ≡ Waits f c → n < below) → WaitBelow below all
-  wait_all below least own k x f c e waits = elim (parted (slice_set (now s).strands n next) new k x e) [
+  -- ---- those that wait
+
+  all-long : length all ≡ length (now s).strands + length new
+  all-long = omega (arith, length-append (slice_set (now s).strands n next) new, length-set (now s).strands n next)
+
+  -- where it waits it does so for the units that it has made
+  waits-for : (f c : ℕ) → next.stance ≡ Waits f c → (f ≡ length (now s).strands) × (c ≡ length new)
+  waits-for f c e =
+      let x = asking m.strand m.act_done.want m.act_done.asks in
+      waits_for s.code (length s.journal.items) (now s) n st m.act_done.want x.0 act m.act_done.reply store steady m.sits.there x.1 (ap (does m.act_done.want) (sym m.sound.store) ∙ m.act_done.does_it) f c e
+
+  -- one that waits is this one, or has waited before
+  waiter : (k : ℕ) (x : State) (f c : ℕ) → slice_get all k ≡ Some x → x.stance ≡ Waits f c
+      → ((k ≡ n) × (f ≡ length (now s).strands) × (c ≡ length new)) ⊎ ((k ≡ n → ⊥) × (slice_get (now s).strands k ≡ Some x))
+  waiter k x f c e waits = elim (parted (slice_set (now s).strands n next) new k x e) [
     | inl front ↦ elim (set_parted (now s).strands n k next x front) [
-      | inl is ↦ omega (arith, is.0, own f c (sym (ap (λ (y : State). y.stance) is.1) ∙ waits))
-      | inr old ↦ omega (arith, least, m.sound.waits k x f c old.1 waits)
+      | inl is ↦ let units_are = waits-for f c (sym (ap (λ (y : State). y.stance) is.1) ∙ waits) in inl (is.0, units_are.0, units_are.1)
+      | inr old ↦ inr old
     ]
     | inr born ↦ goes_waits x.stance f c _ (fresh born.0 x born.2).1 waits
   ]
+
+  -- what has closed stays so
+  same-closed : (k : ℕ) → (k ≡ n → ⊥) → k < length (now s).strands → is_closed (now s).strands k ≡ is_closed all k
+  same-closed k ne low = let x = is_there (now s).strands k low in old-closed k x.0 ne x.1
+
+  still-closed : (k : ℕ) → k < length (now s).strands → is_closed (now s).strands k ≡ true → is_closed all k ≡ true
+  still-closed k low closed = sym (same-closed k (λ is. true≢false (sym closed ∙ ap (is_closed (now s).strands) is ∙ was_open)) low) ∙ closed
+
+  -- what is kept of those that made others
+  pub kin_all : (kin : List Kin) → Forks s.kin.items n (length units) kin → AreKin kin all
+  kin_all kin forks = record {
+    long = omega (arith, forks.long, m.sound.kin.long, are_new.long, all-long);
+    within = λ k x f c e w. elim (waiter k x f c e w) [
+      | inl p ↦ omega (arith, all-long, p.1, p.2)
+      | inr p ↦ omega (arith, all-long, m.sound.kin.within k x f c p.1 w)
+    ];
+    forker = λ k x f c e w i low high. elim (waiter k x f c e w) [
+      | inl p ↦ born-forker k f c i p.0 p.1 p.2 low high
+      | inr p ↦ forks.forkers i (omega (arith, high, m.sound.kin.within k x f c p.1 w, m.sound.kin.long)) ∙ m.sound.kin.forker k x f c p.1 w i low high
+    ];
+    closed = λ k x f c e w i low high. elim (waiter k x f c e w) [
+      | inl p ↦ absurd (own-pending k f c i p.0 p.1 p.2 low high)
+      | inr p ↦
+          let there : k < length (now s).strands = is_within (now s).strands k x p.1 in
+          let same : pending_at kin k ≡ pending_at s.kin.items k = forks.opens k (omega (arith, there, m.sound.kin.long)) p.0 in
+          still-closed i (omega (arith, high, m.sound.kin.within k x f c p.1 w)) (m.sound.kin.closed k x f c p.1 w i (omega (arith, low, same)) high)
+    ];
+  }
+    where
+      born-forker : (k f c i : ℕ) → k ≡ n → f ≡ length (now s).strands → c ≡ length new → f ≤ i → i < f + c → forker_at kin i ≡ k
+      born-forker k f c i is p q low high =
+          let at : i ≡ length s.kin.items + (i - length s.kin.items) = omega (arith, low, p, m.sound.kin.long) in
+          ap (forker_at kin) at ∙ forks.born (i - length s.kin.items) (omega (arith, low, high, p, q, m.sound.kin.long, are_new.long)) ∙ sym is
+
+      own-pending : (k f c i : ℕ) → k ≡ n → f ≡ length (now s).strands → c ≡ length new → f + pending_at kin k ≤ i → i < f + c → ⊥
+      own-pending k f c i is p q low high =
+          let own : pending_at kin n ≡ length units = forks.own (omega (arith, low, high, q, are_new.long)) (omega (arith, is_within (now s).strands n st m.sits.there, m.sound.kin.long)) in
+          absurd (omega (arith, low, high, ap (pending_at kin) is, own, q, are_new.long))
+
+  -- one that is due waits for this one, or is it
+  pub only_behind : OnlyBehind all n
+  only_behind k r = elim (waiter k r.st r.first r.count r.there r.waits) [
+    | inl p ↦ inl p.0
+    | inr old ↦ inr (in-range old.1 (below_or_not n r.first) (below_or_not n (r.first + r.count)))
+  ]
+    where
+      Behind : Type 0
+      Behind = (is_closed all n ≡ true) × (r.first ≤ n) × (n < r.first + r.count)
+
+      -- else it was due before
+      apart : slice_get (now s).strands k ≡ Some r.st → ((i : ℕ) → r.first ≤ i → i < r.first + r.count → i ≡ n → ⊥) → ⊥
+      apart old ne =
+          let within = m.sound.kin.within k r.st r.first r.count old r.waits in
+          let before : all_closed (now s).strands r.first r.count ≡ true = all_by (now s).strands r.first r.count (λ i low high. same-closed i (ne i low high) (omega (arith, high, within)) ∙ closed_all all r.first r.count r.closed i low high) in
+          true≢false (sym before ∙ steady.calm.due k r.st r.first r.count old r.waits)
+
+      in-range : slice_get (now s).strands k ≡ Some r.st → (n < r.first) ⊎ (r.first ≤ n) → (n < r.first + r.count) ⊎ (r.first + r.count ≤ n) → Behind
+      in-range old (inl less) high = absurd (apart old (λ i low to is. absurd (omega (arith, low, is, less))))
+      in-range old (inr from) (inr more) = absurd (apart old (λ i low to is. absurd (omega (arith, to, is, more))))
+      in-range old (inr from) (inl to) = (closed_all all r.first r.count r.closed n from to, from, to)
 
   -- an act behind which the strand goes on wakes none
   pub live_none : is_passive next.stance ≡ false → map (woken s.code all) all ≡ all

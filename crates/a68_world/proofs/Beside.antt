@@ -1,5 +1,5 @@
 -- What a strand does that is alone, it does beside strands that have closed.
-use Rattle.std.proofs.Common.{◌≡◌, ◌∙◌, append-nil, ℕ, zero, suc, ◌+◌, ◌<◌, ◌≤◌, Bool, true, false, List, [], ◌∷◌, ◌++◌, length, length-append, map, refl, ap, sym, subst, arith, true≢false}
+use Rattle.std.proofs.Common.{◌≡◌, ◌∙◌, append-nil, ℕ, zero, suc, ◌+◌, ◌≤◌, Bool, true, false, List, [], ◌∷◌, ◌++◌, length, length-append, map, refl, ap, sym, subst, arith, true≢false}
 use Rattle.std.proofs.Math.ListN.{length-set}
 use Rattle.std.specs.Option.{option_map_or}
 use Rattle.std.specs.Prelude.{◌&&◌, None, Some, slice_get, slice_set, if◌then◌else◌}
@@ -16,7 +16,7 @@ use Rattle.a68_strand.proofs.Waking.{woken_still}
 use Rattle.a68_values.specs.declared.act.Act.{Act}
 use Rattle.a68_values.specs.declared.act.Entry.{Entry}
 use Rattle.a68_world.specs.Alone.{AllOwn}
-use Rattle.a68_world.proofs.Kin.{closed_stance}
+use Rattle.a68_world.proofs.Ended.{closed_stance}
 use Rattle.a68_world.proofs.Closing.{closed_rests}
 use Rattle.a68_world.proofs.Places.{is_within, length_map}
 use Rattle.a68_world.proofs.Showing.{next_act}

@@ -1,5 +1,5 @@
 -- Strands that have closed never turn again.
-use Rattle.std.proofs.Common.{◌≡◌, ◌∙◌, ◌⊎◌, inl, inr, ℕ, ◌<◌, Bool, true, false, List, [], ◌∷◌, ◌++◌, length, map, refl, ap, sym, subst, arith, true≢false}
+use Rattle.std.proofs.Common.{◌≡◌, ◌∙◌, inl, inr, ℕ, true, false, List, [], ◌∷◌, ◌++◌, map, refl, ap, sym, subst, true≢false}
 use Rattle.std.proofs.lemmas.Bool.{false≢true}
 use Rattle.std.specs.Prelude.{None, Some, slice_get, slice_set}
 use Rattle.std.specs.Option.{option_map_or}
@@ -11,10 +11,8 @@ use Rattle.a68_instructions.specs.Machine.{State, next_state, replied, settle, s
 use Rattle.a68_instructions.specs.declared.ask.Ask.{Ask}
 use Rattle.a68_instructions.specs.declared.ask.Stance.{Stance}
 use Rattle.a68_instructions.specs.declared.ask.Stance.TheVariants.{Closed}
-use Rattle.a68_marks.specs.Marked.{is_marked}
 use Rattle.a68_strand.proofs.Waking.{woken_closed}
 use Rattle.a68_strand.specs.Strands.{standing}
-use Rattle.a68_strand.specs.declared.strand.Strand.{Strand}
 use Rattle.a68_values.specs.declared.act.Act.{Act}
 use Rattle.a68_values.specs.declared.act.Entry.{Entry}
 use Rattle.a68_world.specs.Inside.{run_of, IsSound}
@@ -25,7 +23,7 @@ use Rattle.a68_world.specs.declared.seat.Seat.{Seat}
 use Rattle.a68_world.specs.declared.seat.Seat.TheVariants as seat
 use Rattle.a68_world.specs.declared.world.World.TheInside.{Inside}
 use Rattle.a68_world.proofs.Awaited.{closed_there}
-use Rattle.a68_world.proofs.Kin.{closed_stance}
+use Rattle.a68_world.proofs.Ended.{closed_stance}
 use Rattle.a68_world.proofs.Places.{get_front, get_map, get_other}
 use Rattle.a68_world.proofs.Showing.{shown}
 use Rattle.a68_world.proofs.Steady.{acted_is}
@@ -108,5 +106,5 @@ with_passed s marks shown n sound same passes = record {
     | inr closed ↦ subst (λ j. is_closed (world (run_of s)).strands j ≡ true) (sym closed.0)
         (closed_seat s.code (world (run_of s)).strands s.seats.items n sound.seats (sym (ap (λ l. closed_at l n) same) ∙ closed.1))
   ];
-  waits = sound.waits;
+  kin = sound.kin;
 }

@@ -1,7 +1,7 @@
 -- A turn in which a strand does its act.
-use Rattle.std.proofs.Common.{◌≡◌, ◌∙◌, ℕ, ◌<◌, ◌^◌, Bool, true, List, ◌++◌, length, map, get_or, MatchBool, refl, ap, sym, subst, arith}
+use Rattle.std.proofs.Common.{◌≡◌, ◌∙◌, ℕ, ◌<◌, ◌^◌, Bool, true, List, ◌++◌, length, map, get_or, refl, ap, sym, subst, arith}
 use Rattle.std.proofs.lemmas.Option.{slice_get-get_or}
-use Rattle.std.specs.Prelude.{None, Some, slice_get, slice_set}
+use Rattle.std.specs.Prelude.{Some, slice_get, slice_set}
 use Rattle.std.specs.Option.{option_map}
 use Rattle.std.specs.declared.alloc.Global.{Global}
 use Rattle.std.specs.declared.option.Option.{Option}
@@ -19,20 +19,20 @@ use Rattle.a68_values.specs.declared.act.Act.{Act}
 use Rattle.a68_values.specs.declared.act.FaultKind.{FaultKind}
 use Rattle.a68_values.specs.declared.kept.End.{End}
 use Rattle.a68_values.specs.declared.kept.End.TheVariants as ends
-use Rattle.a68_world.specs.Ending.{EndShown}
 use Rattle.a68_world.specs.Inside.{run_of, IsSound}
+use Rattle.a68_world.specs.Kin.{Forks, WakesBehind}
 use Rattle.a68_world.specs.Passed.{PassTurns}
 use Rattle.a68_world.specs.Seats.{Sits, place_in}
 use Rattle.a68_world.specs.Stepping.{DoneFor, ComesToAt, Meets, AreUnitsAt}
 use Rattle.a68_world.specs.Turns.{GoesOn, IsDue, IsOtherDue, Acts, EndsAt, FindsNoMemory}
-use Rattle.a68_world.specs.Waking.{StaysBelow, WakesBehind}
 use Rattle.a68_world.specs.declared.deed.Deed.TheVariants as deed
+use Rattle.a68_world.specs.declared.kin.Kin.{Kin}
 use Rattle.a68_world.specs.declared.seat.Seat.{Seat}
 use Rattle.a68_world.specs.declared.seat.Seat.TheVariants as seat
 use Rattle.a68_world.specs.declared.world.World.TheInside.{Inside}
 use Rattle.a68_world.proofs.Behind as b
 use Rattle.a68_world.proofs.Behind.{Moved, Noted, now}
-use Rattle.a68_world.proofs.Outcomes.{EndsBy, home_waits, home_wakes, sits_told, told_acts, told_sound, untold_is, untold_sound}
+use Rattle.a68_world.proofs.Outcomes.{EndsBy, home_wakes, sits_told, told_acts, told_sound, untold_is, untold_sound}
 use Rattle.a68_world.specs.declared.status.StrandState.TheVariants as status
 use Rattle.a68_world.proofs.Closing.{closed_on, pass_turns}
 use Rattle.a68_world.proofs.Places.{set_again, length_map}
@@ -60,88 +60,71 @@ module _ (s : Inside) (n : ℕ) (sound : IsSound s) (goes : GoesOn (run_of s)) (
     pub are : AreUnitsAt s.code s.store s.seats.items n units
     pub comes : ComesToAt s.code s.store x (deed.Told act) store y
 
-  abbrev pub run_told : Logged → Store → Vec Seat Global → (below : ℕ) → Bool → Option End → Inside
-  run_told journal store seats below lost end = record s { journal = journal; store = store; seats = seats; waits_below = below; lost = lost; end = end }
+  abbrev pub run_told : Logged → Store → Vec Seat Global → Vec Kin Global → Bool → Option End → Inside
+  run_told journal store seats kin lost end = record s { journal = journal; store = store; seats = seats; kin = kin; lost = lost; end = end }
 
-  told-all : (x y : Seat) (act : Act) (store : Store) (units : List Seat) (journal : Logged) (seats : Vec Seat Global) (below : ℕ) (lost : Bool) (end : Option End)
+  -- what is known of those that made others, and of those that are woken
+  pub record Woken (y : Seat) (units : List Seat) (seats : List Seat) (kin : List Kin) (lost : Bool) : Type 0 where
+    pub grown : List Kin
+    pub forks : Forks s.kin.items n (length units) grown
+    pub wakes : WakesBehind s.code n grown kin (slice_set s.seats.items n y ++ units) seats lost
+
+  told-all : (x y : Seat) (act : Act) (store : Store) (units : List Seat) (journal : Logged) (seats : Vec Seat Global) (kin : Vec Kin Global) (lost : Bool) (end : Option End)
       → slice_get s.seats.items n ≡ Some x → AreUnitsAt s.code s.store s.seats.items n units → ComesToAt s.code s.store x (deed.Told act) store y → Noted s n act journal
-      → StaysBelow s.waits_below (slice_set s.seats.items n y ++ units) n below → WakesBehind s.code n below (slice_set s.seats.items n y ++ units) seats.items lost
-      → EndsBy seats.items store end
-      → IsSound (run_told journal store seats below lost end) × Acts (run_of s) n (run_of (run_told journal store seats below lost end))
-  told-all (seat.Home strand) (seat.Home t) act store units journal seats below lost end there are comes noted stays w e =
+      → Woken y units seats.items kin.items lost → EndsBy seats.items store end
+      → IsSound (run_told journal store seats kin lost end) × Acts (run_of s) n (run_of (run_told journal store seats kin lost end))
+  told-all (seat.Home strand) (seat.Home t) act store units journal seats kin lost end there are comes noted w e =
       let m = moved strand act store units there are comes.act_done in
       let sits = sits_told s n act store units m t comes.settled comes.number comes.room refl in
-      let waits = home_waits s n act store units m t comes.settled comes.number comes.room refl below stays in
-      let wakes = home_wakes s n act store units m t comes.settled comes.number comes.room refl seats.items below lost stays w in (
-        told_sound s n act store units m (seat.Home t) refl sits journal seats below lost end noted waits wakes e,
-        told_acts s n act store units m (seat.Home t) refl sits journal seats below lost end noted waits wakes e,
+      let wakes = home_wakes s n act store units m t comes.settled comes.number comes.room refl w.grown kin.items seats.items lost (b.kin_all s n act store units m w.grown w.forks) w.wakes in (
+        told_sound s n act store units m (seat.Home t) refl sits journal seats kin lost end noted wakes.1 wakes.0 e,
+        told_acts s n act store units m (seat.Home t) refl sits journal seats kin lost end noted wakes.1 wakes.0 e,
       )
-  told-all (seat.Home strand) (seat.Away spent closed) act store units journal seats below lost end there are comes noted stays w e = absurd comes
-  told-all (seat.Away spent closed) y act store units journal seats below lost end there are comes noted stays w e = absurd comes
+  told-all (seat.Home strand) (seat.Away spent closed) act store units journal seats kin lost end there are comes noted w e = absurd comes
+  told-all (seat.Away spent closed) y act store units journal seats kin lost end there are comes noted w e = absurd comes
 
-  pub told_all : (x y : Seat) (act : Act) (store : Store) (units placed shown seen : List Seat) (journal : Logged) (seats : Vec Seat Global) (below : ℕ) (lost : Bool) (end : Option End)
-      → Told x y act store units → Noted s n act journal → placed ≡ slice_set s.seats.items n y ++ units → seen ≡ placed → StaysBelow s.waits_below seen n below
-      → WakesBehind s.code n below placed seats.items lost → shown ≡ seats.items → EndsBy shown store end
-      → IsSound (run_told journal store seats below lost end) × Acts (run_of s) n (run_of (run_told journal store seats below lost end))
-  told_all x y act store units placed shown seen journal seats below lost end told noted is at stays w same e =
-      told-all x y act store units journal seats below lost end told.there told.are told.comes noted (subst (λ l. StaysBelow s.waits_below l n below) (at ∙ is) stays)
-      (subst (λ l. WakesBehind s.code n below l seats.items lost) is w) (subst (λ l. EndsBy l store end) same e)
+  pub told_all : (x y : Seat) (act : Act) (store : Store) (units shown : List Seat) (journal : Logged) (seats : Vec Seat Global) (kin : Vec Kin Global) (lost : Bool) (end : Option End)
+      → Told x y act store units → Noted s n act journal → Woken y units seats.items kin.items lost → shown ≡ seats.items → EndsBy shown store end
+      → IsSound (run_told journal store seats kin lost end) × Acts (run_of s) n (run_of (run_told journal store seats kin lost end))
+  told_all x y act store units shown journal seats kin lost end told noted w same e =
+      told-all x y act store units journal seats kin lost end told.there told.are told.comes noted w (subst (λ l. EndsBy l store end) same e)
 
-  -- there are numbers for all
-  few-told : (x y : Seat) (act : Act) (store : Store) (units : List Seat) (seats : List Seat) (below : ℕ) (lost : Bool)
-      → slice_get s.seats.items n ≡ Some x → AreUnitsAt s.code s.store s.seats.items n units → ComesToAt s.code s.store x (deed.Told act) store y
-      → StaysBelow s.waits_below (slice_set s.seats.items n y ++ units) n below → WakesBehind s.code n below (slice_set s.seats.items n y ++ units) seats lost → length seats < 2 ^ 32
-  few-told (seat.Home strand) (seat.Home t) act store units seats below lost there are comes stays w =
+  -- there are numbers for all, and no strand that has passed shows a turn
+  told-seats : (x y : Seat) (act : Act) (store : Store) (units seats : List Seat) (kin : List Kin) (lost : Bool)
+      → slice_get s.seats.items n ≡ Some x → AreUnitsAt s.code s.store s.seats.items n units → ComesToAt s.code s.store x (deed.Told act) store y → Woken y units seats kin lost
+      → (length seats < 2 ^ 32) × PassTurns s.passed seats store
+  told-seats (seat.Home strand) (seat.Home t) act store units seats kin lost there are comes w =
       let m = moved strand act store units there are comes.act_done in
-      let wakes = home_wakes s n act store units m t comes.settled comes.number comes.room refl seats below lost stays w in
-      let st = steady_more s.code (length s.journal.items) (now s) n act (b.behind s n act store units m) (steady_run (run_of s) sound.run) (b.next_is s n act store units m) in
-      omega (arith, wakes.long, st.many, st.most, length_map (woken s.code (b.all s n act store units m)) (b.all s n act store units m))
-  few-told (seat.Home strand) (seat.Away spent closed) act store units seats below lost there are comes stays w = absurd comes
-  few-told (seat.Away spent closed) y act store units seats below lost there are comes stays w = absurd comes
+      let wakes = (home_wakes s n act store units m t comes.settled comes.number comes.room refl w.grown kin seats lost (b.kin_all s n act store units m w.grown w.forks) w.wakes).0 in
+      let st = steady_more s.code (length s.journal.items) (now s) n act (b.behind s n act store units m) (steady_run (run_of s) sound.run) (b.next_is s n act store units m) in (
+        omega (arith, wakes.long, st.many, st.most, length_map (woken s.code (b.all s n act store units m)) (b.all s n act store units m)),
+        pass_turns s.code (map (woken s.code (b.all s n act store units m)) (b.all s n act store units m)) seats store s.passed wakes.seated
+            (λ k marked. closed_on s.code (now s) n act (b.behind s n act store units m) (b.next_is s n act store units m) k (sound.passed k marked)),
+      )
+  told-seats (seat.Home strand) (seat.Away spent closed) act store units seats kin lost there are comes w = absurd comes
+  told-seats (seat.Away spent closed) y act store units seats kin lost there are comes w = absurd comes
 
-  pub few_told : (x y : Seat) (act : Act) (store : Store) (units placed shown seen seats : List Seat) (below : ℕ) (lost : Bool)
-      → Told x y act store units → placed ≡ slice_set s.seats.items n y ++ units → seen ≡ placed → StaysBelow s.waits_below seen n below
-      → WakesBehind s.code n below placed seats lost → shown ≡ seats → length shown < 2 ^ 32
-  few_told x y act store units placed shown seen seats below lost told is at stays w same =
-      rw same (few-told x y act store units seats below lost told.there told.are told.comes (subst (λ l. StaysBelow s.waits_below l n below) (at ∙ is) stays)
-      (subst (λ l. WakesBehind s.code n below l seats lost) is w))
-
-  -- no strand that has passed shows a turn
-  passed-told : (x y : Seat) (act : Act) (store : Store) (units : List Seat) (seats : List Seat) (below : ℕ) (lost : Bool)
-      → slice_get s.seats.items n ≡ Some x → AreUnitsAt s.code s.store s.seats.items n units → ComesToAt s.code s.store x (deed.Told act) store y
-      → StaysBelow s.waits_below (slice_set s.seats.items n y ++ units) n below → WakesBehind s.code n below (slice_set s.seats.items n y ++ units) seats lost → PassTurns s.passed seats store
-  passed-told (seat.Home strand) (seat.Home t) act store units seats below lost there are comes stays w =
-      let m = moved strand act store units there are comes.act_done in
-      let wakes = home_wakes s n act store units m t comes.settled comes.number comes.room refl seats below lost stays w in
-      pass_turns s.code (map (woken s.code (b.all s n act store units m)) (b.all s n act store units m)) seats store s.passed wakes.seated
-      (λ k marked. closed_on s.code (now s) n act (b.behind s n act store units m) (b.next_is s n act store units m) k (sound.passed k marked))
-  passed-told (seat.Home strand) (seat.Away spent closed) act store units seats below lost there are comes stays w = absurd comes
-  passed-told (seat.Away spent closed) y act store units seats below lost there are comes stays w = absurd comes
-
-  pub passed_told : (x y : Seat) (act : Act) (store : Store) (units placed shown seen seats : List Seat) (below : ℕ) (lost : Bool)
-      → Told x y act store units → placed ≡ slice_set s.seats.items n y ++ units → seen ≡ placed → StaysBelow s.waits_below seen n below
-      → WakesBehind s.code n below placed seats lost → shown ≡ seats → PassTurns s.passed shown store
-  passed_told x y act store units placed shown seen seats below lost told is at stays w same =
-      rw same (passed-told x y act store units seats below lost told.there told.are told.comes (subst (λ l. StaysBelow s.waits_below l n below) (at ∙ is) stays)
-      (subst (λ l. WakesBehind s.code n below l seats lost) is w))
+  pub told_shown : (x y : Seat) (act : Act) (store : Store) (units shown seats : List Seat) (kin : List Kin) (lost : Bool) → Told x y act store units → Woken y units seats kin lost → shown ≡ seats
+      → (length shown < 2 ^ 32) × PassTurns s.passed shown store
+  told_shown x y act store units shown seats kin lost told w same = rw same (told-seats x y act store units seats kin lost told.there told.are told.comes w)
 
   -- ---- there was no memory to tell it
 
-  abbrev pub run_untold : Logged → Store → Vec Seat Global → Inside
-  run_untold journal store seats = record s { journal = journal; store = store; seats = seats; lost = true }
+  abbrev pub run_untold : Logged → Store → Vec Seat Global → Vec Kin Global → Inside
+  run_untold journal store seats kin = record s { journal = journal; store = store; seats = seats; kin = kin; lost = true }
 
-  pub untold_all : (x y : Seat) (act : Act) (store : Store) (units : List Seat) (journal : Logged) (seats : Vec Seat Global)
+  pub untold_all : (x y : Seat) (act : Act) (store : Store) (units : List Seat) (journal : Logged) (seats : Vec Seat Global) (kin : Vec Kin Global)
       → slice_get s.seats.items n ≡ Some x → AreUnitsAt s.code s.store s.seats.items n units → ComesToAt s.code s.store x (deed.Untold act) store y → Noted s n act journal
-      → seats.items ≡ slice_set s.seats.items n y ++ units
-      → IsSound (run_untold journal store seats) × FindsNoMemory (run_of s) n (run_of (run_untold journal store seats))
-  untold_all (seat.Home strand) (seat.Away spent closed) act store units journal seats there are comes noted is =
+      → Forks s.kin.items n (length units) kin.items → seats.items ≡ slice_set s.seats.items n y ++ units
+      → IsSound (run_untold journal store seats kin) × FindsNoMemory (run_of s) n (run_of (run_untold journal store seats kin))
+  untold_all (seat.Home strand) (seat.Away spent closed) act store units journal seats kin there are comes noted forks is =
       let m = moved strand act store units there are comes.0.act_done in
       let at = is ∙ ap (λ (z : Seat). slice_set s.seats.items n z ++ units) (ap (λ b. seat.Away b closed) comes.1 ∙ ap (seat.Away true) comes.2) in (
-        untold_sound s n act store units m comes.0.live comes.0.memory refl journal seats noted at,
-        untold_is s n act store units m comes.0.live comes.0.memory refl journal seats noted at,
+        untold_sound s n act store units m comes.0.live comes.0.memory refl journal seats kin noted forks at,
+        untold_is s n act store units m comes.0.live comes.0.memory refl journal seats kin noted forks at,
       )
-  untold_all (seat.Home strand) (seat.Home t) act store units journal seats there are comes noted is = absurd comes
-  untold_all (seat.Away spent closed) y act store units journal seats there are comes noted is = absurd comes
+  untold_all (seat.Home strand) (seat.Home t) act store units journal seats kin there are comes noted forks is = absurd comes
+  untold_all (seat.Away spent closed) y act store units journal seats kin there are comes noted forks is = absurd comes
 
   -- ---- the act is not done
 

@@ -3,7 +3,7 @@ use Rattle.std.proofs.Common.{◌≡◌, ◌∙◌, inl, inr, ℕ, ◌+◌, ◌<
 use Rattle.std.specs.Prelude.{None, Some, IfSome, slice_get}
 use Rattle.std.specs.Option.{option_map}
 use Rattle.std.specs.declared.option.Option.{Option}
-use Rattle.a68_strand.specs.Ends.{HasEnded, RunEndsWith, fault, spent}
+use Rattle.a68_strand.specs.Ends.{RunEndsWith, fault, spent}
 use Rattle.a68_instructions.specs.Machine.{State, place_at}
 use Rattle.a68_exec.specs.Runs.{World, acted}
 use Rattle.a68_values.specs.declared.act.Act.{Act}
@@ -14,7 +14,7 @@ use Rattle.a68_world.specs.Turns.{GoesOn, ActsAs, EndsAt, IsSpentBy, IsOf, noted
 use Rattle.a68_world.specs.Worlds.{world_of, IsJournal}
 use Rattle.a68_world.specs.declared.status.StrandState.TheVariants.{Home, Lent, Spent}
 use Rattle.a68_world.specs.declared.status.StrandState.{StrandState}
-use Rattle.a68_world.proofs.Kin.{turn_open}
+use Rattle.a68_world.proofs.Ended.{turn_open}
 use Rattle.a68_strand.proofs.Machines.{entry_of}
 use Rattle.a68_world.proofs.Journals.{world_more, journal_more}
 use Rattle.a68_world.proofs.Showing.{is_end}

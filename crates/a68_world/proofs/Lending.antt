@@ -1,8 +1,6 @@
 -- A strand is taken out of the world, and is given back.
-use Rattle.std.proofs.Common.{◌≡◌, ◌∙◌, ◌⊎◌, inl, inr, ℕ, zero, suc, ◌+◌, ◌<◌, ◌≤◌, Bool, true, false, List, [], ◌∷◌, length, map, refl, ap, sym, subst, arith, true≢false, MatchBool}
-use Rattle.std.proofs.lemmas.Bool.{false≢true}
+use Rattle.std.proofs.Common.{◌≡◌, ◌∙◌, ◌⊎◌, inl, inr, ℕ, zero, suc, ◌<◌, ◌≤◌, Bool, true, false, List, length, map, refl, ap, sym, subst, arith, true≢false}
 use Rattle.std.proofs.Math.ListN.{length-set}
-use Rattle.std.specs.List.{list_all}
 use Rattle.std.specs.Prelude.{None, Some, IfSome, slice_get, slice_set, if◌then◌else◌}
 use Rattle.std.specs.Option.{is_some, option_map_or}
 use Rattle.std.specs.declared.alloc.Global.{Global}
@@ -21,12 +19,11 @@ use Rattle.a68_strand.specs.Ends.{RunEndsWith}
 use Rattle.a68_strand.specs.Strands.{standing}
 use Rattle.a68_strand.specs.declared.strand.Strand.{Strand}
 use Rattle.a68_values.specs.declared.kept.End.{End}
-use Rattle.a68_world.specs.Ending.{EndShown}
 use Rattle.a68_world.specs.Inside.{run_of, IsSound}
-use Rattle.a68_world.specs.Leases.{IsReplay, IsHeld, IsDueToGo, Lends, BackOf, TakesOut}
-use Rattle.a68_world.specs.Run.{Run, IsSoundRun, AllHome, IsNumber, EndsWithoutTurn, world}
-use Rattle.a68_world.specs.Seats.{Sits, SitsAt, AreSeated, all_closed_at, closed_at, closed_in, due_at, is_home, status_of}
-use Rattle.a68_world.specs.Turns.{IsReady, SetsEnd}
+use Rattle.a68_world.specs.Leases.{IsReplay, IsDueToGo, Lends, BackOf}
+use Rattle.a68_world.specs.Run.{AllHome, IsNumber, EndsWithoutTurn}
+use Rattle.a68_world.specs.Seats.{Sits, SitsAt, AreSeated, all_closed_at, closed_at, closed_in, due_at, status_of}
+use Rattle.a68_world.specs.Turns.{IsReady}
 use Rattle.a68_world.specs.Waking.{GoesOnAt, WakesAt, WakesBy}
 use Rattle.a68_world.specs.declared.seat.Seat.{Seat}
 use Rattle.a68_world.specs.declared.seat.Seat.TheVariants as seat
@@ -108,7 +105,7 @@ module _ (s : Inside) (sound : IsSound s) where
       store = sound.store;
       seats = rw placed (reseated s.code (now s).strands s.seats.items n (seat.Away false false) sound.seats (sym (turn-open s.code (now s) n ready.turn)));
       passed = sound.passed;
-      waits = sound.waits;
+      kin = sound.kin;
     }
 
     pub taken_is : Lends (run_of s) n strand (run_of taken)
@@ -173,7 +170,7 @@ module _ (s : Inside) (sound : IsSound s) where
       store = sound.store;
       seats = rw g.placed (reseated s.code (now s).strands s.seats.items strand.number y sound.seats g.sits);
       passed = sound.passed;
-      waits = sound.waits;
+      kin = sound.kin;
     }
 
     status-given : (y : Seat) (seats : Vec Seat Global) → seats.items ≡ slice_set s.seats.items strand.number y → map status_of seats.items ≡ slice_set (map status_of s.seats.items) strand.number (status_of y)

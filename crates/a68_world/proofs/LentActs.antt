@@ -1,28 +1,23 @@
 -- A strand that is lent, and its act.
-use Rattle.std.proofs.Common.{◌≡◌, ◌∙◌, ◌⊎◌, inl, inr, ℕ, ◌+◌, ◌<◌, ◌≤◌, ◌^◌, Bool, true, false, List, [], ◌∷◌, ◌++◌, length, length-append, map, refl, ap, sym, subst, arith, true≢false, MatchBool, MatchOption}
+use Rattle.std.proofs.Common.{◌≡◌, ◌∙◌, ℕ, ◌<◌, ◌≤◌, Bool, true, false, List, ◌++◌, length, refl, ap, sym, subst, true≢false, MatchBool, MatchOption}
 use Rattle.std.proofs.lemmas.Bool.{false≢true}
 use Rattle.std.specs.List.{list_all}
-use Rattle.std.specs.Prelude.{◌||◌, None, Some, Ok, slice_get, slice_set}
+use Rattle.std.specs.Prelude.{None, Some, Ok, slice_get, slice_set}
 use Rattle.std.specs.Option.{option_map, option_map_or}
 use Rattle.std.specs.declared.alloc.Global.{Global}
 use Rattle.std.specs.declared.option.Option.{Option}
 use Rattle.std.specs.declared.vec.Vec.{Vec}
-use Rattle.std.proofs.Math.ListN.{length-set}
-use Rattle.a68_acts.specs.Does.{did, refused, does}
+use Rattle.a68_acts.specs.Does.{refused, does}
 use Rattle.a68_acts.specs.Store.{Store}
 use Rattle.a68_acts.specs.declared.want.Reply.{Reply}
-use Rattle.a68_acts.specs.declared.want.Want.{Want}
-use Rattle.a68_code.specs.declared.code.Code.{Code}
-use Rattle.a68_exec.specs.Runs.{World, has_closed, is_closed, is_passive, woken}
+use Rattle.a68_exec.specs.Runs.{has_closed}
 use Rattle.a68_instructions.specs.Bodies.{stance_in}
 use Rattle.a68_instructions.specs.Machine.{State, asked, replied, replied_in, settle, told_by}
 use Rattle.a68_instructions.specs.Machine as machine
 use Rattle.a68_instructions.specs.declared.ask.Ask.{Ask}
 use Rattle.a68_instructions.specs.declared.ask.Ask.TheVariants as ask
 use Rattle.a68_instructions.specs.declared.ask.Stance.{Stance}
-use Rattle.a68_instructions.specs.declared.ask.Stance.TheVariants.{Idle, Asking, Failed, Waits, Closed}
-use Rattle.a68_instructions.specs.declared.ask.Waiting.{Waiting}
-use Rattle.a68_strand.specs.Ends.{fault_of}
+use Rattle.a68_instructions.specs.declared.ask.Stance.TheVariants.{Asking, Waits}
 use Rattle.a68_strand.specs.Strands.{standing}
 use Rattle.a68_strand.specs.declared.strand.Strand.{Strand}
 use Rattle.a68_values.specs.Logs.{Logged}
@@ -32,28 +27,26 @@ use Rattle.a68_values.specs.declared.kept.End.{End}
 use Rattle.a68_values.specs.declared.kept.End.TheVariants as ends
 use Rattle.a68_world.specs.Ending.{end_asked}
 use Rattle.a68_world.specs.Inside.{run_of, IsSound}
-use Rattle.a68_world.specs.Leases.{IsHeld, IsReplay, IsIdle, Replies, ErrOf, ActOf, DoneWith, WakesIf, BoundsBy, closes_by, waits_by}
-use Rattle.a68_world.specs.Run.{IsNumber, world}
-use Rattle.a68_world.specs.Seats.{Sits, SitsHere, is_home, status_of, turn_shown}
-use Rattle.a68_world.specs.Stepping.{AreUnits, AsksOther, DoneFor, Meets, units_begun}
-use Rattle.a68_world.specs.Turns.{GoesOn, IsReadyAs, IsDueAs, IsOtherDueAs, ActsAs, EndsAt, EndsHereAs, IsLeftUndoneAs}
-use Rattle.a68_world.specs.Waking.{WaitBelow, Wakes}
+use Rattle.a68_world.specs.Leases.{IsHeld, ActOf, DoneWith, closes_by}
+use Rattle.a68_world.specs.Kin.{AreKin, Forks, WakesBehind}
+use Rattle.a68_world.specs.Seats.{Sits, SitsHere, is_home, turn_shown}
+use Rattle.a68_world.specs.Stepping.{AreUnits, Meets, units_begun}
+use Rattle.a68_world.specs.Turns.{GoesOn, IsReadyAs, IsDueAs, EndsAt}
+use Rattle.a68_world.specs.Waking.{Wakes}
+use Rattle.a68_world.specs.declared.kin.Kin.{Kin}
 use Rattle.a68_world.specs.declared.seat.Seat.{Seat}
 use Rattle.a68_world.specs.declared.seat.Seat.TheVariants as seat
-use Rattle.a68_world.specs.declared.status.StrandState.{StrandState}
 use Rattle.a68_world.specs.declared.status.StrandState.TheVariants as status
 use Rattle.a68_world.specs.declared.world.World.TheInside.{Inside}
 use Rattle.a68_world.proofs.Behind as b
 use Rattle.a68_world.proofs.Behind.{Moved, Noted, now, many_seats}
 use Rattle.a68_world.proofs.Kept.{ended_keep, lost_keep}
-use Rattle.a68_world.proofs.Outcomes.{EndsBy, all_home_at, number_of, seat_lent, told_acts, told_long, told_seats, told_sit, told_sound}
-use Rattle.a68_world.proofs.Places.{get_front, set_same, length_map}
+use Rattle.a68_world.proofs.Outcomes.{EndsBy, all_home_at, number_of, seat_lent, told_acts, told_long, told_sit, told_sound}
+use Rattle.a68_world.proofs.Places.{get_front, set_same}
 use Rattle.a68_world.proofs.Replays.{stands_awake}
-use Rattle.a68_world.proofs.Rousing.{none_wakes}
 use Rattle.a68_world.proofs.Showing.{asking, next_fault, shown, turn_sits}
-use Rattle.a68_world.proofs.Standing.{asking_as, due_other_as, ends_as}
-use Rattle.a68_world.proofs.Steady.{steady_more, steady_run}
-use Rattle.a68_world.proofs.Telling.{behind_live, closes_behind, waits_behind}
+use Rattle.a68_world.proofs.Standing.{asking_as, ends_as}
+use Rattle.a68_world.proofs.Telling.{closes_behind}
 
 module _ (s : Inside) (sound : IsSound s) (strand : Strand) (held : IsHeld (run_of s) strand) where
   -- one that does not wait stands as the machine has it
@@ -138,31 +131,16 @@ module _ (s : Inside) (sound : IsSound s) (strand : Strand) (held : IsHeld (run_
           ∙ sym (ap (λ o. option_map_or (λ (x : State). has_closed x.stance) o false) (b.there_next s strand.number act store units moved)),
     )
 
-    waits-below : (below : ℕ) → BoundsBy (waits_by strand.about.waiting told) s.waits_below strand.number below → WaitBelow below (b.all s strand.number act store units moved)
-    waits-below below bounds =
-        b.wait_all s strand.number act store units moved below bounds.0
-        (λ f c e. bounds.1 (waits_behind s.code (standing strand) strand.about.waiting told f c (sym (ap (λ (x : State). x.stance) behind-is) ∙ e)))
-
     abbrev pub lent_seats : Bool → List Seat
     lent_seats closed = slice_set s.seats.items strand.number (seat.Away false closed) ++ units
 
-    wakes : (closed : Bool) → closed ≡ closes_by strand.about.waiting told → (seats : List Seat) (below : ℕ) (lost : Bool)
-        → BoundsBy (waits_by strand.about.waiting told) s.waits_below strand.number below → (may : Bool) → may ≡ (closes_by strand.about.waiting told || waits_by strand.about.waiting told)
-        → WakesIf may s.code below (lent_seats closed) seats lost → Wakes s.code (b.all s strand.number act store units moved) (lent_seats closed) seats lost
-    wakes closed e seats below lost bounds true is w =
+    wakes : (closed : Bool) → closed ≡ closes_by strand.about.waiting told → (grown kin : List Kin) (seats : List Seat) (lost : Bool) → Forks s.kin.items strand.number (length units) grown
+        → WakesBehind s.code strand.number grown kin (lent_seats closed) seats lost
+        → Wakes s.code (b.all s strand.number act store units moved) (lent_seats closed) seats lost × AreKin kin (b.all s strand.number act store units moved)
+    wakes closed e grown kin seats lost forks w =
         w (b.all s strand.number act store units moved) (told_sit s strand.number act store units moved (seat.Away false closed) refl (mine closed e))
-        (told_long s strand.number act store units moved (seat.Away false closed) refl (mine closed e)) (b.rest s strand.number act store units moved) (waits-below below bounds)
-    wakes closed e seats below lost bounds false is w =
-        let parts = neither (closes_by strand.about.waiting told) (waits_by strand.about.waiting told) (sym is) in
-        let live : is_passive (settle s.code (replied s.code (standing strand) told)).stance ≡ false =
-        ap (λ (x : State). is_passive x.stance) behind-is ∙ behind_live s.code (standing strand) strand.about.waiting told parts.0 parts.1 in
-        rw (w.0, w.1) (none_wakes s.code (b.all s strand.number act store units moved) (lent_seats closed)
-        (told_sit s strand.number act store units moved (seat.Away false closed) refl (mine closed e)) (told_long s strand.number act store units moved (seat.Away false closed) refl (mine closed e))
-        (b.live_none s strand.number act store units moved live))
-      where
-        neither : (x y : Bool) → (x || y) ≡ false → (x ≡ false) × (y ≡ false)
-        neither true y e = absurd (true≢false e)
-        neither false y e = (refl, e)
+        (told_long s strand.number act store units moved (seat.Away false closed) refl (mine closed e)) (b.rest s strand.number act store units moved)
+        (b.kin_all s strand.number act store units moved grown forks) (b.only_behind s strand.number act store units moved)
 
     -- not every strand stands in the world
     parted : (seats : List Seat) (closed : Bool) → slice_get seats strand.number ≡ Some (seat.Away false closed) → EndsBy seats store s.end
@@ -172,23 +150,23 @@ module _ (s : Inside) (sound : IsSound s) (strand : Strand) (held : IsHeld (run_
         by true e = absurd (false≢true (all_home_at seats e strand.number (seat.Away false closed) there))
         by false e = rw e r.goes.unended
 
-    abbrev pub run_lent : Logged → Vec Seat Global → (below : ℕ) → Bool → Inside
-    run_lent journal seats below lost = record s { journal = journal; store = store; seats = seats; waits_below = below; lost = lost }
+    abbrev pub run_lent : Logged → Vec Seat Global → Vec Kin Global → Bool → Inside
+    run_lent journal seats kin lost = record s { journal = journal; store = store; seats = seats; kin = kin; lost = lost }
 
-    pub lent_acts : (closed may lost : Bool) (placed : List Seat) (journal : Logged) (seats : Vec Seat Global) (below : ℕ) → closed ≡ closes_by strand.about.waiting told
-        → may ≡ (closes_by strand.about.waiting told || waits_by strand.about.waiting told) → Noted s strand.number act journal
-        → placed ≡ slice_set s.seats.items strand.number (seat.Away false closed) ++ units → BoundsBy (waits_by strand.about.waiting told) s.waits_below strand.number below
-        → WakesIf may s.code below placed seats.items lost
-        → IsSound (run_lent journal seats below lost) × ActOf (run_of s) strand (Ok told) (run_of (run_lent journal seats below lost))
-    lent_acts closed may lost placed journal seats below e is noted at bounds w =
-        let woke = wakes closed e seats.items below lost bounds may is (subst (λ l. WakesIf may s.code below l seats.items lost) at w) in
+    pub lent_acts : (closed lost : Bool) (placed : List Seat) (journal : Logged) (seats : Vec Seat Global) (grown : List Kin) (kin : Vec Kin Global) → closed ≡ closes_by strand.about.waiting told
+        → Noted s strand.number act journal → placed ≡ slice_set s.seats.items strand.number (seat.Away false closed) ++ units → Forks s.kin.items strand.number (length units) grown
+        → WakesBehind s.code strand.number grown kin.items placed seats.items lost
+        → IsSound (run_lent journal seats kin lost) × ActOf (run_of s) strand (Ok told) (run_of (run_lent journal seats kin lost))
+    lent_acts closed lost placed journal seats grown kin e noted at forks w =
+        let both = wakes closed e grown kin.items seats.items lost forks (subst (λ l. WakesBehind s.code strand.number grown kin.items l seats.items lost) at w) in
+        let woke = both.0 in
         let there : slice_get (lent_seats closed) strand.number ≡ Some (seat.Away false closed) =
         get_front (slice_set s.seats.items strand.number (seat.Away false closed)) units strand.number (seat.Away false closed)
         (set_same s.seats.items strand.number moved.at (seat.Away false closed) moved.there) in
         let none = parted seats.items closed (woke.lent strand.number closed there) in (
-          told_sound s strand.number act store units moved (seat.Away false closed) refl (mine closed e) journal seats below lost s.end noted (waits-below below bounds) woke none,
+          told_sound s strand.number act store units moved (seat.Away false closed) refl (mine closed e) journal seats kin lost s.end noted both.1 woke none,
           (
-            told_acts s strand.number act store units moved (seat.Away false closed) refl (mine closed e) journal seats below lost s.end noted (waits-below below bounds) woke none,
+            told_acts s strand.number act store units moved (seat.Away false closed) refl (mine closed e) journal seats kin lost s.end noted both.1 woke none,
             record {
               want = r.done.want;
               act = act;
@@ -210,7 +188,7 @@ ended_sound s sound n e goes at = record {
   store = sound.store;
   seats = sound.seats;
   passed = sound.passed;
-  waits = sound.waits;
+  kin = sound.kin;
 }
 
 pub lost_sound : (s : Inside) → IsSound s → GoesOn (run_of s) → IsSound (record s { lost = true })
@@ -220,7 +198,7 @@ lost_sound s sound goes = record {
   store = sound.store;
   seats = sound.seats;
   passed = sound.passed;
-  waits = sound.waits;
+  kin = sound.kin;
 }
 
 -- the act meets a fault

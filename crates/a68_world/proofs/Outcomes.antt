@@ -1,7 +1,7 @@
 -- What an act of a strand makes of the run.
 use Rattle.std.proofs.Common.{◌≡◌, ◌∙◌, ◌⊎◌, inl, inr, ℕ, zero, suc, ◌<◌, ◌≤◌, Bool, true, false, List, [], ◌∷◌, ◌++◌, length, length-append, map, refl, ap, sym, subst, arith, true≢false}
 use Rattle.std.proofs.lemmas.Bool.{false≢true}
-use Rattle.std.specs.Prelude.{◌&&◌, ◌||◌, None, Some, MatchBool, slice_get, slice_set, if◌then◌else◌}
+use Rattle.std.specs.Prelude.{◌&&◌, None, Some, MatchBool, slice_get, slice_set, if◌then◌else◌}
 use Rattle.std.specs.Option.{option_map_or}
 use Rattle.std.specs.declared.alloc.Global.{Global}
 use Rattle.std.specs.declared.option.Option.{Option}
@@ -11,27 +11,28 @@ use Rattle.a68_acts.specs.Does.{did, does}
 use Rattle.a68_acts.specs.Store.{Store}
 use Rattle.a68_code.specs.declared.code.Code.{Code}
 use Rattle.a68_exec.proofs.Alive.{active}
-use Rattle.a68_exec.proofs.Settled.{settle_rests}
-use Rattle.a68_strand.proofs.Waking.{none_woken, goes_open, goes_waits, woken_still}
+use Rattle.a68_strand.proofs.Waking.{goes_open, goes_waits}
 use Rattle.a68_instructions.specs.Bodies.{stance_in}
-use Rattle.a68_instructions.specs.Machine.{State, settle, replied, next_state}
+use Rattle.a68_instructions.specs.Machine.{State, settle, replied}
 use Rattle.a68_instructions.specs.declared.ask.Ask.{Ask}
 use Rattle.a68_exec.specs.Runs.{World, woken, woken_in, has_closed, is_closed, is_passive, all_closed}
 use Rattle.a68_heights.specs.Room.{KeepsRoom}
 use Rattle.a68_strand.specs.Strands.{standing, HasSettled, TellsNot}
 use Rattle.a68_instructions.specs.declared.ask.Stance.{Stance}
-use Rattle.a68_instructions.specs.declared.ask.Stance.TheVariants.{Idle, Asking, Failed, Waits, Closed}
+use Rattle.a68_instructions.specs.declared.ask.Stance.TheVariants.{Idle, Waits}
 use Rattle.a68_strand.specs.declared.strand.Strand.{Strand}
 use Rattle.a68_values.specs.Logs.{Logged}
 use Rattle.a68_values.specs.declared.act.Act.{Act}
 use Rattle.a68_values.specs.declared.kept.End.{End}
 use Rattle.a68_world.specs.Ending.{EndShown}
 use Rattle.a68_world.specs.Inside.{run_of, IsSound}
+use Rattle.a68_world.specs.Kin.{AreKin, Forks, WakesBehind}
 use Rattle.a68_world.specs.Run.{AllHome, IsNumber, EndsWithoutTurn, world}
-use Rattle.a68_world.specs.Seats.{Sits, SitsAt, SitsHere, AreSeated, AllSit, is_home, status_of, closed_in, closed_at, due_at, may_wake}
+use Rattle.a68_world.specs.Seats.{Sits, SitsAt, SitsHere, AreSeated, AllSit, is_home, status_of}
 use Rattle.a68_world.specs.Stepping.{IsNewSeat}
 use Rattle.a68_world.specs.Turns.{IsReadyAs, IsDueAs, ActsAs, GoesOnIn, IsSpentBy, FindsNoMemory, TakesBehind}
-use Rattle.a68_world.specs.Waking.{IsReleased, IsSpentAt, StaysBelow, WaitBelow, Wakes, WakesBehind}
+use Rattle.a68_world.specs.Waking.{IsReleased, IsSpentAt, Wakes}
+use Rattle.a68_world.specs.declared.kin.Kin.{Kin}
 use Rattle.a68_world.specs.declared.seat.Seat.{Seat}
 use Rattle.a68_world.specs.declared.seat.Seat.TheVariants as seat
 use Rattle.a68_world.specs.declared.status.StrandState.{StrandState}
@@ -42,7 +43,7 @@ use Rattle.a68_world.proofs.Behind.{Moved, Noted, now, many_seats, all_sit}
 use Rattle.a68_world.proofs.Kept.{none_spent, world_behind, acts_keep, spent_keep}
 use Rattle.a68_world.proofs.Closing.{closed_on}
 use Rattle.a68_world.proofs.Places.{get_mapped, get_map, get_front, get_other, parted, set_same, is_there, is_within, length_map}
-use Rattle.a68_world.proofs.Rousing.{closed_same, all_closed_same, woke_first, not_due}
+use Rattle.a68_world.proofs.Forking.{kin_woken}
 use Rattle.a68_world.proofs.Showing.{AllAtHome, end_seen}
 use Rattle.a68_world.proofs.Wanting.{takes_behind}
 use Rattle.std.specs.List.{list_all}
@@ -85,10 +86,6 @@ both-true : (a b : Bool) → (a && b) ≡ true → (a ≡ true) × (b ≡ true)
 both-true true b e = (refl, e)
 both-true false b e = absurd (false≢true e)
 
-or-false : (a b : Bool) → (a || b) ≡ false → (a ≡ false) × (b ≡ false)
-or-false true b e = absurd (true≢false e)
-or-false false b e = (refl, e)
-
 -- one strand stands elsewhere once it goes on
 waits-no-more : (code : Code) (all : List State) (st : State) (f c : ℕ) → st.stance ≡ Waits f c → all_closed all f c ≡ true → woken code all st ≡ st → ⊥
 waits-no-more code all st f c waits closed same =
@@ -97,20 +94,6 @@ waits-no-more code all st f c waits closed same =
     let live : is_passive (settle code (record st { at = suc st.at; stance = Idle })).stance ≡ false = active code (record st { at = suc st.at; stance = Idle }) refl in
     let passive : is_passive st.stance ≡ true = ap is_passive waits in
     true≢false (sym passive ∙ ap (λ (x : State). is_passive x.stance) (sym same ∙ woke) ∙ live)
-
--- one that waits once those that are due are woken has waited before
-waits-before : (code : Code) (all : List State) (st : State) (f c : ℕ) → next_state code st ≡ None → (woken code all st).stance ≡ Waits f c → (a : ℕ) × (b : ℕ) × (st.stance ≡ Waits a b)
-waits-before code all st f c none w = by st.stance refl
-  where
-    same : ((a b : ℕ) → st.stance ≡ Waits a b → ⊥) → st.stance ≡ Waits f c
-    same no_wait = sym (ap (λ (x : State). x.stance) (woken_still code all st none (λ a b e. absurd (no_wait a b e)))) ∙ w
-
-    by : (m : Stance) → st.stance ≡ m → (a : ℕ) × (b : ℕ) × (st.stance ≡ Waits a b)
-    by (Waits a b) e = (a, b, e)
-    by Idle e = (f, c, same (λ a b g. absurd (cc (e, g))))
-    by (Asking want wait) e = (f, c, same (λ a b g. absurd (cc (e, g))))
-    by (Failed why) e = (f, c, same (λ a b g. absurd (cc (e, g))))
-    by Closed e = (f, c, same (λ a b g. absurd (cc (e, g))))
 
 -- ---- whether every strand stands in the world
 
@@ -193,10 +176,10 @@ module _ (s : Inside) (n : ℕ) (act : Act) (store : Store) (units : List Seat) 
     pub told_long : length told_seats ≡ length (b.all s n act store units m)
     told_long = b.long s n act store units m y
 
-    module _ (journal : Logged) (seats : Vec Seat Global) (below : ℕ) (lost : Bool) (end : Option End) (noted : Noted s n act journal) (waits : WaitBelow below (b.all s n act store units m))
+    module _ (journal : Logged) (seats : Vec Seat Global) (kin : Vec Kin Global) (lost : Bool) (end : Option End) (noted : Noted s n act journal) (are : AreKin kin.items (b.all s n act store units m))
         (w : Wakes s.code (b.all s n act store units m) told_seats seats.items lost) (ends : EndsBy seats.items store end) where
       abbrev pub told_run : Inside
-      told_run = record s { journal = journal; store = store; seats = seats; waits_below = below; lost = lost; end = end }
+      told_run = record s { journal = journal; store = store; seats = seats; kin = kin; lost = lost; end = end }
 
       told-world : world (run_of told_run) ≡ b.behind s n act store units m
       told-world = world_behind (run_of s) (run_of told_run) n act (b.behind s n act store units m) refl noted.items (b.next_is s n act store units m)
@@ -237,12 +220,6 @@ module _ (s : Inside) (n : ℕ) (act : Act) (store : Store) (units : List Seat) 
                 let same : woken s.code (b.all s n act store units m) r.st ≡ r.st = cc in
                 waits-no-more s.code (b.all s n act store units m) r.st r.first r.count r.waits r.closed same;
           }
-
-      waits-behind : WaitBelow below (map (woken s.code (b.all s n act store units m)) (b.all s n act store units m))
-      waits-behind k x f c e v =
-          let y = get_mapped (woken s.code (b.all s n act store units m)) (b.all s n act store units m) k x e in
-          let before = waits-before s.code (b.all s n act store units m) y.0 f c (b.rest s n act store units m k y.0 y.1) (ap (λ (z : State). z.stance) y.2 ∙ v) in
-          waits k y.0 before.0 before.1 y.1 before.2
 
       -- a new strand does not wait
       born : (k : ℕ) → length s.seats.items ≤ k → IsReleased (b.all s n act store units m) k → ⊥
@@ -350,7 +327,7 @@ module _ (s : Inside) (n : ℕ) (act : Act) (store : Store) (units : List Seat) 
         store = sym (ap (λ (x : World). x.store) told-world);
         seats = told-seated;
         passed = λ k marked. ap (λ (x : World). is_closed x.strands k) told-world ∙ closed_on s.code (now s) n act (b.behind s n act store units m) (b.next_is s n act store units m) k (m.sound.passed k marked);
-        waits = subst (λ (x : World). WaitBelow below x.strands) (sym told-world) waits-behind;
+        kin = subst (λ (x : World). AreKin kin.items x.strands) (sym told-world) (kin_woken s.code (b.all s n act store units m) (b.rest s n act store units m) kin.items are);
       }
 
   -- ---- it stands in the world, and has been told
@@ -369,39 +346,19 @@ module _ (s : Inside) (n : ℕ) (act : Act) (store : Store) (units : List Seat) 
     abbrev pub home_seats : List Seat
     home_seats = slice_set s.seats.items n (seat.Home t) ++ units
 
-    -- where the strand has not closed, and is not due, none is
-    told-none : may_wake home_seats n ≡ false → map (woken s.code (b.all s n act store units m)) (b.all s n act store units m) ≡ b.all s n act store units m
-    told-none e =
-        let both = or-false (closed_at home_seats n) (due_at home_seats n) e in
-        let there = told_there (seat.Home t) home sits_told in
-        let open_ : has_closed (standing t).stance ≡ false = sym (ap (λ o. option_map_or closed_in o false) there) ∙ both.0 in
-        let same = closed_same s.code (b.all s n act store units m) (b.rest s n act store units m) 0 home_seats home_seats false
-        (woke_first s.code (b.all s n act store units m) (b.rest s n act store units m) home_seats (told_sit (seat.Home t) home sits_told) (told_long (seat.Home t) home sits_told)) in
-        none_woken s.code (now s).strands (b.new s n act store units m) n (b.next s n act store units m) (b.steady s n act store units m).calm (b.was_open s n act store units m)
-        (settle_rests s.code (replied s.code (standing m.strand) m.act_done.reply))
-        (sym (ap (λ (x : State). has_closed x.stance) told.state) ∙ open_)
-        (λ f c waits.
-        sym (all_closed_same s.code (b.all s n act store units m) (b.rest s n act store units m) home_seats same f c)
-        ∙ not_due home_seats n f c t there both.1 (ap (λ (x : State). x.stance) told.state ∙ waits))
-        (b.fresh s n act store units m)
-
-    pub home_waits : (below : ℕ) → StaysBelow s.waits_below home_seats n below → WaitBelow below (b.all s n act store units m)
-    home_waits below stays =
-        b.wait_all s n act store units m below stays.least (λ f c e. stays.own t f c (told_there (seat.Home t) home sits_told) (ap (λ (x : State). x.stance) told.state ∙ e))
-
     -- those that are due are woken
-    pub home_wakes : (seats : List Seat) (below : ℕ) (lost : Bool) → StaysBelow s.waits_below home_seats n below → WakesBehind s.code n below home_seats seats lost
-        → Wakes s.code (b.all s n act store units m) home_seats seats lost
-    home_wakes seats below lost stays w =
-        w (b.all s n act store units m) (told_sit (seat.Home t) home sits_told) (told_long (seat.Home t) home sits_told) (b.rest s n act store units m) (home_waits below stays) told-none
+    pub home_wakes : (kin new : List Kin) (seats : List Seat) (lost : Bool) → AreKin kin (b.all s n act store units m) → WakesBehind s.code n kin new home_seats seats lost
+        → Wakes s.code (b.all s n act store units m) home_seats seats lost × AreKin new (b.all s n act store units m)
+    home_wakes kin new seats lost are w =
+        w (b.all s n act store units m) (told_sit (seat.Home t) home sits_told) (told_long (seat.Home t) home sits_told) (b.rest s n act store units m) are (b.only_behind s n act store units m)
 
   -- ---- there was no memory to tell the strand
 
   module _ (live : is_passive (settle s.code (replied s.code (standing m.strand) m.act_done.reply)).stance ≡ false)
       (untold : TellsNot s.code m.strand.body m.strand.about.waiting m.act_done.reply) (home : status.Home ≡ m.where_) (journal : Logged) (seats : Vec Seat Global)
-      (noted : Noted s n act journal) (are : seats.items ≡ slice_set s.seats.items n (seat.Away true false) ++ units) where
+      (kin : Vec Kin Global) (noted : Noted s n act journal) (forks : Forks s.kin.items n (length units) kin.items) (are : seats.items ≡ slice_set s.seats.items n (seat.Away true false) ++ units) where
     abbrev pub untold_run : Inside
-    untold_run = record s { journal = journal; store = store; seats = seats; lost = true }
+    untold_run = record s { journal = journal; store = store; seats = seats; kin = kin; lost = true }
 
     untold-world : world (run_of untold_run) ≡ b.behind s n act store units m
     untold-world = world_behind (run_of s) (run_of untold_run) n act (b.behind s n act store units m) refl noted.items (b.next_is s n act store units m)
@@ -468,5 +425,5 @@ module _ (s : Inside) (n : ℕ) (act : Act) (store : Store) (units : List Seat) 
       store = sym (ap (λ (x : World). x.store) untold-world);
       seats = untold-seated;
       passed = λ k marked. ap (λ (x : World). is_closed x.strands k) untold-world ∙ closed_on s.code (now s) n act (b.behind s n act store units m) (b.next_is s n act store units m) k (m.sound.passed k marked);
-      waits = subst (λ l. WaitBelow s.waits_below l) (sym untold-strands) (b.wait_all s n act store units m s.waits_below (omega arith) (λ f c e. goes_waits (b.next s n act store units m).stance f c _ live e));
+      kin = subst (λ l. AreKin kin.items l) (sym untold-strands) (b.kin_all s n act store units m kin.items forks);
     }

@@ -92,3 +92,11 @@ module _ {A B : Type 0} (f : A → B) where
   map_set [] n x = refl
   map_set (y ∷ xs) zero x = refl
   map_set (y ∷ xs) (suc n) x = ap (λ (l : List B). f y ∷ l) (map_set xs n x)
+
+-- ---- numbers
+
+pub below_or_not : (k i : ℕ) → (k < i) ⊎ (i ≤ k)
+below_or_not zero zero = inr (omega arith)
+below_or_not zero (suc i) = inl (omega arith)
+below_or_not (suc k) zero = inr (omega arith)
+below_or_not (suc k) (suc i) = elim (below_or_not k i) [ inl p ↦ inl (omega (arith, p)) | inr p ↦ inr (omega (arith, p)) ]

@@ -1,21 +1,19 @@
 -- A strand that is lent is the replay of its own entries in every longer journal that has no further entry of it.
-use Rattle.std.proofs.Common.{◌≡◌, ◌∙◌, ◌⊎◌, inl, inr, ℕ, zero, suc, ◌+◌, Bool, true, false, List, [], ◌∷◌, ◌++◌, length, map, refl, ap, sym, subst, arith, true≢false}
+use Rattle.std.proofs.Common.{◌≡◌, ◌∙◌, inl, inr, ℕ, zero, suc, ◌+◌, Bool, true, false, List, [], ◌∷◌, ◌++◌, length, map, refl, ap, sym, subst, true≢false}
 use Rattle.std.proofs.lemmas.Bool.{false≢true}
 use Rattle.std.specs.Prelude.{⊤, ◌&&◌, None, Some, slice_get, slice_set, if◌then◌else◌}
 use Rattle.std.specs.Option.{option_map_or}
 use Rattle.std.specs.declared.option.Option.{Option}
 use Rattle.a68_acts.specs.Does.{did, does}
 use Rattle.a68_acts.specs.declared.want.Reply.{Reply}
-use Rattle.a68_acts.specs.declared.want.Want.{Want}
 use Rattle.a68_code.specs.declared.code.Code.{Code}
 use Rattle.a68_exec.proofs.Alive.{active}
-use Rattle.a68_exec.proofs.Settled.{settle_rests, settle_still}
-use Rattle.a68_exec.specs.Runs.{World, Machine, IfNext, opening, acted, begun, has_closed, is_closed, all_closed, woken, woken_in, strands_after}
+use Rattle.a68_exec.proofs.Settled.{settle_rests}
+use Rattle.a68_exec.specs.Runs.{World, Machine, IfNext, opening, acted, begun, has_closed, is_closed, all_closed, woken, woken_in}
 use Rattle.a68_heights.specs.Room.{KeepsRoom}
 use Rattle.a68_instructions.specs.Machine.{State, next_state, replied, settle}
 use Rattle.a68_instructions.specs.declared.ask.Stance.{Stance}
 use Rattle.a68_instructions.specs.declared.ask.Stance.TheVariants.{Idle, Asking, Failed, Waits, Closed}
-use Rattle.a68_instructions.specs.declared.ask.Ask.TheVariants as ask
 use Rattle.a68_strand.proofs.Waking.{all_same, begun_goes, goes_waits, woken_still}
 use Rattle.a68_strand.specs.Strands.{HasSettled, standing}
 use Rattle.a68_strand.specs.declared.strand.Strand.{Strand}

@@ -1,34 +1,31 @@
 -- What the calls for strands that are lent come to.
-use Rattle.std.proofs.Common.{◌≡◌, ◌∙◌, ◌⊎◌, inl, inr, ℕ, ◌+◌, ◌<◌, ◌≤◌, ◌^◌, Bool, true, false, List, [], ◌∷◌, length, map, refl, ap, sym, subst, arith, true≢false, MatchBool}
+use Rattle.std.proofs.Common.{◌≡◌, ◌∙◌, ℕ, ◌<◌, ◌^◌, Bool, true, false, List, length, map, refl, ap, sym, subst, arith, true≢false, MatchBool}
 use Rattle.std.proofs.lemmas.Bool.{false≢true}
 use Rattle.std.proofs.Math.ListN.{length-set}
-use Rattle.std.specs.Prelude.{None, Some, Ok, Err, IfSome, slice_get, slice_set, if◌then◌else◌}
+use Rattle.std.specs.Prelude.{None, Some, slice_get, slice_set, if◌then◌else◌}
 use Rattle.std.specs.Option.{is_some}
 use Rattle.std.specs.declared.alloc.Global.{Global}
 use Rattle.std.specs.declared.option.Option.{Option}
 use Rattle.std.specs.declared.vec.Vec.{Vec}
 use Rattle.a68_exec.specs.Runs.{is_closed}
-use Rattle.a68_strand.specs.Strands.{is_spent, standing}
 use Rattle.a68_strand.specs.declared.strand.Strand.{Strand}
 use Rattle.a68_values.specs.declared.kept.End.{End}
 use Rattle.a68_world.specs.Inside.{run_of, IsSound}
 use Rattle.a68_world.specs.Leases.{BackOf, IsReplay, LendOf, Loses, TakesOut}
 use Rattle.a68_world.specs.Passed.{PassTurns}
-use Rattle.a68_world.specs.Run.{IsNumber, world}
+use Rattle.a68_world.specs.Run.{IsNumber}
 use Rattle.a68_world.specs.Seats.{status_of}
 use Rattle.a68_world.specs.Turns.{IsReady}
 use Rattle.a68_world.specs.Waking.{WakesAt}
 use Rattle.a68_world.specs.declared.seat.Seat.{Seat}
 use Rattle.a68_world.specs.declared.seat.Seat.TheVariants as seat
-use Rattle.a68_world.specs.declared.status.StrandState.{StrandState}
 use Rattle.a68_world.specs.declared.status.StrandState.TheVariants as status
 use Rattle.a68_world.specs.declared.world.World.TheInside.{Inside}
-use Rattle.a68_world.proofs.Behind.{now, many_seats}
+use Rattle.a68_world.proofs.Behind.{now}
 use Rattle.a68_world.proofs.Lending.{Returned, back_is, back_sound, over_back, over_sound, reseated, returned, spent_back, spent_sound, taken_is, taken_sound}
 use Rattle.a68_world.proofs.Outcomes.{EndsBy, number_of}
 use Rattle.a68_world.proofs.Closing.{pass_turns}
-use Rattle.a68_world.proofs.Steady.{steady_run}
-use Rattle.a68_world.proofs.Standing.{few_seats, none_from}
+use Rattle.a68_world.proofs.Standing.{few_seats}
 
 pub picked : (b : Bool) (P Q : Type 0) → MatchBool b P Q → b ≡ true → P
 picked true P Q p e = p

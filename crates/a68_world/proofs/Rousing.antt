@@ -1,5 +1,5 @@
 -- Strands are woken one by one.
-use Rattle.std.proofs.Common.{◌≡◌, ◌∙◌, ◌⊎◌, inl, inr, ℕ, zero, suc, ◌+◌, ◌-◌, ◌<◌, ◌≤◌, Bool, true, false, List, length, map, refl, ap, sym, subst, arith, true≢false}
+use Rattle.std.proofs.Common.{◌≡◌, ◌∙◌, inl, inr, ℕ, zero, suc, ◌+◌, ◌-◌, ◌<◌, ◌≤◌, Bool, true, false, List, length, map, refl, ap, sym, subst, arith, true≢false}
 use Rattle.std.proofs.lemmas.Bool.{false≢true}
 use Rattle.std.specs.Prelude.{◌&&◌, None, Some, slice_get, slice_set, if◌then◌else◌}
 use Rattle.std.specs.Option.{option_map_or}
@@ -19,10 +19,10 @@ use Rattle.a68_instructions.specs.declared.ask.Waiting.{Waiting}
 use Rattle.a68_instructions.specs.Bodies.{stance_in}
 use Rattle.a68_strand.specs.declared.strand.Strand.{Strand}
 use Rattle.a68_world.specs.Seats.{Sits, SitsAt, SitsHere, AllSit, closed_in, closed_at, all_closed_at, due_in, due_at}
-use Rattle.a68_world.specs.Waking.{WaitBelow, seat_awaits, GoesOnAt, WakesBy, WakesAt, AllRest, IsReleased, IsSpentAt, Wakes}
+use Rattle.a68_world.specs.Waking.{seat_awaits, GoesOnAt, WakesBy, WakesAt, AllRest, IsReleased, IsSpentAt, Wakes}
 use Rattle.a68_world.specs.declared.seat.Seat.{Seat}
 use Rattle.a68_world.specs.declared.seat.Seat.TheVariants as seat
-use Rattle.a68_world.proofs.Places.{get_mapped, get_map, get_map_none, get_other, set_parted, set_same, is_there, is_within, is_beyond}
+use Rattle.a68_world.proofs.Places.{below_or_not, get_mapped, get_map, get_map_none, get_other, set_parted, set_same, is_there, is_within, is_beyond}
 
 -- ---- so many that have closed
 
@@ -59,25 +59,25 @@ one_closed seats m i all here_ = ap (λ b. b && all_closed_at seats (suc m) i) h
 -- ---- what is due
 
 -- a strand that shows units waits for them
-units-stance : (m : Stance) (f c : ℕ) → awaited_units m ≡ Some (f, c) → m ≡ Waits f c
-units-stance Idle f c e = absurd (cc)
-units-stance (Asking want x) f c e = absurd (cc)
-units-stance (Failed why) f c e = absurd (cc)
-units-stance Closed f c e = absurd (cc)
-units-stance (Waits a b) f c e =
+pub units_stance : (m : Stance) (f c : ℕ) → awaited_units m ≡ Some (f, c) → m ≡ Waits f c
+units_stance Idle f c e = absurd (cc)
+units_stance (Asking want x) f c e = absurd (cc)
+units_stance (Failed why) f c e = absurd (cc)
+units_stance Closed f c e = absurd (cc)
+units_stance (Waits a b) f c e =
     let pair : (a, b) ≡ (f, c) = cc in
     let p : a ≡ f = ap (λ (u : ℕ × ℕ). u.0) pair in
     let q : b ≡ c = ap (λ (u : ℕ × ℕ). u.1) pair in
     ap (λ x. Waits x b) p ∙ ap (λ x. Waits f x) q
 
-awaits-units : (a : Ask) (wait : Waiting) (f c : ℕ) → stance_in a wait ≡ Waits f c → awaits a ≡ true
-awaits-units ask.Waits wait f c e = refl
-awaits-units (ask.Want w) wait f c e = refl
-awaits-units (ask.Fault why place) wait f c e = absurd (cc)
-awaits-units ask.Closed wait f c e = absurd (cc)
-awaits-units ask.Ended wait f c e = absurd (cc)
-awaits-units ask.Runs wait f c e = absurd (cc)
-awaits-units ask.NoMemory wait f c e = absurd (cc)
+pub awaits_units : (a : Ask) (wait : Waiting) (f c : ℕ) → stance_in a wait ≡ Waits f c → awaits a ≡ true
+awaits_units ask.Waits wait f c e = refl
+awaits_units (ask.Want w) wait f c e = refl
+awaits_units (ask.Fault why place) wait f c e = absurd (cc)
+awaits_units ask.Closed wait f c e = absurd (cc)
+awaits_units ask.Ended wait f c e = absurd (cc)
+awaits_units ask.Runs wait f c e = absurd (cc)
+awaits_units ask.NoMemory wait f c e = absurd (cc)
 
 -- a strand that is due waits for units that have closed
 pub record Due (seats : List Seat) (strand : Strand) : Type 0 where
@@ -89,7 +89,7 @@ pub record Due (seats : List Seat) (strand : Strand) : Type 0 where
 due-strand : (seats : List Seat) (strand : Strand) (o : Option (ℕ × ℕ)) → awaited_units (standing strand).stance ≡ o
     → option_map_or (λ (units : ℕ × ℕ). all_closed_at seats units.0 units.1) o false ≡ true → Due seats strand
 due-strand seats strand None e t = absurd (false≢true t)
-due-strand seats strand (Some (f, c)) e t = record { first = f; count = c; waits = units-stance (standing strand).stance f c e; closed = t }
+due-strand seats strand (Some (f, c)) e t = record { first = f; count = c; waits = units_stance (standing strand).stance f c e; closed = t }
 
 pub due_home : (seats : List Seat) (strand : Strand) → due_in seats (seat.Home strand) ≡ true → Due seats strand
 due_home seats strand t = due-strand seats strand (awaited_units (standing strand).stance) refl t
@@ -107,7 +107,7 @@ due_awaits seats n x t e =
     let d = due_is seats n t in
     let some : Some x ≡ Some (seat.Home d.0) = sym e ∙ d.1 in
     let same : x ≡ seat.Home d.0 = cc in
-    rw same (awaits-units d.0.about.ask d.0.about.waiting d.2.first d.2.count d.2.waits)
+    rw same (awaits_units d.0.about.ask d.0.about.waiting d.2.first d.2.count d.2.waits)
 
 -- one that waits for units and is not due waits for some that have not closed
 pub not_due : (seats : List Seat) (n f c : ℕ) (strand : Strand) → slice_get seats n ≡ Some (seat.Home strand) → due_at seats n ≡ false → (standing strand).stance ≡ Waits f c
@@ -144,14 +144,16 @@ pub record Woke (code : Code) (all : List State) (old : List Seat) (i : ℕ) (se
   pub lent : (k : ℕ) (closed : Bool) → slice_get old k ≡ Some (seat.Away false closed) → slice_get seats k ≡ Some (seat.Away false closed)
   pub was_lent : (k : ℕ) (closed : Bool) → slice_get seats k ≡ Some (seat.Away false closed) → slice_get old k ≡ Some (seat.Away false closed)
 
-below-or-not : (k i : ℕ) → (k < i) ⊎ (i ≤ k)
-below-or-not zero zero = inr (omega arith)
-below-or-not zero (suc i) = inl (omega arith)
-below-or-not (suc k) zero = inr (omega arith)
-below-or-not (suc k) (suc i) = elim (below-or-not k i) [ inl p ↦ inl (omega (arith, p)) | inr p ↦ inr (omega (arith, p)) ]
-
 closed-found : (all : List State) (k : ℕ) (st : State) → slice_get all k ≡ Some st → is_closed all k ≡ has_closed st.stance
 closed-found all k st e = ap (λ o. option_map_or (λ (st : State). has_closed st.stance) o false) e
+
+-- each step keeps as many seats
+pub wakes_long : (code : Code) (n : ℕ) (old new : List Seat) (found : Bool) → WakesAt code n old new found → length new ≡ length old
+wakes_long code n old new found step = by (due_at old n) step
+  where
+    by : (b : Bool) → WakesBy b code n old new found → length new ≡ length old
+    by false s = ap (λ l. length l) s.0
+    by true s = ap (λ l. length l) s.4 ∙ length-set old n s.1
 
 module _ (code : Code) (all : List State) (settled : AllRest code all) where
   -- to be woken closes nothing
@@ -159,7 +161,7 @@ module _ (code : Code) (all : List State) (settled : AllRest code all) where
   closed_same i seats old lost w j = by (slice_get seats j) refl
     where
       past : (o : Option Seat) → slice_get seats j ≡ o → o ≡ None → is_closed all j ≡ false
-      past o e n = elim (below-or-not j (length all)) [
+      past o e n = elim (below_or_not j (length all)) [
         | inl p ↦ let x = is_there seats j (omega (arith, p, w.long)) in absurd (cc (x.1, e, n))
         | inr p ↦ ap (λ o. option_map_or (λ (st : State). has_closed st.stance) o false) (is_beyond all j p)
       ]
@@ -174,15 +176,15 @@ module _ (code : Code) (all : List State) (settled : AllRest code all) where
 
       by : (o : Option Seat) → slice_get seats j ≡ o → option_map_or closed_in o false ≡ is_closed all j
       by None e = sym (past None e refl)
-      by (Some (seat.Home strand)) e = elim (below-or-not j i) [
+      by (Some (seat.Home strand)) e = elim (below_or_not j i) [
         | inl p ↦ moved strand (w.woke j (seat.Home strand) p e)
         | inr p ↦ here_ strand (w.rest j (seat.Home strand) p e)
       ]
-      by (Some (seat.Away true closed)) e = elim (below-or-not j i) [
+      by (Some (seat.Away true closed)) e = elim (below_or_not j i) [
         | inl p ↦ let r : IsReleased all j × (closed ≡ false) = w.woke j (seat.Away true closed) p e in r.1 ∙ sym (closed-found all j r.0.st r.0.there ∙ ap has_closed r.0.waits)
         | inr p ↦ absurd (true≢false (w.rest j (seat.Away true closed) p e).0)
       ]
-      by (Some (seat.Away false closed)) e = elim (below-or-not j i) [
+      by (Some (seat.Away false closed)) e = elim (below_or_not j i) [
         | inl p ↦ w.woke j (seat.Away false closed) p e
         | inr p ↦ (w.rest j (seat.Away false closed) p e).1
       ]
@@ -205,7 +207,7 @@ module _ (code : Code) (all : List State) (settled : AllRest code all) where
   woke-still : (i : ℕ) (seats old : List Seat) (lost : Bool) → Woke code all old i seats lost → due_at seats i ≡ false → Woke code all old (suc i) seats lost
   woke-still i seats old lost w t = record {
     long = w.long;
-    woke = λ k x p e. elim (below-or-not k i) [ inl q ↦ w.woke k x q e | inr q ↦ here_ k x (omega (arith, p, q)) e ];
+    woke = λ k x p e. elim (below_or_not k i) [ inl q ↦ w.woke k x q e | inr q ↦ here_ k x (omega (arith, p, q)) e ];
     rest = λ k x p e. w.rest k x (omega (arith, p)) e;
     none = w.none;
     gone = w.gone;
@@ -281,7 +283,7 @@ module _ (code : Code) (all : List State) (settled : AllRest code all) where
         long = omega (arith, length-set seats i y, w.long);
         woke = λ k x p e. elim (set_parted seats i k y x e) [
           | inl q ↦ subst (λ j. Roused code all j x) (sym q.0) (subst (λ z. Roused code all i z) (sym q.1) new)
-          | inr q ↦ elim (below-or-not k i) [ inl b ↦ w.woke k x b q.1 | inr b ↦ absurd (q.0 (omega (arith, p, b))) ]
+          | inr q ↦ elim (below_or_not k i) [ inl b ↦ w.woke k x b q.1 | inr b ↦ absurd (q.0 (omega (arith, p, b))) ]
         ];
         rest = λ k x p e. elim (set_parted seats i k y x e) [
           | inl q ↦ absurd (omega (arith, p, q.0))
@@ -336,25 +338,29 @@ module _ (code : Code) (all : List State) (settled : AllRest code all) where
     was_lent = λ k closed e. e;
   }
 
-  pub woke_next : (i : ℕ) (begun old new : List Seat) (lost found : Bool) → Woke code all begun i old lost → WakesAt code i old new found → Woke code all begun (i + 1) new (if found then lost else true)
-  woke_next i begun old new lost found w step =
-      let next : suc i ≡ i + 1 = omega arith in
-      subst (λ j. Woke code all begun j new (if found then lost else true)) next (woke_on i begun old new lost found w step)
+  -- one that is due is released
+  not-released : (i : ℕ) (seats old : List Seat) (lost : Bool) → Woke code all old i seats lost → (IsReleased all i → ⊥) → due_at seats i ≡ false
+  not-released i seats old lost w none = by (due_at seats i) refl
+    where
+      by : (b : Bool) → due_at seats i ≡ b → due_at seats i ≡ false
+      by false e = e
+      by true e =
+          let d = due_is seats i e in
+          absurd (none (released seats i d.0 (w.rest i (seat.Home d.0) (omega arith) d.1) (closed_same i seats old lost w) d.2))
 
-  -- one that does not wait stays
-  still_here : (below k : ℕ) (strand : Strand) → WaitBelow below all → below ≤ k → Sits code all k strand → Sits code (map (woken code all) all) k strand
-  still_here below k strand waits high sits =
-      let same : woken code all (standing strand) ≡ standing strand =
-      woken_still code all (standing strand) (settled k (standing strand) sits.there)
-      (λ f c w. absurd (omega (arith, high, waits k (standing strand) f c sits.there w))) in
-      record { number = sits.number; there = get_map (woken code all) all k (standing strand) sits.there ∙ ap (λ (st : State). Some st) same; shows = sits.shows; room = sits.room }
+  -- none of so many is
+  woke-past : (m i : ℕ) (seats old : List Seat) (lost : Bool) → Woke code all old i seats lost → ((j : ℕ) → i ≤ j → j < i + m → IsReleased all j → ⊥) → Woke code all old (i + m) seats lost
+  woke-past zero i seats old lost w none = let same : i ≡ i + zero = omega arith in subst (λ j. Woke code all old j seats lost) same w
+  woke-past (suc m) i seats old lost w none =
+      let same : suc i + m ≡ i + suc m = omega arith in
+      let next : Woke code all old (suc i) seats lost = woke-still i seats old lost w (not-released i seats old lost w (none i (omega arith) (omega arith))) in
+      subst (λ j. Woke code all old j seats lost) same (woke-past m (suc i) seats old lost next (λ j low high. none j (omega (arith, low)) (omega (arith, high))))
 
-  pub woke_all : (seats old : List Seat) (i below : ℕ) (lost : Bool) → WaitBelow below all → ((k : ℕ) → k < length seats → i ≤ k → below ≤ k) → Woke code all old i seats lost
-      → Wakes code all old seats lost
-  woke_all seats old i below lost waits high w = record {
+  woke-all : (seats old : List Seat) (i : ℕ) (lost : Bool) → length seats ≤ i → Woke code all old i seats lost → Wakes code all old seats lost
+  woke-all seats old i lost high w = record {
     long = w.long;
-    seated = λ k x e. seated_by k x e;
-    spent = λ k e. (gone k e (below-or-not k i), w.gone k e);
+    seated = λ k x e. woke_by k x (w.woke k x (omega (arith, is_within seats k x e, high)) e);
+    spent = λ k e. ((w.woke k (seat.Away true e.0) (omega (arith, is_within seats k (seat.Away true e.0) e.1, high)) e.1).0, w.gone k e);
     lost = w.none;
     lent = w.lent;
     was_lent = w.was_lent;
@@ -363,44 +369,32 @@ module _ (code : Code) (all : List State) (settled : AllRest code all) where
       map-closed : (k : ℕ) → is_closed (map (woken code all) all) k ≡ is_closed all k
       map-closed k = closed_mapped code all settled k
 
-      here_by : (k : ℕ) (x : Seat) → below ≤ k → SitsHere code all k x → SitsAt code (map (woken code all) all) k x
-      here_by k (seat.Home strand) h p = still_here below k strand waits h p
-      here_by k (seat.Away spent closed) h p = p.1 ∙ sym (map-closed k)
-
       woke_by : (k : ℕ) (x : Seat) → Roused code all k x → SitsAt code (map (woken code all) all) k x
       woke_by k (seat.Home strand) r = r
       woke_by k (seat.Away true closed) r = r.1 ∙ sym (closed-found all k r.0.st r.0.there ∙ ap has_closed r.0.waits) ∙ sym (map-closed k)
       woke_by k (seat.Away false closed) r = r ∙ sym (map-closed k)
 
-      seated_by : (k : ℕ) (x : Seat) → slice_get seats k ≡ Some x → SitsAt code (map (woken code all) all) k x
-      seated_by k x e = elim (below-or-not k i) [
-        | inl p ↦ woke_by k x (w.woke k x p e)
-        | inr p ↦ here_by k x (high k (is_within seats k x e) p) (w.rest k x p e)
-      ]
+  -- where one at most is due, all have been woken once that one is
+  pub wakes_one : (p : ℕ) (old new : List Seat) (found : Bool) → AllSit code all old → length old ≡ length all → ((k : ℕ) → IsReleased all k → k ≡ p) → WakesAt code p old new found
+      → Wakes code all old new (if found then false else true)
+  wakes_one p old new found sit long only step = elim (below_or_not p (length old)) [ inl low ↦ within low | inr high ↦ beyond high ]
+    where
+      first : Woke code all old 0 old false
+      first = woke_first old sit long
 
-      gone : (k : ℕ) → IsSpentAt seats k → (k < i) ⊎ (i ≤ k) → IsReleased all k
-      gone k e (inl p) = (w.woke k (seat.Away true e.0) p e.1).0
-      gone k e (inr p) = absurd (true≢false (w.rest k (seat.Away true e.0) p e.1).0)
+      within : p < length old → Wakes code all old new (if found then false else true)
+      within low =
+          let none : Woke code all old (0 + p) old false = woke-past p 0 old old false first (λ j from to r. absurd (omega (arith, to, only j r))) in
+          let same_place : 0 + p ≡ p = omega arith in
+          let before : Woke code all old p old false = subst (λ j. Woke code all old j old false) same_place none in
+          let at : Woke code all old (suc p) new (if found then false else true) = woke_on p old old new false found before step in
+          let same : length new ≡ length old = wakes_long code p old new found step in
+          let behind : Woke code all old (suc p + (length old - suc p)) new (if found then false else true) = woke-past (length old - suc p) (suc p) new old (if found then false else true) at (λ j from to r. absurd (omega (arith, from, only j r))) in
+          woke-all new old (suc p + (length old - suc p)) (if found then false else true) (omega (arith, same, low)) behind
 
--- none is due
-pub none_wakes : (code : Code) (all : List State) (seats : List Seat) → AllSit code all seats → length seats ≡ length all → map (woken code all) all ≡ all → Wakes code all seats seats false
-none_wakes code all seats sit long same = record {
-  long = long;
-  seated = λ k x e. subst (λ (l : List State). SitsAt code l k x) (sym same) (sits k x (sit k x e));
-  spent = λ k e. absurd (true≢false (sit k (seat.Away true e.0) e.1).0);
-  lost = λ e. absurd (false≢true e);
-  lent = λ k closed e. e;
-  was_lent = λ k closed e. e;
-}
-  where
-    sits : (k : ℕ) (x : Seat) → SitsHere code all k x → SitsAt code all k x
-    sits k (seat.Home strand) p = p
-    sits k (seat.Away spent closed) p = p.1
-
--- each step keeps as many seats
-pub wakes_long : (code : Code) (n : ℕ) (old new : List Seat) (found : Bool) → WakesAt code n old new found → length new ≡ length old
-wakes_long code n old new found step = by (due_at old n) step
-  where
-    by : (b : Bool) → WakesBy b code n old new found → length new ≡ length old
-    by false s = ap (λ l. length l) s.0
-    by true s = ap (λ l. length l) s.4 ∙ length-set old n s.1
+      beyond : length old ≤ p → Wakes code all old new (if found then false else true)
+      beyond high =
+          let idle : due_at old p ≡ false = ap (λ o. option_map_or (due_in old) o false) (is_beyond old p high) in
+          let stays : WakesBy false code p old new found = subst (λ b. WakesBy b code p old new found) idle step in
+          let before : Woke code all old (0 + length old) old false = woke-past (length old) 0 old old false first (λ j from to r. absurd (omega (arith, to, only j r, high))) in
+          rw (stays.0, stays.1) (woke-all old old (0 + length old) false (omega arith) before)

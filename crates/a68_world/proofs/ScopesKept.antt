@@ -38,20 +38,20 @@ use Rattle.a68_values.specs.declared.plain.Routine.{Routine}
 use Rattle.a68_values.specs.declared.act.FaultKind.{FaultKind}
 use Rattle.a68_values.specs.declared.act.FaultKind.TheVariants as fault
 use Rattle.a68_values.specs.declared.chain.Environ.{Environ}
-use Rattle.a68_world.specs.Scopes.{ChainBelow, ItemsBelow, WantBelow, AskedBelow, AskBelow, DoingBelow, StanceBelow, ReplyBelow, StateBelow}
+use Rattle.a68_world.specs.Scopes.{ChainBelow, ItemsBelow, WantBelow, WaitsNot, AskedBelow, AskBelow, DoingBelow, StanceBelow, ReplyBelow, StateBelow}
 use Rattle.a68_world.proofs.Asked.{start-below, resumed-below}
 
 -- a strand in frames of such scopes, with such callers on its stack
 abbrev Stands : ℕ → State → Type 0
 Stands n st = ChainBelow n st.chain × ItemsBelow n st.stack.items
 
-ask-of : (n : ℕ) (w : Want) (wait : Waiting) → AskedBelow n w → AskBelow n w wait
-ask-of n (want.Enter outer scope slots) wait p = p
-ask-of n (want.Fork entrances) wait p = absurd p
-ask-of n _ wait p = tt
+ask-of : (n : ℕ) (w : Want) (wait : Waiting) → WaitsNot wait → AskedBelow n w → AskBelow n w wait
+ask-of n (want.Enter outer scope slots) wait free p = (p, free)
+ask-of n (want.Fork entrances) wait free p = absurd p
+ask-of n _ wait free p = free
 
 pub want-of : (n : ℕ) (w : Want) (wait : Waiting) → AskBelow n w wait → WantBelow n w
-want-of n (want.Enter outer scope slots) wait p = p
+want-of n (want.Enter outer scope slots) wait p = p.0
 want-of n _ wait p = tt
 
 failed : (n : ℕ) (st : State) (why : FaultKind) → Stands n st → StateBelow n (fails st why)
@@ -66,7 +66,7 @@ to-place n st at items p q = record { chain = p.0; items = q; stance = tt }
 follows-below : (n : ℕ) (st : State) (b : Bool) (items : List Item) (doing : Doing) → Stands n st → ItemsBelow n items → DoingBelow n doing → StateBelow n (follows st b items doing)
 follows-below n st true items (Yields v) p i q = record { chain = p.0; items = i; stance = tt }
 follows-below n st false items (Yields v) p i q = record { chain = p.0; items = i; stance = tt }
-follows-below n st b items (Asks w go) p i q = record { chain = p.0; items = i; stance = ask-of n w (waiting.Operation go) q }
+follows-below n st b items (Asks w go) p i q = record { chain = p.0; items = i; stance = ask-of n w (waiting.Operation go) tt q }
 follows-below n st b items (Meets why) p i q = record { chain = p.0; items = tt; stance = tt }
 
 -- what stands below values that are taken off
@@ -92,7 +92,7 @@ operates-below n modes st op k p = popped (pop_values k st.stack.items []) (popp
 
 enters-below : (n : ℕ) (st : State) (slots : ℕ) (chain : List Environ) → Stands n st → ChainBelow n chain → StateBelow n (enters st slots chain)
 enters-below n st slots [] p q = failed n st fault.Kind p
-enters-below n st slots (e ∷ chain) p q = record { chain = p.0; items = p.1; stance = omega (arith, q.0) }
+enters-below n st slots (e ∷ chain) p q = record { chain = p.0; items = p.1; stance = (omega (arith, q.0), tt) }
 
 yields_to-below : (n : ℕ) (st : State) (outwards : List Environ) (scope : ℕ) (o : Option Content) → Stands n st → ChainBelow n outwards
     → StateBelow n (yields_to st outwards scope o)
@@ -176,7 +176,7 @@ calls-below n texts st gives (Some (v ∷ vs, items)) p i = calling-below n st i
 
 enters_body-below : (n : ℕ) (st : State) (r : Routine) (ps : Unbound) (chain : List Environ) → Stands n st → ChainBelow n chain → StateBelow n (enters_body st r ps chain)
 enters_body-below n st r ps [] p q = failed n st fault.Kind p
-enters_body-below n st r ps (e ∷ outer) p q = record { chain = p.0; items = p.1; stance = omega (arith, q.0) }
+enters_body-below n st r ps (e ∷ outer) p q = record { chain = p.0; items = p.1; stance = (omega (arith, q.0), tt) }
 
 begins_body-below : (n : ℕ) (st : State) (o : Option RoutineEntrance) → Stands n st → StateBelow n (begins_body st o)
 begins_body-below n st None p = failed n st fault.Kind p
@@ -317,9 +317,9 @@ brings_room-below n (reply.Frame chain) h p = has_room-below n chain h p
 brings_room-below n _ h p = refl
 
 ask-more : (m n : ℕ) (w : Want) (wait : Waiting) → m ≤ n → AskBelow m w wait → AskBelow n w wait
-ask-more m n (want.Enter outer scope slots) wait h p = omega (arith, p)
+ask-more m n (want.Enter outer scope slots) wait h p = (omega (arith, h, p.0), p.1)
 ask-more m n (want.Fork entrances) wait h p = p
-ask-more m n _ wait h p = tt
+ask-more m n _ wait h p = p
 
 stance-more : (m n : ℕ) (x : Stance) → m ≤ n → StanceBelow m x → StanceBelow n x
 stance-more m n (Asking w wait) h p = ask-more m n w wait h p

@@ -43,6 +43,7 @@ use Rattle.a68_world.specs.Run.{RunBegins, EndsWithoutTurn, most_fuel, world}
 use Rattle.a68_world.specs.Scopes.{WantBelow, StanceBelow}
 use Rattle.a68_world.specs.Stepping.{AsksOther, IsAsking, IsAskingAt, BringsRoom, FewUnitsAt, units_asked}
 use Rattle.a68_world.specs.Turns.{GoesOn, IsReady, IsReadyAs, IsDue, IsDueAs, IsOtherDue, IsOtherDueAs, EndsAt, StandsAt, IsAble, FinishesRun}
+use Rattle.a68_world.specs.declared.kin.Kin.{Kin}
 use Rattle.a68_world.specs.declared.seat.Seat.{Seat}
 use Rattle.a68_world.specs.declared.seat.Seat.TheVariants as seat
 use Rattle.a68_world.specs.declared.status.StrandState.{StrandState}
@@ -51,6 +52,7 @@ use Rattle.a68_world.specs.declared.world.World.TheInside.{Inside}
 use Rattle.a68_world.specs.Seats.{Sits, SitsAt, SitsHere, AreSeated, AllSit, AreFirstSeats, is_home, status_of, turn_at, turn_shown}
 use Rattle.a68_world.proofs.Behind.{now, many_seats}
 use Rattle.a68_world.proofs.Entering.{RoomAfter, RoomBehind, does-room}
+use Rattle.a68_world.proofs.Forking.{kin_none}
 use Rattle.a68_world.proofs.Outcomes.{number_of}
 use Rattle.a68_world.proofs.Places.{get_mapped}
 use Rattle.a68_world.proofs.ScopesKept.{brings_room-below, want-of}
@@ -69,17 +71,18 @@ forks-go store entrances e = by (nat_lt most_strands (store.strands + length ent
 -- ---- the beginning
 
 -- what the code makes at the start
-pub record Made (code : Code) (fuel : ℕ) (journal : Logged) (store : Store) (seats : Vec Seat Global) (marks : List ℕ) (end : Option End) : Type 0 where
+pub record Made (code : Code) (fuel : ℕ) (journal : Logged) (store : Store) (seats : Vec Seat Global) (kin : List Kin) (marks : List ℕ) (end : Option End) : Type 0 where
   pub items : journal.items ≡ []
   pub room : journal.room ≡ fuel
   pub store_is : store ≡ opening_store
   pub first : AreFirstSeats code seats.items
+  pub kin_is : length kin ≡ 1
   pub unmarked : (n : ℕ) → is_marked marks n ≡ false
   pub end_is : EndShown seats.items store end
 
-module _ (code : Code) (fuel : ℕ) (journal : Logged) (store : Store) (seats : Vec Seat Global) (marks : List ℕ) (end : Option End) (m : Made code fuel journal store seats marks end) where
+module _ (code : Code) (fuel : ℕ) (journal : Logged) (store : Store) (seats : Vec Seat Global) (kin : Vec Kin Global) (marks : List ℕ) (end : Option End) (m : Made code fuel journal store seats kin.items marks end) where
   abbrev pub made_run : Inside
-  made_run = record { code = code; fuel = fuel; journal = journal; store = store; seats = seats; passed = marks; waits_below = 0; lost = false; end = end }
+  made_run = record { code = code; fuel = fuel; journal = journal; store = store; seats = seats; passed = marks; kin = kin; lost = false; end = end }
 
   made-world : world (run_of made_run) ≡ opening code
   made-world = ap (λ (es : List Entry). world (record { code = code; fuel = fuel; entries = es; status = map status_of seats.items; lost = false; end = end })) m.items
@@ -150,7 +153,7 @@ module _ (code : Code) (fuel : ℕ) (journal : Logged) (store : Store) (seats : 
     store = rw made-world m.store_is;
     seats = rw made-world made-seated;
     passed = λ k marked. absurd (true≢false (sym marked ∙ m.unmarked k));
-    waits = rw made-world (opening_waits code);
+    kin = rw made-world (kin_none kin.items (opening code).strands m.kin_is (λ k st f c e w. absurd (omega (arith, opening_waits code k st f c e w))));
   }
 
 -- ---- between two turns

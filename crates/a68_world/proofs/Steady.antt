@@ -3,6 +3,7 @@ use Rattle.std.proofs.Common.{◌≡◌, ◌∙◌, ◌⊎◌, inl, inr, ℕ, ze
 use Rattle.std.specs.Prelude.{⊤, None, Some, slice_get, slice_set, replicate, nat_lt, int_lt, ◌+ℤ◌, if◌then◌else◌}
 use Rattle.std.specs.Option.{option_and_then, option_map_or}
 use Rattle.std.proofs.Math.ListN.{length-set}
+use Rattle.std.proofs.lemmas.Bool.{false≢true}
 use Rattle.std.specs.declared.option.Option.{Option}
 use Rattle.a68_acts.specs.Does.{Outcome, did, refuses, waits, does, entered, bound, looked, made, within_count, is_closed, cells_from, count_in, raised, lowered, is_int}
 use Rattle.a68_acts.specs.Store.{Store, Frame, standard_frame, chain_of, most_counted, most_printed, most_strands, counted, slot_weight}
@@ -15,7 +16,7 @@ use Rattle.a68_layout.specs.declared.types.Plan.{Plan}
 use Rattle.a68_exec.proofs.Alive.{active}
 use Rattle.a68_exec.proofs.Settled.{settle_rests}
 use Rattle.a68_strand.proofs.Waking.{IsCalm, calm_kept, begun_goes}
-use Rattle.a68_instructions.specs.Machine.{State, beginning, settle, next_state, replied}
+use Rattle.a68_instructions.specs.Machine.{State, beginning, settle, next_state, replied, replied_in, told_by}
 use Rattle.a68_exec.specs.Runs.{World, Machine, IfNext, opening, acted, acts_in, after, woken, woken_in, all_closed, is_passive, begun, strands_after}
 use Rattle.a68_instructions.specs.declared.ask.Stance.{Stance}
 use Rattle.a68_instructions.specs.declared.ask.Stance.TheVariants.{Idle, Asking, Failed, Waits, Closed}
@@ -27,13 +28,15 @@ use Rattle.a68_values.specs.declared.act.FaultKind.{FaultKind}
 use Rattle.a68_values.specs.declared.act.FaultKind.TheVariants as fault
 use Rattle.a68_values.specs.declared.act.Entry.{Entry}
 use Rattle.a68_values.specs.declared.held.Held.{Held}
+use Rattle.a68_world.specs.Leases.{waits_by}
 use Rattle.a68_world.specs.Run.{Run, IsSoundRun, world}
-use Rattle.a68_world.specs.Scopes.{AskBelow, FramesBelow, WantBelow, StanceBelow, StateBelow}
+use Rattle.a68_world.specs.Scopes.{AskBelow, WaitsNot, FramesBelow, WantBelow, StanceBelow, StateBelow}
 use Rattle.a68_instructions.specs.declared.ask.Waiting.TheVariants as waiting
 use Rattle.a68_world.proofs.Entering.{RoomAfter, RoomBehind, does-room}
 use Rattle.a68_world.proofs.Places.{get_mapped, length_map, parted, set_parted}
 use Rattle.a68_world.proofs.ScopesKept.{settle-below, replied-below, state-more, want-of}
 use Rattle.a68_world.proofs.Awaited.{AreAwaited, IsAwaited, awaited_after, fork_reply, fork_waits}
+use Rattle.a68_world.proofs.Telling.{waits_behind}
 
 pub record Steady (code : Code) (count : ℕ) (w : World) : Type 0 where
   -- an event makes one frame at most, and scopes are below the number of frames
@@ -222,6 +225,33 @@ forks code count w n done behind a s i x at =
     let told : a.reply ≡ reply.Base w.store.strands = fork_reply es w.store a.store done a.reply (ap (λ v. does v w.store) (sym f.1) ∙ a.does_it) in
     let long : length (begun code a.st a.want) ≡ length es = ap (λ v. length (begun code a.st v)) f.1 ∙ length-begun code a.st (want.Fork es) in
     fork_waits code a.st es a.wait a.reply w.store.strands (a.asks ∙ ap (λ v. Asking v a.wait) f.1) pair told ∙ ap (λ k. Waits k (length es)) s.many ∙ ap (Waits (length w.strands)) (sym long)
+
+-- one that waits behind its act has made the units for which it waits
+fork-wait : (wait : Waiting) (r : Reply) → waits_by wait r ≡ true → (k : ℕ) × (wait ≡ waiting.Fork k)
+fork-wait (waiting.Fork k) r e = (k, refl)
+fork-wait _ r e = absurd (false≢true e)
+
+fork-want : (n : ℕ) (v : Want) (wait : Waiting) (k : ℕ) → AskBelow n v wait → wait ≡ waiting.Fork k → (es : List ℕ) × (v ≡ want.Fork es)
+fork-want n (want.Fork es) wait k below e = (es, refl)
+fork-want n (want.Enter outer scope slots) wait k below e = absurd (subst (λ (x : Waiting). WaitsNot x) e below.1)
+fork-want n _ wait k below e = absurd (subst (λ (x : Waiting). WaitsNot x) e below)
+
+pub waits_for : (code : Code) (count : ℕ) (w : World) (n : ℕ) (st : State) (v : Want) (wait : Waiting) (done : Act) (told : Reply) (t : Store) → Steady code count w
+    → slice_get w.strands n ≡ Some st → st.stance ≡ Asking v wait → does v w.store ≡ did done told t → (f c : ℕ) → (settle code (replied code st told)).stance ≡ Waits f c
+    → (f ≡ length w.strands) × (c ≡ length (begun code st v))
+waits_for code count w n st v wait done told t s there asks does_it f c e =
+    let below : AskBelow (length w.store.frames) v wait = subst (λ (m : Stance). StanceBelow (length w.store.frames) m) asks (s.below n st there).stance in
+    let is : replied code st told ≡ told_by code st wait told = ap (λ (m : Stance). replied_in m code st told) asks in
+    let told-waits : waits_by wait told ≡ true = waits_behind code st wait told f c (sym (ap (λ (x : State). (settle code x).stance) is) ∙ e) in
+    let k = fork-wait wait told told-waits in
+    let es = fork-want (length w.store.frames) v wait k.0 below k.1 in
+    let pair : wait ≡ waiting.Fork (length es.0) = subst (λ (x : Want). AskBelow (length w.store.frames) x wait) es.1 below in
+    let base : told ≡ reply.Base w.store.strands = fork_reply es.0 w.store t done told (ap (λ x. does x w.store) (sym es.1) ∙ does_it) in
+    let waits : (settle code (replied code st told)).stance ≡ Waits w.store.strands (length es.0) = fork_waits code st es.0 wait told w.store.strands (asks ∙ ap (λ x. Asking x wait) es.1) pair base in
+    let both : Waits f c ≡ Waits w.store.strands (length es.0) = sym e ∙ waits in
+    let p : f ≡ w.store.strands = cc in
+    let q : c ≡ length es.0 = cc in
+    (p ∙ s.many, q ∙ sym (ap (λ x. length (begun code st x)) es.1 ∙ length-begun code st (want.Fork es.0)))
 
 pub steady_more : (code : Code) (count : ℕ) (w : World) (n : ℕ) (act : Act) (behind : World) → Steady code count w → acted code w n ≡ Some (act, behind)
     → Steady code (suc count) behind

@@ -4,12 +4,6 @@ use denote.Model.Local.{Parts, rows}
 use denote.Model.Marks.{tied_sync}
 use denote.Model.Goals.{sync, has_of, part_has}
 use Rattle.std.proofs.Crossing.{crosses}
-use Rattle.a68_acts.specs.contracts.operation.Next as next
-use Rattle.a68_acts.specs.contracts.step.Left as left
-use Rattle.a68_acts.specs.contracts.step.Step as step
-use Rattle.a68_acts.specs.contracts.step.Steps as steps
-use Rattle.a68_acts.specs.contracts.want.Want as want
-use Rattle.a68_base.proofs.text.Text.TheSendSync as text
 use Rattle.a68_code.proofs.code.Routines.TheSendSync as routines
 use Rattle.a68_code.proofs.places.Places.TheSendSync as places
 use Rattle.a68_code.specs.contracts.code.Code as code
@@ -17,36 +11,12 @@ use Rattle.a68_code.specs.contracts.code.Instr as instr
 use Rattle.a68_code.specs.contracts.code.Instrs as instrs
 use Rattle.a68_code.specs.contracts.does.Does as does
 use Rattle.a68_layout.proofs.types.TrimForms.TheSendSync as forms
-use Rattle.a68_layout.proofs.types.Plan.TheSendSync as plan
-use Rattle.a68_layout.proofs.types.Trims.TheSendSync as trims
 use Rattle.a68_modes.proofs.modes.Modes.TheSendSync as modes
-use Rattle.a68_store.specs.contracts.frame.Frame as frame
-use Rattle.a68_store.specs.contracts.slot.Slot as slot
-use Rattle.a68_store.specs.contracts.store.Store as store
-use Rattle.a68_instructions.specs.contracts.ask.Ask as ask
-use Rattle.a68_instructions.specs.contracts.ask.Parameters as parameters
-use Rattle.a68_instructions.specs.contracts.ask.Waiting as waiting
-use Rattle.a68_instructions.specs.contracts.body.About as about
-use Rattle.a68_instructions.specs.contracts.body.Body as body
-use Rattle.a68_stack.specs.contracts.packed.Form as form
-use Rattle.a68_stack.specs.contracts.packed.Packed as kept
-use Rattle.a68_stack.specs.contracts.stack.Stack as stack
-use Rattle.a68_strand.specs.contracts.strand.Strand as strand
-use Rattle.a68_world.specs.contracts.seat.Seat as seat
-use Rattle.a68_values.proofs.chain.Chain.TheSendSync as chain
-use Rattle.a68_values.proofs.chain.Entrances.TheSendSync as entrances
-use Rattle.a68_values.proofs.held.Held.TheSendSync as held
-use Rattle.a68_values.proofs.kept.End.TheSendSync as end
-use Rattle.a68_values.proofs.log.Log.TheSendSync as log
 use Rattle.a68_values.proofs.plain.Layout.TheSendSync as layout
-use Rattle.a68_values.proofs.plain.Name.TheSendSync as name
 use Rattle.a68_values.proofs.plain.Plain.TheSendSync as plain
-use Rattle.a68_values.proofs.plain.Routine.TheSendSync as routine
 use Rattle.a68_values.proofs.value.Bounds.TheSendSync as bounds
 use Rattle.a68_values.specs.contracts.value.Value.TheKnot as knot
-use Rattle.a68_values.specs.contracts.value.Values as parts
 use Rattle.a68_values.specs.contracts.value.Value as value
-use Rattle.a68_world.specs.contracts.world.World as world
 use Rattle.a68_values.specs.declared.value.Value.TheDeep.{the_members, member-Values, member-Value}
 
 -- the parts of a value, from those within them

@@ -1,5 +1,5 @@
 -- Whether a strand that is told the reply to its act waits for units then, or has closed.
-use Rattle.std.proofs.Common.{◌≡◌, ◌∙◌, ℕ, suc, Bool, true, false, List, [], ◌∷◌, length, refl, ap, sym, true≢false}
+use Rattle.std.proofs.Common.{◌≡◌, ◌∙◌, ℕ, Bool, true, false, List, [], ◌∷◌, refl, ap, sym, true≢false}
 use Rattle.std.proofs.lemmas.Bool.{false≢true}
 use Rattle.std.specs.Prelude.{reverse}
 use Rattle.a68_acts.specs.Operations.{resumed}
@@ -11,8 +11,7 @@ use Rattle.a68_exec.proofs.Settled.{settle_still}
 use Rattle.a68_exec.specs.Runs.{has_closed, is_passive}
 use Rattle.a68_instructions.specs.Machine.{State, enters_body, leaves_at, settle, told_by}
 use Rattle.a68_instructions.specs.Unbound.{Unbound}
-use Rattle.a68_instructions.specs.declared.ask.Stance.{Stance}
-use Rattle.a68_instructions.specs.declared.ask.Stance.TheVariants.{Idle, Asking, Failed, Waits, Closed}
+use Rattle.a68_instructions.specs.declared.ask.Stance.TheVariants.{Waits, Closed}
 use Rattle.a68_instructions.specs.declared.ask.Waiting.{Waiting}
 use Rattle.a68_instructions.specs.declared.ask.Waiting.TheVariants as waiting
 use Rattle.a68_strand.proofs.Waking.{goes_open, goes_waits}

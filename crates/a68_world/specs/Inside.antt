@@ -1,10 +1,10 @@
 -- Inner: the headline does not rest on this file.
 -- The run as the code keeps it.
 use Rattle.std.specs.Prelude.{◌≡◌, ◌≤◌, map}
+use Rattle.a68_world.specs.Kin.{AreKin}
 use Rattle.a68_world.specs.Passed.{HavePassed}
 use Rattle.a68_world.specs.Run.{Run, IsSoundRun, world}
 use Rattle.a68_world.specs.Seats.{AreSeated, status_of}
-use Rattle.a68_world.specs.Waking.{WaitBelow}
 use Rattle.a68_world.specs.declared.world.World.TheInside.{Inside}
 
 abbrev pub run_of : Inside → Run
@@ -18,4 +18,4 @@ pub record IsSound (s : Inside) : Type 0 where
   -- each strand that is not spent stands as the machine has it
   pub seats : AreSeated s.code (world (run_of s)).strands s.seats.items
   pub passed : HavePassed s.passed (world (run_of s)).strands
-  pub waits : WaitBelow s.waits_below (world (run_of s)).strands
+  pub kin : AreKin s.kin.items (world (run_of s)).strands

@@ -1,6 +1,6 @@
 -- Inner: the headline does not rest on this file.
 -- Strands that are lent: what it comes to that one is taken out, acts, and is given back.
-use Rattle.std.specs.Prelude.{◌≡◌, ◌<◌, ◌≤◌, ◌⊎◌, ⊤, ℕ, Bool, true, false, IsTrue, List, [], ◌∷◌, length, None, Some, Ok, Err, slice_get, slice_set}
+use Rattle.std.specs.Prelude.{◌≡◌, ◌⊎◌, ⊤, ℕ, Bool, true, false, IsTrue, List, None, Some, Ok, Err, slice_get, slice_set}
 use Rattle.std.specs.declared.option.Option.{Option}
 use Rattle.std.specs.declared.result.Result.{Result}
 use Rattle.a68_acts.specs.Does.{did, does}
@@ -11,7 +11,7 @@ use Rattle.a68_acts.specs.declared.want.Want.{Want}
 use Rattle.a68_code.specs.declared.code.Code.{Code}
 use Rattle.a68_exec.specs.Runs.{all_closed, woken}
 use Rattle.a68_heights.specs.Room.{IsRoomy}
-use Rattle.a68_instructions.specs.Machine.{State, next_state}
+use Rattle.a68_instructions.specs.Machine.{next_state}
 use Rattle.a68_instructions.specs.Room.{brings_room}
 use Rattle.a68_instructions.specs.declared.ask.Ask.TheVariants as ask
 use Rattle.a68_instructions.specs.declared.ask.Stance.TheVariants.{Waits}
@@ -25,10 +25,9 @@ use Rattle.a68_values.specs.declared.kept.End.{End}
 use Rattle.a68_world.specs.Run.{Run, IsNumber, world}
 use Rattle.a68_world.specs.Seats.{turn_shown}
 use Rattle.a68_world.specs.Stepping.{AsksOther, Meets}
-use Rattle.a68_world.specs.Waking.{AllWake}
 use Rattle.a68_world.specs.declared.deed.Deed.{Deed}
 use Rattle.a68_world.specs.declared.deed.Deed.TheVariants as deed
-use Rattle.a68_world.specs.Turns.{GoesOn, IsOf, IsReady, ActsAs, HadEnded, EndsHereAs, IsLeftUndoneAs, SetsEnd, noted}
+use Rattle.a68_world.specs.Turns.{GoesOn, IsOf, IsReady, ActsAs, HadEnded, EndsHereAs, IsLeftUndoneAs, SetsEnd}
 use Rattle.a68_world.specs.Worlds.{world_of}
 use Rattle.a68_world.specs.declared.seat.Seat.{Seat}
 use Rattle.a68_world.specs.declared.seat.Seat.TheVariants as seat
@@ -150,12 +149,3 @@ DoesFor old strand (deed.Told act) told new = DoneWith old strand act told new
 DoesFor old strand (deed.Untold act) told new = ⊥
 DoesFor old strand (deed.Refused why) told new = (new ≡ old) × Meets old strand why
 DoesFor old strand deed.NoMemory told new = (new ≡ old) × AsksOther old strand
-
--- where one may wait for units that have now closed they are woken, and else each seat stays
-abbrev pub WakesIf : Bool → Code → (below : ℕ) → (old new : List Seat) → Bool → Type 0
-WakesIf true code below old new lost = AllWake code below old new lost
-WakesIf false code below old new lost = (new ≡ old) × (lost ≡ false)
-
--- a bound that is no smaller, and above this strand too where it waits
-abbrev pub BoundsBy : Bool → (below n new : ℕ) → Type 0
-BoundsBy waits below n new = (below ≤ new) × (waits ≡ true → n < new)

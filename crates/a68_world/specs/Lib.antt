@@ -3,6 +3,7 @@ pub mod AloneAt
 pub mod Codes
 pub mod Ending
 pub mod Inside
+pub mod Kin
 pub mod Leases
 pub mod Passed
 pub mod Run

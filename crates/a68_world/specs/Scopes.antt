@@ -37,11 +37,16 @@ AskedBelow n (want.Enter outer scope slots) = scope ≤ n
 AskedBelow n (want.Fork entrances) = ⊥
 AskedBelow n _ = ⊤
 
--- The same, with what the strand does with the reply. One that asks for strands waits for as many.
+-- the strand does not wait for units behind the reply
+abbrev pub WaitsNot : Waiting → Type 0
+WaitsNot (waiting.Fork count) = ⊥
+WaitsNot _ = ⊤
+
+-- The same, with what the strand does with the reply. One that asks for strands waits for as many, and no other waits for units.
 abbrev pub AskBelow : ℕ → Want → Waiting → Type 0
-AskBelow n (want.Enter outer scope slots) wait = scope ≤ n
+AskBelow n (want.Enter outer scope slots) wait = (scope ≤ n) × WaitsNot wait
 AskBelow n (want.Fork entrances) wait = wait ≡ waiting.Fork (length entrances)
-AskBelow n _ wait = ⊤
+AskBelow n _ wait = WaitsNot wait
 
 abbrev pub DoingBelow : ℕ → Doing → Type 0
 DoingBelow n (Asks w next) = AskedBelow n w

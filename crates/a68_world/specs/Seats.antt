@@ -1,6 +1,6 @@
 -- Inner: the headline does not rest on this file.
 -- Strands at their seats, and what they show there.
-use Rattle.std.specs.Prelude.{◌≡◌, ⊤, ℕ, zero, suc, Bool, true, false, ◌&&◌, ◌||◌, List, [], ◌∷◌, Some, slice_get, if◌then◌else◌}
+use Rattle.std.specs.Prelude.{◌≡◌, ℕ, zero, suc, Bool, true, false, ◌&&◌, List, [], ◌∷◌, Some, slice_get, if◌then◌else◌}
 use Rattle.std.specs.Option.{option_map_or}
 use Rattle.a68_acts.specs.Does.{does}
 use Rattle.a68_acts.specs.Store.{Store}
@@ -112,7 +112,3 @@ due_in seats (seat.Away spent closed) = false
 -- whether a strand waits for units that have all closed
 abbrev pub due_at : List Seat → ℕ → Bool
 due_at seats n = option_map_or (due_in seats) (slice_get seats n) false
-
--- whether behind an act of this strand one may wait for units that have closed
-abbrev pub may_wake : List Seat → ℕ → Bool
-may_wake seats n = closed_at seats n || due_at seats n

@@ -1,6 +1,6 @@
 -- Inner: the headline does not rest on this file.
 -- Strands that waited for units which have now closed.
-use Rattle.std.specs.Prelude.{◌≡◌, ◌<◌, ◌≤◌, ⊤, ℕ, Bool, true, false, List, length, map, None, Some, slice_get, slice_set}
+use Rattle.std.specs.Prelude.{◌≡◌, ℕ, Bool, true, false, List, length, map, None, Some, slice_get, slice_set}
 use Rattle.a68_acts.specs.declared.want.Reply.TheVariants as reply
 use Rattle.a68_code.specs.declared.code.Code.{Code}
 use Rattle.a68_instructions.specs.Machine.{State, next_state, replied}
@@ -8,8 +8,7 @@ use Rattle.a68_exec.specs.Runs.{all_closed, woken}
 use Rattle.a68_heights.specs.Room.{KeepsRoom}
 use Rattle.a68_strand.specs.Strands.{standing, awaits, HasSettled}
 use Rattle.a68_instructions.specs.declared.ask.Stance.TheVariants.{Waits}
-use Rattle.a68_strand.specs.declared.strand.Strand.{Strand}
-use Rattle.a68_world.specs.Seats.{AllSit, AreSeated, due_at, may_wake}
+use Rattle.a68_world.specs.Seats.{AreSeated, due_at}
 use Rattle.a68_world.specs.declared.seat.Seat.{Seat}
 use Rattle.a68_world.specs.declared.seat.Seat.TheVariants as seat
 
@@ -58,23 +57,3 @@ pub record Wakes (code : Code) (strands : List State) (old new : List Seat) (fou
   -- one that is lent stays so, and no other is
   pub lent : (k : ℕ) (closed : Bool) → slice_get old k ≡ Some (seat.Away false closed) → slice_get new k ≡ Some (seat.Away false closed)
   pub was_lent : (k : ℕ) (closed : Bool) → slice_get new k ≡ Some (seat.Away false closed) → slice_get old k ≡ Some (seat.Away false closed)
-
--- the strands that wait for units have smaller numbers than this
-abbrev pub WaitBelow : ℕ → List State → Type 0
-WaitBelow below strands = (k : ℕ) (st : State) (first count : ℕ) → slice_get strands k ≡ Some st → st.stance ≡ Waits first count → k < below
-
--- a bound that is no smaller, and above this strand too where it waits
-pub record StaysBelow (below : ℕ) (seats : List Seat) (n new : ℕ) : Type 0 where
-  pub least : below ≤ new
-  pub own : (strand : Strand) (first count : ℕ) → slice_get seats n ≡ Some (seat.Home strand) → (standing strand).stance ≡ Waits first count → n < new
-
--- the strands at their seats are woken
-abbrev pub AllWake : Code → (below : ℕ) → (old new : List Seat) → Bool → Type 0
-AllWake code below old new lost =
-    (strands : List State) → AllSit code strands old → length old ≡ length strands → AllRest code strands → WaitBelow below strands → Wakes code strands old new lost
-
--- the strands at their seats are woken, where none is due that need not be looked for
-abbrev pub WakesBehind : Code → (n below : ℕ) → (old new : List Seat) → Bool → Type 0
-WakesBehind code n below old new lost =
-    (strands : List State) → AllSit code strands old → length old ≡ length strands → AllRest code strands → WaitBelow below strands
-    → (may_wake old n ≡ false → map (woken code strands) strands ≡ strands) → Wakes code strands old new lost

@@ -14,12 +14,13 @@ ghost use Rattle.a68_world.specs.Seats.{AreFirstSeats, is_home, place_at};
 ghost use Rattle.a68_world.specs.Turns.{GoesOn, IsReady, EndsAt, IsDue, IsOtherDue, TurnOf, IsAble, FinishesRun, last_strand};
 
 use crate::deed::Deed;
+use crate::kin::Kin;
 use crate::passed::pass_closed;
 use crate::seat::{Seat, are_home};
 use crate::stepping::act_at;
 use crate::turning::{end_at, end_shown, next_turn, turn_at};
 use crate::units::{seat_all, units_ready};
-use crate::waking::{waits_below, wake_behind};
+use crate::waking::wake_behind;
 use crate::{Turned, World};
 use a68_base::NoMemory;
 use a68_code::Code;
@@ -55,18 +56,36 @@ fn first_seats(alloc: Global, code: &Code) -> Result<Vec<Seat>, NoMemory>
     Ok(seats)
 }
 
-// The journal, the store and the seats of a run that is yet to begin.
-fn parts(alloc: Global, code: &Code, fuel: u32) -> Result<(Log, Store, Vec<Seat>), NoMemory>
+// What is kept of the first strand, which no other one made.
+fn first_kin(alloc: Global) -> Result<Vec<Kin>, NoMemory>
+    ensures { IfOk result (λ kin. length kin.items ≡ 1) }
+{
+    let mut kin = Vec::new(alloc);
+    kin.push(Kin {
+        forker: 0,
+        pending: 0,
+    })?;
+    Ok(kin)
+}
+
+// The journal, the store, the seats and the kin of a run that is yet to begin.
+fn parts(
+    alloc: Global,
+    code: &Code,
+    fuel: u32,
+) -> Result<(Log, Store, Vec<Seat>, Vec<Kin>), NoMemory>
     requires short { length code.now.list < 2 ^ 32 }
     ensures empty { IfOk result (λ parts. parts.0.items ≡ []) }
     ensures room { IfOk result (λ parts. parts.0.room ≡ fuel) }
     ensures store { IfOk result (λ parts. parts.1 ≡ opening_store) }
     ensures seats { IfOk result (λ parts. AreFirstSeats code.now parts.2.items) }
+    ensures kin { IfOk result (λ parts. length parts.3.items ≡ 1) }
 {
     let journal = Log::with_room(alloc, fuel)?;
     let store = Store::new(alloc)?;
     let seats = first_seats(alloc, code)?;
-    Ok((journal, store, seats))
+    let kin = first_kin(alloc)?;
+    Ok((journal, store, seats, kin))
 }
 
 /// An entry of a strand in the journal, which has room for it.
@@ -123,7 +142,7 @@ impl World {
         ensures { IfOk result (RunBegins code fuel) }
     {
         match parts(alloc, &code, fuel) {
-            Ok((journal, store, seats)) => {
+            Ok((journal, store, seats, kin)) => {
                 let passed = Marks::new(alloc);
                 let end = end_shown(&seats, &passed, &store, 0);
                 Ok(World {
@@ -133,7 +152,7 @@ impl World {
                     store,
                     seats,
                     passed,
-                    waits_below: 0,
+                    kin,
                     lost: false,
                     end,
                 })
@@ -221,23 +240,28 @@ impl World {
         ensures { TurnOf self.old n result self.new }
     {
         let at = n as usize;
-        let Ok(units) = units_ready(alloc, &self.code, &self.store, &mut self.seats, at) else {
+        let Ok(units) = units_ready(
+            alloc,
+            &self.code,
+            &self.store,
+            &mut self.seats,
+            &mut self.kin,
+            at,
+        ) else {
             return self.lose(n);
         };
         match act_at(alloc, &self.code, &mut self.store, &mut self.seats[at]) {
             Deed::Told(act) => {
                 note(&mut self.journal, n, act);
-                seat_all(&mut self.seats, units);
-                let below = waits_below(self.waits_below, &self.seats, n);
-                self.lost = wake_behind(alloc, &self.code, &mut self.seats, at, below);
-                self.waits_below = below;
+                seat_all(&mut self.seats, &mut self.kin, n, units);
+                self.lost = wake_behind(alloc, &self.code, &mut self.seats, &mut self.kin, at);
                 self.end = end_behind(&self.seats, &self.passed, &self.store, n);
                 pass_closed(&mut self.passed, &self.seats, at);
                 Turned::Acted
             }
             Deed::Untold(act) => {
                 note(&mut self.journal, n, act);
-                seat_all(&mut self.seats, units);
+                seat_all(&mut self.seats, &mut self.kin, n, units);
                 self.lost = true;
                 Turned::NoMemory
             }

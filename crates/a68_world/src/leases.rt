@@ -3,7 +3,7 @@ ghost use Rattle.std.specs.Prelude.{◌≡◌, ◌||◌, ◌<◌, ◌^◌, true,
 ghost use Rattle.std.specs.Option.{is_some};
 ghost use Rattle.a68_strand.specs.Strands.{is_spent};
 ghost use Rattle.a68_values.specs.declared.kept.End.{End};
-ghost use Rattle.a68_world.specs.Leases.{ActOf, BackOf, BoundsBy, IsHeld, IsReplay, LendOf, WakesIf, closes_by, waits_by};
+ghost use Rattle.a68_world.specs.Leases.{ActOf, BackOf, IsHeld, IsReplay, LendOf, closes_by};
 ghost use Rattle.a68_world.specs.Run.{IsNumber, world};
 ghost use Rattle.a68_world.specs.Seats.{turn_shown};
 ghost use Rattle.a68_world.specs.Turns.{EndsAt, GoesOn, IsDueAs, IsOtherDueAs};
@@ -15,10 +15,9 @@ use crate::seat::{Seat, lose, put_back, set_closed, take_out};
 use crate::stepping::act_lent;
 use crate::turning::{end_asked, turn_shown};
 use crate::units::{seat_all, units_for};
-use crate::waking::{wake_all, wake_at};
+use crate::waking::{wake_at, wake_behind};
 use crate::{StrandState, Turned, World};
 use a68_acts::Reply;
-use a68_code::Code;
 use a68_instructions::Waiting;
 use a68_strand::Strand;
 use a68_values::End;
@@ -32,43 +31,6 @@ fn closes_by(waiting: &Waiting, reply: &Reply) -> bool
         Waiting::Close => matches!(reply, Reply::Go),
         _ => false,
     }
-}
-
-// Does it wait for units by this reply?
-fn waits_by(waiting: &Waiting, reply: &Reply) -> bool
-    ensures { result ≡ waits_by waiting.now reply.now }
-{
-    match waiting {
-        Waiting::Fork { .. } => matches!(reply, Reply::Base(_)),
-        _ => false,
-    }
-}
-
-fn either(one: bool, other: bool) -> bool
-    ensures { result ≡ (one || other) }
-{
-    one || other
-}
-
-// A bound for the numbers of the strands that wait for units, behind an act of this one.
-fn bound_behind(waits: bool, below: usize, n: u32) -> usize
-    ensures { BoundsBy waits below n result }
-{
-    if waits {
-        return below.max(n as usize + 1);
-    }
-    below
-}
-
-// Where a strand may wait for units that have now closed, those that do go on. Tells whether one found no memory.
-fn wake_if(alloc: Global, may: bool, code: &Code, seats: &mut Vec<Seat>, below: usize) -> bool
-    requires few { length code.now.list < 2 ^ 32 }
-    ensures { WakesIf may code.now below seats.old.items seats.new.items result }
-{
-    if may {
-        return wake_all(alloc, code, seats, below);
-    }
-    false
 }
 
 // Is the run lost, once a strand has been given back?
@@ -164,22 +126,27 @@ impl World {
         requires due { IsDueAs self.old strand.now.number StrandState.Lent }
         ensures { ActOf self.old strand.now result self.new }
     {
-        let Ok(units) = units_for(alloc, &self.code, &self.store, &mut self.seats, strand) else {
+        let Ok(units) = units_for(
+            alloc,
+            &self.code,
+            &self.store,
+            &mut self.seats,
+            &mut self.kin,
+            strand,
+        ) else {
             return self.lose_lent(strand);
         };
+        let number = strand.number();
+        let at = number as usize;
         let mut reply = Reply::Go;
         match act_lent(alloc, &mut self.store, strand, &mut reply) {
             Deed::Told(act) => {
-                note(&mut self.journal, strand.number(), act);
+                note(&mut self.journal, number, act);
                 let closed = closes_by(&strand.about.waiting, &reply);
-                let waits = waits_by(&strand.about.waiting, &reply);
-                set_closed(&mut self.seats[strand.number() as usize], closed);
-                seat_all(&mut self.seats, units);
-                let below = bound_behind(waits, self.waits_below, strand.number());
-                let may = either(closed, waits);
-                self.lost = wake_if(alloc, may, &self.code, &mut self.seats, below);
-                self.waits_below = below;
-                pass_closed(&mut self.passed, &self.seats, strand.number() as usize);
+                set_closed(&mut self.seats[at], closed);
+                seat_all(&mut self.seats, &mut self.kin, number, units);
+                self.lost = wake_behind(alloc, &self.code, &mut self.seats, &mut self.kin, at);
+                pass_closed(&mut self.passed, &self.seats, at);
                 Ok(reply)
             }
             // The strand is told by whoever has it.

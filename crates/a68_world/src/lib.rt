@@ -4,6 +4,7 @@
 mod alone;
 mod calls;
 mod deed;
+mod kin;
 mod leases;
 mod passed;
 mod seat;

@@ -3,8 +3,10 @@ ghost use Rattle.std.specs.Prelude.{◌≡◌, ◌≢◌, ◌<◌, ◌≤◌, �
 ghost use Rattle.std.specs.Option.{option_map_or};
 ghost use Rattle.std.specs.Vec.{vec_len, vec_capacity};
 ghost use Rattle.a68_stack.specs.Room.{has_room};
+ghost use Rattle.a68_world.specs.Kin.{Forks};
 ghost use Rattle.a68_world.specs.Stepping.{IsNewSeat, AreUnits, AreUnitsAt, AsksOther, AsksOtherAt, FewUnitsAt, units_asked, units_at, units_begun};
 
+use crate::kin::{Kin, fork};
 use crate::seat::Seat;
 use a68_acts::Want;
 use a68_base::NoMemory;
@@ -104,18 +106,41 @@ fn begin_units(
     }
 }
 
-// These seats, once there is room for them beside the others. For none it takes no memory.
-fn with_room(seats: &mut Vec<Seat>, units: Vec<Seat>) -> Result<Vec<Seat>, NoMemory>
+// There is room for so many further strands. For none it takes no memory.
+fn reserve(seats: &mut Vec<Seat>, kin: &mut Vec<Kin>, count: usize) -> Result<(), NoMemory>
     ensures same { seats.new.items ≡ seats.old.items }
+    ensures same_kin { kin.new.items ≡ kin.old.items }
+    ensures room { OnOk result (vec_len seats.new + count ≤ vec_capacity seats.new) }
+    ensures room_beside { OnOk result (vec_len kin.new + count ≤ vec_capacity kin.new) }
+    ensures err { OnErr result (count ≢ 0) }
+{
+    let Ok(()) = seats.reserve(count) else {
+        return Err(NoMemory);
+    };
+    let Ok(()) = kin.reserve(count) else {
+        return Err(NoMemory);
+    };
+    Ok(())
+}
+
+// These seats, once there is room for them beside the others. For none it takes no memory.
+fn with_room(
+    seats: &mut Vec<Seat>,
+    kin: &mut Vec<Kin>,
+    units: Vec<Seat>,
+) -> Result<Vec<Seat>, NoMemory>
+    ensures same { seats.new.items ≡ seats.old.items }
+    ensures same_kin { kin.new.items ≡ kin.old.items }
     ensures units { IfOk result (λ made. made.items ≡ units.items) }
     ensures room { IfOk result (λ made. vec_len seats.new + vec_len made ≤ vec_capacity seats.new) }
+    ensures room_beside { IfOk result (λ made. vec_len kin.new + vec_len made ≤ vec_capacity kin.new) }
     ensures err { OnErr result (vec_len units ≢ 0) }
 {
-    match seats.reserve(units.len()) {
+    match reserve(seats, kin, units.len()) {
         Ok(()) => Ok(units),
-        Err(_) => {
+        Err(error) => {
             drop(units);
-            Err(NoMemory)
+            Err(error)
         }
     }
 }
@@ -127,13 +152,16 @@ pub fn units_ready(
     code: &Code,
     store: &Store,
     seats: &mut Vec<Seat>,
+    kin: &mut Vec<Kin>,
     n: usize,
 ) -> Result<Vec<Seat>, NoMemory>
     requires few { length code.now.list < 2 ^ 32 }
     requires numbers { FewUnitsAt seats.old.items store.now n }
     ensures same { seats.new.items ≡ seats.old.items }
+    ensures same_kin { kin.new.items ≡ kin.old.items }
     ensures units { IfOk result (λ units. AreUnitsAt code.now store.now seats.old.items n units.items) }
     ensures room { IfOk result (λ units. vec_len seats.new + vec_len units ≤ vec_capacity seats.new) }
+    ensures room_beside { IfOk result (λ units. vec_len kin.new + vec_len units ≤ vec_capacity kin.new) }
     ensures err { OnErr result (AsksOtherAt store.now seats.old.items n) }
 {
     let Some(Seat::Home(strand)) = seats.get(n) else {
@@ -141,7 +169,7 @@ pub fn units_ready(
         unreachable!();
     };
     let units = begin_units(alloc, code, store, strand, seats.len() as u32)?;
-    with_room(seats, units)
+    with_room(seats, kin, units)
 }
 
 /// The same of a strand that is lent.
@@ -150,21 +178,24 @@ pub fn units_for(
     code: &Code,
     store: &Store,
     seats: &mut Vec<Seat>,
+    kin: &mut Vec<Kin>,
     strand: &Strand,
 ) -> Result<Vec<Seat>, NoMemory>
     requires few { length code.now.list < 2 ^ 32 }
     requires numbers { length seats.old.items + length (units_asked strand.now.about.ask store.now) < 2 ^ 32 }
     ensures same { seats.new.items ≡ seats.old.items }
+    ensures same_kin { kin.new.items ≡ kin.old.items }
     ensures units { IfOk result (λ units. AreUnits code.now (units_begun code.now strand.now store.now) (length seats.old.items) units.items) }
     ensures room { IfOk result (λ units. vec_len seats.new + vec_len units ≤ vec_capacity seats.new) }
+    ensures room_beside { IfOk result (λ units. vec_len kin.new + vec_len units ≤ vec_capacity kin.new) }
     ensures err { OnErr result (AsksOther store.now strand.now) }
 {
     let units = begin_units(alloc, code, store, strand, seats.len() as u32)?;
-    with_room(seats, units)
+    with_room(seats, kin, units)
 }
 
-/// New strands take their seats behind the others.
-pub fn seat_all(seats: &mut Vec<Seat>, units: Vec<Seat>)
+// New strands take their seats behind the others.
+fn seat_units(seats: &mut Vec<Seat>, units: Vec<Seat>)
     requires { vec_len seats.old + vec_len units ≤ vec_capacity seats.old }
     ensures { seats.new.items ≡ seats.old.items ++ units.items }
 {
@@ -172,4 +203,15 @@ pub fn seat_all(seats: &mut Vec<Seat>, units: Vec<Seat>)
     // There is room for them.
     let _ = seats.append(&mut units);
     drop(units);
+}
+
+/// New strands, which this one has made, take their seats behind the others.
+pub fn seat_all(seats: &mut Vec<Seat>, kin: &mut Vec<Kin>, n: u32, units: Vec<Seat>)
+    requires room { vec_len seats.old + vec_len units ≤ vec_capacity seats.old }
+    requires room_beside { vec_len kin.old + vec_len units ≤ vec_capacity kin.old }
+    ensures seats { seats.new.items ≡ seats.old.items ++ units.items }
+    ensures kin { Forks kin.old.items n (length units.items) kin.new.items }
+{
+    fork(kin, n, units.len());
+    seat_units(seats, units);
 }

@@ -1,8 +1,10 @@
 //! Strands that waited for units which have now closed.
-ghost use Rattle.std.specs.Prelude.{◌≡◌, ◌<◌, ◌≤◌, ◌+◌, ◌^◌, true, length, slice_get, Some, if◌then◌else◌};
-ghost use Rattle.a68_world.specs.Seats.{closed_in, closed_at, all_closed_at, due_at, may_wake};
-ghost use Rattle.a68_world.specs.Waking.{GoesOnAt, WakesBehind, seat_awaits, AllWake, WakesAt, StaysBelow};
+ghost use Rattle.std.specs.Prelude.{◌≡◌, ◌<◌, ◌≤◌, ◌+◌, ◌-◌, ◌^◌, ℕ, true, false, length, Some, if◌then◌else◌};
+ghost use Rattle.a68_world.specs.Kin.{DueBy, WakesBehind, WakesOne, awaited_at};
+ghost use Rattle.a68_world.specs.Seats.{closed_in, closed_at, all_closed_at, due_at};
+ghost use Rattle.a68_world.specs.Waking.{GoesOnAt, WakesAt, seat_awaits};
 
+use crate::kin::{Kin, forker_of, pending_of, set_pending};
 use crate::seat::{Seat, spend};
 use a68_acts::Reply;
 use a68_code::Code;
@@ -43,6 +45,16 @@ fn all_closed_at(seats: &[Seat], first: u32, count: usize) -> bool
     true
 }
 
+// The units for which the strand of this number waits.
+fn awaited_at(seats: &[Seat], n: usize) -> Option<(u32, usize)>
+    ensures { result ≡ awaited_at seats.now n }
+{
+    let Some(Seat::Home(strand)) = seats.get(n) else {
+        return None;
+    };
+    strand.units()
+}
+
 // Does the strand of this number wait for units that have all closed?
 fn due_at(seats: &[Seat], n: usize) -> bool
     ensures { result ≡ due_at seats.now n }
@@ -56,17 +68,36 @@ fn due_at(seats: &[Seat], n: usize) -> bool
     }
 }
 
-/// A bound for the numbers of the strands that wait for units, behind an act of this one.
-pub fn waits_below(below: usize, seats: &[Seat], n: u32) -> usize
-    ensures { StaysBelow below seats.now n result }
+// How many of so many units are left once those at the end that have closed are left out.
+fn still_pending(seats: &[Seat], first: u32, pending: usize) -> usize
+    requires few { pending ≤ length seats.now }
+    ensures less { result ≤ pending }
+    ensures closed { all_closed_at seats.now (first + result) (pending - result) ≡ true }
+    ensures last { 0 < result → closed_at seats.now (first + (result - 1)) ≡ false }
 {
-    let Some(Seat::Home(strand)) = seats.get(n as usize) else {
-        return below;
-    };
-    match strand.units() {
-        Some(_) => below.max(n as usize + 1),
-        None => below,
+    for i in 0..pending {
+        if !closed_at(seats, first as usize + (pending - 1 - i)) {
+            return pending - i;
+        }
     }
+    0
+}
+
+// The same. Units that have closed are looked at once, from the last one on, since that one is mostly the last to close.
+fn due_by(seats: &[Seat], kin: &mut Vec<Kin>, n: usize) -> bool
+    ensures due { DueBy kin.old.items kin.new.items seats.now n result }
+    ensures awaits { result ≡ true → (first : ℕ) × (count : ℕ) × (awaited_at seats.now n ≡ Some (first, count)) }
+{
+    let Some((first, count)) = awaited_at(seats, n) else {
+        return false;
+    };
+    if count > seats.len() {
+        return false;
+    }
+    let pending = pending_of(kin, n).min(count);
+    let left = still_pending(seats, first, pending);
+    set_pending(kin, n, left);
+    left == 0
 }
 
 // The strand at this seat is told to go on. Tells whether it found memory.
@@ -91,7 +122,6 @@ fn go_on(alloc: Global, code: &Code, seat: &mut Seat) -> bool
 /// The strand of this number goes on where it waits for units that have all closed. Tells whether it found memory.
 pub fn wake_at(alloc: Global, code: &Code, seats: &mut Vec<Seat>, n: usize) -> bool
     requires few { length code.now.list < 2 ^ 32 }
-    requires within { n < length seats.old.items }
     ensures { WakesAt code.now n seats.old.items seats.new.items result }
 {
     if !due_at(seats, n) {
@@ -100,48 +130,41 @@ pub fn wake_at(alloc: Global, code: &Code, seats: &mut Vec<Seat>, n: usize) -> b
     go_on(alloc, code, &mut seats[n])
 }
 
-// Is the run lost, where it was or a strand found no memory?
-fn is_lost(lost: bool, found: bool) -> bool
-    ensures { result ≡ (if found then lost else true) }
-{
-    if found { lost } else { true }
-}
-
-/// All strands go on that wait for units which have all closed; those that wait have numbers below this one. Tells whether
-// one found no memory.
-pub fn wake_all(alloc: Global, code: &Code, seats: &mut Vec<Seat>, below: usize) -> bool
+// The same.
+fn wake_by(alloc: Global, code: &Code, seats: &mut Vec<Seat>, kin: &mut Vec<Kin>, n: usize) -> bool
     requires few { length code.now.list < 2 ^ 32 }
-    ensures { AllWake code.now below seats.old.items seats.new.items result }
+    ensures { WakesOne code.now n kin.old.items kin.new.items seats.old.items seats.new.items result }
 {
-    let mut lost = false;
-    for n in 0..below.min(seats.len()) {
-        let found = wake_at(alloc, code, seats, n);
-        lost = is_lost(lost, found);
+    if !due_by(seats, kin, n) {
+        return true;
     }
-    lost
+    go_on(alloc, code, &mut seats[n])
 }
 
-// May one wait for units that have closed, behind an act of this strand?
-fn may_wake(seats: &[Seat], n: usize) -> bool
-    ensures { result ≡ may_wake seats.now n }
+// Is the run lost behind a strand that was told to go on?
+fn is_lost(found: bool) -> bool
+    ensures { result ≡ (if found then false else true) }
 {
-    closed_at(seats, n) || due_at(seats, n)
+    !found
 }
 
-/// Behind an act of this strand, those go on that wait for units which have all closed: there are none unless the strand
-/// has closed. Tells whether one found no memory, and is spent.
+/// Behind an act of this strand the one goes on that waits for units which have all closed: the one that made this strand, where it
+/// has closed, or itself. Tells whether it found no memory, and is spent.
 pub fn wake_behind(
     alloc: Global,
     code: &Code,
     seats: &mut Vec<Seat>,
+    kin: &mut Vec<Kin>,
     n: usize,
-    below: usize,
 ) -> bool
     requires few { length code.now.list < 2 ^ 32 }
-    ensures { WakesBehind code.now n below seats.old.items seats.new.items result }
+    ensures { WakesBehind code.now n kin.old.items kin.new.items seats.old.items seats.new.items result }
 {
-    if may_wake(seats, n) {
-        return wake_all(alloc, code, seats, below);
+    if closed_at(seats, n) {
+        let forker = forker_of(kin, n);
+        let found = wake_by(alloc, code, seats, kin, forker as usize);
+        return is_lost(found);
     }
-    false
+    let found = wake_at(alloc, code, seats, n);
+    is_lost(found)
 }

@@ -1,4 +1,5 @@
 //! The world of a run.
+use crate::kin::Kin;
 use crate::seat::Seat;
 use a68_code::Code;
 use a68_marks::Marks;
@@ -18,8 +19,8 @@ pub struct World {
     pub(crate) seats: Vec<Seat>,
     // Strands that have closed, which never turn again. One for whose mark there was no memory is missing.
     pub(crate) passed: Marks,
-    // The strands that wait for units have smaller numbers.
-    pub(crate) waits_below: usize,
+    // For each strand who made it, and which of the units for which it waits have closed.
+    pub(crate) kin: Vec<Kin>,
     // A turn has found no memory.
     pub(crate) lost: bool,
     pub(crate) end: Option<End>,

@@ -180,7 +180,7 @@ module _ (nodes : List Shape) where
 
 -- ---- what is found is there
 
-module _ (tree : Built) (nodes : List Shape) (of : ByNode) (ys : List Yielding) (n : ℕ) (many : 13 ≤ length nodes) where
+module _ (tree : Built) (nodes : List Shape) (of : ByNode) (ys : List Yielding) (n : ℕ) (many : 15 ≤ length nodes) where
   mode_there : (s : Sort) (w : Expectation) (leaves : List Leaf) (found : Option ℕ) → IsExpectationBelow (length nodes) w → IsModeFound nodes s w leaves found → IsFindingBelow (length nodes) (finding.Mode found)
   mode_there s w leaves None below is = tt
   mode_there s (want.Mode m) leaves (Some x) below is = subst (λ i. i < length nodes) (sym is.0) below
@@ -194,8 +194,8 @@ module _ (tree : Built) (nodes : List Shape) (of : ByNode) (ys : List Yielding) 
   operator_is_there operands None is = tt
   operator_is_there operands (Some (Declared d)) is = tt
   operator_is_there operands (Some (Standard o)) is =
-      let low : (o.left < 13) × (o.right < 13) × (o.result < 13) = operator_low tree nodes of n (name_at tree n) operands o is in
-      let a : o.left < 13 = low.0 in let b : o.right < 13 = low.1 in let c : o.result < 13 = low.2 in (omega arith, omega arith, omega arith)
+      let low : (o.left < 15) × (o.right < 15) × (o.result < 15) = operator_low tree nodes of n (name_at tree n) operands o is in
+      let a : o.left < 15 = low.0 in let b : o.right < 15 = low.1 in let c : o.result < 15 = low.2 in (omega arith, omega arith, omega arith)
 
   pub found_there : {s : Sought} {f : Finding} → IsSoughtBelow (length nodes) s → IsFound tree nodes of ys n s f → IsFindingBelow (length nodes) f
   found_there below for_nothing = tt

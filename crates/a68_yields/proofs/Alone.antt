@@ -3,7 +3,7 @@ use Rattle.std.proofs.Common.{◌≡◌, ◌<◌, ◌≤◌, ◌^◌, ◌∙◌,
 use Rattle.std.specs.Prelude.{◌&&◌, not, slice_set}
 use Rattle.a68_base.specs.declared.limits.TheConstants.{MOST_MODES}
 use Rattle.a68_coerce.specs.declared.leaf.Leaf.TheVariants as leaf
-use Rattle.a68_declare.proofs.Standing.{thirteen}
+use Rattle.a68_declare.proofs.Standing.{fifteen}
 use Rattle.a68_definitions.proofs.Alone.{AreLonger, KeepNodes, keeps_on, longer_on, same_keeps, same_longer}
 use Rattle.a68_definitions.proofs.Defining.{all_longer}
 use Rattle.a68_definitions.specs.Defined.{AllBelow}
@@ -117,7 +117,7 @@ module _ (k : Known) (start : List Shape) where
     told_there : (n : ℕ) (before : List Shape) (those : List Yielding) (found : Finding) → AreSound before → IsFound k.tree before k.of those n (sought_at k.tree k.tags n) found
         → IsPartTold (length before) (told k before those n found (kind_at k.tree n))
     told_there n before those found good is =
-        let many : 13 ≤ length before = thirteen before good.holds in
+        let many : 15 ≤ length before = fifteen before good.holds in
         let some : 2 < length before = omega arith in
         let below : IsSoughtBelow (length before) (sought_at k.tree k.tags n) = sought_below (length before) some k.tree (called_by k.tree k.tags n) (kind_at k.tree n) (parts_at k.tree n) in
         part_told before good.rows good.holds many k those n found (kind_at k.tree n) (found_there k.tree before k.of those n many below is)
@@ -189,7 +189,7 @@ module _ (k : Known) (start : List Shape) (sound : AreSound start) (defined : Al
       let l = (yield_longer before nodes (told k before those from found (kind_at k.tree from)) y yield).long in
       let g = (yields_longer k start rest).long in
       let good = yields_sound k start sound rest (omega arith) in
-      let many : 13 ≤ length before = thirteen before good.holds in
+      let many : 15 ≤ length before = fifteen before good.holds in
       let some : 2 < length before = omega arith in
       let below : IsSoughtBelow (length before) (sought_at k.tree k.tags from) = sought_below (length before) some k.tree (called_by k.tree k.tags from) (kind_at k.tree from) (parts_at k.tree from) in
       let there : IsFindingBelow (length before) found = found_there k.tree before k.of those from many below is in

@@ -115,7 +115,7 @@ module _ (nodes : List Shape) (rows : HaveDimensions nodes) where
 
     tag_told : (total : ℕ) (defined : List ℕ) (d : Option ℕ) → IsPartTold n (tag total defined d)
     tag_told total defined None = tt
-    tag_told total defined (Some d) = if_told (nat_lt d total) _ _ tt (if_told (nat_lt (d - total) 4) _ _ tt (if_told (nat_lt (d - total) 6) _ _ tt tt))
+    tag_told total defined (Some d) = if_told (nat_lt d total) _ _ tt (if_told (nat_lt (d - total) 4) _ _ tt (if_told (nat_lt (d - total) 6) _ _ tt (if_told (nat_eq (d - total) 9) _ _ tt (if_told (nat_eq (d - total) 10) _ _ tt tt))))
 
     handed_told : (ys : List Yielding) (parts : List ℕ) → IsPartTold n (handed ys parts)
     handed_told ys [] = tt
@@ -148,7 +148,7 @@ module _ (nodes : List Shape) (rows : HaveDimensions nodes) where
     formula_told defined (finding.Operator (Some (Declared d))) = unit_told (routine_result (shape_at nodes (part_number defined d)))
     formula_told defined (finding.Operator (Some (Standard o))) = tt
 
-  pub part_told : HoldsNodes nodes → 13 ≤ length nodes → (k : Known) (ys : List Yielding) (n : ℕ) (f : Finding) (form : NodeKind) → IsFindingBelow (length nodes) f
+  pub part_told : HoldsNodes nodes → 15 ≤ length nodes → (k : Known) (ys : List Yielding) (n : ℕ) (f : Finding) (form : NodeKind) → IsFindingBelow (length nodes) f
       → IsPartTold (length nodes) (told k nodes ys n f form)
   part_told holds many k ys n f kind.Denotation below = denoted_told (length nodes) (spelling_at k.tree n)
   part_told holds many k ys n f kind.Tag below = tag_told (length nodes) (length k.tree.nodes) k.defined (slice_index_or k.tags n None)

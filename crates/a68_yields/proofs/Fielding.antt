@@ -1,11 +1,11 @@
 -- Fields of structures, found in a table of all of them.
-use Rattle.std.proofs.Common.{◌≡◌, ◌∙◌, ℕ, suc, Bool, true, false, nat_eq, List, [], ◌∷◌, ◌++◌, refl, ap, Option, Some, None}
+use Rattle.std.proofs.Common.{◌≡◌, ◌∙◌, ℕ, suc, Bool, true, false, nat_eq, List, [], ◌∷◌, refl, ap, Some}
 use Rattle.std.specs.Option.{option_map}
 use Rattle.std.specs.Prelude.{if◌then◌else◌, zero}
 use Rattle.a68_fields.proofs.Keeping.{keeps_on, pushed_keeps}
 use Rattle.a68_fields.specs.Fields.{AreFieldsOf, KeepFields, at_key, fields_of, first_field}
 use Rattle.a68_fields.specs.declared.table.Field.{Field}
-use Rattle.a68_mode_table.specs.Growing.{IsInterned, IsRowInterned}
+use Rattle.a68_mode_table.specs.Growing.{IsInterned}
 use Rattle.a68_mode_table.specs.Growing.IsInterned.{an_old_one, a_new_one}
 use Rattle.a68_modes.specs.Nodes.{shape_at}
 use Rattle.a68_modes.specs.declared.shape.Shape.{Shape}

@@ -16,7 +16,7 @@ use Rattle.a68_yields.proofs.Within.{field_within, last_within}
 use Rattle.a68_yields.specs.Below.{IsFindingBelow, IsToldBelow}
 use Rattle.a68_yields.specs.Leaves.{chosen, yield_at}
 use Rattle.a68_yields.specs.Parts.{field_mode, fields_of, row_of, rowed, rowed_by, routine_result, structure_of, structure_within, structured, structured_by}
-use Rattle.a68_yields.specs.Yields.{Known, a_unit, any_unknown, begins_quote, behind_first, called, choice, denoted, field_part, formula, found_unit, handed, has_r, is_item, is_truth, is_unknown, selected, selected_from, sliced, sliced_from, standard_tag, tag, told, unit_of}
+use Rattle.a68_yields.specs.Yields.{Known, a_unit, any_unknown, begins_quote, behind_first, called, choice, denoted, field_part, formula, found_unit, handed, has_r, is_item, is_truth, is_unknown, long_tag, selected, selected_from, sliced, sliced_from, standard_tag, tag, told, unit_of}
 use Rattle.a68_yields.specs.declared.parts.Rowed.{Rowed}
 use Rattle.a68_yields.specs.declared.parts.Structured.{Structured}
 use Rattle.a68_yields.specs.declared.told.Told.{Told}
@@ -24,7 +24,7 @@ use Rattle.a68_yields.specs.declared.yielding.Finding.{Finding}
 use Rattle.a68_yields.specs.declared.yielding.Finding.TheVariants as finding
 use Rattle.a68_yields.specs.declared.yielding.Yielding.{Yielding}
 
-module _ (nodes : List Shape) (holds : HoldsNodes nodes) (many : 13 ≤ length nodes) (count node : ℕ) where
+module _ (nodes : List Shape) (holds : HoldsNodes nodes) (many : 15 ≤ length nodes) (count node : ℕ) where
   Fine : Told → Type 0
   Fine t = IsToldBelow (length nodes) count node t
 
@@ -32,7 +32,7 @@ module _ (nodes : List Shape) (holds : HoldsNodes nodes) (many : 13 ≤ length n
   if_fine true x y one other = one
   if_fine false x y one other = other
 
-  low : (m : ℕ) → m < 13 → Fine (a_unit m)
+  low : (m : ℕ) → m < 15 → Fine (a_unit m)
   unfolding Fine
   low m h = omega arith
 
@@ -51,9 +51,13 @@ module _ (nodes : List Shape) (holds : HoldsNodes nodes) (many : 13 ≤ length n
   denoted_fine None = tt
   denoted_fine (Some s) = denoted_low (begins_quote s) (is_truth s) (has_r s) (is_item s)
 
+  long_fine : (place : ℕ) → Fine (long_tag place)
+  unfolding Fine
+  long_fine place = if_fine (nat_eq place 9) _ _ (low 13 (omega arith)) (if_fine (nat_eq place 10) _ _ (low 1 (omega arith)) tt)
+
   standard_fine : (place : ℕ) → Fine (standard_tag place)
   unfolding Fine
-  standard_fine place = if_fine (nat_lt place 4) _ _ (low 1 (omega arith)) (if_fine (nat_lt place 6) _ _ (low 6 (omega arith)) tt)
+  standard_fine place = if_fine (nat_lt place 4) _ _ (low 1 (omega arith)) (if_fine (nat_lt place 6) _ _ (low 6 (omega arith)) (long_fine place))
 
   tag_fine : (total : ℕ) (defined : List ℕ) (d : Option ℕ) → AllBelow (length nodes) defined → Fine (tag total defined d)
   unfolding Fine
@@ -182,6 +186,7 @@ module _ (nodes : List Shape) (holds : HoldsNodes nodes) (many : 13 ≤ length n
       → AllBetween node count (parts_at k.tree node) → IsToldBelow (length nodes) count node (told k nodes ys node f form)
   unfolding Fine
   told_below k ys f kind.Denotation all below behind = denoted_fine (spelling_at k.tree node)
+  told_below k ys f kind.LongDenotation all below behind = low 13 (omega arith)
   told_below k ys f kind.Tag all below behind = tag_fine (length k.tree.nodes) k.defined (slice_index_or k.tags node None) all
   told_below k ys f kind.Closed all below behind = handed_fine ys (parts_at k.tree node) behind
   told_below k ys f kind.Serial all below behind = handed_fine ys (parts_at k.tree node) behind

@@ -38,13 +38,13 @@ none_from None h = refl
 none_from (Some x) h = absurd (h x refl)
 
 -- an operator that is found has modes that are there
-pub operator_there : (tree : Built) (nodes : List Shape) (of : ByNode) (at sign : ℕ) (operands : List (List Leaf)) (found : Option Identified) → 13 ≤ length nodes
+pub operator_there : (tree : Built) (nodes : List Shape) (of : ByNode) (at sign : ℕ) (operands : List (List Leaf)) (found : Option Identified) → 15 ≤ length nodes
     → MatchOption found ((any : Identified) → IsOperator tree nodes of at sign operands any → ⊥) (IsOperator tree nodes of at sign operands) → IfSome found (IsOperatorBelow (length nodes))
 operator_there tree nodes of at sign operands None many is = tt
 operator_there tree nodes of at sign operands (Some (Declared d)) many is = tt
 operator_there tree nodes of at sign operands (Some (Standard o)) many is =
-    let low : (o.left < 13) × (o.right < 13) × (o.result < 13) = operator_low tree nodes of at sign operands o is in
-    let a : o.left < 13 = low.0 in let b : o.right < 13 = low.1 in let c : o.result < 13 = low.2 in (omega arith, omega arith, omega arith)
+    let low : (o.left < 15) × (o.right < 15) × (o.result < 15) = operator_low tree nodes of at sign operands o is in
+    let a : o.left < 15 = low.0 in let b : o.right < 15 = low.1 in let c : o.result < 15 = low.2 in (omega arith, omega arith, omega arith)
 
 pub operator_is : (tree : Built) (nodes : List Shape) (of : ByNode) (n : ℕ) (operands : List (List Leaf)) (found : Option Identified)
     → MatchOption found ((any : Identified) → IsOperator tree nodes of n (name_at tree n) operands any → ⊥) (IsOperator tree nodes of n (name_at tree n) operands)

@@ -73,10 +73,14 @@ abbrev pub denoted : Option (List ℕ) → Told
 denoted None = unknown
 denoted (Some s) = a_unit (denoted_mode s)
 
--- ---- tags: those of the standard environ are INT, but newline and space; print, write and whole have none
+-- ---- tags: those of the standard environ are INT, but newline, space and long max int; print, write and whole have none
+
+-- those behind whole
+abbrev pub long_tag : (place : ℕ) → Told
+long_tag place = if nat_eq place tags.LONGMAXINT then a_unit standard.LONG_INT else (if nat_eq place tags.LONGINTWIDTH then a_unit standard.INT else unknown)
 
 abbrev pub standard_tag : (place : ℕ) → Told
-standard_tag place = if nat_lt place tags.NEWLINE then a_unit standard.INT else (if nat_lt place tags.PRINT then a_unit standard.LAYOUT else unknown)
+standard_tag place = if nat_lt place tags.NEWLINE then a_unit standard.INT else (if nat_lt place tags.PRINT then a_unit standard.LAYOUT else long_tag place)
 
 abbrev pub tag : (nodes : ℕ) → (defined : List ℕ) → Option ℕ → Told
 tag nodes defined None = unknown
@@ -162,6 +166,7 @@ formula nodes defined _ = unknown
 -- what a node yields: a row for each kind
 abbrev pub told : Known → List Shape → List Yielding → (n : ℕ) → Finding → NodeKind → Told
 told k nodes ys n found kind.Denotation = denoted (spelling_at k.tree n)
+told k nodes ys n found kind.LongDenotation = a_unit standard.LONG_INT
 told k nodes ys n found kind.Tag = tag (length k.tree.nodes) k.defined (slice_index_or k.tags n None)
 told k nodes ys n found kind.Closed = handed ys (parts_at k.tree n)
 told k nodes ys n found kind.Serial = handed ys (parts_at k.tree n)

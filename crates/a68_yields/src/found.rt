@@ -2,7 +2,7 @@
 ghost use Rattle.std.specs.Prelude.{◌≡◌, ◌<◌, ◌^◌, IfOk, IfSome, length, map};
 ghost use Rattle.std.specs.List.{All};
 ghost use Rattle.a68_coerce.specs.Below.{IsLeafBelow};
-ghost use Rattle.a68_identify.specs.Operators.{NumbersAreThere};
+ghost use Rattle.a68_identify.specs.Operators.{AreListed, NumbersAreThere};
 ghost use Rattle.a68_ranges.specs.Tables.{AreRanges};
 ghost use Rattle.a68_yields.specs.Below.{AreAhead, AreUnitsBelow, IsFindingBelow, IsOperatorBelow, IsSoughtBelow, IsExpectationBelow};
 ghost use Rattle.a68_yields.specs.Found.{IsFound, IsModeFound, IsNameFound, IsOperatorFound};
@@ -13,7 +13,7 @@ use crate::yielding::{Finding, Yielding};
 use a68_base::NoMemory;
 use a68_coerce::{Leaf, ModeForm, balance, balance_sides, balance_to_form};
 use a68_declare::NodeModes;
-use a68_identify::{Identified, identify};
+use a68_identify::{Identified, OperatorModes, identify};
 use a68_mode_table::ModeTable;
 use a68_modes::{ModeId, Sort};
 use a68_ranges::Ranges;
@@ -167,17 +167,18 @@ fn operator_found(
     tree: &Tree,
     ranges: &Ranges,
     modes: &ModeTable,
-    of: &NodeModes,
+    of: &OperatorModes<'_>,
     node: NodeId,
     operands: &[&[Leaf]],
 ) -> Result<Option<Identified>, NoMemory>
     requires node { node < length tree.now.nodes }
     requires ranges { AreRanges tree.now ranges.now }
-    requires of { NumbersAreThere tree.now modes.now of.now }
+    requires of { NumbersAreThere tree.now modes.now of.now.of }
+    requires listed { AreListed tree.now of.now }
     requires leaves { All (λ o. All (IsLeafBelow (length modes.now)) o.now) operands.now }
     requires few { All (λ o. length o.now < 2 ^ 32) operands.now }
     requires count { length operands.now < 2 ^ 32 }
-    ensures found { IfOk result (IsOperatorFound tree.now modes.now of.now node (map (λ o. o.now) operands.now)) }
+    ensures found { IfOk result (IsOperatorFound tree.now modes.now of.now.of node (map (λ o. o.now) operands.now)) }
     ensures there { IfOk result (λ found. IfSome found (IsOperatorBelow (length modes.now))) }
 {
     let shapes = modes.modes();
@@ -200,18 +201,19 @@ fn monadic_found(
     tree: &Tree,
     ranges: &Ranges,
     modes: &ModeTable,
-    of: &NodeModes,
+    of: &OperatorModes<'_>,
     yields: &[Yielding],
     node: NodeId,
     operand: NodeId,
 ) -> Result<Finding, NoMemory>
     requires node { node < length tree.now.nodes }
     requires ranges { AreRanges tree.now ranges.now }
-    requires of { NumbersAreThere tree.now modes.now of.now }
+    requires of { NumbersAreThere tree.now modes.now of.now.of }
+    requires listed { AreListed tree.now of.now }
     requires ahead { AreAhead (length tree.now.nodes) yields.now }
     requires long { length yields.now ≡ length tree.now.nodes }
     requires units { AreUnitsBelow (length modes.now) yields.now }
-    ensures found { IfOk result (IsFound tree.now modes.now of.now yields.now node (Sought.Monadic operand)) }
+    ensures found { IfOk result (IsFound tree.now modes.now of.now.of yields.now node (Sought.Monadic operand)) }
     ensures there { IfOk result (IsFindingBelow (length modes.now)) }
 {
     let Some(leaves) = leaves_of(alloc, tree, yields, operand)? else {
@@ -227,7 +229,7 @@ fn dyadic_found(
     tree: &Tree,
     ranges: &Ranges,
     modes: &ModeTable,
-    of: &NodeModes,
+    of: &OperatorModes<'_>,
     yields: &[Yielding],
     node: NodeId,
     left: NodeId,
@@ -235,11 +237,12 @@ fn dyadic_found(
 ) -> Result<Finding, NoMemory>
     requires node { node < length tree.now.nodes }
     requires ranges { AreRanges tree.now ranges.now }
-    requires of { NumbersAreThere tree.now modes.now of.now }
+    requires of { NumbersAreThere tree.now modes.now of.now.of }
+    requires listed { AreListed tree.now of.now }
     requires ahead { AreAhead (length tree.now.nodes) yields.now }
     requires long { length yields.now ≡ length tree.now.nodes }
     requires units { AreUnitsBelow (length modes.now) yields.now }
-    ensures found { IfOk result (IsFound tree.now modes.now of.now yields.now node (Sought.Dyadic left right)) }
+    ensures found { IfOk result (IsFound tree.now modes.now of.now.of yields.now node (Sought.Dyadic left right)) }
     ensures there { IfOk result (IsFindingBelow (length modes.now)) }
 {
     let Some(one) = leaves_of(alloc, tree, yields, left)? else {
@@ -258,28 +261,30 @@ pub fn found_at(
     tree: &Tree,
     ranges: &Ranges,
     modes: &ModeTable,
-    of: &NodeModes,
+    of: &OperatorModes<'_>,
     yields: &[Yielding],
     node: NodeId,
     sought: Sought,
 ) -> Result<Finding, NoMemory>
     requires node { node < length tree.now.nodes }
     requires ranges { AreRanges tree.now ranges.now }
-    requires of { NumbersAreThere tree.now modes.now of.now }
+    requires of { NumbersAreThere tree.now modes.now of.now.of }
+    requires listed { AreListed tree.now of.now }
     requires ahead { AreAhead (length tree.now.nodes) yields.now }
     requires long { length yields.now ≡ length tree.now.nodes }
     requires units { AreUnitsBelow (length modes.now) yields.now }
     requires sought { IsSoughtBelow (length modes.now) sought }
-    ensures found { IfOk result (IsFound tree.now modes.now of.now yields.now node sought) }
+    ensures found { IfOk result (IsFound tree.now modes.now of.now.of yields.now node sought) }
     ensures there { IfOk result (IsFindingBelow (length modes.now)) }
 {
+    let declared = of.declared();
     match sought {
         Sought::Nothing => Ok(Finding::Nothing),
         Sought::Part(sort, want, part) => {
-            part_found(alloc, tree, modes, of, yields, node, sort, want, part)
+            part_found(alloc, tree, modes, declared, yields, node, sort, want, part)
         }
         Sought::Sides(left, right) => {
-            sides_found(alloc, tree, modes, of, yields, node, left, right)
+            sides_found(alloc, tree, modes, declared, yields, node, left, right)
         }
         Sought::Monadic(operand) => {
             monadic_found(alloc, tree, ranges, modes, of, yields, node, operand)

@@ -2,7 +2,7 @@
 ghost use Rattle.std.specs.Prelude.{◌≡◌, ◌≤◌, ◌<◌, ◌+◌, List, IfOk, OnOk, length, replicate, slice_set};
 ghost use Rattle.a68_definitions.specs.Defined.{AllBelow};
 ghost use Rattle.a68_fields.specs.Fields.{AreFieldsOf, KeepFields};
-ghost use Rattle.a68_identify.specs.Operators.{NumbersAreThere};
+ghost use Rattle.a68_identify.specs.Operators.{AreListed, NumbersAreThere};
 ghost use Rattle.a68_modes.specs.declared.shape.Shape.{Shape};
 ghost use Rattle.a68_ranges.specs.Tables.{AreRanges};
 ghost use Rattle.a68_yields.specs.Below.{AreTablesBelow, IsToldBelow, IsYieldingBelow};
@@ -18,6 +18,7 @@ use a68_coerce::Leaf;
 use a68_declare::NodeModes;
 use a68_definitions::{Tags, parts_of};
 use a68_fields::FieldTable;
+use a68_identify::OperatorModes;
 use a68_mode_table::ModeTable;
 use a68_modes::ModeId;
 use a68_ranges::Ranges;
@@ -74,7 +75,7 @@ fn look_at(
     tree: &Tree,
     ranges: &Ranges,
     tags: &Tags,
-    of: &NodeModes,
+    of: &OperatorModes<'_>,
     defined: &[ModeId],
     modes: &mut ModeTable,
     fields: &FieldTable,
@@ -84,13 +85,14 @@ fn look_at(
 ) -> Result<(), NoMemory>
     requires there { node < length tree.now.nodes }
     requires ranges { AreRanges tree.now ranges.now }
-    requires of { NumbersAreThere tree.now modes.old of.now }
+    requires of { NumbersAreThere tree.now modes.old of.now.of }
+    requires listed { AreListed tree.now of.now }
     requires defined { AllBelow (length modes.old) defined.now }
     requires fields { AreFieldsOf modes.old fields.now }
     requires tables { AreTablesBelow (length modes.old) (length tree.now.nodes) yields.old findings.old }
-    ensures yields { OnOk result ((start : List Shape) → AreYieldsFrom (record { tree = tree.now; tags = tags.now; of = of.now; defined = defined.now }) start (node + 1) modes.old yields.old findings.old
-        → AreYieldsFrom (record { tree = tree.now; tags = tags.now; of = of.now; defined = defined.now }) start node modes.new yields.new findings.new) }
-    ensures of { OnOk result (NumbersAreThere tree.now modes.new of.now) }
+    ensures yields { OnOk result ((start : List Shape) → AreYieldsFrom (record { tree = tree.now; tags = tags.now; of = of.now.of; defined = defined.now }) start (node + 1) modes.old yields.old findings.old
+        → AreYieldsFrom (record { tree = tree.now; tags = tags.now; of = of.now.of; defined = defined.now }) start node modes.new yields.new findings.new) }
+    ensures of { OnOk result (NumbersAreThere tree.now modes.new of.now.of) }
     ensures defined { OnOk result (AllBelow (length modes.new) defined.now) }
     ensures fields { OnOk result (AreFieldsOf modes.new fields.now) }
     ensures tables { OnOk result (AreTablesBelow (length modes.new) (length tree.now.nodes) yields.new findings.new) }
@@ -121,7 +123,7 @@ fn look_at_all(
     tree: &Tree,
     ranges: &Ranges,
     tags: &Tags,
-    of: &NodeModes,
+    of: &OperatorModes<'_>,
     defined: &[ModeId],
     modes: &mut ModeTable,
     fields: &FieldTable,
@@ -129,13 +131,14 @@ fn look_at_all(
     findings: &mut [Finding],
 ) -> Result<(), NoMemory>
     requires ranges { AreRanges tree.now ranges.now }
-    requires of { NumbersAreThere tree.now modes.old of.now }
+    requires of { NumbersAreThere tree.now modes.old of.now.of }
+    requires listed { AreListed tree.now of.now }
     requires defined { AllBelow (length modes.old) defined.now }
     requires fields { AreFieldsOf modes.old fields.now }
     requires no_yields { yields.old ≡ replicate (length tree.now.nodes) Yielding.Unknown }
     requires no_findings { findings.old ≡ replicate (length tree.now.nodes) Finding.Nothing }
-    ensures yields { OnOk result (AreYields (record { tree = tree.now; tags = tags.now; of = of.now; defined = defined.now }) modes.old modes.new yields.new findings.new) }
-    ensures of { OnOk result (NumbersAreThere tree.now modes.new of.now) }
+    ensures yields { OnOk result (AreYields (record { tree = tree.now; tags = tags.now; of = of.now.of; defined = defined.now }) modes.old modes.new yields.new findings.new) }
+    ensures of { OnOk result (NumbersAreThere tree.now modes.new of.now.of) }
     ensures defined { OnOk result (AllBelow (length modes.new) defined.now) }
     ensures tables { OnOk result (AreTablesBelow (length modes.new) (length tree.now.nodes) yields.new findings.new) }
 {
@@ -154,6 +157,43 @@ fn look_at_all(
 pub struct Yields {
     pub yields: Vec<Yielding>,
     pub findings: Vec<Finding>,
+}
+
+// Finds what the nodes of a tree may yield, where the modes of parameters are listed.
+fn yields_by(
+    alloc: Global,
+    tree: &Tree,
+    ranges: &Ranges,
+    tags: &Tags,
+    of: &OperatorModes<'_>,
+    defined: &[ModeId],
+    modes: &mut ModeTable,
+) -> Result<Yields, NoMemory>
+    requires ranges { AreRanges tree.now ranges.now }
+    requires of { NumbersAreThere tree.now modes.old of.now.of }
+    requires listed { AreListed tree.now of.now }
+    requires defined { AllBelow (length modes.old) defined.now }
+    ensures yields { IfOk result (λ found. AreYields (record { tree = tree.now; tags = tags.now; of = of.now.of; defined = defined.now }) modes.old modes.new found.yields.items found.findings.items) }
+    ensures of { OnOk result (NumbersAreThere tree.now modes.new of.now.of) }
+    ensures defined { OnOk result (AllBelow (length modes.new) defined.now) }
+    ensures tables { IfOk result (λ found. AreTablesBelow (length modes.new) (length tree.now.nodes) found.yields.items found.findings.items) }
+{
+    let fields = FieldTable::of(alloc, modes.modes())?;
+    let mut yields = vec![in alloc; Yielding::Unknown; tree.len() as usize]?;
+    let mut findings = vec![in alloc; Finding::Nothing; tree.len() as usize]?;
+    look_at_all(
+        alloc,
+        tree,
+        ranges,
+        tags,
+        of,
+        defined,
+        modes,
+        &fields,
+        &mut yields,
+        &mut findings,
+    )?;
+    Ok(Yields { yields, findings })
 }
 
 /// Finds what the nodes of a tree may yield, whatever is asked of them, and the modes and operators for what they ask of their parts (3.2.1,
@@ -175,20 +215,7 @@ pub fn find_yields(
     ensures defined { OnOk result (AllBelow (length modes.new) defined.now) }
     ensures tables { IfOk result (λ found. AreTablesBelow (length modes.new) (length tree.now.nodes) found.yields.items found.findings.items) }
 {
-    let fields = FieldTable::of(alloc, modes.modes())?;
-    let mut yields = vec![in alloc; Yielding::Unknown; tree.len() as usize]?;
-    let mut findings = vec![in alloc; Finding::Nothing; tree.len() as usize]?;
-    look_at_all(
-        alloc,
-        tree,
-        ranges,
-        tags,
-        of,
-        defined,
-        modes,
-        &fields,
-        &mut yields,
-        &mut findings,
-    )?;
-    Ok(Yields { yields, findings })
+    let listed = OperatorModes::new(alloc, tree, of)?;
+    let found = yields_by(alloc, tree, ranges, tags, &listed, defined, modes)?;
+    Ok(found)
 }

@@ -96,6 +96,16 @@ fn denoted(tree: &Tree, node: NodeId) -> Told
     a_unit(denoted_mode(tree.spelling(tree.node(node).name)))
 }
 
+fn long_tag(place: u32) -> Told
+    ensures { result ≡ specs.long_tag place }
+{
+    match place {
+        tags::LONGMAXINT => a_unit(standard::LONG_INT),
+        tags::LONGINTWIDTH => a_unit(standard::INT),
+        _ => unknown(),
+    }
+}
+
 fn standard_tag(place: u32) -> Told
     ensures { result ≡ specs.standard_tag place }
 {
@@ -104,7 +114,7 @@ fn standard_tag(place: u32) -> Told
     } else if place < tags::PRINT {
         a_unit(standard::LAYOUT)
     } else {
-        unknown()
+        long_tag(place)
     }
 }
 
@@ -307,6 +317,7 @@ pub fn yields_of(
 {
     match kind_of(tree, node) {
         NodeKind::Denotation => denoted(tree, node),
+        NodeKind::LongDenotation => a_unit(standard::LONG_INT),
         NodeKind::Tag => tag(tree.len(), defined, tags.at(node)),
         NodeKind::Closed | NodeKind::Serial | NodeKind::Out => {
             handed(yields, parts_of(tree, node))

@@ -60,6 +60,7 @@ fn mode_word(shape: &Shape) -> &'static str {
     match shape {
         Shape::Void => "VOID",
         Shape::Int => "INT",
+        Shape::Long => "LONGINT",
         Shape::Bool => "BOOL",
         Shape::Char => "CHAR",
         Shape::Bits => "BITS",

@@ -10,7 +10,7 @@ returns-clause-ordered c =
     let begun = ap length c.in_ok-modes.ensures in
     let blank = c.in_ok-add_blank.ensures.long in
     let same = c.in_ok-set_all.ensures.long in
-    let long : length c.set_all.new.modes ≡ 13 + 2 * declarers tree (length tree.nodes) = omega (arith, begun, blank, same) in
+    let long : length c.set_all.new.modes ≡ 15 + 2 * declarers tree (length tree.nodes) = omega (arith, begun, blank, same) in
     ordered tree c.args.numbers.now c.requires.numbers c.set_all.new.modes long
 
 pub returns-clause-few : goal.returns-clause-few

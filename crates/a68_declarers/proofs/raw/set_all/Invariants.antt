@@ -5,6 +5,6 @@ use Rattle.a68_declarers.proofs.raw.set_all.Given as goal
 
 abbrev pub invariant-loop-id : goal.invariant-loop-id
 invariant-loop-id l = record {
-  long : length l.modes ≡ 13 + 2 * declarers l.tree (length l.tree.nodes);
+  long : length l.modes ≡ 15 + 2 * declarers l.tree (length l.tree.nodes);
   set : AreSet l.tree l.numbers l.id l.modes;
 }

@@ -7,9 +7,9 @@ pub returns-in_err-value : goal.returns-in_err-value
 returns-in_err-value c =
     let i = c.loop-byte.invariant in
     let digit = c.digit-digit.ensures.value in
-    elim (cases_lt (c.loop-byte.value * c.args.radix + c.digit-digit.result) (2 ^ 64)) [
+    elim (cases_lt (c.loop-byte.value * c.args.radix + c.digit-digit.result) (2 ^ 128)) [
       | inl lt ↦ absurd (c.in_err-value.ensures lt)
-      | inr le ↦ c.from_residual.ensures ∙ sym (too_great (2 ^ 64) _ _ _ _ c.requires.0 c.loop-byte-test.true i.value (rw digit at le))
+      | inr le ↦ c.from_residual.ensures ∙ sym (too_great (2 ^ 128) _ _ _ _ c.requires.0 c.loop-byte-test.true i.value (rw digit at le))
     ]
 
 pub loop-byte-preserved : goal.loop-byte-preserved
@@ -28,4 +28,4 @@ pub returns : goal.returns
 returns c =
     let i = c.loop-byte.invariant in
     let some = eqb-false (length c.args.text.now) 0 (sym c.if-is_empty.ensures) in
-    found (2 ^ 64) _ _ _ _ (omega (arith, some)) c.loop-byte-test.false i.fits i.value i.digits
+    found (2 ^ 128) _ _ _ _ (omega (arith, some)) c.loop-byte-test.false i.fits i.value i.digits

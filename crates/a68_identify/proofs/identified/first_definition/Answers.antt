@@ -12,18 +12,18 @@ returns-then-branch c =
     let lists = map (λ (o : Bor (List Leaf)). o.now) c.args.formula.now.operands.now in
     let i = c.loop-definition.definition-index in
     let lt : i < length c.args.list.now = omega arith in
-    first_at (DefinitionFits c.args.tree.now c.args.modes.now c.args.of.now c.args.formula.now.sign lists) c.args.list.now i _ (read c.args.list.now i 0 lt) (c.in_ok-definition_fits.ensures.0 c.if-branch.true) c.loop-definition.invariant
+    first_at (DefinitionFits c.args.tree.now c.args.modes.now c.args.of.now.of c.args.formula.now.sign lists) c.args.list.now i _ (read c.args.list.now i 0 lt) (c.in_ok-definition_fits.ensures.0 c.if-branch.true) c.loop-definition.invariant
 
 pub loop-definition-preserved : goal.loop-definition-preserved
 loop-definition-preserved c =
     let lists = map (λ (o : Bor (List Leaf)). o.now) c.args.formula.now.operands.now in
     let i = c.loop-definition.definition-index in
     let lt : i < length c.args.list.now = omega arith in
-    none_more (DefinitionFits c.args.tree.now c.args.modes.now c.args.of.now c.args.formula.now.sign lists) c.args.list.now i _ (read c.args.list.now i 0 lt)
+    none_more (DefinitionFits c.args.tree.now c.args.modes.now c.args.of.now.of c.args.formula.now.sign lists) c.args.list.now i _ (read c.args.list.now i 0 lt)
     (λ f. false≢true (sym c.if-branch.false ∙ c.in_ok-definition_fits.ensures.1 f)) c.loop-definition.invariant
 
 pub returns : goal.returns
 returns c =
     let lists = map (λ (o : Bor (List Leaf)). o.now) c.args.formula.now.operands.now in
     let all : c.loop-definition.definition-index ≡ length c.args.list.now = omega arith in
-    none_in (DefinitionFits c.args.tree.now c.args.modes.now c.args.of.now c.args.formula.now.sign lists) c.args.list.now c.loop-definition.definition-index all c.loop-definition.invariant
+    none_in (DefinitionFits c.args.tree.now c.args.modes.now c.args.of.now.of c.args.formula.now.sign lists) c.args.list.now c.loop-definition.definition-index all c.loop-definition.invariant

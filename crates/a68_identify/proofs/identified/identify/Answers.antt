@@ -14,7 +14,7 @@ returns-in-Some c =
     let tree = c.args.tree.now in
     let lists = map (λ (o : Bor (List Leaf)). o.now) c.args.operands.now in
     let named : c.node.result.now.name ≡ name_at tree c.args.at = sym (ap (λ (o : Option Node). option_map_or (λ (n : Node). n.name) o 0) c.node.ensures.is) in
-    declared_is tree c.args.modes.now c.args.of.now c.args.at c.node.result.now.name lists c.args.ranges.now c.requires.ranges c.requires.at named
+    declared_is tree c.args.modes.now c.args.of.now.of c.args.at c.node.result.now.name lists c.args.ranges.now c.requires.ranges c.requires.at named
     c.in_ok-definition.field-0 c.in_ok-definition.ensures c.in-Some.definition c.in-Some.is
 
 pub first_standard-requires-clause-low : goal.first_standard-requires-clause-low
@@ -26,7 +26,7 @@ returns-in-Some-2 c =
     let f = λ (o : Bor (List Leaf)). o.now in
     let lists = map f c.args.operands.now in
     let named : c.node.result.now.name ≡ name_at tree c.args.at = sym (ap (λ (o : Option Node). option_map_or (λ (n : Node). n.name) o 0) c.node.ensures.is) in
-    standard_is tree c.args.modes.now c.args.of.now c.args.at c.node.result.now.name lists c.args.ranges.now c.requires.ranges c.requires.at named
+    standard_is tree c.args.modes.now c.args.of.now.of c.args.at c.node.result.now.name lists c.args.ranges.now c.requires.ranges c.requires.at named
     c.in_ok-definition.field-0 c.in_ok-definition.ensures
     c.spelling.result.now (length c.args.operands.now) c.candidates-standard.result.now c.in_ok-operator.field-0 c.spelling.ensures (sym (length_of_map f c.args.operands.now))
     c.candidates-standard.ensures c.in_ok-operator.ensures c.in_default.is c.in-Some-2.operator c.in-Some-2.is
@@ -37,7 +37,7 @@ returns c =
     let f = λ (o : Bor (List Leaf)). o.now in
     let lists = map f c.args.operands.now in
     let named : c.node.result.now.name ≡ name_at tree c.args.at = sym (ap (λ (o : Option Node). option_map_or (λ (n : Node). n.name) o 0) c.node.ensures.is) in
-    none_is tree c.args.modes.now c.args.of.now c.args.at c.node.result.now.name lists c.args.ranges.now c.requires.ranges c.requires.at named
+    none_is tree c.args.modes.now c.args.of.now.of c.args.at c.node.result.now.name lists c.args.ranges.now c.requires.ranges c.requires.at named
     c.in_ok-definition.field-0 c.in_ok-definition.ensures
     c.spelling.result.now (length c.args.operands.now) c.candidates-standard.result.now c.in_ok-operator.field-0 c.spelling.ensures (sym (length_of_map f c.args.operands.now))
     c.candidates-standard.ensures c.in_ok-operator.ensures c.in_default.is c.in_default-2.is

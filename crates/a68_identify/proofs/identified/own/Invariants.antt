@@ -10,7 +10,7 @@ abbrev pub invariant-outwards : goal.invariant-outwards
 invariant-outwards l = record {
   there : IsBelow (length l.ranges.nests.layers) l.next;
   further : (about : List ℕ) → Nested l.ranges.nests.layers l.initial.next about
-      → Further l.tree l.modes l.of l.formula.sign (map (λ o. o.now) l.formula.operands.now) l.ranges.nests.layers l.next about;
+      → Further l.tree l.modes l.of.of l.formula.sign (map (λ o. o.now) l.formula.operands.now) l.ranges.nests.layers l.next about;
 }
 
 abbrev pub decreases-outwards : goal.decreases-outwards

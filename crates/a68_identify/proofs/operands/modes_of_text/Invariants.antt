@@ -5,4 +5,4 @@ use Rattle.a68_ranges.specs.Nodes.{parts_at}
 use Rattle.a68_identify.proofs.operands.modes_of_text.Given as goal
 
 abbrev pub invariant-loop-part : goal.invariant-loop-part
-invariant-loop-part l = l.modes.items ++ map (mode_at l.of) (declarers_among l.tree l.declarer (drop l.part-index (parts_at l.tree l.text))) ≡ map (mode_at l.of) (declarers_among l.tree l.text (parts_at l.tree l.text))
+invariant-loop-part l = l.items.items ++ map (mode_at l.of) (declarers_among l.tree l.declarer (drop l.part-index (parts_at l.tree l.text))) ≡ map (mode_at l.of) (declarers_among l.tree l.text (parts_at l.tree l.text))

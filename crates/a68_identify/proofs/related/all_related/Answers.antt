@@ -14,7 +14,7 @@ returns-then-not-branch c =
     let one : i < length c.args.ones.now = omega arith in
     let other : i < length c.args.others.now = omega arith in
     no_pair (AreRelated c.args.modes.now) c.args.ones.now c.args.others.now i _ _ (read c.args.ones.now i 0 one) (read c.args.others.now i 0 other)
-    (λ r. false≢true (sym c.if-not-branch.true ∙ c.in_ok-related.ensures.1 r))
+    (λ r. false≢true (sym c.if-not-branch.true ∙ c.in_ok-are_related.ensures.1 r))
 
 pub loop-i-preserved : goal.loop-i-preserved
 loop-i-preserved c =
@@ -22,7 +22,7 @@ loop-i-preserved c =
     let one : i < length c.args.ones.now = omega arith in
     let other : i < length c.args.others.now = omega arith in
     one_pair_more (AreRelated c.args.modes.now) c.args.ones.now c.args.others.now i _ _ (read c.args.ones.now i 0 one) (read c.args.others.now i 0 other)
-    (c.in_ok-related.ensures.0 c.if-not-branch.false) c.loop-i.invariant
+    (c.in_ok-are_related.ensures.0 c.if-not-branch.false) c.loop-i.invariant
 
 pub returns : goal.returns
 returns c = all_pairs (AreRelated c.args.modes.now) c.args.ones.now c.args.others.now c.loop-i.i c.if-ones-others.false c.loop-i-test.false c.loop-i.invariant

@@ -16,12 +16,12 @@ loop-place-preserved c =
     let is = read list i 0 lt in
     elim c.if-branch.branch [
       | then-branch w ↦ rw (w.found-is, w.earlier-found.ensures)
-          (least_late tree c.args.modes.now c.args.of.now list i _ is c.loop-place.found c.loop-place.invariant (c.in_ok-is_late.ensures.0 w.if-branch.true))
+          (least_late tree c.args.modes.now c.args.of.now.of list i _ is c.loop-place.found c.loop-place.invariant (c.in_ok-is_late.ensures.0 w.if-branch.true))
       | else-branch w ↦ rw w.found-is
-          (least_not_late tree c.args.modes.now c.args.of.now list i _ is c.loop-place.found c.loop-place.invariant (λ h. false≢true (sym w.if-branch.false ∙ c.in_ok-is_late.ensures.1 h)))
+          (least_not_late tree c.args.modes.now c.args.of.now.of list i _ is c.loop-place.found c.loop-place.invariant (λ h. false≢true (sym w.if-branch.false ∙ c.in_ok-is_late.ensures.1 h)))
     ]
 
 pub returns : goal.returns
 returns c =
     let all : c.loop-place.place ≡ length c.args.list.now = omega arith in
-    subst (λ n. IsLeast c.args.tree.now (IsRelatedIn c.args.tree.now c.args.modes.now c.args.of.now c.args.list.now n) c.loop-place.found) all c.loop-place.invariant
+    subst (λ n. IsLeast c.args.tree.now (IsRelatedIn c.args.tree.now c.args.modes.now c.args.of.now.of c.args.list.now n) c.loop-place.found) all c.loop-place.invariant

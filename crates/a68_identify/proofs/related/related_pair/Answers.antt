@@ -1,20 +1,14 @@
-use Rattle.std.proofs.Common.{◌≡◌, ℕ, List, length, arith, subst}
-use Rattle.a68_identify.proofs.Preceding.{least_range, least_pair}
-use Rattle.a68_identify.specs.Operators.{IsRelatedIn}
+use Rattle.std.proofs.Common.{subst, sym, ◌∙◌}
+use Rattle.a68_declare.specs.Outcome.{ByNode}
+use Rattle.a68_identify.specs.Operators.{IsRelatedPair, NumbersAreThere}
 use Rattle.a68_ranges.specs.Indexed.{IsLeast}
 use Rattle.a68_identify.proofs.related.related_pair.Goals as goal
 
-pub loop-range-preserved : goal.loop-range-preserved
-loop-range-preserved c =
-    let tree = c.args.tree.now in
-    let modes = c.args.modes.now in
-    let of = c.args.of.now in
-    let found = c.in_ok-related_in.field-0 in
-    rw c.earlier-found.ensures
-    (least_range tree modes of c.loop-range.range c.loop-range.found found c.loop-range.invariant
-    (subst (λ (list : List ℕ). IsLeast tree (IsRelatedIn tree modes of list (length list)) found) c.declared_by-list.ensures c.in_ok-related_in.ensures))
+pub new-requires : goal.new-requires
+new-requires c = c.requires.of.long ∙ sym c.requires.of.fixed_long
+
+pub related_among-requires-clause-of : goal.related_among-requires-clause-of
+related_among-requires-clause-of c = subst (λ (of : ByNode). NumbersAreThere c.args.tree.now c.args.modes.now of) (sym c.in_ok-listed.ensures.of) c.requires.of
 
 pub returns : goal.returns
-returns c =
-    let all : c.loop-range.range ≡ length c.args.tree.now.nodes = omega arith in
-    least_pair c.args.tree.now c.args.modes.now c.args.of.now c.loop-range.range c.loop-range.found all c.loop-range.invariant
+returns c = subst (λ (of : ByNode). IsLeast c.args.tree.now (IsRelatedPair c.args.tree.now c.args.modes.now of) c.in_ok-found.found) c.in_ok-listed.ensures.of c.in_ok-found.ensures

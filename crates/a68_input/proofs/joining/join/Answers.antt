@@ -1,7 +1,6 @@
-use Rattle.std.proofs.Common.{◌≡◌, ℕ, List, [], ◌∷◌, ◌++◌, length, ap, ◌∙◌, arith}
+use Rattle.std.proofs.Common.{ℕ, List, [], ◌∷◌, length, ap, ◌∙◌, arith}
 use Rattle.std.proofs.lemmas.List.{length-append}
 use Rattle.a68_input.proofs.Preludes.{prelude_long}
-use Rattle.a68_input.specs.Joining.{prelude}
 use Rattle.a68_input.proofs.joining.join.Goals as goal
 
 pub overflow_cast-offset : goal.overflow_cast-offset

@@ -12,4 +12,4 @@ returns c =
     let nonzero : 0 < unsigned_abs c.args.right = grind (arith, ints) in
     let value : c.lifted.result ≡ lifted (int_rem c.args.left c.args.right) c.args.right =
     rw (rem_is w64 c.args.left c.args.right c.ranges.left c.ranges.right, right) at c.lifted.ensures in
-    c.int-2.ensures ∙ ap int (to_z-of_z w64 c.lifted.result here ∙ value) ∙ rest_by c.args.left c.args.right nonzero
+    c.int-2.ensures ∙ ap int (to_z-of_z w64 c.lifted.result here ∙ value) ∙ rest_by int c.args.left c.args.right nonzero

@@ -1,4 +1,4 @@
-use Rattle.std.proofs.Common.{◌≡◌, ◌∙◌, List, ℕ, [], ◌∷◌, ◌++◌, ap, sym, map, take, arith}
+use Rattle.std.proofs.Common.{◌≡◌, ◌∙◌, [], ◌∷◌, ◌++◌, ap, sym, map, take, arith}
 use Rattle.std.proofs.lemmas.List.{take_all}
 use Rattle.a68_parts.specs.Selecting.{selected}
 use Rattle.a68_parts.proofs.Selecting.{map_more}

@@ -26,3 +26,9 @@ pub returns-clause-rows : goal.returns-clause-rows
 returns-clause-rows c =
     let all : c.loop-count.count ≡ length c.args.path.now = omega arith in
     rw (← all) (all_tell c.args.modes.now c.args.goal c.args.path.now c.args.dims c.args.of c.loop-count.count (omega arith) c.loop-count.invariant.1)
+
+pub returns-then-left-lt2-clause-rows : goal.returns-then-left-lt2-clause-rows
+returns-then-left-lt2-clause-rows c = all_tell c.args.modes.now c.args.goal c.args.path.now c.args.dims c.args.of c.loop-count.count (omega arith) c.loop-count.invariant.1
+
+pub returns-in_default-clause-rows : goal.returns-in_default-clause-rows
+returns-in_default-clause-rows c = all_tell c.args.modes.now c.args.goal c.args.path.now c.args.dims c.args.of c.loop-count.count (omega arith) c.loop-count.invariant.1

@@ -1,4 +1,4 @@
-use Rattle.std.proofs.Common.{◌≡◌, ◌+◌, ◌≤◌, length}
+use Rattle.std.proofs.Common.{◌≡◌, ◌+◌}
 use Rattle.a68_parts.proofs.Reaching.{AllReach}
 use Rattle.a68_parts.proofs.rowing.rows_back.Given as goal
 

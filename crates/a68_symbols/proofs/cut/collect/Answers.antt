@@ -16,21 +16,21 @@ returns-in_default c =
     let some = eqb-false _ 0 (sym c.loop-rest-test.ensures) in
     rw c.refused.ensures (refused_at _ S2 _ cut.short (cut.stops S2 _ (stop_broken (front_none (omega (arith, some)) c.in_default.ensures))))
 
-pub returns-in_err-keep : goal.returns-in_err-keep
-returns-in_err-keep c =
+pub returns-in_err-long : goal.returns-in_err-long
+returns-in_err-long c =
     let l = c.in-Some.ensures in
     let p = err_from_is_err_and c.from_residual.result c.from_residual.ensures.1 in
-    rw (p.1, p.2) (ends_with _ _ _ _ _ _ _ c.keep.new.found c.loop-rest.invariant l.within c.split_at.ensures.front c.split_at.ensures.back _ _
-    (front_is l (ap (gives c.in-Some.form) (sym c.split_at.ensures.front))) c.in_err-keep.ensures)
+    rw (p.1, p.2) (ends_with _ _ _ _ _ _ _ _ c.keep.new.found c.loop-rest.invariant l.within c.split_at.ensures.front c.split_at.ensures.back _ _
+    (front_is l (ap (gives _ c.in-Some.form) (sym c.split_at.ensures.front))) c.in_err-long.ensures)
 
 pub loop-rest-preserved : goal.loop-rest-preserved
 loop-rest-preserved c =
     let l = c.in-Some.ensures in
-    goes_on _ _ _ _ _ _ _ _ c.loop-rest.invariant l.within c.split_at.ensures.front c.split_at.ensures.back _
-    (front_is l (ap (gives c.in-Some.form) (sym c.split_at.ensures.front))) c.in_ok-keep.ensures
+    goes_on _ _ _ _ _ _ _ _ _ c.loop-rest.invariant l.within c.split_at.ensures.front c.split_at.ensures.back _ _
+    (front_is l (ap (gives _ c.in-Some.form) (sym c.split_at.ensures.front))) c.in_ok-long.ensures
 
 pub returns : goal.returns
 returns c = (
-  all_cut _ _ _ _ c.loop-rest.invariant.cut (nil_from_length _ (eqb-true _ 0 (sym c.loop-rest-test.ensures))),
+  all_cut _ _ _ _ _ c.loop-rest.invariant.cut (nil_from_length _ (eqb-true _ 0 (sym c.loop-rest-test.ensures))),
   all_named _ _ c.loop-rest.invariant.named,
 )

@@ -1,5 +1,4 @@
 use Rattle.std.proofs.Common.{◌≡◌, ◌-◌, ◌<◌, ◌≤◌, ℕ, false}
-use Rattle.a68_marks.specs.Marked.{is_marked}
 use Rattle.a68_world.specs.Seats.{turn_at}
 use Rattle.a68_world.proofs.turning.first_in.Given as goal
 

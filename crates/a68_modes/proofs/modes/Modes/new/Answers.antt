@@ -8,12 +8,12 @@ use Rattle.a68_modes.proofs.modes.Modes.new.Goals as goal
 
 pub invariant_of-result : goal.invariant_of-result
 invariant_of-result c =
-    let all : c.loop-id.id ≡ 13 = omega arith in
+    let all : c.loop-id.id ≡ 15 = omega arith in
     let is : c.loop-id.items.items ≡ standard_shapes = c.loop-id.invariant ∙ ap (λ (n : ℕ). take n standard_shapes) all in
     subst HoldsNodes (sym is) standard_holds
 
 pub loop-id-preserved : goal.loop-id-preserved
 loop-id-preserved c =
     let i = c.loop-id.id in
-    let lt : i < 13 = omega arith in
+    let lt : i < 15 = omega arith in
     c.in_ok-push.ensures.items ∙ ap (λ (xs : List Shape). xs ++ c.in_ok-shape.shape ∷ []) c.loop-id.invariant ∙ ap (λ (s : Shape). take i standard_shapes ++ s ∷ []) c.in_ok-shape.ensures ∙ sym (take_more standard_shapes i Blank lt)

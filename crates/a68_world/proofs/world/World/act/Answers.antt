@@ -1,7 +1,6 @@
 use Rattle.std.proofs.Common.{refl, sym, ◌∙◌, ap, inl}
 use Rattle.a68_world.specs.Run.{Run, world}
 use Rattle.a68_world.specs.Seats.{turn_shown}
-use Rattle.a68_world.proofs.Standing.{none_from}
 use Rattle.a68_world.proofs.world.World.act.Goals as goal
 
 pub returns-in-Some : goal.returns-in-Some

@@ -1,7 +1,8 @@
-use Rattle.std.proofs.Common.{◌≡◌, ◌∙◌, ◌<◌, ◌++◌, ◌∷◌, [], Bool, true, false, List, length, map, refl, sym, ap, subst, arith}
-use Rattle.std.specs.Prelude.{◌||◌, Some, slice_get, slice_set}
+use Rattle.std.proofs.Common.{◌≡◌, ◌∙◌, ◌++◌, ◌∷◌, [], false, List, length, map, refl, sym, ap, subst, arith}
+use Rattle.std.specs.Prelude.{slice_set}
 use Rattle.a68_world.specs.Inside.{run_of}
-use Rattle.a68_world.specs.Leases.{BoundsBy, IsHeld, closes_by, waits_by}
+use Rattle.a68_world.specs.Leases.{IsHeld}
+use Rattle.a68_world.specs.Kin.{Forks, WakesBehind}
 use Rattle.a68_world.specs.Run.{Run, world}
 use Rattle.a68_world.specs.Seats.{status_of, turn_shown}
 use Rattle.a68_world.specs.Turns.{GoesOn, IsDueAs, IsOtherDueAs}
@@ -56,7 +57,7 @@ index_mut-requires c =
     let strand = c.args.strand.now in
     let held : IsHeld (run_of s) strand = subst (λ (r : Run). IsHeld r strand) (sym c.self.view_is) c.requires.held in
     let t = lent_there s strand held in
-    omega (arith, is_within s.seats.items strand.number (seat.Away false t.0) t.1, c.number-in-Told.ensures, ap (λ (l : List Seat). length l) c.units_for.ensures.same, c.units_for.new.seats.ok.0)
+    omega (arith, is_within s.seats.items strand.number (seat.Away false t.0) t.1, c.number-number.ensures, ap (λ (l : List Seat). length l) c.units_for.ensures.same, c.units_for.new.seats.ok.0)
 
 pub invariant_of-self-in-Told : goal.invariant_of-self-in-Told
 invariant_of-self-in-Told c =
@@ -70,19 +71,23 @@ invariant_of-self-in-Told c =
     let told = c.act_lent.new.reply in
     let store = c.act_lent.new.store in
     let closed = c.closes_by-closed.result in
+    let number = c.number-number.ensures in
     let r = due_reached s strand c.self.invariant held c.in-Told.act told store units goes due c.in-Told.ensures c.in-Ok.ensures.units in
     let noted : Noted s n c.in-Told.act c.note.new.journal = record {
-      items = c.note.ensures.items ∙ ap (λ k. s.journal.items ++ record { strand = k; act = c.in-Told.act } ∷ []) c.number.ensures;
+      items = c.note.ensures.items ∙ ap (λ k. s.journal.items ++ record { strand = k; act = c.in-Told.act } ∷ []) number;
       room = omega (arith, c.note.ensures.room, c.self.invariant.room);
     } in
     let placed : c.seat_all.new.seats.items ≡ slice_set s.seats.items n (seat.Away false closed) ++ units =
-    c.seat_all.ensures ∙ ap (λ l. slice_set l c.number-in-Told.result c.set_closed.new.seat ++ units) c.units_for.ensures.same ∙ ap (λ k. slice_set s.seats.items k c.set_closed.new.seat ++ units) c.number-in-Told.ensures
+    c.seat_all.ensures.seats ∙ ap (λ l. slice_set l c.number-number.result c.set_closed.new.seat ++ units) c.units_for.ensures.same ∙ ap (λ k. slice_set s.seats.items k c.set_closed.new.seat ++ units) number
     ∙ ap (λ z. slice_set s.seats.items n z ++ units) c.set_closed.ensures in
-    let bounds = subst (λ k. BoundsBy (waits_by strand.about.waiting told) s.waits_below k c.bound_behind-below.result) c.number-in-Told-2.ensures (subst (λ b. BoundsBy b s.waits_below c.number-in-Told-2.result c.bound_behind-below.result) c.waits_by-waits.ensures c.bound_behind-below.ensures) in
-    with_passed (run_lent s c.self.invariant strand held c.in-Told.act told store units r c.note.new.journal c.wake_if-self-inside.new.seats c.bound_behind-below.result c.wake_if-self-inside.result) c.pass_closed.new.passed c.deref.result.now c.number-in-Told-3.result
-    (lent_acts s c.self.invariant strand held c.in-Told.act told store units r closed c.either-may.result c.wake_if-self-inside.result c.seat_all.new.seats.items c.note.new.journal c.wake_if-self-inside.new.seats c.bound_behind-below.result
-    c.closes_by-closed.ensures (c.either-may.ensures ∙ ap (λ b. b || c.waits_by-waits.result) c.closes_by-closed.ensures ∙ ap (λ b. closes_by strand.about.waiting told || b) c.waits_by-waits.ensures) noted placed bounds c.wake_if-self-inside.ensures).0
-    c.deref.ensures.value c.pass_closed.ensures
+    let grown = c.seat_all.new.kin.items in
+    let seats = c.wake_behind-self-inside.new.seats in
+    let kin = c.wake_behind-self-inside.new.kin in
+    let lost = c.wake_behind-self-inside.result in
+    let forks : Forks s.kin.items n (length units) grown = subst (λ k. Forks s.kin.items k (length units) grown) number (subst (λ l. Forks l c.number-number.result (length units) grown) c.units_for.ensures.same_kin c.seat_all.ensures.kin) in
+    let wakes : WakesBehind s.code n grown kin.items c.seat_all.new.seats.items seats.items lost = subst (λ k. WakesBehind s.code k grown kin.items c.seat_all.new.seats.items seats.items lost) number c.wake_behind-self-inside.ensures in
+    let acts = lent_acts s c.self.invariant strand held c.in-Told.act told store units r closed lost c.seat_all.new.seats.items c.note.new.journal seats grown kin c.closes_by-closed.ensures noted placed forks wakes in
+    with_passed (run_lent s c.self.invariant strand held c.in-Told.act told store units r c.note.new.journal seats kin lost) c.pass_closed.new.passed c.deref.result.now c.number-number.result acts.0 c.deref.ensures.value c.pass_closed.ensures
 
 pub returns-in-Told : goal.returns-in-Told
 returns-in-Told c =
@@ -96,17 +101,23 @@ returns-in-Told c =
     let told = c.act_lent.new.reply in
     let store = c.act_lent.new.store in
     let closed = c.closes_by-closed.result in
+    let number = c.number-number.ensures in
     let r = due_reached s strand c.self.invariant held c.in-Told.act told store units goes due c.in-Told.ensures c.in-Ok.ensures.units in
     let noted : Noted s n c.in-Told.act c.note.new.journal = record {
-      items = c.note.ensures.items ∙ ap (λ k. s.journal.items ++ record { strand = k; act = c.in-Told.act } ∷ []) c.number.ensures;
+      items = c.note.ensures.items ∙ ap (λ k. s.journal.items ++ record { strand = k; act = c.in-Told.act } ∷ []) number;
       room = omega (arith, c.note.ensures.room, c.self.invariant.room);
     } in
     let placed : c.seat_all.new.seats.items ≡ slice_set s.seats.items n (seat.Away false closed) ++ units =
-    c.seat_all.ensures ∙ ap (λ l. slice_set l c.number-in-Told.result c.set_closed.new.seat ++ units) c.units_for.ensures.same ∙ ap (λ k. slice_set s.seats.items k c.set_closed.new.seat ++ units) c.number-in-Told.ensures
+    c.seat_all.ensures.seats ∙ ap (λ l. slice_set l c.number-number.result c.set_closed.new.seat ++ units) c.units_for.ensures.same ∙ ap (λ k. slice_set s.seats.items k c.set_closed.new.seat ++ units) number
     ∙ ap (λ z. slice_set s.seats.items n z ++ units) c.set_closed.ensures in
-    let bounds = subst (λ k. BoundsBy (waits_by strand.about.waiting told) s.waits_below k c.bound_behind-below.result) c.number-in-Told-2.ensures (subst (λ b. BoundsBy b s.waits_below c.number-in-Told-2.result c.bound_behind-below.result) c.waits_by-waits.ensures c.bound_behind-below.ensures) in
-    rw (← c.self.view_is) (lent_acts s c.self.invariant strand held c.in-Told.act told store units r closed c.either-may.result c.wake_if-self-inside.result c.seat_all.new.seats.items c.note.new.journal c.wake_if-self-inside.new.seats c.bound_behind-below.result
-    c.closes_by-closed.ensures (c.either-may.ensures ∙ ap (λ b. b || c.waits_by-waits.result) c.closes_by-closed.ensures ∙ ap (λ b. closes_by strand.about.waiting told || b) c.waits_by-waits.ensures) noted placed bounds c.wake_if-self-inside.ensures).1
+    let grown = c.seat_all.new.kin.items in
+    let seats = c.wake_behind-self-inside.new.seats in
+    let kin = c.wake_behind-self-inside.new.kin in
+    let lost = c.wake_behind-self-inside.result in
+    let forks : Forks s.kin.items n (length units) grown = subst (λ k. Forks s.kin.items k (length units) grown) number (subst (λ l. Forks l c.number-number.result (length units) grown) c.units_for.ensures.same_kin c.seat_all.ensures.kin) in
+    let wakes : WakesBehind s.code n grown kin.items c.seat_all.new.seats.items seats.items lost = subst (λ k. WakesBehind s.code k grown kin.items c.seat_all.new.seats.items seats.items lost) number c.wake_behind-self-inside.ensures in
+    let acts = lent_acts s c.self.invariant strand held c.in-Told.act told store units r closed lost c.seat_all.new.seats.items c.note.new.journal seats grown kin c.closes_by-closed.ensures noted placed forks wakes in
+    rw (← c.self.view_is) acts.1
 
 pub end_lent-requires-clause-held : goal.end_lent-requires-clause-held
 end_lent-requires-clause-held c =
@@ -121,7 +132,7 @@ end_lent-requires-clause-ends c =
     let strand = c.args.strand.now in
     let held : IsHeld (run_of s) strand = subst (λ (r : Run). IsHeld r strand) (sym c.self.view_is) c.requires.held in
     let turn = ap (turn_shown strand.about.ask) c.self.invariant.store ∙ ap (λ (r : Run). turn_shown strand.about.ask (world r).store) c.self.view_is ∙ c.requires.turn in
-    rw (c.place.ensures, c.number-in-Refused.ensures) (fault_lent s strand c.in-Refused.kind c.self.invariant (sits_turn s c.self.invariant strand held turn) c.in-Refused.ensures.1)
+    rw (c.place.ensures, c.number.ensures) (fault_lent s strand c.in-Refused.kind c.self.invariant (sits_turn s c.self.invariant strand held turn) c.in-Refused.ensures.1)
 
 pub lose_lent-requires-in-NoMemory-clause-due : goal.lose_lent-requires-in-NoMemory-clause-due
 lose_lent-requires-in-NoMemory-clause-due c =

@@ -1,11 +1,10 @@
-use Rattle.std.proofs.Common.{refl, sym, subst, ◌∙◌, ap, ◌≤◌, ◌<◌, length, MatchBool, MatchOption}
+use Rattle.std.proofs.Common.{sym, subst, ◌∙◌, ap}
 use Rattle.a68_world.specs.Ending.{end_asked}
 use Rattle.a68_world.specs.Inside.{run_of}
 use Rattle.a68_world.specs.Leases.{IsHeld}
 use Rattle.a68_world.specs.Run.{Run, world}
 use Rattle.a68_world.specs.Seats.{turn_shown}
-use Rattle.a68_world.specs.Turns.{EndsAt, GoesOn, IsDueAs}
-use Rattle.a68_world.specs.declared.status.StrandState.TheVariants as status
+use Rattle.a68_world.specs.Turns.{GoesOn}
 use Rattle.a68_world.proofs.LentActs.{chosen_end, chosen_due, lent_ends}
 use Rattle.a68_world.proofs.world.World.act_ready.Goals as goal
 

@@ -1,12 +1,10 @@
-use Rattle.std.proofs.Common.{◌≡◌, ◌∙◌, ◌<◌, true, false, List, length, refl, sym, ap, subst, arith}
+use Rattle.std.proofs.Common.{◌≡◌, ◌∙◌, true, false, refl, sym, ap, subst, arith}
 use Rattle.std.specs.Prelude.{Some, slice_get, slice_set, if◌then◌else◌}
 use Rattle.std.specs.Vec.{with_item}
-use Rattle.std.proofs.Math.ListN.{length-set}
 use Rattle.a68_strand.specs.Strands.{is_spent}
 use Rattle.a68_world.specs.Inside.{run_of}
-use Rattle.a68_world.specs.Leases.{BackOf, IsReplay}
+use Rattle.a68_world.specs.Leases.{IsReplay}
 use Rattle.a68_world.specs.Run.{IsNumber, Run}
-use Rattle.a68_world.specs.declared.seat.Seat.{Seat}
 use Rattle.a68_world.specs.declared.seat.Seat.TheVariants as seat
 use Rattle.a68_world.specs.declared.status.StrandState.TheVariants as status
 use Rattle.a68_world.proofs.Returning.{back_on, back_over, back_spent, few_given, is_there_some, passed_given}
@@ -55,15 +53,6 @@ returns-then-spent c =
     let there : slice_get s.seats.items n ≡ Some x = seat_there s.seats.items s.seats.items n x refl (omega (arith, is_within s.seats.items strand.number (seat.Away false t.0) t.1, c.number-number.ensures)) c.index_mut.ensures.value in
     rw (← c.self.view_is, ← c.spent.ensures) (back_spent s strand n x c.lose.new.seat (with_item s.seats n c.lose.new.seat) c.lost_by_spent-self-inside.result c.spent.result c.self.invariant c.number-number.ensures lent there c.lose.ensures refl
     (c.lost_by_spent-self-inside.ensures ∙ ap (λ b. if b then s.lost else true) c.is_some.ensures) c.if-spent.true).1
-
-pub wake_at-found-requires-clause-within : goal.wake_at-found-requires-clause-within
-wake_at-found-requires-clause-within c =
-    let s = c.self.inside in
-    let strand = c.args.strand in
-    let n = c.number-number.result in
-    let lent : IsNumber (run_of s) strand.number status.Lent = subst (λ (r : Run). IsNumber r strand.number status.Lent) (sym c.self.view_is) c.requires.lent in
-    let t = seat_lent s.seats.items strand.number lent in
-    omega (arith, is_within s.seats.items strand.number (seat.Away false t.0) t.1, c.number-number.ensures, length-set s.seats.items n (seat.Home strand), ap (λ (z : Seat). length (slice_set s.seats.items n z)) c.put_back.ensures)
 
 pub invariant_of-self-then-is_some : goal.invariant_of-self-then-is_some
 invariant_of-self-then-is_some c =

@@ -1,6 +1,7 @@
 use Rattle.std.proofs.Common.{◌≡◌, ◌∙◌, ◌++◌, List, Some, ap, sym, subst, length, map, slice_get, slice_set, arith}
 use Rattle.std.specs.Option.{option_map_or}
 use Rattle.a68_world.specs.Inside.{run_of}
+use Rattle.a68_world.specs.Kin.{Forks, WakesBehind}
 use Rattle.a68_world.specs.Run.{Run}
 use Rattle.a68_world.specs.Seats.{place_at, place_in, status_of}
 use Rattle.a68_world.specs.Turns.{GoesOn, IsDue, TurnOf, IsOtherDue}
@@ -8,7 +9,7 @@ use Rattle.a68_world.specs.declared.seat.Seat.{Seat}
 use Rattle.a68_world.specs.declared.seat.Seat.TheVariants as seat
 use Rattle.a68_world.specs.declared.status.StrandState.{StrandState}
 use Rattle.a68_world.proofs.Behind.{Noted}
-use Rattle.a68_world.proofs.Doing.{Told, seat_there, told_all, few_told, passed_told, run_told, untold_all, refused_left, refused_ends, unfound_left, unfound_wants}
+use Rattle.a68_world.proofs.Doing.{Told, Woken, seat_there, told_all, told_shown, run_told, untold_all, refused_left, refused_ends, unfound_left, unfound_wants}
 use Rattle.a68_world.proofs.Closing.{with_passed}
 use Rattle.a68_world.proofs.Places.{is_within}
 use Rattle.a68_world.proofs.Standing.{due_other, seat_home, few_units, few_frames, asking_at}
@@ -72,13 +73,17 @@ end_behind-self-inside-requires c =
     let units = c.in-Ok.units.items in
     let store = c.act_at.new.store in
     let told : Told s n c.self.invariant goes due x y c.in-Told.act store units = record { there = there; are = c.in-Ok.ensures.units; comes = c.in-Told.ensures } in
-    let placed : c.seat_all.new.seats.items ≡ slice_set s.seats.items n y ++ units = c.seat_all.ensures ∙ ap (λ l. slice_set l n y ++ units) same in
-    record {
-      few = few_told s n c.self.invariant goes due x y c.in-Told.act store units c.seat_all.new.seats.items c.deref-in-Told.result.now c.deref.result.now c.wake_behind-self-inside.new.seats.items c.waits_below-below.result c.wake_behind-self-inside.result told placed c.deref.ensures.value c.waits_below-below.ensures
-          c.wake_behind-self-inside.ensures c.deref-in-Told.ensures.value;
-      passed = passed_told s n c.self.invariant goes due x y c.in-Told.act store units c.seat_all.new.seats.items c.deref-in-Told.result.now c.deref.result.now c.wake_behind-self-inside.new.seats.items c.waits_below-below.result c.wake_behind-self-inside.result told placed c.deref.ensures.value c.waits_below-below.ensures
-          c.wake_behind-self-inside.ensures c.deref-in-Told.ensures.value;
-    }
+    let placed : c.seat_all.new.seats.items ≡ slice_set s.seats.items n y ++ units = c.seat_all.ensures.seats ∙ ap (λ l. slice_set l n y ++ units) same in
+    let seats = c.wake_behind-self-inside.new.seats in
+    let kin = c.wake_behind-self-inside.new.kin in
+    let lost = c.wake_behind-self-inside.result in
+    let woken : Woken s n c.self.invariant goes due y units seats.items kin.items lost = record {
+      grown = c.seat_all.new.kin.items;
+      forks = subst (λ l. Forks l n (length units) c.seat_all.new.kin.items) c.units_ready.ensures.same_kin c.seat_all.ensures.kin;
+      wakes = subst (λ l. WakesBehind s.code n c.seat_all.new.kin.items kin.items l seats.items lost) placed c.wake_behind-self-inside.ensures;
+    } in
+    let shows = told_shown s n c.self.invariant goes due x y c.in-Told.act store units c.deref.result.now seats.items kin.items lost told woken c.deref.ensures.value in
+    record { few = shows.0; passed = shows.1 }
 
 pub invariant_of-self-in-Told : goal.invariant_of-self-in-Told
 invariant_of-self-in-Told c =
@@ -94,13 +99,18 @@ invariant_of-self-in-Told c =
     let units = c.in-Ok.units.items in
     let store = c.act_at.new.store in
     let told : Told s n c.self.invariant goes due x y c.in-Told.act store units = record { there = there; are = c.in-Ok.ensures.units; comes = c.in-Told.ensures } in
-    let placed : c.seat_all.new.seats.items ≡ slice_set s.seats.items n y ++ units = c.seat_all.ensures ∙ ap (λ l. slice_set l n y ++ units) same in
-    let noted : Noted s n c.in-Told.act c.note.new.journal = record { items = c.note.ensures.items; room = omega (arith, c.note.ensures.room, c.self.invariant.room) } in
+    let placed : c.seat_all.new.seats.items ≡ slice_set s.seats.items n y ++ units = c.seat_all.ensures.seats ∙ ap (λ l. slice_set l n y ++ units) same in
     let seats = c.wake_behind-self-inside.new.seats in
+    let kin = c.wake_behind-self-inside.new.kin in
     let lost = c.wake_behind-self-inside.result in
-    let all = told_all s n c.self.invariant goes due x y c.in-Told.act store units c.seat_all.new.seats.items c.deref-in-Told.result.now c.deref.result.now c.note.new.journal seats c.waits_below-below.result lost c.end_behind-self-inside.result told noted placed c.deref.ensures.value c.waits_below-below.ensures
-    c.wake_behind-self-inside.ensures c.deref-in-Told.ensures.value c.end_behind-self-inside.ensures in
-    with_passed (run_told s n c.self.invariant goes due c.note.new.journal store seats c.waits_below-below.result lost c.end_behind-self-inside.result) c.pass_closed.new.passed c.deref-in-Told-2.result.now n all.0 c.deref-in-Told-2.ensures.value
+    let woken : Woken s n c.self.invariant goes due y units seats.items kin.items lost = record {
+      grown = c.seat_all.new.kin.items;
+      forks = subst (λ l. Forks l n (length units) c.seat_all.new.kin.items) c.units_ready.ensures.same_kin c.seat_all.ensures.kin;
+      wakes = subst (λ l. WakesBehind s.code n c.seat_all.new.kin.items kin.items l seats.items lost) placed c.wake_behind-self-inside.ensures;
+    } in
+    let noted : Noted s n c.in-Told.act c.note.new.journal = record { items = c.note.ensures.items; room = omega (arith, c.note.ensures.room, c.self.invariant.room) } in
+    let all = told_all s n c.self.invariant goes due x y c.in-Told.act store units c.deref.result.now c.note.new.journal seats kin lost c.end_behind-self-inside.result told noted woken c.deref.ensures.value c.end_behind-self-inside.ensures in
+    with_passed (run_told s n c.self.invariant goes due c.note.new.journal store seats kin lost c.end_behind-self-inside.result) c.pass_closed.new.passed c.deref-in-Told.result.now n all.0 c.deref-in-Told.ensures.value
     c.pass_closed.ensures
 
 pub returns-in-Told : goal.returns-in-Told
@@ -117,12 +127,17 @@ returns-in-Told c =
     let units = c.in-Ok.units.items in
     let store = c.act_at.new.store in
     let told : Told s n c.self.invariant goes due x y c.in-Told.act store units = record { there = there; are = c.in-Ok.ensures.units; comes = c.in-Told.ensures } in
-    let placed : c.seat_all.new.seats.items ≡ slice_set s.seats.items n y ++ units = c.seat_all.ensures ∙ ap (λ l. slice_set l n y ++ units) same in
-    let noted : Noted s n c.in-Told.act c.note.new.journal = record { items = c.note.ensures.items; room = omega (arith, c.note.ensures.room, c.self.invariant.room) } in
+    let placed : c.seat_all.new.seats.items ≡ slice_set s.seats.items n y ++ units = c.seat_all.ensures.seats ∙ ap (λ l. slice_set l n y ++ units) same in
     let seats = c.wake_behind-self-inside.new.seats in
+    let kin = c.wake_behind-self-inside.new.kin in
     let lost = c.wake_behind-self-inside.result in
-    let all = told_all s n c.self.invariant goes due x y c.in-Told.act store units c.seat_all.new.seats.items c.deref-in-Told.result.now c.deref.result.now c.note.new.journal seats c.waits_below-below.result lost c.end_behind-self-inside.result told noted placed c.deref.ensures.value c.waits_below-below.ensures
-    c.wake_behind-self-inside.ensures c.deref-in-Told.ensures.value c.end_behind-self-inside.ensures in
+    let woken : Woken s n c.self.invariant goes due y units seats.items kin.items lost = record {
+      grown = c.seat_all.new.kin.items;
+      forks = subst (λ l. Forks l n (length units) c.seat_all.new.kin.items) c.units_ready.ensures.same_kin c.seat_all.ensures.kin;
+      wakes = subst (λ l. WakesBehind s.code n c.seat_all.new.kin.items kin.items l seats.items lost) placed c.wake_behind-self-inside.ensures;
+    } in
+    let noted : Noted s n c.in-Told.act c.note.new.journal = record { items = c.note.ensures.items; room = omega (arith, c.note.ensures.room, c.self.invariant.room) } in
+    let all = told_all s n c.self.invariant goes due x y c.in-Told.act store units c.deref.result.now c.note.new.journal seats kin lost c.end_behind-self-inside.result told noted woken c.deref.ensures.value c.end_behind-self-inside.ensures in
     rw (← c.self.view_is) all.1
 
 pub invariant_of-self-in-Untold : goal.invariant_of-self-in-Untold
@@ -140,8 +155,8 @@ invariant_of-self-in-Untold c =
     let store = c.act_at.new.store in
     let noted : Noted s n c.in-Untold.act c.note-in-Untold.new.journal =
     record { items = c.note-in-Untold.ensures.items; room = omega (arith, c.note-in-Untold.ensures.room, c.self.invariant.room) } in
-    let all = untold_all s n c.self.invariant goes due x y c.in-Untold.act store units c.note-in-Untold.new.journal c.seat_all-in-Untold.new.seats there c.in-Ok.ensures.units c.in-Untold.ensures noted
-    (c.seat_all-in-Untold.ensures ∙ ap (λ l. slice_set l n y ++ units) same) in
+    let all = untold_all s n c.self.invariant goes due x y c.in-Untold.act store units c.note-in-Untold.new.journal c.seat_all-in-Untold.new.seats c.seat_all-in-Untold.new.kin there c.in-Ok.ensures.units c.in-Untold.ensures noted
+    (subst (λ l. Forks l n (length units) c.seat_all-in-Untold.new.kin.items) c.units_ready.ensures.same_kin c.seat_all-in-Untold.ensures.kin) (c.seat_all-in-Untold.ensures.seats ∙ ap (λ l. slice_set l n y ++ units) same) in
     all.0
 
 pub returns-in-Untold : goal.returns-in-Untold
@@ -159,8 +174,8 @@ returns-in-Untold c =
     let store = c.act_at.new.store in
     let noted : Noted s n c.in-Untold.act c.note-in-Untold.new.journal =
     record { items = c.note-in-Untold.ensures.items; room = omega (arith, c.note-in-Untold.ensures.room, c.self.invariant.room) } in
-    let all = untold_all s n c.self.invariant goes due x y c.in-Untold.act store units c.note-in-Untold.new.journal c.seat_all-in-Untold.new.seats there c.in-Ok.ensures.units c.in-Untold.ensures noted
-    (c.seat_all-in-Untold.ensures ∙ ap (λ l. slice_set l n y ++ units) same) in
+    let all = untold_all s n c.self.invariant goes due x y c.in-Untold.act store units c.note-in-Untold.new.journal c.seat_all-in-Untold.new.seats c.seat_all-in-Untold.new.kin there c.in-Ok.ensures.units c.in-Untold.ensures noted
+    (subst (λ l. Forks l n (length units) c.seat_all-in-Untold.new.kin.items) c.units_ready.ensures.same_kin c.seat_all-in-Untold.ensures.kin) (c.seat_all-in-Untold.ensures.seats ∙ ap (λ l. slice_set l n y ++ units) same) in
     rw (← c.self.view_is) all.1
 
 pub end_with-requires-clause-ends : goal.end_with-requires-clause-ends

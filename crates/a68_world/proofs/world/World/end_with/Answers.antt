@@ -13,5 +13,5 @@ invariant_of-self c = record {
   store = c.self.invariant.store;
   seats = c.self.invariant.seats;
   passed = c.self.invariant.passed;
-  waits = c.self.invariant.waits;
+  kin = c.self.invariant.kin;
 }

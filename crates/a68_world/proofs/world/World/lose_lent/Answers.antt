@@ -1,8 +1,6 @@
 use Rattle.std.proofs.Common.{refl, inr, sym, subst}
-use Rattle.a68_world.specs.Inside.{run_of}
 use Rattle.a68_world.specs.Run.{Run}
-use Rattle.a68_world.specs.Turns.{GoesOn, IsOtherDueAs}
-use Rattle.a68_world.specs.declared.status.StrandState.TheVariants as status
+use Rattle.a68_world.specs.Turns.{GoesOn}
 use Rattle.a68_world.proofs.LentActs.{lost_sound}
 use Rattle.a68_world.proofs.world.World.lose_lent.Goals as goal
 

@@ -8,22 +8,24 @@ end_shown-end-requires-clause-passed c = λ k marked. absurd (true≢false (sym 
 
 pub invariant_of-result : goal.invariant_of-result
 invariant_of-result c =
-    made_sound c.args.code c.args.fuel c.in-Ok.journal c.in-Ok.store c.in-Ok.seats c.new-passed.result c.end_shown-end.result (record {
+    made_sound c.args.code c.args.fuel c.in-Ok.journal c.in-Ok.store c.in-Ok.seats c.in-Ok.kin c.new-passed.result c.end_shown-end.result (record {
       items = c.in-Ok.ensures.empty;
       room = c.in-Ok.ensures.room;
       store_is = c.in-Ok.ensures.store;
       first = c.in-Ok.ensures.seats;
+      kin_is = c.in-Ok.ensures.kin;
       unmarked = c.new-passed.ensures;
       end_is = subst (λ l. EndShown l c.in-Ok.store c.end_shown-end.result) c.deref.ensures.value c.end_shown-end.ensures;
     }) c.requires.valid c.requires.short c.requires.some_fuel c.requires.little_fuel
 
 pub returns-in-Ok : goal.returns-in-Ok
 returns-in-Ok c =
-    made_is c.args.code c.args.fuel c.in-Ok.journal c.in-Ok.store c.in-Ok.seats c.new-passed.result c.end_shown-end.result (record {
+    made_is c.args.code c.args.fuel c.in-Ok.journal c.in-Ok.store c.in-Ok.seats c.in-Ok.kin c.new-passed.result c.end_shown-end.result (record {
       items = c.in-Ok.ensures.empty;
       room = c.in-Ok.ensures.room;
       store_is = c.in-Ok.ensures.store;
       first = c.in-Ok.ensures.seats;
+      kin_is = c.in-Ok.ensures.kin;
       unmarked = c.new-passed.ensures;
       end_is = subst (λ l. EndShown l c.in-Ok.store c.end_shown-end.result) c.deref.ensures.value c.end_shown-end.ensures;
     })
