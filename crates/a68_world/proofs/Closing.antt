@@ -58,7 +58,7 @@ closed_seat code strands seats k seated t = by (slice_get seats k) refl t
 
 -- ---- behind acts
 
-there-closed : (strands : List State) (k : ℕ) → is_closed strands k ≡ true → (st : State) × (slice_get strands k ≡ Some st) × (has_closed st.stance ≡ true)
+pub there-closed : (strands : List State) (k : ℕ) → is_closed strands k ≡ true → (st : State) × (slice_get strands k ≡ Some st) × (has_closed st.stance ≡ true)
 there-closed strands k t = by (slice_get strands k) refl t
   where
     by : (o : Option State) → slice_get strands k ≡ o → option_map_or (λ (x : State). has_closed x.stance) o false ≡ true → (st : State) × (slice_get strands k ≡ Some st) × (has_closed st.stance ≡ true)
@@ -106,5 +106,6 @@ with_passed s marks shown n sound same passes = record {
     | inr closed ↦ subst (λ j. is_closed (world (run_of s)).strands j ≡ true) (sym closed.0)
         (closed_seat s.code (world (run_of s)).strands s.seats.items n sound.seats (sym (ap (λ l. closed_at l n) same) ∙ closed.1))
   ];
+  rests = sound.rests;
   kin = sound.kin;
 }

@@ -105,6 +105,7 @@ module _ (s : Inside) (sound : IsSound s) where
       store = sound.store;
       seats = rw placed (reseated s.code (now s).strands s.seats.items n (seat.Away false false) sound.seats (sym (turn-open s.code (now s) n ready.turn)));
       passed = sound.passed;
+      rests = sound.rests;
       kin = sound.kin;
     }
 
@@ -170,6 +171,7 @@ module _ (s : Inside) (sound : IsSound s) where
       store = sound.store;
       seats = rw g.placed (reseated s.code (now s).strands s.seats.items strand.number y sound.seats g.sits);
       passed = sound.passed;
+      rests = sound.rests;
       kin = sound.kin;
     }
 

@@ -1,5 +1,5 @@
 -- A strand that is lent, and its act.
-use Rattle.std.proofs.Common.{◌≡◌, ◌∙◌, ℕ, ◌<◌, ◌≤◌, Bool, true, false, List, ◌++◌, length, refl, ap, sym, subst, true≢false, MatchBool, MatchOption}
+use Rattle.std.proofs.Common.{◌≡◌, ◌∙◌, ℕ, ◌<◌, ◌≤◌, ◌^◌, Bool, true, false, List, ◌++◌, length, refl, ap, sym, subst, arith, true≢false, MatchBool, MatchOption}
 use Rattle.std.proofs.lemmas.Bool.{false≢true}
 use Rattle.std.specs.List.{list_all}
 use Rattle.std.specs.Prelude.{None, Some, Ok, slice_get, slice_set}
@@ -10,7 +10,7 @@ use Rattle.std.specs.declared.vec.Vec.{Vec}
 use Rattle.a68_acts.specs.Does.{refused, does}
 use Rattle.a68_acts.specs.Store.{Store}
 use Rattle.a68_acts.specs.declared.want.Reply.{Reply}
-use Rattle.a68_exec.specs.Runs.{has_closed}
+use Rattle.a68_exec.specs.Runs.{has_closed, woken}
 use Rattle.a68_instructions.specs.Bodies.{stance_in}
 use Rattle.a68_instructions.specs.Machine.{State, asked, replied, replied_in, settle, told_by}
 use Rattle.a68_instructions.specs.Machine as machine
@@ -18,6 +18,7 @@ use Rattle.a68_instructions.specs.declared.ask.Ask.{Ask}
 use Rattle.a68_instructions.specs.declared.ask.Ask.TheVariants as ask
 use Rattle.a68_instructions.specs.declared.ask.Stance.{Stance}
 use Rattle.a68_instructions.specs.declared.ask.Stance.TheVariants.{Asking, Waits}
+use Rattle.a68_rests.specs.Resting.{Resting}
 use Rattle.a68_strand.specs.Strands.{standing}
 use Rattle.a68_strand.specs.declared.strand.Strand.{Strand}
 use Rattle.a68_values.specs.Logs.{Logged}
@@ -29,6 +30,7 @@ use Rattle.a68_world.specs.Ending.{end_asked}
 use Rattle.a68_world.specs.Inside.{run_of, IsSound}
 use Rattle.a68_world.specs.Leases.{IsHeld, ActOf, DoneWith, closes_by}
 use Rattle.a68_world.specs.Kin.{AreKin, Forks, WakesBehind}
+use Rattle.a68_world.specs.Resting.{RestsBehind, written}
 use Rattle.a68_world.specs.Seats.{Sits, SitsHere, is_home, turn_shown}
 use Rattle.a68_world.specs.Stepping.{AreUnits, Meets, units_begun}
 use Rattle.a68_world.specs.Turns.{GoesOn, IsReadyAs, IsDueAs, EndsAt}
@@ -42,10 +44,11 @@ use Rattle.a68_world.proofs.Behind as b
 use Rattle.a68_world.proofs.Behind.{Moved, Noted, now, many_seats}
 use Rattle.a68_world.proofs.Kept.{ended_keep, lost_keep}
 use Rattle.a68_world.proofs.Outcomes.{EndsBy, all_home_at, number_of, seat_lent, told_acts, told_long, told_sit, told_sound}
-use Rattle.a68_world.proofs.Places.{get_front, set_same}
+use Rattle.a68_world.proofs.Places.{get_front, is_within, length_map, set_same}
 use Rattle.a68_world.proofs.Replays.{stands_awake}
 use Rattle.a68_world.proofs.Showing.{asking, next_fault, shown, turn_sits}
 use Rattle.a68_world.proofs.Standing.{asking_as, ends_as}
+use Rattle.a68_world.proofs.Steady.{steady_more, steady_run}
 use Rattle.a68_world.proofs.Telling.{closes_behind}
 
 module _ (s : Inside) (sound : IsSound s) (strand : Strand) (held : IsHeld (run_of s) strand) where
@@ -150,23 +153,23 @@ module _ (s : Inside) (sound : IsSound s) (strand : Strand) (held : IsHeld (run_
         by true e = absurd (false≢true (all_home_at seats e strand.number (seat.Away false closed) there))
         by false e = rw e r.goes.unended
 
-    abbrev pub run_lent : Logged → Vec Seat Global → Vec Kin Global → Bool → Inside
-    run_lent journal seats kin lost = record s { journal = journal; store = store; seats = seats; kin = kin; lost = lost }
+    abbrev pub run_lent : Logged → Vec Seat Global → Resting → Vec Kin Global → Bool → Inside
+    run_lent journal seats rested kin lost = record s { journal = journal; store = store; seats = seats; rests = rested; kin = kin; lost = lost }
 
-    pub lent_acts : (closed lost : Bool) (placed : List Seat) (journal : Logged) (seats : Vec Seat Global) (grown : List Kin) (kin : Vec Kin Global) → closed ≡ closes_by strand.about.waiting told
+    pub lent_acts : (closed lost : Bool) (placed : List Seat) (journal : Logged) (seats : Vec Seat Global) (rested : Resting) (grown : List Kin) (kin : Vec Kin Global) → closed ≡ closes_by strand.about.waiting told
         → Noted s strand.number act journal → placed ≡ slice_set s.seats.items strand.number (seat.Away false closed) ++ units → Forks s.kin.items strand.number (length units) grown
-        → WakesBehind s.code strand.number grown kin.items placed seats.items lost
-        → IsSound (run_lent journal seats kin lost) × ActOf (run_of s) strand (Ok told) (run_of (run_lent journal seats kin lost))
-    lent_acts closed lost placed journal seats grown kin e noted at forks w =
+        → WakesBehind s.code strand.number grown kin.items placed seats.items lost → RestsBehind (written act) strand.number kin.items seats.items store s.rests rested
+        → IsSound (run_lent journal seats rested kin lost) × ActOf (run_of s) strand (Ok told) (run_of (run_lent journal seats rested kin lost))
+    lent_acts closed lost placed journal seats rested grown kin e noted at forks w behind =
         let both = wakes closed e grown kin.items seats.items lost forks (subst (λ l. WakesBehind s.code strand.number grown kin.items l seats.items lost) at w) in
         let woke = both.0 in
         let there : slice_get (lent_seats closed) strand.number ≡ Some (seat.Away false closed) =
         get_front (slice_set s.seats.items strand.number (seat.Away false closed)) units strand.number (seat.Away false closed)
         (set_same s.seats.items strand.number moved.at (seat.Away false closed) moved.there) in
         let none = parted seats.items closed (woke.lent strand.number closed there) in (
-          told_sound s strand.number act store units moved (seat.Away false closed) refl (mine closed e) journal seats kin lost s.end noted both.1 woke none,
+          told_sound s strand.number act store units moved (seat.Away false closed) refl (mine closed e) journal seats kin lost s.end noted both.1 woke none rested behind,
           (
-            told_acts s strand.number act store units moved (seat.Away false closed) refl (mine closed e) journal seats kin lost s.end noted both.1 woke none,
+            told_acts s strand.number act store units moved (seat.Away false closed) refl (mine closed e) journal seats kin lost s.end noted both.1 woke none rested behind,
             record {
               want = r.done.want;
               act = act;
@@ -179,6 +182,19 @@ module _ (s : Inside) (sound : IsSound s) (strand : Strand) (held : IsHeld (run_
           ),
         )
 
+    -- there are numbers for all, and the strand is one of them
+    pub lent_few : (closed lost : Bool) (placed shown seats : List Seat) (grown kin : List Kin) → closed ≡ closes_by strand.about.waiting told
+        → placed ≡ slice_set s.seats.items strand.number (seat.Away false closed) ++ units → Forks s.kin.items strand.number (length units) grown
+        → WakesBehind s.code strand.number grown kin placed seats lost → shown ≡ seats → (length shown < 2 ^ 32) × (strand.number < length shown)
+    lent_few closed lost placed shown seats grown kin e at forks w same =
+        let woke = (wakes closed e grown kin seats lost forks (subst (λ l. WakesBehind s.code strand.number grown kin l seats lost) at w)).0 in
+        let st = steady_more s.code (length s.journal.items) (now s) strand.number act (b.behind s strand.number act store units moved) (steady_run (run_of s) sound.run) (b.next_is s strand.number act store units moved) in
+        let all = b.all s strand.number act store units moved in
+        let here_ : length shown ≡ length seats = ap (λ l. length l) same in (
+          omega (arith, here_, woke.long, st.many, st.most, length_map (woken s.code all) all),
+          omega (arith, here_, woke.long, is_within all strand.number (b.next s strand.number act store units moved) (b.there_next s strand.number act store units moved)),
+        )
+
 -- ---- it does none
 
 pub ended_sound : (s : Inside) → IsSound s → (n : ℕ) (e : End) → GoesOn (run_of s) → EndsAt (run_of s) n e → IsSound (record s { end = Some e })
@@ -188,6 +204,7 @@ ended_sound s sound n e goes at = record {
   store = sound.store;
   seats = sound.seats;
   passed = sound.passed;
+  rests = sound.rests;
   kin = sound.kin;
 }
 
@@ -198,6 +215,7 @@ lost_sound s sound goes = record {
   store = sound.store;
   seats = sound.seats;
   passed = sound.passed;
+  rests = sound.rests;
   kin = sound.kin;
 }
 

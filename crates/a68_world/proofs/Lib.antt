@@ -9,6 +9,7 @@ pub mod Entering
 pub mod Firsts
 pub mod Forking
 pub mod GoingAlone
+pub mod Holding
 pub mod Journals
 pub mod Kept
 pub mod Ended
@@ -19,6 +20,8 @@ pub mod Outcomes
 pub mod Places
 pub mod Releasing
 pub mod Replays
+pub mod RestKept
+pub mod RestingOn
 pub mod Returning
 pub mod Rousing
 pub mod ScopesKept

@@ -11,6 +11,7 @@ use Rattle.a68_acts.specs.Does.{did, does}
 use Rattle.a68_acts.specs.Store.{Store}
 use Rattle.a68_code.specs.declared.code.Code.{Code}
 use Rattle.a68_exec.proofs.Alive.{active}
+use Rattle.a68_rests.specs.Resting.{Resting, rests}
 use Rattle.a68_strand.proofs.Waking.{goes_open, goes_waits}
 use Rattle.a68_instructions.specs.Bodies.{stance_in}
 use Rattle.a68_instructions.specs.Machine.{State, settle, replied}
@@ -27,6 +28,7 @@ use Rattle.a68_values.specs.declared.kept.End.{End}
 use Rattle.a68_world.specs.Ending.{EndShown}
 use Rattle.a68_world.specs.Inside.{run_of, IsSound}
 use Rattle.a68_world.specs.Kin.{AreKin, Forks, WakesBehind}
+use Rattle.a68_world.specs.Resting.{HaveRest, RestsBehind, written}
 use Rattle.a68_world.specs.Run.{AllHome, IsNumber, EndsWithoutTurn, world}
 use Rattle.a68_world.specs.Seats.{Sits, SitsAt, SitsHere, AreSeated, AllSit, is_home, status_of}
 use Rattle.a68_world.specs.Stepping.{IsNewSeat}
@@ -44,6 +46,7 @@ use Rattle.a68_world.proofs.Kept.{none_spent, world_behind, acts_keep, spent_kee
 use Rattle.a68_world.proofs.Closing.{closed_on}
 use Rattle.a68_world.proofs.Places.{get_mapped, get_map, get_front, get_other, parted, set_same, is_there, is_within, length_map}
 use Rattle.a68_world.proofs.Forking.{kin_woken}
+use Rattle.a68_world.proofs.RestKept.{rest_behind}
 use Rattle.a68_world.proofs.Showing.{AllAtHome, end_seen}
 use Rattle.a68_world.proofs.Wanting.{takes_behind}
 use Rattle.std.specs.List.{list_all}
@@ -177,9 +180,10 @@ module _ (s : Inside) (n : ℕ) (act : Act) (store : Store) (units : List Seat) 
     told_long = b.long s n act store units m y
 
     module _ (journal : Logged) (seats : Vec Seat Global) (kin : Vec Kin Global) (lost : Bool) (end : Option End) (noted : Noted s n act journal) (are : AreKin kin.items (b.all s n act store units m))
-        (w : Wakes s.code (b.all s n act store units m) told_seats seats.items lost) (ends : EndsBy seats.items store end) where
+        (w : Wakes s.code (b.all s n act store units m) told_seats seats.items lost) (ends : EndsBy seats.items store end) (rested : Resting)
+        (behind : RestsBehind (written act) n kin.items seats.items store s.rests rested) where
       abbrev pub told_run : Inside
-      told_run = record s { journal = journal; store = store; seats = seats; kin = kin; lost = lost; end = end }
+      told_run = record s { journal = journal; store = store; seats = seats; rests = rested; kin = kin; lost = lost; end = end }
 
       told-world : world (run_of told_run) ≡ b.behind s n act store units m
       told-world = world_behind (run_of s) (run_of told_run) n act (b.behind s n act store units m) refl noted.items (b.next_is s n act store units m)
@@ -327,6 +331,7 @@ module _ (s : Inside) (n : ℕ) (act : Act) (store : Store) (units : List Seat) 
         store = sym (ap (λ (x : World). x.store) told-world);
         seats = told-seated;
         passed = λ k marked. ap (λ (x : World). is_closed x.strands k) told-world ∙ closed_on s.code (now s) n act (b.behind s n act store units m) (b.next_is s n act store units m) k (m.sound.passed k marked);
+        rests = subst (λ (x : World). HaveRest rested x.strands store) (sym told-world) (rest_behind s n act store units m rested kin.items seats.items behind are w.seated w.long);
         kin = subst (λ (x : World). AreKin kin.items x.strands) (sym told-world) (kin_woken s.code (b.all s n act store units m) (b.rest s n act store units m) kin.items are);
       }
 
@@ -356,9 +361,10 @@ module _ (s : Inside) (n : ℕ) (act : Act) (store : Store) (units : List Seat) 
 
   module _ (live : is_passive (settle s.code (replied s.code (standing m.strand) m.act_done.reply)).stance ≡ false)
       (untold : TellsNot s.code m.strand.body m.strand.about.waiting m.act_done.reply) (home : status.Home ≡ m.where_) (journal : Logged) (seats : Vec Seat Global)
-      (kin : Vec Kin Global) (noted : Noted s n act journal) (forks : Forks s.kin.items n (length units) kin.items) (are : seats.items ≡ slice_set s.seats.items n (seat.Away true false) ++ units) where
+      (kin : Vec Kin Global) (noted : Noted s n act journal) (forks : Forks s.kin.items n (length units) kin.items) (are : seats.items ≡ slice_set s.seats.items n (seat.Away true false) ++ units)
+      (rested : Resting) (none_rest : (k : ℕ) → rests rested k ≡ false) where
     abbrev pub untold_run : Inside
-    untold_run = record s { journal = journal; store = store; seats = seats; kin = kin; lost = true }
+    untold_run = record s { journal = journal; store = store; seats = seats; rests = rested; kin = kin; lost = true }
 
     untold-world : world (run_of untold_run) ≡ b.behind s n act store units m
     untold-world = world_behind (run_of s) (run_of untold_run) n act (b.behind s n act store units m) refl noted.items (b.next_is s n act store units m)
@@ -425,5 +431,6 @@ module _ (s : Inside) (n : ℕ) (act : Act) (store : Store) (units : List Seat) 
       store = sym (ap (λ (x : World). x.store) untold-world);
       seats = untold-seated;
       passed = λ k marked. ap (λ (x : World). is_closed x.strands k) untold-world ∙ closed_on s.code (now s) n act (b.behind s n act store units m) (b.next_is s n act store units m) k (m.sound.passed k marked);
+      rests = λ k marked. absurd (true≢false (sym marked ∙ none_rest k));
       kin = subst (λ l. AreKin kin.items l) (sym untold-strands) (b.kin_all s n act store units m kin.items forks);
     }

@@ -24,7 +24,7 @@ use Rattle.a68_world.specs.declared.world.World.TheInside.{Inside}
 use Rattle.a68_world.proofs.Behind.{now}
 use Rattle.a68_world.proofs.Lending.{Returned, back_is, back_sound, over_back, over_sound, reseated, returned, spent_back, spent_sound, taken_is, taken_sound}
 use Rattle.a68_world.proofs.Outcomes.{EndsBy, number_of}
-use Rattle.a68_world.proofs.Closing.{pass_turns}
+use Rattle.a68_world.proofs.RestKept.{rest_turns}
 use Rattle.a68_world.proofs.Standing.{few_seats}
 
 pub picked : (b : Bool) (P Q : Type 0) → MatchBool b P Q → b ≡ true → P
@@ -91,10 +91,10 @@ module _ (s : Inside) (strand : Strand) (n : ℕ) (x : Seat) (old : List Seat) (
   pub few_given : length seats.items < 2 ^ 32
   few_given = omega (arith, ap (λ (l : List Seat). length l) back-seat.placed, length-set s.seats.items strand.number back-seat.y, few_seats s sound)
 
-  pub passed_given : PassTurns s.passed seats.items s.store
-  passed_given =
-      pass_turns s.code (now s).strands seats.items s.store s.passed
-      (rw back-seat.placed (reseated s.code (now s).strands s.seats.items strand.number back-seat.y sound.seats back-seat.sits)) sound.passed
+  pub rests_given : PassTurns s.rests.0 seats.items s.store
+  rests_given =
+      rest_turns s.code (now s).strands seats.items s.store s.rests
+      (rw back-seat.placed (reseated s.code (now s).strands s.seats.items strand.number back-seat.y sound.seats back-seat.sits)) sound.rests
 
   -- the run had ended
   pub back_over : (e : End) (none : Bool) → s.end ≡ Some e → none ≡ false → IsSound (record s { seats = seats }) × BackOf (run_of s) strand none (run_of (record s { seats = seats }))

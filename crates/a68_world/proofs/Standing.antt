@@ -15,6 +15,7 @@ use Rattle.a68_acts.specs.declared.want.Want.TheVariants as want
 use Rattle.a68_code.specs.Valid.{IsValid}
 use Rattle.a68_code.specs.declared.code.Code.{Code}
 use Rattle.a68_marks.specs.Marked.{is_marked}
+use Rattle.a68_rests.specs.Resting.{Resting, rests}
 use Rattle.a68_store.specs.Acts.{has_to_wait}
 use Rattle.a68_strand.specs.Cyclic.{IsFirstBehind}
 use Rattle.a68_strand.specs.Ends.{fault_of, fault_in, RunEndsWith}
@@ -71,18 +72,20 @@ forks-go store entrances e = by (nat_lt most_strands (store.strands + length ent
 -- ---- the beginning
 
 -- what the code makes at the start
-pub record Made (code : Code) (fuel : ℕ) (journal : Logged) (store : Store) (seats : Vec Seat Global) (kin : List Kin) (marks : List ℕ) (end : Option End) : Type 0 where
+pub record Made (code : Code) (fuel : ℕ) (journal : Logged) (store : Store) (seats : Vec Seat Global) (kin : List Kin) (marks : List ℕ) (rested : Resting) (end : Option End) : Type 0 where
   pub items : journal.items ≡ []
   pub room : journal.room ≡ fuel
   pub store_is : store ≡ opening_store
   pub first : AreFirstSeats code seats.items
   pub kin_is : length kin ≡ 1
   pub unmarked : (n : ℕ) → is_marked marks n ≡ false
+  pub none_rest : (n : ℕ) → rests rested n ≡ false
   pub end_is : EndShown seats.items store end
 
-module _ (code : Code) (fuel : ℕ) (journal : Logged) (store : Store) (seats : Vec Seat Global) (kin : Vec Kin Global) (marks : List ℕ) (end : Option End) (m : Made code fuel journal store seats kin.items marks end) where
+module _ (code : Code) (fuel : ℕ) (journal : Logged) (store : Store) (seats : Vec Seat Global) (kin : Vec Kin Global) (marks : List ℕ) (rested : Resting) (end : Option End)
+    (m : Made code fuel journal store seats kin.items marks rested end) where
   abbrev pub made_run : Inside
-  made_run = record { code = code; fuel = fuel; journal = journal; store = store; seats = seats; passed = marks; kin = kin; lost = false; end = end }
+  made_run = record { code = code; fuel = fuel; journal = journal; store = store; seats = seats; passed = marks; rests = rested; kin = kin; lost = false; end = end }
 
   made-world : world (run_of made_run) ≡ opening code
   made-world = ap (λ (es : List Entry). world (record { code = code; fuel = fuel; entries = es; status = map status_of seats.items; lost = false; end = end })) m.items
@@ -153,6 +156,7 @@ module _ (code : Code) (fuel : ℕ) (journal : Logged) (store : Store) (seats : 
     store = rw made-world m.store_is;
     seats = rw made-world made-seated;
     passed = λ k marked. absurd (true≢false (sym marked ∙ m.unmarked k));
+    rests = λ k marked. absurd (true≢false (sym marked ∙ m.none_rest k));
     kin = rw made-world (kin_none kin.items (opening code).strands m.kin_is (λ k st f c e w. absurd (omega (arith, opening_waits code k st f c e w))));
   }
 

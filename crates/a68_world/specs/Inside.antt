@@ -3,6 +3,7 @@
 use Rattle.std.specs.Prelude.{◌≡◌, ◌≤◌, map}
 use Rattle.a68_world.specs.Kin.{AreKin}
 use Rattle.a68_world.specs.Passed.{HavePassed}
+use Rattle.a68_world.specs.Resting.{HaveRest}
 use Rattle.a68_world.specs.Run.{Run, IsSoundRun, world}
 use Rattle.a68_world.specs.Seats.{AreSeated, status_of}
 use Rattle.a68_world.specs.declared.world.World.TheInside.{Inside}
@@ -18,4 +19,5 @@ pub record IsSound (s : Inside) : Type 0 where
   -- each strand that is not spent stands as the machine has it
   pub seats : AreSeated s.code (world (run_of s)).strands s.seats.items
   pub passed : HavePassed s.passed (world (run_of s)).strands
+  pub rests : HaveRest s.rests (world (run_of s)).strands s.store
   pub kin : AreKin s.kin.items (world (run_of s)).strands

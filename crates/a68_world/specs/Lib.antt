@@ -6,6 +6,7 @@ pub mod Inside
 pub mod Kin
 pub mod Leases
 pub mod Passed
+pub mod Resting
 pub mod Run
 pub mod Scopes
 pub mod Seats

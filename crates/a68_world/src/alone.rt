@@ -99,10 +99,12 @@ impl World {
         ) {
             Ok(false) => Ok(()),
             Ok(true) => {
-                self.end = end_behind(&self.seats, &self.passed, &self.store, 0);
+                self.rests.rouse(0);
+                self.end = end_behind(&self.seats, &self.rests, &self.store, 0);
                 Ok(())
             }
             Err(error) => {
+                self.rests.rouse(0);
                 self.lost = true;
                 Err(error)
             }

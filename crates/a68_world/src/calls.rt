@@ -16,6 +16,7 @@ ghost use Rattle.a68_world.specs.Turns.{GoesOn, IsReady, EndsAt, IsDue, IsOtherD
 use crate::deed::Deed;
 use crate::kin::Kin;
 use crate::passed::pass_closed;
+use crate::resting::rest_behind;
 use crate::seat::{Seat, are_home};
 use crate::stepping::act_at;
 use crate::turning::{end_at, end_shown, next_turn, turn_at};
@@ -25,6 +26,7 @@ use crate::{Turned, World};
 use a68_base::NoMemory;
 use a68_code::Code;
 use a68_marks::Marks;
+use a68_rests::Rests;
 use a68_store::Store;
 use a68_strand::Strand;
 use a68_values::{Act, Chain, End, Entries, Entry, Environ, Journal, Kept, Log};
@@ -110,12 +112,12 @@ pub fn is_full(journal: &Log, fuel: u32) -> bool
 }
 
 /// The end that is set behind an act of this strand: none where not every strand stands in the world.
-pub fn end_behind(seats: &[Seat], passed: &Marks, store: &Store, n: u32) -> Option<End>
+pub fn end_behind(seats: &[Seat], rests: &Rests, store: &Store, n: u32) -> Option<End>
     requires few { length seats.now < 2 ^ 32 }
-    requires passed { PassTurns passed.now seats.now store.now }
+    requires rests { PassTurns rests.now.0 seats.now store.now }
     ensures { MatchBool (list_all is_home seats.now) (EndShown seats.now store.now result) (result ≡ None) }
 {
-    let end = end_shown(seats, passed, store, n);
+    let end = end_shown(seats, rests, store, n);
     if end.is_some() && !are_home(seats) {
         return None;
     }
@@ -144,7 +146,8 @@ impl World {
         match parts(alloc, &code, fuel) {
             Ok((journal, store, seats, kin)) => {
                 let passed = Marks::new(alloc);
-                let end = end_shown(&seats, &passed, &store, 0);
+                let rests = Rests::new(alloc);
+                let end = end_shown(&seats, &rests, &store, 0);
                 Ok(World {
                     code,
                     fuel,
@@ -152,6 +155,7 @@ impl World {
                     store,
                     seats,
                     passed,
+                    rests,
                     kin,
                     lost: false,
                     end,
@@ -255,13 +259,23 @@ impl World {
                 note(&mut self.journal, n, act);
                 seat_all(&mut self.seats, &mut self.kin, n, units);
                 self.lost = wake_behind(alloc, &self.code, &mut self.seats, &mut self.kin, at);
-                self.end = end_behind(&self.seats, &self.passed, &self.store, n);
+                rest_behind(
+                    alloc,
+                    &mut self.rests,
+                    &self.kin,
+                    &self.seats,
+                    &self.store,
+                    act,
+                    at,
+                );
+                self.end = end_behind(&self.seats, &self.rests, &self.store, n);
                 pass_closed(&mut self.passed, &self.seats, at);
                 Turned::Acted
             }
             Deed::Untold(act) => {
                 note(&mut self.journal, n, act);
                 seat_all(&mut self.seats, &mut self.kin, n, units);
+                self.rests = Rests::new(alloc);
                 self.lost = true;
                 Turned::NoMemory
             }
@@ -293,7 +307,7 @@ impl World {
         if self.end.is_some() {
             return None;
         }
-        next_turn(&self.seats, &self.passed, &self.store, after)
+        next_turn(&self.seats, &self.rests, &self.store, after)
     }
 
     /// The strand of the last entry of the journal, and 0 where there is none. It takes no memory.

@@ -11,6 +11,7 @@ ghost use Rattle.a68_world.specs.Turns.{EndsAt, GoesOn, IsDueAs, IsOtherDueAs};
 use crate::calls::{end_behind, is_full, note};
 use crate::deed::Deed;
 use crate::passed::pass_closed;
+use crate::resting::rest_behind;
 use crate::seat::{Seat, lose, put_back, set_closed, take_out};
 use crate::stepping::act_lent;
 use crate::turning::{end_asked, turn_shown};
@@ -146,6 +147,15 @@ impl World {
                 set_closed(&mut self.seats[at], closed);
                 seat_all(&mut self.seats, &mut self.kin, number, units);
                 self.lost = wake_behind(alloc, &self.code, &mut self.seats, &mut self.kin, at);
+                rest_behind(
+                    alloc,
+                    &mut self.rests,
+                    &self.kin,
+                    &self.seats,
+                    &self.store,
+                    act,
+                    at,
+                );
                 pass_closed(&mut self.passed, &self.seats, at);
                 Ok(reply)
             }
@@ -188,7 +198,7 @@ impl World {
         if self.end.is_some() {
             return;
         }
-        let end = end_behind(&self.seats, &self.passed, &self.store, number);
+        let end = end_behind(&self.seats, &self.rests, &self.store, number);
         self.lost = lost_behind(self.lost, found, end.is_some());
         self.end = end;
     }

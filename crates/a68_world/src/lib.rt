@@ -7,6 +7,7 @@ mod deed;
 mod kin;
 mod leases;
 mod passed;
+mod resting;
 mod seat;
 mod status;
 mod stepping;

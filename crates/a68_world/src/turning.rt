@@ -7,7 +7,7 @@ ghost use Rattle.a68_world.specs.Seats.{turn_shown, turn_in, turn_at, ended_show
 
 use crate::seat::Seat;
 use a68_instructions::Ask;
-use a68_marks::Marks;
+use a68_rests::Rests;
 use a68_store::Store;
 use a68_strand::Strand;
 use a68_values::End;
@@ -45,36 +45,36 @@ pub fn turn_at(seats: &[Seat], store: &Store, n: usize) -> bool
     }
 }
 
-// The first strand that has something to do, from this number on and below that one. Those that have passed are left out.
-fn first_in(seats: &[Seat], passed: &Marks, store: &Store, from: usize, to: usize) -> Option<u32>
+// The first strand that has something to do, from this number on and below that one. Those that rest are left out.
+fn first_in(seats: &[Seat], rests: &Rests, store: &Store, from: usize, to: usize) -> Option<u32>
     requires few { to < 2 ^ 32 }
     requires order { from ≤ to }
-    requires passed { PassTurns passed.now seats.now store.now }
+    requires rests { PassTurns rests.now.0 seats.now store.now }
     ensures first { IfSome result (FirstIn seats.now store.now from to) }
     ensures none { IsNone result → NoneIn seats.now store.now from to }
 {
-    let mut n = passed.first_other(from, to);
+    let mut n = rests.first_other(from, to);
     while n < to {
         if turn_at(seats, store, n) {
             return Some(n as u32);
         }
-        n = passed.first_other(n + 1, to);
+        n = rests.first_other(n + 1, to);
     }
     None
 }
 
 /// The first strand that has something to do, in the order that begins behind the one named, goes on by numbers and then
 /// from 0.
-pub fn next_turn(seats: &[Seat], passed: &Marks, store: &Store, after: u32) -> Option<u32>
+pub fn next_turn(seats: &[Seat], rests: &Rests, store: &Store, after: u32) -> Option<u32>
     requires few { length seats.now < 2 ^ 32 }
-    requires passed { PassTurns passed.now seats.now store.now }
+    requires rests { PassTurns rests.now.0 seats.now store.now }
     ensures first { IfSome result (IsFirstBehind (HasTurnAt seats.now store.now) after) }
     ensures none { IsNone result → (n : ℕ) → turn_at seats.now store.now n ≡ false }
 {
     let behind = seats.len().min(after as usize + 1);
-    match first_in(seats, passed, store, behind, seats.len()) {
+    match first_in(seats, rests, store, behind, seats.len()) {
         Some(n) => Some(n),
-        None => first_in(seats, passed, store, 0, behind),
+        None => first_in(seats, rests, store, 0, behind),
     }
 }
 
@@ -95,9 +95,9 @@ fn has_ended(seats: &[Seat]) -> bool
 }
 
 /// The end without a further turn, behind an act of this strand. While that one has something to do no other is looked at.
-pub fn end_shown(seats: &[Seat], passed: &Marks, store: &Store, n: u32) -> Option<End>
+pub fn end_shown(seats: &[Seat], rests: &Rests, store: &Store, n: u32) -> Option<End>
     requires few { length seats.now < 2 ^ 32 }
-    requires passed { PassTurns passed.now seats.now store.now }
+    requires rests { PassTurns rests.now.0 seats.now store.now }
     ensures { EndShown seats.now store.now result }
 {
     if has_ended(seats) {
@@ -106,7 +106,7 @@ pub fn end_shown(seats: &[Seat], passed: &Marks, store: &Store, n: u32) -> Optio
     if turn_at(seats, store, n as usize) {
         return None;
     }
-    match next_turn(seats, passed, store, n) {
+    match next_turn(seats, rests, store, n) {
         Some(_) => None,
         None => Some(End::AllHalted),
     }

@@ -3,6 +3,7 @@ use crate::kin::Kin;
 use crate::seat::Seat;
 use a68_code::Code;
 use a68_marks::Marks;
+use a68_rests::Rests;
 use a68_store::Store;
 use a68_values::{End, Log};
 use std::marker::Model;
@@ -17,8 +18,10 @@ pub struct World {
     pub(crate) journal: Log,
     pub(crate) store: Store,
     pub(crate) seats: Vec<Seat>,
-    // Strands that have closed, which never turn again. One for whose mark there was no memory is missing.
+    // Strands that have closed. One for whose mark there was no memory is missing.
     pub(crate) passed: Marks,
+    // Strands that are not looked at for a turn until they may have one. Where there was no memory one is missing.
+    pub(crate) rests: Rests,
     // For each strand who made it, and which of the units for which it waits have closed.
     pub(crate) kin: Vec<Kin>,
     // A turn has found no memory.

@@ -7,7 +7,7 @@ use Rattle.a68_world.specs.Leases.{IsReplay}
 use Rattle.a68_world.specs.Run.{IsNumber, Run}
 use Rattle.a68_world.specs.declared.seat.Seat.TheVariants as seat
 use Rattle.a68_world.specs.declared.status.StrandState.TheVariants as status
-use Rattle.a68_world.proofs.Returning.{back_on, back_over, back_spent, few_given, is_there_some, passed_given}
+use Rattle.a68_world.proofs.Returning.{back_on, back_over, back_spent, few_given, is_there_some, rests_given}
 use Rattle.a68_world.proofs.Doing.{seat_there}
 use Rattle.a68_world.proofs.Outcomes.{seat_lent}
 use Rattle.a68_world.proofs.Places.{is_within}
@@ -98,7 +98,7 @@ end_behind-end-requires c =
     record {
       few = rw c.deref.ensures.value (few_given s strand n x (slice_set s.seats.items n c.put_back.new.seat) c.wake_at-found.new.seats c.wake_at-found.result c.self.invariant c.number-number.ensures lent there replay
           (ap (slice_set s.seats.items n) c.put_back.ensures) c.wake_at-found.ensures);
-      passed = rw c.deref.ensures.value (passed_given s strand n x (slice_set s.seats.items n c.put_back.new.seat) c.wake_at-found.new.seats c.wake_at-found.result c.self.invariant c.number-number.ensures lent there replay
+      rests = rw c.deref.ensures.value (rests_given s strand n x (slice_set s.seats.items n c.put_back.new.seat) c.wake_at-found.new.seats c.wake_at-found.result c.self.invariant c.number-number.ensures lent there replay
           (ap (slice_set s.seats.items n) c.put_back.ensures) c.wake_at-found.ensures);
     }
 

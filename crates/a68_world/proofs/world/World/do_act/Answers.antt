@@ -1,7 +1,9 @@
 use Rattle.std.proofs.Common.{◌≡◌, ◌∙◌, ◌++◌, List, Some, ap, sym, subst, length, map, slice_get, slice_set, arith}
 use Rattle.std.specs.Option.{option_map_or}
+use Rattle.std.specs.Vec.{with_item}
 use Rattle.a68_world.specs.Inside.{run_of}
 use Rattle.a68_world.specs.Kin.{Forks, WakesBehind}
+use Rattle.a68_world.specs.Resting.{RestsBehind, written}
 use Rattle.a68_world.specs.Run.{Run}
 use Rattle.a68_world.specs.Seats.{place_at, place_in, status_of}
 use Rattle.a68_world.specs.Turns.{GoesOn, IsDue, TurnOf, IsOtherDue}
@@ -9,7 +11,7 @@ use Rattle.a68_world.specs.declared.seat.Seat.{Seat}
 use Rattle.a68_world.specs.declared.seat.Seat.TheVariants as seat
 use Rattle.a68_world.specs.declared.status.StrandState.{StrandState}
 use Rattle.a68_world.proofs.Behind.{Noted}
-use Rattle.a68_world.proofs.Doing.{Told, Woken, seat_there, told_all, told_shown, run_told, untold_all, refused_left, refused_ends, unfound_left, unfound_wants}
+use Rattle.a68_world.proofs.Doing.{Told, left_sound, Woken, seat_there, told_all, told_few, told_shown, run_told, untold_all, refused_left, refused_ends, unfound_left, unfound_wants}
 use Rattle.a68_world.proofs.Closing.{with_passed}
 use Rattle.a68_world.proofs.Places.{is_within}
 use Rattle.a68_world.proofs.Standing.{due_other, seat_home, few_units, few_frames, asking_at}
@@ -59,6 +61,32 @@ act_at-requires-clause-asking c =
     let there : slice_get s.seats.items n ≡ Some x = seat_there s.seats.items c.units_ready.new.seats.items n x same (is_within s.seats.items n (seat.Home h.0) h.1) c.index_mut.ensures.value in
     asking_at s c.self.invariant n h.0 h.1 due x there
 
+pub rest_behind-requires : goal.rest_behind-requires
+rest_behind-requires c =
+    let s = c.self.inside in
+    let n = c.args.n in
+    let due : IsDue (run_of s) n = subst (λ (r : Run). IsDue r n) (sym c.self.view_is) c.requires.due in
+    let h = seat_home s.seats.items n due.ready.home in
+    let goes : GoesOn (run_of s) = subst (λ (r : Run). GoesOn r) (sym c.self.view_is) c.requires.goes_on in
+    let same = c.units_ready.ensures.same in
+    let x = c.index_mut.result.now in
+    let there : slice_get s.seats.items n ≡ Some x = seat_there s.seats.items c.units_ready.new.seats.items n x same (is_within s.seats.items n (seat.Home h.0) h.1) c.index_mut.ensures.value in
+    let y = c.act_at.new.seat in
+    let units = c.in-Ok.units.items in
+    let store = c.act_at.new.store in
+    let told : Told s n c.self.invariant goes due x y c.in-Told.act store units = record { there = there; are = c.in-Ok.ensures.units; comes = c.in-Told.ensures } in
+    let placed : c.seat_all.new.seats.items ≡ slice_set s.seats.items n y ++ units = c.seat_all.ensures.seats ∙ ap (λ l. slice_set l n y ++ units) same in
+    let seats = c.wake_behind-self-inside.new.seats in
+    let kin = c.wake_behind-self-inside.new.kin in
+    let lost = c.wake_behind-self-inside.result in
+    let woken : Woken s n c.self.invariant goes due y units seats.items kin.items lost = record {
+      grown = c.seat_all.new.kin.items;
+      forks = subst (λ l. Forks l n (length units) c.seat_all.new.kin.items) c.units_ready.ensures.same_kin c.seat_all.ensures.kin;
+      wakes = subst (λ l. WakesBehind s.code n c.seat_all.new.kin.items kin.items l seats.items lost) placed c.wake_behind-self-inside.ensures;
+    } in
+    let numbers = told_few s n c.self.invariant goes due x y c.in-Told.act store units c.deref-in-Told.result.now seats.items kin.items lost told woken c.deref-in-Told.ensures.value in
+    record { few = numbers.0; within = numbers.1 }
+
 pub end_behind-self-inside-requires : goal.end_behind-self-inside-requires
 end_behind-self-inside-requires c =
     let s = c.self.inside in
@@ -82,8 +110,12 @@ end_behind-self-inside-requires c =
       forks = subst (λ l. Forks l n (length units) c.seat_all.new.kin.items) c.units_ready.ensures.same_kin c.seat_all.ensures.kin;
       wakes = subst (λ l. WakesBehind s.code n c.seat_all.new.kin.items kin.items l seats.items lost) placed c.wake_behind-self-inside.ensures;
     } in
-    let shows = told_shown s n c.self.invariant goes due x y c.in-Told.act store units c.deref.result.now seats.items kin.items lost told woken c.deref.ensures.value in
-    record { few = shows.0; passed = shows.1 }
+    let rested = c.rest_behind.new.rests in
+    let behind : RestsBehind (written c.in-Told.act) n kin.items seats.items store s.rests rested =
+    subst (λ l. RestsBehind (written c.in-Told.act) n kin.items l store s.rests rested) c.deref-in-Told.ensures.value
+    (subst (λ l. RestsBehind (written c.in-Told.act) n l c.deref-in-Told.result.now store s.rests rested) c.deref.ensures.value c.rest_behind.ensures) in
+    let shows = told_shown s n c.self.invariant goes due x y c.in-Told.act store units c.deref-in-Told-2.result.now seats.items kin.items lost rested told woken behind c.deref-in-Told-2.ensures.value in
+    record { few = shows.0; rests = shows.1 }
 
 pub invariant_of-self-in-Told : goal.invariant_of-self-in-Told
 invariant_of-self-in-Told c =
@@ -109,8 +141,12 @@ invariant_of-self-in-Told c =
       wakes = subst (λ l. WakesBehind s.code n c.seat_all.new.kin.items kin.items l seats.items lost) placed c.wake_behind-self-inside.ensures;
     } in
     let noted : Noted s n c.in-Told.act c.note.new.journal = record { items = c.note.ensures.items; room = omega (arith, c.note.ensures.room, c.self.invariant.room) } in
-    let all = told_all s n c.self.invariant goes due x y c.in-Told.act store units c.deref.result.now c.note.new.journal seats kin lost c.end_behind-self-inside.result told noted woken c.deref.ensures.value c.end_behind-self-inside.ensures in
-    with_passed (run_told s n c.self.invariant goes due c.note.new.journal store seats kin lost c.end_behind-self-inside.result) c.pass_closed.new.passed c.deref-in-Told.result.now n all.0 c.deref-in-Told.ensures.value
+    let rested = c.rest_behind.new.rests in
+    let behind : RestsBehind (written c.in-Told.act) n kin.items seats.items store s.rests rested =
+    subst (λ l. RestsBehind (written c.in-Told.act) n kin.items l store s.rests rested) c.deref-in-Told.ensures.value
+    (subst (λ l. RestsBehind (written c.in-Told.act) n l c.deref-in-Told.result.now store s.rests rested) c.deref.ensures.value c.rest_behind.ensures) in
+    let all = told_all s n c.self.invariant goes due x y c.in-Told.act store units c.deref-in-Told-2.result.now c.note.new.journal seats rested kin lost c.end_behind-self-inside.result told noted woken behind c.deref-in-Told-2.ensures.value c.end_behind-self-inside.ensures in
+    with_passed (run_told s n c.self.invariant goes due c.note.new.journal store seats rested kin lost c.end_behind-self-inside.result) c.pass_closed.new.passed c.deref-in-Told-3.result.now n all.0 c.deref-in-Told-3.ensures.value
     c.pass_closed.ensures
 
 pub returns-in-Told : goal.returns-in-Told
@@ -137,7 +173,11 @@ returns-in-Told c =
       wakes = subst (λ l. WakesBehind s.code n c.seat_all.new.kin.items kin.items l seats.items lost) placed c.wake_behind-self-inside.ensures;
     } in
     let noted : Noted s n c.in-Told.act c.note.new.journal = record { items = c.note.ensures.items; room = omega (arith, c.note.ensures.room, c.self.invariant.room) } in
-    let all = told_all s n c.self.invariant goes due x y c.in-Told.act store units c.deref.result.now c.note.new.journal seats kin lost c.end_behind-self-inside.result told noted woken c.deref.ensures.value c.end_behind-self-inside.ensures in
+    let rested = c.rest_behind.new.rests in
+    let behind : RestsBehind (written c.in-Told.act) n kin.items seats.items store s.rests rested =
+    subst (λ l. RestsBehind (written c.in-Told.act) n kin.items l store s.rests rested) c.deref-in-Told.ensures.value
+    (subst (λ l. RestsBehind (written c.in-Told.act) n l c.deref-in-Told.result.now store s.rests rested) c.deref.ensures.value c.rest_behind.ensures) in
+    let all = told_all s n c.self.invariant goes due x y c.in-Told.act store units c.deref-in-Told-2.result.now c.note.new.journal seats rested kin lost c.end_behind-self-inside.result told noted woken behind c.deref-in-Told-2.ensures.value c.end_behind-self-inside.ensures in
     rw (← c.self.view_is) all.1
 
 pub invariant_of-self-in-Untold : goal.invariant_of-self-in-Untold
@@ -155,7 +195,7 @@ invariant_of-self-in-Untold c =
     let store = c.act_at.new.store in
     let noted : Noted s n c.in-Untold.act c.note-in-Untold.new.journal =
     record { items = c.note-in-Untold.ensures.items; room = omega (arith, c.note-in-Untold.ensures.room, c.self.invariant.room) } in
-    let all = untold_all s n c.self.invariant goes due x y c.in-Untold.act store units c.note-in-Untold.new.journal c.seat_all-in-Untold.new.seats c.seat_all-in-Untold.new.kin there c.in-Ok.ensures.units c.in-Untold.ensures noted
+    let all = untold_all s n c.self.invariant goes due x y c.in-Untold.act store units c.note-in-Untold.new.journal c.seat_all-in-Untold.new.seats c.new.result c.seat_all-in-Untold.new.kin c.new.ensures there c.in-Ok.ensures.units c.in-Untold.ensures noted
     (subst (λ l. Forks l n (length units) c.seat_all-in-Untold.new.kin.items) c.units_ready.ensures.same_kin c.seat_all-in-Untold.ensures.kin) (c.seat_all-in-Untold.ensures.seats ∙ ap (λ l. slice_set l n y ++ units) same) in
     all.0
 
@@ -174,7 +214,7 @@ returns-in-Untold c =
     let store = c.act_at.new.store in
     let noted : Noted s n c.in-Untold.act c.note-in-Untold.new.journal =
     record { items = c.note-in-Untold.ensures.items; room = omega (arith, c.note-in-Untold.ensures.room, c.self.invariant.room) } in
-    let all = untold_all s n c.self.invariant goes due x y c.in-Untold.act store units c.note-in-Untold.new.journal c.seat_all-in-Untold.new.seats c.seat_all-in-Untold.new.kin there c.in-Ok.ensures.units c.in-Untold.ensures noted
+    let all = untold_all s n c.self.invariant goes due x y c.in-Untold.act store units c.note-in-Untold.new.journal c.seat_all-in-Untold.new.seats c.new.result c.seat_all-in-Untold.new.kin c.new.ensures there c.in-Ok.ensures.units c.in-Untold.ensures noted
     (subst (λ l. Forks l n (length units) c.seat_all-in-Untold.new.kin.items) c.units_ready.ensures.same_kin c.seat_all-in-Untold.ensures.kin) (c.seat_all-in-Untold.ensures.seats ∙ ap (λ l. slice_set l n y ++ units) same) in
     rw (← c.self.view_is) all.1
 
@@ -192,6 +232,20 @@ end_with-requires-clause-ends c =
     let left = refused_left s n c.self.invariant goes due x y c.in-Refused.kind c.act_at.new.store there c.in-Refused.ensures in
     refused_ends s n c.self.invariant goes due x y c.in-Refused.kind c.act_at.new.store c.place_at-place.result there c.in-Refused.ensures
     (c.place_at-place.ensures ∙ ap (λ l. place_at l n) (c.deref-in-Refused.ensures.value ∙ ap (λ l. slice_set l n y) same ∙ left.1) ∙ ap (λ o. option_map_or place_in o 0) there)
+
+pub invariant_of-self-in-NoMemory : goal.invariant_of-self-in-NoMemory
+invariant_of-self-in-NoMemory c =
+    let s = c.self.inside in
+    let n = c.args.n in
+    let due : IsDue (run_of s) n = subst (λ (r : Run). IsDue r n) (sym c.self.view_is) c.requires.due in
+    let h = seat_home s.seats.items n due.ready.home in
+    let goes : GoesOn (run_of s) = subst (λ (r : Run). GoesOn r) (sym c.self.view_is) c.requires.goes_on in
+    let same = c.units_ready.ensures.same in
+    let x = c.index_mut.result.now in
+    let there : slice_get s.seats.items n ≡ Some x = seat_there s.seats.items c.units_ready.new.seats.items n x same (is_within s.seats.items n (seat.Home h.0) h.1) c.index_mut.ensures.value in
+    let y = c.act_at.new.seat in
+    let left = unfound_left s n c.self.invariant goes due x y c.act_at.new.store there c.in-NoMemory.ensures in
+    left_sound s c.self.invariant c.act_at.new.store (with_item c.units_ready.new.seats n y) c.units_ready.new.kin left.0 (ap (λ (l : List Seat). slice_set l n y) same ∙ left.1) c.units_ready.ensures.same_kin
 
 pub lose-requires-in-NoMemory-clause-due : goal.lose-requires-in-NoMemory-clause-due
 lose-requires-in-NoMemory-clause-due c =

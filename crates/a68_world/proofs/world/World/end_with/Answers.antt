@@ -13,5 +13,6 @@ invariant_of-self c = record {
   store = c.self.invariant.store;
   seats = c.self.invariant.seats;
   passed = c.self.invariant.passed;
+  rests = c.self.invariant.rests;
   kin = c.self.invariant.kin;
 }

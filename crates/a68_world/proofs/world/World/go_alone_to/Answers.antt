@@ -7,7 +7,7 @@ use Rattle.a68_instructions.proofs.Settling.{stepped, stopped}
 use Rattle.a68_world.specs.AloneAt.{NoneAheadAt}
 use Rattle.a68_world.specs.declared.seat.Seat.{Seat}
 use Rattle.a68_world.proofs.Doing.{seat_there}
-use Rattle.a68_world.proofs.GoingAlone.{gone_ahead, gone_all, gone_passed, one_alone, rests_at, stands_alone, still_ahead, stopped_all}
+use Rattle.a68_world.proofs.GoingAlone.{gone_ahead, gone_all, gone_rests, one_alone, rests_at, stands_alone, still_ahead, stopped_all}
 use Rattle.a68_world.proofs.Outcomes.{EndsBy}
 use Rattle.a68_world.proofs.Places.{set_again}
 use Rattle.a68_world.proofs.Standing.{few_seats, none_from}
@@ -35,7 +35,7 @@ invariant_of-self c =
     let there : slice_get s.seats.items 0 ≡ Some x = seat_there s.seats.items s.seats.items 0 x refl (omega (arith, alone.some)) c.index_mut.ensures.value in
     let seats = with_item s.seats 0 c.go_at.new.seat in
     let shown = subst (λ l. EndsBy l c.go_at.new.store c.end_behind-self-inside.result) c.deref.ensures.value c.end_behind-self-inside.ensures in
-    (gone_all s c.self.invariant alone (none_from s.end c.is_some.result c.is_some.ensures c.if-is_some.false) c.if-self.false c.go_at.new.journal c.go_at.new.store seats (omega (arith, c.go_at.ensures.room, c.self.invariant.room)) (omega (arith, c.go_at.ensures.within, c.min-bound.ensures)) x c.go_at.new.seat
+    (gone_all s c.self.invariant alone (none_from s.end c.is_some.result c.is_some.ensures c.if-is_some.false) c.if-self.false c.go_at.new.journal c.go_at.new.store seats (omega (arith, c.go_at.ensures.room, c.self.invariant.room)) (omega (arith, c.go_at.ensures.within, c.min-bound.ensures)) c.rouse.new.self c.rouse.ensures x c.go_at.new.seat
     c.end_behind-self-inside.result there (stepped c.in-Ok-true.field-0 _ _ c.in-Ok-true.ensures.went c.in-Ok-true.field-0-test) refl shown).0
 
 pub invariant_of-self-in-Err : goal.invariant_of-self-in-Err
@@ -46,7 +46,7 @@ invariant_of-self-in-Err c =
     let x = c.index_mut.result.now in
     let there : slice_get s.seats.items 0 ≡ Some x = seat_there s.seats.items s.seats.items 0 x refl (omega (arith, alone.some)) c.index_mut.ensures.value in
     let seats = with_item s.seats 0 c.go_at.new.seat in
-    stopped_all s c.self.invariant alone (none_from s.end c.is_some.result c.is_some.ensures c.if-is_some.false) c.if-self.false c.go_at.new.journal c.go_at.new.store seats (omega (arith, c.go_at.ensures.room, c.self.invariant.room)) (omega (arith, c.go_at.ensures.within, c.min-bound.ensures)) x c.go_at.new.seat
+    stopped_all s c.self.invariant alone (none_from s.end c.is_some.result c.is_some.ensures c.if-is_some.false) c.if-self.false c.go_at.new.journal c.go_at.new.store seats (omega (arith, c.go_at.ensures.room, c.self.invariant.room)) (omega (arith, c.go_at.ensures.within, c.min-bound.ensures)) c.rouse-in-Err.new.self c.rouse-in-Err.ensures x c.go_at.new.seat
     there c.in-Err.ensures.stops refl
 
 pub returns-in-Ok-true-clause-alone : goal.returns-in-Ok-true-clause-alone
@@ -58,7 +58,7 @@ returns-in-Ok-true-clause-alone c =
     let there : slice_get s.seats.items 0 ≡ Some x = seat_there s.seats.items s.seats.items 0 x refl (omega (arith, alone.some)) c.index_mut.ensures.value in
     let seats = with_item s.seats 0 c.go_at.new.seat in
     let shown = subst (λ l. EndsBy l c.go_at.new.store c.end_behind-self-inside.result) c.deref.ensures.value c.end_behind-self-inside.ensures in
-    rw (← c.self.view_is) (inr (gone_all s c.self.invariant alone (none_from s.end c.is_some.result c.is_some.ensures c.if-is_some.false) c.if-self.false c.go_at.new.journal c.go_at.new.store seats (omega (arith, c.go_at.ensures.room, c.self.invariant.room)) (omega (arith, c.go_at.ensures.within, c.min-bound.ensures)) x
+    rw (← c.self.view_is) (inr (gone_all s c.self.invariant alone (none_from s.end c.is_some.result c.is_some.ensures c.if-is_some.false) c.if-self.false c.go_at.new.journal c.go_at.new.store seats (omega (arith, c.go_at.ensures.room, c.self.invariant.room)) (omega (arith, c.go_at.ensures.within, c.min-bound.ensures)) c.rouse.new.self c.rouse.ensures x
     c.go_at.new.seat c.end_behind-self-inside.result there (stepped c.in-Ok-true.field-0 _ _ c.in-Ok-true.ensures.went c.in-Ok-true.field-0-test) refl shown).1)
 
 pub returns-in-Ok-true-clause-ahead : goal.returns-in-Ok-true-clause-ahead
@@ -72,7 +72,7 @@ returns-in-Ok-true-clause-ahead c =
     let within : s.fuel ≤ c.args.most = subst (λ (r : Run). r.fuel ≤ c.args.most) (sym c.self.view_is) low in
     let bound : c.min-bound.result ≡ s.fuel = omega (arith, within, c.min-bound.ensures) in
     let none = subst (λ (f : ℕ). NoneAheadAt f (length c.go_at.new.journal.items) c.go_at.new.store c.go_at.new.seat) bound c.in-Ok-true.ensures.ahead in
-    gone_ahead s c.self.invariant alone (none_from s.end c.is_some.result c.is_some.ensures c.if-is_some.false) c.if-self.false c.go_at.new.journal c.go_at.new.store (with_item s.seats 0 c.go_at.new.seat) (omega (arith, c.go_at.ensures.room, c.self.invariant.room)) (omega (arith, c.go_at.ensures.within, c.min-bound.ensures)) x
+    gone_ahead s c.self.invariant alone (none_from s.end c.is_some.result c.is_some.ensures c.if-is_some.false) c.if-self.false c.go_at.new.journal c.go_at.new.store (with_item s.seats 0 c.go_at.new.seat) (omega (arith, c.go_at.ensures.room, c.self.invariant.room)) (omega (arith, c.go_at.ensures.within, c.min-bound.ensures)) c.rouse.new.self c.rouse.ensures x
     c.go_at.new.seat there (stepped c.in-Ok-true.field-0 _ _ c.in-Ok-true.ensures.went c.in-Ok-true.field-0-test) refl none st strands
 
 pub returns-in-Ok-false-clause-ahead : goal.returns-in-Ok-false-clause-ahead
@@ -103,7 +103,7 @@ end_behind-self-inside-requires c =
     let none = none_from s.end c.is_some.result c.is_some.ensures c.if-is_some.false in
     record {
       few = rw c.deref.ensures.value (omega (arith, length-set s.seats.items 0 c.go_at.new.seat, few_seats s c.self.invariant));
-      passed = rw c.deref.ensures.value (gone_passed s c.self.invariant alone none c.if-self.false c.go_at.new.journal c.go_at.new.store seats (omega (arith, c.go_at.ensures.room, c.self.invariant.room)) (omega (arith, c.go_at.ensures.within, c.min-bound.ensures)) x c.go_at.new.seat there
+      rests = rw c.deref.ensures.value (gone_rests s c.self.invariant alone none c.if-self.false c.go_at.new.journal c.go_at.new.store seats (omega (arith, c.go_at.ensures.room, c.self.invariant.room)) (omega (arith, c.go_at.ensures.within, c.min-bound.ensures)) c.rouse.new.self c.rouse.ensures x c.go_at.new.seat there
           (stepped c.in-Ok-true.field-0 _ _ c.in-Ok-true.ensures.went c.in-Ok-true.field-0-test) refl);
     }
 

@@ -1,5 +1,5 @@
 use Rattle.a68_world.proofs.Behind.{now}
-use Rattle.a68_world.proofs.Closing.{pass_turns}
+use Rattle.a68_world.proofs.RestKept.{rest_turns}
 use Rattle.a68_world.proofs.Standing.{few_seats, able_first, able_exactly, none_from}
 use Rattle.a68_world.proofs.world.World.next.Goals as goal
 
@@ -8,7 +8,7 @@ next_turn-requires c =
     let s = c.self.inside in
     record {
       few = rw c.deref.ensures.value (few_seats s c.self.invariant);
-      passed = rw c.deref.ensures.value (pass_turns s.code (now s).strands s.seats.items s.store s.passed c.self.invariant.seats c.self.invariant.passed);
+      rests = rw c.deref.ensures.value (rest_turns s.code (now s).strands s.seats.items s.store s.rests c.self.invariant.seats c.self.invariant.rests);
     }
 
 pub returns-clause-first : goal.returns-clause-first
