@@ -1,5 +1,6 @@
 mod CallActs
 mod GoingAlone
+mod Joining
 mod Roomy
 mod Rounds
 mod Turned

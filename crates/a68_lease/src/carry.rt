@@ -20,13 +20,13 @@ use std::sync::Wait;
 pub enum Why {
     /// Another has the turn, or no strand can be taken out.
     Busy,
-    /// The run does not go on.
+    /// The run does not go on by several workers.
     Over,
 }
 
-// Has the run ended, or has a turn found no memory?
+// Has the run ended, has a turn found no memory, or is the strand that is left a matter for one worker?
 fn is_over<J: GivenRun>(held: &HeldWorld<J>) -> bool {
-    held.world().end().is_some() || held.world().lost()
+    held.world().end().is_some() || held.world().lost() || held.is_left()
 }
 
 /// Takes a strand out of the world.
@@ -62,7 +62,8 @@ pub fn lease_one<J: GivenRun>(
     Ok(strand)
 }
 
-/// Does the strand's act. Where it gets no reply, the strand is given back; where another has the turn, it is kept.
+/// Does the strand's act. Where it gets no reply, or is left to one worker, the strand is given back; where another has the turn, it is
+/// kept.
 pub fn act_once<J: GivenRun>(
     desk: &Desk<J>,
     code: &Code,
@@ -81,6 +82,12 @@ pub fn act_once<J: GivenRun>(
         return Err(Some(strand));
     };
     held.known();
+    if held.is_left() {
+        let number = strand.number();
+        held.back(alloc, strand);
+        close_back(desk, seat, held, number);
+        return Err(None);
+    }
     match held.act(alloc, &strand) {
         Ok(reply) => {
             close_acted(desk, seat, held);
@@ -212,7 +219,7 @@ fn carry<J: GivenRun, R: Wait, G: Gate>(
     unreachable!()
 }
 
-/// Takes strands out and does their acts, until the run does not go on.
+/// Takes strands out and does their acts, until the run does not go on by several workers.
 pub fn work<J: GivenRun, R: Wait, G: Gate>(
     rt: &R,
     desk: &Desk<J>,

@@ -23,12 +23,20 @@ use std::marker::{Brand, Send, Sync};
 use std::sync::Wait;
 use std::thread::Threads;
 
+// How many events several workers take at least, in the mean, before they leave a strand that is alone to one: making them anew costs
+// less than so many events.
+const LEAST_SHARED: u64 = 4096;
+
+// How often workers are made at most. Behind so many times one goes on to the end.
+const MOST_CREWS: u64 = 4096;
+
 // A table with the world in its slot, and a seat with all parts.
 #[tactic(auto, using(a68_rule::proofs::Moves::begins))]
 fn lay<J: GivenRun>(
     alloc: Global,
     world: World,
     workers: u32,
+    sole: u64,
 ) -> Result<(Board<J>, Place<J>), NoMemory>
     requires code { world.code ∷ [] ≡ J.code }
     requires fuel { world.fuel ≡ J.fuel }
@@ -39,7 +47,7 @@ fn lay<J: GivenRun>(
 {
     let events = world.events();
     let mut slots = Vec::new(alloc);
-    if slots.push(Some(HeldWorld::<J>::new(world))).is_err() {
+    if slots.push(Some(HeldWorld::<J>::new(world, sole))).is_err() {
         return Err(NoMemory);
     }
     match Board::<J>::new(alloc, &[events, 0], slots, &workers) {
@@ -65,6 +73,7 @@ fn run_carried<J: GivenRun + Send + Sync, R: Threads + Wait + Sync, G: Gate>(
     alloc: Global,
     world: World,
     workers: u32,
+    sole: u64,
     gate: &G,
 ) -> Result<World, NoMemory>
     requires code { world.code ∷ [] ≡ J.code }
@@ -75,16 +84,40 @@ fn run_carried<J: GivenRun + Send + Sync, R: Threads + Wait + Sync, G: Gate>(
     ensures rest { IfOk result (λ now. lent now ≡ []) }
 {
     let code = world.code().copy(alloc)?;
-    let (table, mut seat) = lay::<J>(alloc, world, workers)?;
+    let (table, mut seat) = lay::<J>(alloc, world, workers, sole)?;
     let mut crew = hire(&table.shared, alloc, &mut seat, workers)?;
     let_work(rt, &table.shared, &code, alloc, crew.as_mut_slice(), gate);
     dismiss(&table.shared, &mut seat, crew);
     Ok(clear(table, seat).into_world())
 }
 
+// Runs a world by several workers while more than its first strand may turn, and by one while that is alone.
+fn run_crews<R: Threads + Wait + Sync, G: Gate>(
+    rt: &R,
+    alloc: Global,
+    world: World,
+    workers: u32,
+    gate: &G,
+) -> Result<World, NoMemory>
+    requires rest { IsAtRest world }
+    ensures goes_on { IfOk result (GoesFrom world) }
+    ensures rest { IfOk result IsAtRest }
+{
+    let mut now = world;
+    for crews in 1..=MOST_CREWS {
+        let begun = run_while_alone(alloc, now, gate)?;
+        if begun.end().is_some() {
+            return Ok(begun);
+        }
+        let sole = crews * LEAST_SHARED;
+        now = run_carried::<Brand, R, G>(rt, alloc, begun, workers, sole, gate)?;
+    }
+    Ok(now)
+}
+
 /// Runs a world to its end by 1 to 64 workers, as `run_all` does: the same code and fuel, and a journal that begins with the
 /// one handed in. Several workers carry strands outside the slot in which the world lies, and run their silent instructions
-/// there. What they leave undone one does, and so what the first strand does before it makes others.
+/// there. What they leave undone one does, and so what the first strand does while no other may turn.
 pub fn run_leased<R: Threads + Wait + Sync, G: Gate>(
     rt: &R,
     alloc: Global,
@@ -103,12 +136,8 @@ pub fn run_leased<R: Threads + Wait + Sync, G: Gate>(
     if workers == 1 {
         return run_alone(alloc, world, gate);
     }
-    let begun = run_while_alone(alloc, world, gate)?;
-    if begun.end().is_some() {
-        return Ok(begun);
-    }
-    let carried = run_carried::<Brand, R, G>(rt, alloc, begun, workers, gate)?;
-    run_alone(alloc, carried, gate)
+    let shared = run_crews(rt, alloc, world, workers, gate)?;
+    run_alone(alloc, shared, gate)
 }
 
 // What is kept of a run that has ended.

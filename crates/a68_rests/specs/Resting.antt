@@ -1,51 +1,83 @@
 -- Inner: the headline does not rest on this file.
--- Numbers that rest, some of which are held until something is written to a cell.
-use Rattle.std.specs.Prelude.{◌≡◌, ◌%◌, ◌⊎◌, ℕ, Bool, true, false, List, [], length, slice_get}
+-- Numbers that rest, some of which are held at cells.
+use Rattle.std.specs.Prelude.{◌≡◌, ◌≤◌, ◌<◌, ◌⊎◌, ℕ, true, List}
+use Rattle.std.specs.BTreeSet.{BTreeSet}
 use Rattle.std.specs.List.{Contains}
-use Rattle.std.specs.Option.{option_map_or}
 use Rattle.a68_marks.specs.Marked.{is_marked}
+use Rattle.a68_rests.specs.Waiting.{has}
+use Rattle.a68_rests.specs.declared.waiters.Waiter.{Waiter}
 
--- the words of the set of all that rest; lists of those that are held; the words of the set of the cells at which some are
+-- the words of the set of those that are listed; those that are held at cells; the cells that are open
 abbrev pub Resting : Type 0
-Resting = List ℕ × (List (List ℕ) × List ℕ)
+Resting = List ℕ × (BTreeSet Waiter × List ℕ)
 
-abbrev pub rests : Resting → ℕ → Bool
-rests r n = is_marked r.0 n
+abbrev pub IsListed : Resting → ℕ → Type 0
+IsListed r n = is_marked r.0 n ≡ true
 
--- the list of those that are held at this cell, and perhaps at others
-abbrev pub list_in : List (List ℕ) → ℕ → List ℕ
-list_in held j = option_map_or (λ (list : List ℕ). list) (slice_get held j) []
+abbrev pub IsHeld : Resting → (n cell : ℕ) → Type 0
+IsHeld r n cell = has r.1.0 cell n ≡ true
 
-abbrev pub list_at : List (List ℕ) → (cell : ℕ) → List ℕ
-list_at held cell = list_in held (cell % length held)
+abbrev pub IsOpen : Resting → (cell : ℕ) → Type 0
+IsOpen r cell = Contains r.1.1 cell
 
--- where this number rests, it is held at the cell
-pub record IsHeld (r : Resting) (n cell : ℕ) : Type 0 where
-  pub listed : Contains (list_at r.1.0 cell) n
-  pub noted : is_marked r.1.1 cell ≡ true
+-- the number rests: it is listed, and held at no cell that is open
+pub record Rests (r : Resting) (n : ℕ) : Type 0 where
+  pub listed : IsListed r n
+  pub shut : (cell : ℕ) → IsOpen r cell → IsHeld r n cell → ⊥
 
 -- those that are held stay so
 abbrev pub StayHeld : (old new : Resting) → Type 0
 StayHeld old new = (k cell : ℕ) → IsHeld old k cell → IsHeld new k cell
 
--- no more rest than did, but for this one
-pub record RestsToo (old : Resting) (n : ℕ) (new : Resting) : Type 0 where
-  pub rest : (k : ℕ) → rests new k ≡ true → (rests old k ≡ true) ⊎ (k ≡ n)
-  pub held : StayHeld old new
+-- cells that are open stay so
+abbrev pub StayOpen : (old new : Resting) → Type 0
+StayOpen old new = (cell : ℕ) → IsOpen old cell → IsOpen new cell
 
--- the same, and this one is held
+-- no more are listed than were
+abbrev pub AreFewer : (old new : Resting) → Type 0
+AreFewer old new = (k : ℕ) → IsListed new k → IsListed old k
+
+-- no more are listed than were, but for this one
+pub record ListsToo (old : Resting) (n : ℕ) (new : Resting) : Type 0 where
+  pub listed : (k : ℕ) → IsListed new k → IsListed old k ⊎ (k ≡ n)
+  pub held : StayHeld old new
+  pub open_ : StayOpen old new
+
+-- the same, and this one is held at the cell
 pub record HoldsToo (old : Resting) (n cell : ℕ) (new : Resting) : Type 0 where
-  pub rest : (k : ℕ) → rests new k ≡ true → (rests old k ≡ true) ⊎ ((k ≡ n) × IsHeld new n cell)
+  pub listed : (k : ℕ) → IsListed new k → IsListed old k ⊎ ((k ≡ n) × IsHeld new n cell)
   pub held : StayHeld old new
+  pub open_ : StayOpen old new
 
--- this one does not rest, and no more do than did
-pub record Rouses (old : Resting) (n : ℕ) (new : Resting) : Type 0 where
-  pub roused : rests new n ≡ false
-  pub rest : (k : ℕ) → rests new k ≡ true → rests old k ≡ true
+-- this one is not listed, and no more are than were
+pub record Unlists (old : Resting) (n : ℕ) (new : Resting) : Type 0 where
+  pub roused : IsListed new n → ⊥
+  pub fewer : AreFewer old new
   pub held : StayHeld old new
+  pub open_ : StayOpen old new
 
--- none that is held at this cell rests, and no more do than did; each other one that rests is held where it was
-pub record Releases (old : Resting) (cell : ℕ) (new : Resting) : Type 0 where
-  pub roused : (k : ℕ) → IsHeld old k cell → rests new k ≡ false
-  pub rest : (k : ℕ) → rests new k ≡ true → rests old k ≡ true
-  pub held : (k c : ℕ) → IsHeld old k c → rests new k ≡ true → IsHeld new k c
+-- the same, where others that are held stay so
+pub record Leaves (old : Resting) (n : ℕ) (new : Resting) : Type 0 where
+  pub roused : IsListed new n → ⊥
+  pub fewer : AreFewer old new
+  pub held : (k cell : ℕ) → (k ≡ n → ⊥) → IsHeld old k cell → IsHeld new k cell
+  pub open_ : StayOpen old new
+
+-- the cell is open, where one that is listed is held there
+pub record Opens (old : Resting) (cell : ℕ) (new : Resting) : Type 0 where
+  pub opened : (k : ℕ) → IsListed new k → IsHeld old k cell → IsOpen new cell
+  pub fewer : AreFewer old new
+  pub held : (k c : ℕ) → IsListed new k → IsHeld old k c → IsHeld new k c
+  pub open_ : StayOpen old new
+
+-- other cells that are open stay so
+pub record Closes (old : Resting) (cell : ℕ) (new : Resting) : Type 0 where
+  pub fewer : AreFewer old new
+  pub held : StayHeld old new
+  pub open_ : (c : ℕ) → IsOpen old c → (c ≡ cell) ⊎ IsOpen new c
+
+-- from one number on up to another only those that rest are passed
+pub record Passes (r : Resting) (from to n : ℕ) : Type 0 where
+  pub from_on : from ≤ n
+  pub within : n ≤ to
+  pub passed : (k : ℕ) → from ≤ k → k < n → Rests r k

@@ -1,6 +1,8 @@
-//! Numbers that rest: until they are roused, or until something is written to a cell.
+//! Numbers that rest: until they are roused, or while a cell is not open.
 #![tactic(auto)]
 
+mod opened;
 mod rests;
+mod waiters;
 
 pub use rests::Rests;

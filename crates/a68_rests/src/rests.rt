@@ -1,127 +1,109 @@
 //! Numbers that rest.
-ghost use Rattle.std.specs.Prelude.{◌≡◌, ◌<◌, ◌≤◌, ℕ, [], true, false, length};
-ghost use Rattle.std.specs.List.{Contains};
-ghost use Rattle.a68_marks.specs.Marked.{FirstOther, is_marked};
-ghost use Rattle.a68_rests.specs.Resting.{HoldsToo, Releases, RestsToo, Rouses, rests};
+ghost use Rattle.std.specs.Prelude.{◌≡◌, ◌<◌, ◌≤◌, ◌^◌, ℕ};
+ghost use Rattle.a68_rests.specs.Resting.{Closes, HoldsToo, IsListed, Leaves, ListsToo, Opens, Passes, Unlists};
 
+use crate::opened::{has, shut};
+use crate::waiters::{Waiter, first_at, first_of, free, put, take_out};
 use a68_marks::Marks;
 use std::alloc::Global;
+use std::collections::BTreeSet;
 use std::marker::Model;
 
-// How many lists there are once a number is held: so many that few numbers of others stand in the list of a cell.
-const LISTS: usize = 4096;
+// How many cells are open at most. Each search looks at each of them.
+const MOST_OPEN: usize = 8;
 
-/// A set of numbers that rest. Some rest until they are roused, and others, which are held, until something is written to a cell.
+/// A set of numbers that rest. Some rest until they are roused, and others, which are held at a cell, while that is not open.
 #[derive(Drop)]
 pub struct Rests {
-    rest: Marks,
-    // Those that are held: in the list whose number is that of the cell, modulo the number of lists.
-    held: Vec<Vec<u32>>,
-    // The cells at which some may be held.
-    cells: Marks,
+    // Those that rest, and those that are held at cells which are open.
+    listed: Marks,
+    held: BTreeSet<Waiter>,
+    opened: Vec<u32>,
 }
 
 impl Model for Rests {
-    ghost use Rattle.std.specs.Prelude.{map};
     ghost use Rattle.a68_rests.specs.Resting.{Resting};
 
     ghost Value = { Resting };
 
-    ghost view = { λ s. (s.rest, (map (λ list. list.items) s.held.items, s.cells)) };
-}
-
-// These numbers rest no more, and the list is empty.
-fn rouse_all(rest: &mut Marks, list: &mut Vec<u32>)
-    ensures empty { list.new.items ≡ [] }
-    ensures roused { (n : ℕ) → Contains list.old.items n → is_marked rest.new n ≡ false }
-    ensures rest { (n : ℕ) → is_marked rest.new n ≡ true → is_marked rest.old n ≡ true }
-{
-    while let Some(n) = list.pop() {
-        rest.unmark(n as usize);
-    }
-}
-
-// There are lists. Tells whether there was memory.
-fn begin(alloc: Global, held: &mut Vec<Vec<u32>>) -> bool
-    ensures some { result ≡ true → 0 < length held.new.items }
-    ensures same { 0 < length held.old.items → held.new.items ≡ held.old.items }
-{
-    if held.len() != 0 {
-        return true;
-    }
-    for _ in 0..LISTS {
-        if held.push(Vec::new(alloc)).is_err() {
-            break;
-        }
-    }
-    held.len() != 0
+    ghost view = { λ s. (s.listed, (s.held, s.opened.items)) };
 }
 
 impl Rests {
     /// None rests. It takes no memory.
     pub fn new(alloc: Global) -> Rests
-        ensures { (n : ℕ) → rests result n ≡ false }
+        ensures { (n : ℕ) → IsListed result n → ⊥ }
     {
         Rests {
-            rest: Marks::new(alloc),
-            held: Vec::new(alloc),
-            cells: Marks::new(alloc),
+            listed: Marks::new(alloc),
+            held: BTreeSet::new(alloc),
+            opened: Vec::new(alloc),
         }
     }
 
     /// The number rests until it is roused. Where there is no memory for that it does not.
     pub fn rest(&mut self, n: usize)
-        ensures { RestsToo self.old n self.new }
+        ensures { ListsToo self.old n self.new }
     {
-        let _marked = self.rest.mark(n);
+        let _marked = self.listed.mark(n);
     }
 
-    /// The number rests until something is written to this cell. Where there is no memory for that it does not.
-    pub fn hold(&mut self, alloc: Global, n: u32, cell: u32)
+    /// The number rests while this cell is not open. Where there is no memory for that it does not.
+    pub fn hold(&mut self, n: u32, cell: u32)
         ensures { HoldsToo self.old n cell self.new }
     {
-        if !begin(alloc, &mut self.held) {
+        if !put(&mut self.held, cell, n) {
             return;
         }
-        if !self.cells.mark(cell as usize) {
-            return;
-        }
-        let count = self.held.len();
-        if self.held[cell as usize % count].push(n).is_err() {
-            return;
-        }
-        let _marked = self.rest.mark(n as usize);
+        let _marked = self.listed.mark(n as usize);
     }
 
     /// The number rests no more. It takes no memory.
     pub fn rouse(&mut self, n: usize)
-        ensures { Rouses self.old n self.new }
+        ensures { Unlists self.old n self.new }
     {
-        self.rest.unmark(n);
+        self.listed.unmark(n);
     }
 
-    /// Something is written to this cell: none that is held there rests any more. It takes no memory.
-    pub fn release(&mut self, cell: u32)
-        ensures { Releases self.old cell self.new }
+    /// The number, which was held at this cell, rests no more. It takes no memory.
+    pub fn leave(&mut self, n: u32, cell: u32)
+        ensures { Leaves self.old n self.new }
     {
-        if !self.cells.contains(cell as usize) {
+        take_out(&mut self.held, cell, n);
+        self.listed.unmark(n as usize);
+    }
+
+    /// The cell is open: none that is held there rests. It takes no memory where there is none.
+    pub fn open(&mut self, cell: u32)
+        ensures { Opens self.old cell self.new }
+    {
+        if first_of(&self.held, cell).is_none() || has(&self.opened, cell) {
             return;
         }
-        self.cells.unmark(cell as usize);
-        let count = self.held.len();
-        if count == 0 {
-            return;
+        if self.opened.len() >= MOST_OPEN || self.opened.push(cell).is_err() {
+            free(&mut self.listed, &mut self.held, cell);
         }
-        rouse_all(&mut self.rest, &mut self.held[cell as usize % count]);
+    }
+
+    /// The cell is open no more: those that are held there rest. It takes no memory.
+    pub fn close(&mut self, cell: u32)
+        ensures { Closes self.old cell self.new }
+    {
+        shut(&mut self.opened, cell);
     }
 
     /// The first number from this one on that does not rest, or the end of the search where there is none below it. It takes no
     /// memory.
     #[inline(always)]
     pub fn first_other(&self, from: usize, to: usize) -> usize
-        requires { from ≤ to }
-        ensures { FirstOther self.now.0 from to result }
+        requires order { from ≤ to }
+        requires few { to < 2 ^ 32 }
+        ensures { Passes self.now from to result }
     {
-        self.rest.first_other(from, to)
+        let mut n = self.listed.first_other(from, to);
+        for i in 0..self.opened.len() {
+            n = first_at(&self.held, self.opened[i], from, n);
+        }
+        n
     }
 }

@@ -38,6 +38,8 @@ impl GivenRun for Brand {
 #[derive(Drop)]
 pub struct HeldWorld<J: GivenRun> {
     world: World,
+    // Behind so many events a first strand that is alone is left to one worker.
+    sole: u64,
     of: PhantomData<J>,
     ghost same_code: { world.code ∷ [] ≡ J.code } by { Coded-set (coded_list code.the_row.coded) _ _ },
     ghost same_fuel: { world.fuel ≡ J.fuel },
@@ -83,8 +85,8 @@ fn back_any(alloc: Global, world: &mut World, strand: Strand)
 }
 
 impl<J: GivenRun> HeldWorld<J> {
-    /// The world that was handed in.
-    pub fn new(world: World) -> HeldWorld<J>
+    /// The world that was handed in. Behind so many events several workers leave a first strand that is alone to one.
+    pub fn new(world: World, sole: u64) -> HeldWorld<J>
         requires code { world.code ∷ [] ≡ J.code }
         requires fuel { world.fuel ≡ J.fuel }
         requires first { world.entries ≡ J.first }
@@ -92,6 +94,7 @@ impl<J: GivenRun> HeldWorld<J> {
     {
         HeldWorld {
             world,
+            sole,
             of: PhantomData,
         }
     }
@@ -103,7 +106,7 @@ impl<J: GivenRun> HeldWorld<J> {
         ensures fuel { result.fuel ≡ J.fuel }
         ensures goes_on { take (length J.first) result.entries ≡ J.first }
     {
-        let HeldWorld { world, of: _ } = self;
+        let HeldWorld { world, .. } = self;
         world
     }
 
@@ -113,6 +116,11 @@ impl<J: GivenRun> HeldWorld<J> {
         ensures code { self.now.world.code ∷ [] ≡ J.code }
     {
         &self.world
+    }
+
+    /// Is the first strand alone, behind so many events that it is left to one worker?
+    pub fn is_left(&self) -> bool {
+        self.world.events() >= self.sole && self.world.is_alone()
     }
 
     /// What is known of every run.

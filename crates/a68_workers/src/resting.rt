@@ -22,7 +22,7 @@ impl<J: GivenRun> RestingWorld<J> {
         requires rest { IsAtRest world }
         ensures { result.held.world ≡ world }
     {
-        let held = HeldWorld::<J>::new(world);
+        let held = HeldWorld::<J>::new(world, u64::MAX);
         RestingWorld { held }
     }
 

@@ -16,7 +16,7 @@ use Rattle.a68_strand.specs.Strands.{standing}
 use Rattle.a68_values.specs.declared.act.Act.{Act}
 use Rattle.a68_values.specs.declared.act.Entry.{Entry}
 use Rattle.a68_world.specs.Inside.{run_of, IsSound}
-use Rattle.a68_world.specs.Passed.{HavePassed, PassTurns, Passes}
+use Rattle.a68_world.specs.Passed.{Passes}
 use Rattle.a68_world.specs.Run.{world}
 use Rattle.a68_world.specs.Seats.{AreSeated, Sits, closed_at, closed_in, turn_at, turn_in, turn_shown}
 use Rattle.a68_world.specs.declared.seat.Seat.{Seat}
@@ -41,9 +41,6 @@ closed_shows code strands seats store k seated closed = by (slice_get seats k) r
         let sits : Sits code strands k strand = seated k (seat.Home strand) e in
         let is : (standing strand).stance ≡ Closed = closed_stance (standing strand).stance (sym (closed_there strands k (standing strand) sits.there) ∙ closed) in
         ap (λ o. option_map_or (turn_in store) o false) e ∙ ap (λ (a : Ask). turn_shown a store) (shown code strand Closed sits.shows is)
-
-pub pass_turns : (code : Code) (strands : List State) (seats : List Seat) (store : Store) (marks : List ℕ) → AreSeated code strands seats → HavePassed marks strands → PassTurns marks seats store
-pass_turns code strands seats store marks seated passed k marked = closed_shows code strands seats store k seated (passed k marked)
 
 -- a seat that shows a strand which has closed
 closed_seat : (code : Code) (strands : List State) (seats : List Seat) (k : ℕ) → AreSeated code strands seats → closed_at seats k ≡ true → is_closed strands k ≡ true
@@ -108,4 +105,5 @@ with_passed s marks shown n sound same passes = record {
   ];
   rests = sound.rests;
   kin = sound.kin;
+  joined = sound.joined;
 }

@@ -1,5 +1,5 @@
 -- A turn in which a strand does its act.
-use Rattle.std.proofs.Common.{◌≡◌, ◌∙◌, ℕ, ◌<◌, ◌^◌, Bool, true, false, List, ◌++◌, length, map, get_or, refl, ap, sym, subst, arith}
+use Rattle.std.proofs.Common.{◌≡◌, ◌∙◌, ℕ, ◌<◌, ◌^◌, Bool, true, List, ◌++◌, length, map, get_or, refl, ap, sym, subst, arith}
 use Rattle.std.proofs.lemmas.Option.{slice_get-get_or}
 use Rattle.std.specs.Prelude.{Some, slice_get, slice_set}
 use Rattle.std.specs.Option.{option_map}
@@ -11,7 +11,7 @@ use Rattle.a68_acts.specs.Store.{Store}
 use Rattle.a68_instructions.specs.Machine.{State, replied}
 use Rattle.a68_instructions.specs.Machine as machine
 use Rattle.a68_exec.specs.Runs.{woken}
-use Rattle.a68_rests.specs.Resting.{Resting, rests}
+use Rattle.a68_rests.specs.Resting.{IsListed, Resting}
 use Rattle.a68_strand.specs.Strands.{standing}
 use Rattle.a68_instructions.specs.declared.ask.Stance.TheVariants.{Asking}
 use Rattle.a68_strand.specs.declared.strand.Strand.{Strand}
@@ -60,6 +60,7 @@ left_sound s sound store seats kin e f g = record {
   passed = sound.passed;
   rests = subst (λ (x : Store). HaveRest s.rests (now s).strands x) (sym e) sound.rests;
   kin = subst (λ (l : List Kin). AreKin l (now s).strands) (sym g) sound.kin;
+  joined = sound.joined;
 }
 
 module _ (s : Inside) (n : ℕ) (sound : IsSound s) (goes : GoesOn (run_of s)) (due : IsDue (run_of s) n) where
@@ -108,7 +109,7 @@ module _ (s : Inside) (n : ℕ) (sound : IsSound s) (goes : GoesOn (run_of s)) (
   -- there are numbers for all, the strand is one of them, and none that rests shows a turn
   told-seats : (x y : Seat) (act : Act) (store : Store) (units seats : List Seat) (kin : List Kin) (lost : Bool)
       → slice_get s.seats.items n ≡ Some x → AreUnitsAt s.code s.store s.seats.items n units → ComesToAt s.code s.store x (deed.Told act) store y → Woken y units seats kin lost
-      → (length seats < 2 ^ 32) × (n < length seats) × ((rested : Resting) → RestsBehind (written act) n kin seats store s.rests rested → PassTurns rested.0 seats store)
+      → (length seats < 2 ^ 32) × (n < length seats) × ((rested : Resting) → RestsBehind (written act) n kin seats store s.rests rested → PassTurns rested seats store)
   told-seats (seat.Home strand) (seat.Home t) act store units seats kin lost there are comes w =
       let m = moved strand act store units there are comes.act_done in
       let both = home_wakes s n act store units m t comes.settled comes.number comes.room refl w.grown kin seats lost (b.kin_all s n act store units m w.grown w.forks) w.wakes in
@@ -129,17 +130,17 @@ module _ (s : Inside) (n : ℕ) (sound : IsSound s) (goes : GoesOn (run_of s)) (
       (omega (arith, t.0, ap (λ l. length l) same), omega (arith, t.1, ap (λ l. length l) same))
 
   pub told_shown : (x y : Seat) (act : Act) (store : Store) (units shown seats : List Seat) (kin : List Kin) (lost : Bool) (rested : Resting) → Told x y act store units → Woken y units seats kin lost
-      → RestsBehind (written act) n kin seats store s.rests rested → shown ≡ seats → (length shown < 2 ^ 32) × PassTurns rested.0 shown store
+      → RestsBehind (written act) n kin seats store s.rests rested → shown ≡ seats → (length shown < 2 ^ 32) × PassTurns rested shown store
   told_shown x y act store units shown seats kin lost rested told w behind same =
       let t = told-seats x y act store units seats kin lost told.there told.are told.comes w in
-      (omega (arith, t.0, ap (λ l. length l) same), subst (λ l. PassTurns rested.0 l store) (sym same) (t.2 rested behind))
+      (omega (arith, t.0, ap (λ l. length l) same), subst (λ l. PassTurns rested l store) (sym same) (t.2 rested behind))
 
   -- ---- there was no memory to tell it
 
   abbrev pub run_untold : Logged → Store → Vec Seat Global → Resting → Vec Kin Global → Inside
   run_untold journal store seats rested kin = record s { journal = journal; store = store; seats = seats; rests = rested; kin = kin; lost = true }
 
-  pub untold_all : (x y : Seat) (act : Act) (store : Store) (units : List Seat) (journal : Logged) (seats : Vec Seat Global) (rested : Resting) (kin : Vec Kin Global) → ((k : ℕ) → rests rested k ≡ false)
+  pub untold_all : (x y : Seat) (act : Act) (store : Store) (units : List Seat) (journal : Logged) (seats : Vec Seat Global) (rested : Resting) (kin : Vec Kin Global) → ((k : ℕ) → IsListed rested k → ⊥)
       → slice_get s.seats.items n ≡ Some x → AreUnitsAt s.code s.store s.seats.items n units → ComesToAt s.code s.store x (deed.Untold act) store y → Noted s n act journal
       → Forks s.kin.items n (length units) kin.items → seats.items ≡ slice_set s.seats.items n y ++ units
       → IsSound (run_untold journal store seats rested kin) × FindsNoMemory (run_of s) n (run_of (run_untold journal store seats rested kin))

@@ -107,6 +107,7 @@ module _ (s : Inside) (sound : IsSound s) where
       passed = sound.passed;
       rests = sound.rests;
       kin = sound.kin;
+      joined = sound.joined;
     }
 
     pub taken_is : Lends (run_of s) n strand (run_of taken)
@@ -173,6 +174,7 @@ module _ (s : Inside) (sound : IsSound s) where
       passed = sound.passed;
       rests = sound.rests;
       kin = sound.kin;
+      joined = sound.joined;
     }
 
     status-given : (y : Seat) (seats : Vec Seat Global) → seats.items ≡ slice_set s.seats.items strand.number y → map status_of seats.items ≡ slice_set (map status_of s.seats.items) strand.number (status_of y)

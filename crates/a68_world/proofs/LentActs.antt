@@ -206,6 +206,7 @@ ended_sound s sound n e goes at = record {
   passed = sound.passed;
   rests = sound.rests;
   kin = sound.kin;
+  joined = sound.joined;
 }
 
 pub lost_sound : (s : Inside) → IsSound s → GoesOn (run_of s) → IsSound (record s { lost = true })
@@ -217,6 +218,7 @@ lost_sound s sound goes = record {
   passed = sound.passed;
   rests = sound.rests;
   kin = sound.kin;
+  joined = sound.joined;
 }
 
 -- the act meets a fault

@@ -11,7 +11,7 @@ use Rattle.a68_acts.specs.Does.{did, does}
 use Rattle.a68_acts.specs.Store.{Store}
 use Rattle.a68_code.specs.declared.code.Code.{Code}
 use Rattle.a68_exec.proofs.Alive.{active}
-use Rattle.a68_rests.specs.Resting.{Resting, rests}
+use Rattle.a68_rests.specs.Resting.{IsListed, Resting}
 use Rattle.a68_strand.proofs.Waking.{goes_open, goes_waits}
 use Rattle.a68_instructions.specs.Bodies.{stance_in}
 use Rattle.a68_instructions.specs.Machine.{State, settle, replied}
@@ -333,6 +333,7 @@ module _ (s : Inside) (n : ℕ) (act : Act) (store : Store) (units : List Seat) 
         passed = λ k marked. ap (λ (x : World). is_closed x.strands k) told-world ∙ closed_on s.code (now s) n act (b.behind s n act store units m) (b.next_is s n act store units m) k (m.sound.passed k marked);
         rests = subst (λ (x : World). HaveRest rested x.strands store) (sym told-world) (rest_behind s n act store units m rested kin.items seats.items behind are w.seated w.long);
         kin = subst (λ (x : World). AreKin kin.items x.strands) (sym told-world) (kin_woken s.code (b.all s n act store units m) (b.rest s n act store units m) kin.items are);
+        joined = m.sound.joined;
       }
 
   -- ---- it stands in the world, and has been told
@@ -362,7 +363,7 @@ module _ (s : Inside) (n : ℕ) (act : Act) (store : Store) (units : List Seat) 
   module _ (live : is_passive (settle s.code (replied s.code (standing m.strand) m.act_done.reply)).stance ≡ false)
       (untold : TellsNot s.code m.strand.body m.strand.about.waiting m.act_done.reply) (home : status.Home ≡ m.where_) (journal : Logged) (seats : Vec Seat Global)
       (kin : Vec Kin Global) (noted : Noted s n act journal) (forks : Forks s.kin.items n (length units) kin.items) (are : seats.items ≡ slice_set s.seats.items n (seat.Away true false) ++ units)
-      (rested : Resting) (none_rest : (k : ℕ) → rests rested k ≡ false) where
+      (rested : Resting) (none_rest : (k : ℕ) → IsListed rested k → ⊥) where
     abbrev pub untold_run : Inside
     untold_run = record s { journal = journal; store = store; seats = seats; rests = rested; kin = kin; lost = true }
 
@@ -431,6 +432,7 @@ module _ (s : Inside) (n : ℕ) (act : Act) (store : Store) (units : List Seat) 
       store = sym (ap (λ (x : World). x.store) untold-world);
       seats = untold-seated;
       passed = λ k marked. ap (λ (x : World). is_closed x.strands k) untold-world ∙ closed_on s.code (now s) n act (b.behind s n act store units m) (b.next_is s n act store units m) k (m.sound.passed k marked);
-      rests = λ k marked. absurd (true≢false (sym marked ∙ none_rest k));
+      rests = λ k marked. absurd (none_rest k marked);
       kin = subst (λ l. AreKin kin.items l) (sym untold-strands) (b.kin_all s n act store units m kin.items forks);
+      joined = m.sound.joined;
     }

@@ -91,7 +91,7 @@ module _ (s : Inside) (strand : Strand) (n : ℕ) (x : Seat) (old : List Seat) (
   pub few_given : length seats.items < 2 ^ 32
   few_given = omega (arith, ap (λ (l : List Seat). length l) back-seat.placed, length-set s.seats.items strand.number back-seat.y, few_seats s sound)
 
-  pub rests_given : PassTurns s.rests.0 seats.items s.store
+  pub rests_given : PassTurns s.rests seats.items s.store
   rests_given =
       rest_turns s.code (now s).strands seats.items s.store s.rests
       (rw back-seat.placed (reseated s.code (now s).strands s.seats.items strand.number back-seat.y sound.seats back-seat.sits)) sound.rests

@@ -16,6 +16,7 @@ use Rattle.a68_code.specs.contracts.code.Code as code
 use Rattle.a68_code.specs.contracts.code.Instr as instr
 use Rattle.a68_code.specs.contracts.code.Instrs as instrs
 use Rattle.a68_code.specs.contracts.does.Does as does
+use Rattle.a68_joined.proofs.joined.JoinedCode.TheSendSync as joined
 use Rattle.a68_marks.proofs.marks.Marks.TheSendSync as marks
 use Rattle.a68_rests.proofs.rests.Rests.TheSendSync as resting
 use Rattle.a68_layout.proofs.types.TrimForms.TheSendSync as forms
@@ -155,7 +156,7 @@ seat_send : IsSend (seat.the_field).row
 seat_send = search (sendable, crosses, strand_send) depth 20
 
 pub world_send : IsSend world.the_row
-world_send = search (sendable, crosses, code_send, store_send, seat_send, log.the_send, marks.the_send, resting.the_send, end.the_send) depth 20
+world_send = search (sendable, crosses, code_send, store_send, seat_send, log.the_send, marks.the_send, resting.the_send, joined.the_field_send, end.the_send) depth 20
 
 -- the same, as what holds a run has it
 pub world_field_send : IsSend (world.the_field).row

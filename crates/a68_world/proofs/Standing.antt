@@ -15,7 +15,9 @@ use Rattle.a68_acts.specs.declared.want.Want.TheVariants as want
 use Rattle.a68_code.specs.Valid.{IsValid}
 use Rattle.a68_code.specs.declared.code.Code.{Code}
 use Rattle.a68_marks.specs.Marked.{is_marked}
-use Rattle.a68_rests.specs.Resting.{Resting, rests}
+use Rattle.a68_joined.specs.Joined.{AreJoined}
+use Rattle.a68_joined.specs.declared.joined.JoinedCode.{JoinedCode}
+use Rattle.a68_rests.specs.Resting.{IsListed, Resting}
 use Rattle.a68_store.specs.Acts.{has_to_wait}
 use Rattle.a68_strand.specs.Cyclic.{IsFirstBehind}
 use Rattle.a68_strand.specs.Ends.{fault_of, fault_in, RunEndsWith}
@@ -79,13 +81,13 @@ pub record Made (code : Code) (fuel : ℕ) (journal : Logged) (store : Store) (s
   pub first : AreFirstSeats code seats.items
   pub kin_is : length kin ≡ 1
   pub unmarked : (n : ℕ) → is_marked marks n ≡ false
-  pub none_rest : (n : ℕ) → rests rested n ≡ false
+  pub none_rest : (n : ℕ) → IsListed rested n → ⊥
   pub end_is : EndShown seats.items store end
 
-module _ (code : Code) (fuel : ℕ) (journal : Logged) (store : Store) (seats : Vec Seat Global) (kin : Vec Kin Global) (marks : List ℕ) (rested : Resting) (end : Option End)
+module _ (code : Code) (fuel : ℕ) (journal : Logged) (store : Store) (seats : Vec Seat Global) (kin : Vec Kin Global) (marks : List ℕ) (rested : Resting) (joined : JoinedCode) (end : Option End)
     (m : Made code fuel journal store seats kin.items marks rested end) where
   abbrev pub made_run : Inside
-  made_run = record { code = code; fuel = fuel; journal = journal; store = store; seats = seats; passed = marks; rests = rested; kin = kin; lost = false; end = end }
+  made_run = record { code = code; joined = joined; fuel = fuel; journal = journal; store = store; seats = seats; passed = marks; rests = rested; kin = kin; lost = false; end = end }
 
   made-world : world (run_of made_run) ≡ opening code
   made-world = ap (λ (es : List Entry). world (record { code = code; fuel = fuel; entries = es; status = map status_of seats.items; lost = false; end = end })) m.items
@@ -137,8 +139,8 @@ module _ (code : Code) (fuel : ℕ) (journal : Logged) (store : Store) (seats : 
       by zero e = absurd (cc)
       by (suc k) e = absurd (cc)
 
-  pub made_sound : IsValid code → length code.list < 2 ^ 32 → 1 ≤ fuel → fuel ≤ most_fuel → IsSound made_run
-  made_sound valid short some little = record {
+  pub made_sound : IsValid code → length code.list < 2 ^ 32 → 1 ≤ fuel → fuel ≤ most_fuel → AreJoined code joined.items.items → IsSound made_run
+  made_sound valid short some little laid = record {
     run = record {
       valid = valid;
       short = short;
@@ -156,8 +158,9 @@ module _ (code : Code) (fuel : ℕ) (journal : Logged) (store : Store) (seats : 
     store = rw made-world m.store_is;
     seats = rw made-world made-seated;
     passed = λ k marked. absurd (true≢false (sym marked ∙ m.unmarked k));
-    rests = λ k marked. absurd (true≢false (sym marked ∙ m.none_rest k));
+    rests = λ k marked. absurd (m.none_rest k marked);
     kin = rw made-world (kin_none kin.items (opening code).strands m.kin_is (λ k st f c e w. absurd (omega (arith, opening_waits code k st f c e w))));
+    joined = laid;
   }
 
 -- ---- between two turns

@@ -5,6 +5,7 @@ use Rattle.a68_acts.specs.Store.{Store}
 use Rattle.a68_exec.specs.Runs.{is_closed}
 use Rattle.a68_instructions.specs.Machine.{State}
 use Rattle.a68_marks.specs.Marked.{is_marked}
+use Rattle.a68_rests.specs.Resting.{Rests, Resting}
 use Rattle.a68_world.specs.Seats.{closed_at, turn_at}
 use Rattle.a68_world.specs.declared.seat.Seat.{Seat}
 
@@ -12,9 +13,9 @@ use Rattle.a68_world.specs.declared.seat.Seat.{Seat}
 abbrev pub HavePassed : (marks : List ℕ) → List State → Type 0
 HavePassed marks strands = (k : ℕ) → is_marked marks k ≡ true → is_closed strands k ≡ true
 
--- none that is marked has anything to do
-abbrev pub PassTurns : (marks : List ℕ) → List Seat → Store → Type 0
-PassTurns marks seats store = (k : ℕ) → is_marked marks k ≡ true → turn_at seats store k ≡ false
+-- none that rests has anything to do
+abbrev pub PassTurns : Resting → List Seat → Store → Type 0
+PassTurns held seats store = (k : ℕ) → Rests held k → turn_at seats store k ≡ false
 
 -- no more are marked than were, but for this strand where it has closed
 abbrev pub Passes : (old : List ℕ) → List Seat → (n : ℕ) → (new : List ℕ) → Type 0

@@ -12,7 +12,7 @@ use Rattle.a68_instructions.specs.declared.ask.Ask.TheVariants as ask
 use Rattle.a68_instructions.specs.declared.ask.Stance.{Stance}
 use Rattle.a68_instructions.specs.declared.ask.Stance.TheVariants.{Idle, Asking, Waits, Closed}
 use Rattle.a68_instructions.specs.declared.ask.Waiting.{Waiting}
-use Rattle.a68_rests.specs.Resting.{IsHeld, Releases, Resting, StayHeld, rests}
+use Rattle.a68_rests.specs.Resting.{AreFewer, Closes, IsHeld, IsListed, IsOpen, Leaves, Opens, Resting, StayHeld, StayOpen}
 use Rattle.a68_values.specs.declared.act.Act.{Act}
 use Rattle.a68_values.specs.declared.act.Act.TheVariants as act
 use Rattle.a68_world.specs.Kin.{forker_at}
@@ -29,23 +29,23 @@ is_idle (Waits first count) = true
 is_idle Closed = true
 is_idle _ = false
 
--- the strand would have to wait at this cell, and is held there
+-- the strand asks for a semaphore to be lowered, and is held at its cell, where it would have to wait unless that is open
 pub record WaitsAt (store : Store) (held : Resting) (k : ℕ) (st : State) : Type 0 where
   pub cell : ℕ
   pub wait : Waiting
   pub asks : st.stance ≡ Asking (want.Down cell) wait
-  pub waits_there : does (want.Down cell) store ≡ waits
   pub held_there : IsHeld held k cell
+  pub may_wait : IsOpen held cell ⊎ (does (want.Down cell) store ≡ waits)
 
--- the strand has no turn, and is held where it waits at a cell
+-- the strand has no turn, or is held at a cell
 pub record IsResting (store : Store) (strands : List State) (held : Resting) (k : ℕ) : Type 0 where
   pub st : State
   pub there : slice_get strands k ≡ Some st
   pub why : (is_idle st.stance ≡ true) ⊎ WaitsAt store held k st
 
--- each strand that rests has none
+-- each strand that is listed is so
 abbrev pub HaveRest : Resting → List State → Store → Type 0
-HaveRest held strands store = (k : ℕ) → rests held k ≡ true → IsResting store strands held k
+HaveRest held strands store = (k : ℕ) → IsListed held k → IsResting store strands held k
 
 -- ---- behind an act
 
@@ -55,16 +55,21 @@ written (act.Assign cell) = Some cell
 written (act.Up cell) = Some cell
 written _ = None
 
--- none rests that waits at the cell to which something is written
-abbrev pub ReleasesBy : Option ℕ → (old new : Resting) → Type 0
-ReleasesBy None old new = new ≡ old
-ReleasesBy (Some cell) old new = Releases old cell new
+-- the cell is open to which something is written
+abbrev pub OpensBy : Option ℕ → (old new : Resting) → Type 0
+OpensBy None old new = new ≡ old
+OpensBy (Some cell) old new = Opens old cell new
 
--- where this strand has closed, the one that made it does not rest
+-- a cell is closed at which a strand would have to wait; or none is
+abbrev pub ClosesBy : Store → (old new : Resting) → Type 0
+ClosesBy store old new = ((cell : ℕ) × Closes old cell new × (does (want.Down cell) store ≡ waits)) ⊎ (new ≡ old)
+
+-- where this strand has closed, the one that made it is not listed
 pub record RousesBehind (old : Resting) (kin : List Kin) (seats : List Seat) (n : ℕ) (new : Resting) : Type 0 where
-  pub roused : closed_at seats n ≡ true → rests new (forker_at kin n) ≡ false
-  pub rest : (k : ℕ) → rests new k ≡ true → rests old k ≡ true
+  pub roused : closed_at seats n ≡ true → IsListed new (forker_at kin n) → ⊥
+  pub fewer : AreFewer old new
   pub held : StayHeld old new
+  pub open_ : StayOpen old new
 
 -- ---- further ones
 
@@ -86,18 +91,23 @@ IsToRest a store held k = (shows_idle a ≡ true) ⊎ ((cell : ℕ) × IsAtCell 
 
 -- no more rest than did, but for this one, where it shows that it has no turn
 pub record RestsOne (a : Ask) (store : Store) (n : ℕ) (old new : Resting) : Type 0 where
-  pub rest : (k : ℕ) → rests new k ≡ true → (rests old k ≡ true) ⊎ ((k ≡ n) × IsToRest a store new n)
+  pub listed : (k : ℕ) → IsListed new k → IsListed old k ⊎ ((k ≡ n) × IsToRest a store new n)
   pub held : StayHeld old new
+  pub open_ : StayOpen old new
 
 -- those of these strands that rest further have no turn
 abbrev pub RestsMore : (old new : Resting) → List Seat → Store → Type 0
 RestsMore old new seats store = (code : Code) (strands : List State) → AreSeated code strands seats → HaveRest old strands store → HaveRest new strands store
 
--- Behind an act of this strand, which writes to a cell or to none, those that wait there rest no more, nor does the one that made
--- the strand where that has closed. Further ones rest that have no turn.
+-- Behind an act of this strand, which writes to a cell or to none, the strand is not listed, nor is the one that made it where it has
+-- closed; the cell is open, and one at which a strand would have to wait may be closed. Further ones rest that have no turn.
 pub record RestsBehind (cell : Option ℕ) (n : ℕ) (kin : List Kin) (seats : List Seat) (store : Store) (old new : Resting) : Type 0 where
-  pub freed : Resting
-  pub releases : ReleasesBy cell old freed
+  pub left : Resting
+  pub leaves : Leaves old n left
+  pub opened : Resting
+  pub opens : OpensBy cell left opened
+  pub closed : Resting
+  pub closes : ClosesBy store opened closed
   pub roused : Resting
-  pub rouses : RousesBehind freed kin seats n roused
+  pub rouses : RousesBehind closed kin seats n roused
   pub more : RestsMore roused new seats store

@@ -1,5 +1,6 @@
 //! Turns of a strand that is alone, one after the other.
 ghost use Rattle.std.specs.Prelude.{◌≡◌, true, ◌<◌, ◌≤◌, ◌^◌, length, IfOk, MatchBool, OnErr, OnOk};
+ghost use Rattle.a68_joined.specs.Joined.{AreJoined};
 ghost use Rattle.a68_world.specs.Alone.{GoneAlone, IsLonger, IsLostBehind, NothingAhead, OthersClosed};
 ghost use Rattle.a68_world.specs.AloneAt.{GoesAt, NoneAheadAt, RestsAt, SeatStopsAt};
 ghost use Rattle.a68_world.specs.Run.{world};
@@ -11,6 +12,7 @@ use crate::seat::{Seat, spend};
 use a68_alone::go_alone;
 use a68_base::NoMemory;
 use a68_code::Code;
+use a68_joined::JoinedCode;
 use a68_store::Store;
 use a68_values::Log;
 use std::alloc::Global;
@@ -19,12 +21,14 @@ use std::alloc::Global;
 fn go_at(
     alloc: Global,
     code: &Code,
+    joined: &JoinedCode,
     fuel: u32,
     store: &mut Store,
     journal: &mut Log,
     seat: &mut Seat,
 ) -> Result<bool, NoMemory>
     requires few { length code.now.list < 2 ^ 32 }
+    requires joined { AreJoined code.now joined.now.items.items }
     requires rests { RestsAt code.now seat.old }
     requires room { fuel ≤ journal.old.room }
     requires within { length journal.old.items ≤ fuel }
@@ -40,7 +44,7 @@ fn go_at(
     let Seat::Home(strand) = seat else {
         return Ok(false);
     };
-    match go_alone(strand, alloc, code, fuel, store, journal) {
+    match go_alone(strand, alloc, code, joined, fuel, store, journal) {
         Ok(any) => Ok(any),
         Err(error) => {
             spend(seat);
@@ -92,6 +96,7 @@ impl World {
         match go_at(
             alloc,
             &self.code,
+            &self.joined,
             bound,
             &mut self.store,
             &mut self.journal,

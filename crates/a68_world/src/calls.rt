@@ -4,6 +4,7 @@ ghost use Rattle.std.specs.Prelude.{◌≡◌, [], ◌∷◌, ◌++◌, ◌<◌,
 ghost use Rattle.a68_acts.specs.Store.{opening_store};
 ghost use Rattle.a68_code.specs.Valid.{IsValid};
 ghost use Rattle.a68_heights.specs.Room.{IsRoomy};
+ghost use Rattle.a68_joined.specs.Joined.{AreJoined};
 ghost use Rattle.a68_strand.specs.Cyclic.{IsFirstBehind};
 ghost use Rattle.a68_instructions.specs.Machine.{beginning};
 ghost use Rattle.a68_strand.specs.Strands.{HasSettled};
@@ -25,6 +26,7 @@ use crate::waking::wake_behind;
 use crate::{Turned, World};
 use a68_base::NoMemory;
 use a68_code::Code;
+use a68_joined::JoinedCode;
 use a68_marks::Marks;
 use a68_rests::Rests;
 use a68_store::Store;
@@ -70,24 +72,26 @@ fn first_kin(alloc: Global) -> Result<Vec<Kin>, NoMemory>
     Ok(kin)
 }
 
-// The journal, the store, the seats and the kin of a run that is yet to begin.
+// The journal, the store, the seats and the kin of a run that is yet to begin, and its code, laid out.
 fn parts(
     alloc: Global,
     code: &Code,
     fuel: u32,
-) -> Result<(Log, Store, Vec<Seat>, Vec<Kin>), NoMemory>
+) -> Result<(Log, Store, Vec<Seat>, Vec<Kin>, JoinedCode), NoMemory>
     requires short { length code.now.list < 2 ^ 32 }
     ensures empty { IfOk result (λ parts. parts.0.items ≡ []) }
     ensures room { IfOk result (λ parts. parts.0.room ≡ fuel) }
     ensures store { IfOk result (λ parts. parts.1 ≡ opening_store) }
     ensures seats { IfOk result (λ parts. AreFirstSeats code.now parts.2.items) }
     ensures kin { IfOk result (λ parts. length parts.3.items ≡ 1) }
+    ensures joined { IfOk result (λ parts. AreJoined code.now parts.4.items.items) }
 {
     let journal = Log::with_room(alloc, fuel)?;
     let store = Store::new(alloc)?;
     let seats = first_seats(alloc, code)?;
     let kin = first_kin(alloc)?;
-    Ok((journal, store, seats, kin))
+    let joined = JoinedCode::of(alloc, code)?;
+    Ok((journal, store, seats, kin, joined))
 }
 
 /// An entry of a strand in the journal, which has room for it.
@@ -114,7 +118,7 @@ pub fn is_full(journal: &Log, fuel: u32) -> bool
 /// The end that is set behind an act of this strand: none where not every strand stands in the world.
 pub fn end_behind(seats: &[Seat], rests: &Rests, store: &Store, n: u32) -> Option<End>
     requires few { length seats.now < 2 ^ 32 }
-    requires rests { PassTurns rests.now.0 seats.now store.now }
+    requires rests { PassTurns rests.now seats.now store.now }
     ensures { MatchBool (list_all is_home seats.now) (EndShown seats.now store.now result) (result ≡ None) }
 {
     let end = end_shown(seats, rests, store, n);
@@ -144,12 +148,13 @@ impl World {
         ensures { IfOk result (RunBegins code fuel) }
     {
         match parts(alloc, &code, fuel) {
-            Ok((journal, store, seats, kin)) => {
+            Ok((journal, store, seats, kin, joined)) => {
                 let passed = Marks::new(alloc);
                 let rests = Rests::new(alloc);
                 let end = end_shown(&seats, &rests, &store, 0);
                 Ok(World {
                     code,
+                    joined,
                     fuel,
                     journal,
                     store,
@@ -260,7 +265,6 @@ impl World {
                 seat_all(&mut self.seats, &mut self.kin, n, units);
                 self.lost = wake_behind(alloc, &self.code, &mut self.seats, &mut self.kin, at);
                 rest_behind(
-                    alloc,
                     &mut self.rests,
                     &self.kin,
                     &self.seats,

@@ -148,7 +148,6 @@ impl World {
                 seat_all(&mut self.seats, &mut self.kin, number, units);
                 self.lost = wake_behind(alloc, &self.code, &mut self.seats, &mut self.kin, at);
                 rest_behind(
-                    alloc,
                     &mut self.rests,
                     &self.kin,
                     &self.seats,

@@ -1,6 +1,7 @@
 //! Strands that rest: they are not looked at again until they may have a turn.
 ghost use Rattle.std.specs.Prelude.{◌≡◌, ◌<◌, ◌≤◌, ◌^◌, length, IfSome};
-ghost use Rattle.a68_world.specs.Resting.{IsAtCell, ReleasesBy, RestsBehind, RestsMore, RestsOne, RousesBehind, shows_idle, written};
+ghost use Rattle.a68_rests.specs.Resting.{Leaves};
+ghost use Rattle.a68_world.specs.Resting.{ClosesBy, IsAtCell, OpensBy, RestsBehind, RestsMore, RestsOne, RousesBehind, shows_idle, written};
 
 use crate::kin::{Kin, forker_of};
 use crate::seat::Seat;
@@ -11,7 +12,6 @@ use a68_instructions::Ask;
 use a68_rests::Rests;
 use a68_store::Store;
 use a68_values::Act;
-use std::alloc::Global;
 
 // The cell to which an act writes.
 fn written(act: Act) -> Option<u32>
@@ -24,14 +24,45 @@ fn written(act: Act) -> Option<u32>
     }
 }
 
+// The cell of the semaphore that an act lowers.
+fn lowered(act: Act) -> Option<u32> {
+    match act {
+        Act::Down { cell } => Some(cell),
+        _ => None,
+    }
+}
+
+// The strand that has done this act rests no more.
+fn leave_by(rests: &mut Rests, act: Act, n: usize)
+    requires few { n < 2 ^ 32 }
+    ensures { Leaves rests.old n rests.new }
+{
+    match lowered(act) {
+        Some(cell) => rests.leave(n as u32, cell),
+        None => rests.rouse(n),
+    }
+}
+
 // Strands that wait at the cell to which this act writes may have turns again.
-fn release_by(rests: &mut Rests, act: Act)
-    ensures { ReleasesBy (written act) rests.old rests.new }
+fn open_by(rests: &mut Rests, act: Act)
+    ensures { OpensBy (written act) rests.old rests.new }
 {
     let Some(cell) = written(act) else {
         return;
     };
-    rests.release(cell);
+    rests.open(cell);
+}
+
+// Where strands have to wait again at the cell of the semaphore that this act lowers, they rest.
+fn close_by(rests: &mut Rests, store: &Store, act: Act)
+    ensures { ClosesBy store.now rests.old rests.new }
+{
+    let Some(cell) = lowered(act) else {
+        return;
+    };
+    if store.waits(&Want::Down { cell }) {
+        rests.close(cell);
+    }
 }
 
 // Where this strand has closed, the one that made it may go on.
@@ -67,7 +98,7 @@ fn cell_waited(ask: &Ask, store: &Store) -> Option<u32>
 }
 
 // The strand of this number, which shows this, rests where it has no turn.
-fn rest_shown(alloc: Global, rests: &mut Rests, store: &Store, ask: &Ask, k: u32)
+fn rest_shown(rests: &mut Rests, store: &Store, ask: &Ask, k: u32)
     ensures { RestsOne ask.now store.now k rests.old rests.new }
 {
     if shows_idle(ask) {
@@ -77,29 +108,22 @@ fn rest_shown(alloc: Global, rests: &mut Rests, store: &Store, ask: &Ask, k: u32
     let Some(cell) = cell_waited(ask, store) else {
         return;
     };
-    rests.hold(alloc, k, cell);
+    rests.hold(k, cell);
 }
 
 // The same, where it stands in the world.
-fn rest_at(alloc: Global, rests: &mut Rests, seats: &[Seat], store: &Store, k: usize)
+fn rest_at(rests: &mut Rests, seats: &[Seat], store: &Store, k: usize)
     requires few { k < 2 ^ 32 }
     ensures { RestsMore rests.old rests.new seats.now store.now }
 {
     let Some(Seat::Home(strand)) = seats.get(k) else {
         return;
     };
-    rest_shown(alloc, rests, store, strand.ask(), k as u32);
+    rest_shown(rests, store, strand.ask(), k as u32);
 }
 
 // Strands rest that have no turn, from this number on up to the first that has one. Tells whether there is one below that number.
-fn rest_in(
-    alloc: Global,
-    rests: &mut Rests,
-    seats: &[Seat],
-    store: &Store,
-    from: usize,
-    to: usize,
-) -> bool
+fn rest_in(rests: &mut Rests, seats: &[Seat], store: &Store, from: usize, to: usize) -> bool
     requires few { to < 2 ^ 32 }
     requires order { from ≤ to }
     ensures { RestsMore rests.old rests.new seats.now store.now }
@@ -109,7 +133,7 @@ fn rest_in(
         if turn_at(seats, store, k) {
             return true;
         }
-        rest_at(alloc, rests, seats, store, k);
+        rest_at(rests, seats, store, k);
         k = rests.first_other(k + 1, to);
     }
     false
@@ -117,36 +141,28 @@ fn rest_in(
 
 // Strands rest that have no turn, in the order in which they are looked at behind this one, up to the first that has one. So each
 // that a search has met in vain is left out by the next one.
-fn rest_from(alloc: Global, rests: &mut Rests, seats: &[Seat], store: &Store, n: usize)
+fn rest_from(rests: &mut Rests, seats: &[Seat], store: &Store, n: usize)
     requires few { length seats.now < 2 ^ 32 }
     requires within { n < length seats.now }
     ensures { RestsMore rests.old rests.new seats.now store.now }
 {
-    rest_at(alloc, rests, seats, store, n);
-    if !rest_in(alloc, rests, seats, store, n + 1, seats.len()) {
-        let _found = rest_in(alloc, rests, seats, store, 0, n);
+    rest_at(rests, seats, store, n);
+    if !rest_in(rests, seats, store, n + 1, seats.len()) {
+        let _found = rest_in(rests, seats, store, 0, n);
     }
 }
 
 // Where this strand has closed, the one that made it rests again where it has no turn yet.
-fn rest_forker(
-    alloc: Global,
-    rests: &mut Rests,
-    kin: &[Kin],
-    seats: &[Seat],
-    store: &Store,
-    n: usize,
-)
+fn rest_forker(rests: &mut Rests, kin: &[Kin], seats: &[Seat], store: &Store, n: usize)
     ensures { RestsMore rests.old rests.new seats.now store.now }
 {
     if closed_at(seats, n) {
-        rest_at(alloc, rests, seats, store, forker_of(kin, n) as usize);
+        rest_at(rests, seats, store, forker_of(kin, n) as usize);
     }
 }
 
 /// Behind this act of this strand those that may have turns by it rest no more, and others rest that have none.
 pub fn rest_behind(
-    alloc: Global,
     rests: &mut Rests,
     kin: &[Kin],
     seats: &[Seat],
@@ -158,8 +174,10 @@ pub fn rest_behind(
     requires within { n < length seats.now }
     ensures { RestsBehind (written act) n kin.now seats.now store.now rests.old rests.new }
 {
-    release_by(rests, act);
+    leave_by(rests, act, n);
+    open_by(rests, act);
+    close_by(rests, store, act);
     rouse_behind(rests, kin, seats, n);
-    rest_forker(alloc, rests, kin, seats, store, n);
-    rest_from(alloc, rests, seats, store, n);
+    rest_forker(rests, kin, seats, store, n);
+    rest_from(rests, seats, store, n);
 }

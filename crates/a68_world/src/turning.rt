@@ -49,7 +49,7 @@ pub fn turn_at(seats: &[Seat], store: &Store, n: usize) -> bool
 fn first_in(seats: &[Seat], rests: &Rests, store: &Store, from: usize, to: usize) -> Option<u32>
     requires few { to < 2 ^ 32 }
     requires order { from ≤ to }
-    requires rests { PassTurns rests.now.0 seats.now store.now }
+    requires rests { PassTurns rests.now seats.now store.now }
     ensures first { IfSome result (FirstIn seats.now store.now from to) }
     ensures none { IsNone result → NoneIn seats.now store.now from to }
 {
@@ -67,7 +67,7 @@ fn first_in(seats: &[Seat], rests: &Rests, store: &Store, from: usize, to: usize
 /// from 0.
 pub fn next_turn(seats: &[Seat], rests: &Rests, store: &Store, after: u32) -> Option<u32>
     requires few { length seats.now < 2 ^ 32 }
-    requires rests { PassTurns rests.now.0 seats.now store.now }
+    requires rests { PassTurns rests.now seats.now store.now }
     ensures first { IfSome result (IsFirstBehind (HasTurnAt seats.now store.now) after) }
     ensures none { IsNone result → (n : ℕ) → turn_at seats.now store.now n ≡ false }
 {
@@ -97,7 +97,7 @@ fn has_ended(seats: &[Seat]) -> bool
 /// The end without a further turn, behind an act of this strand. While that one has something to do no other is looked at.
 pub fn end_shown(seats: &[Seat], rests: &Rests, store: &Store, n: u32) -> Option<End>
     requires few { length seats.now < 2 ^ 32 }
-    requires rests { PassTurns rests.now.0 seats.now store.now }
+    requires rests { PassTurns rests.now seats.now store.now }
     ensures { EndShown seats.now store.now result }
 {
     if has_ended(seats) {

@@ -2,6 +2,7 @@
 use crate::kin::Kin;
 use crate::seat::Seat;
 use a68_code::Code;
+use a68_joined::JoinedCode;
 use a68_marks::Marks;
 use a68_rests::Rests;
 use a68_store::Store;
@@ -13,6 +14,8 @@ use std::marker::Model;
 #[derive(Drop)]
 pub struct World {
     pub(crate) code: Code,
+    // The code, laid out for a strand that is alone.
+    pub(crate) joined: JoinedCode,
     // The most entries that the journal may have.
     pub(crate) fuel: u32,
     pub(crate) journal: Log,

@@ -3,8 +3,12 @@ use Rattle.a68_world.proofs.resting.rest_behind.Goals as goal
 
 pub returns : goal.returns
 returns c = record {
-  freed = c.release_by.new.rests;
-  releases = c.release_by.ensures;
+  left = c.leave_by.new.rests;
+  leaves = c.leave_by.ensures;
+  opened = c.open_by.new.rests;
+  opens = c.open_by.ensures;
+  closed = c.close_by.new.rests;
+  closes = c.close_by.ensures;
   roused = c.rouse_behind.new.rests;
   rouses = c.rouse_behind.ensures;
   more =

@@ -15,4 +15,5 @@ invariant_of-self c = record {
   passed = c.self.invariant.passed;
   rests = c.self.invariant.rests;
   kin = c.self.invariant.kin;
+  joined = c.self.invariant.joined;
 }
