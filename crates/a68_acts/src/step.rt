@@ -2,7 +2,7 @@
 ghost use Rattle.std.specs.Prelude.{◌≡◌, ◌==◌, [], ◌∷◌, length, OnOk, OnErr, MatchOption};
 
 use a68_base::NoMemory;
-use a68_values::{Bounds, Held, Name, Value, Values};
+use a68_values::{Bounds, Elements, Held, Name, Value};
 use std::alloc::Global;
 use std::marker::Model;
 
@@ -56,7 +56,7 @@ pub enum Step {
         flex: bool,
         cell: u32,
         bounds: Bounds,
-        parts: Values,
+        parts: Elements,
     },
     /// It assigns what the operator of this row makes of the last value and the operand to the name of the text that the
     /// last value is.

@@ -32,8 +32,48 @@ fn sliced_of(alloc: Global, forms: &TrimForms, latest_first: Values) -> Result<D
     Ok(doing)
 }
 
-// Slice, on so many values.
-fn slice_values(
+// Slice of a row by one subscript or trimmer, which takes no list of the values.
+fn slice_by_one(
+    alloc: Global,
+    forms: &TrimForms,
+    body: &mut Body,
+    about: &mut About,
+) -> Result<(), NoMemory>
+    requires at { body.old.at < 2 ^ 32 - 1 }
+    requires idle { about.old.ask ≡ Ask.Runs }
+    ensures state { (modes : List Shape) → OnOk result (state_of body.new (stance_of about.new) ≡ operates modes (state_of body.old Stance.Idle) (operations.slice forms.now) 2) }
+    ensures stays { OnOk result (StaysWhereAsking about.new.ask body.old.at body.new.at) }
+    ensures room { body.new.stack.room ≡ body.old.stack.room }
+{
+    let doing = match body.stack.pop_two() {
+        None => Doing::Meets(FaultKind::Kind),
+        Some((row, index)) => sliced(alloc, forms, &[row, index])?,
+    };
+    follow(body, about, true, doing)
+}
+
+// Slice of a row by two of them, which takes no list of the values.
+fn slice_by_two(
+    alloc: Global,
+    forms: &TrimForms,
+    body: &mut Body,
+    about: &mut About,
+) -> Result<(), NoMemory>
+    requires at { body.old.at < 2 ^ 32 - 1 }
+    requires idle { about.old.ask ≡ Ask.Runs }
+    ensures state { (modes : List Shape) → OnOk result (state_of body.new (stance_of about.new) ≡ operates modes (state_of body.old Stance.Idle) (operations.slice forms.now) 3) }
+    ensures stays { OnOk result (StaysWhereAsking about.new.ask body.old.at body.new.at) }
+    ensures room { body.new.stack.room ≡ body.old.stack.room }
+{
+    let doing = match body.stack.pop_three() {
+        None => Doing::Meets(FaultKind::Kind),
+        Some((row, first, second)) => sliced(alloc, forms, &[row, first, second])?,
+    };
+    follow(body, about, true, doing)
+}
+
+// Slice of a row by any number of them, on so many values with the row.
+fn slice_by_many(
     alloc: Global,
     forms: &TrimForms,
     count: usize,
@@ -51,6 +91,27 @@ fn slice_values(
         Some(latest_first) => sliced_of(alloc, forms, latest_first)?,
     };
     follow(body, about, true, doing)
+}
+
+// Slice, on so many values.
+fn slice_values(
+    alloc: Global,
+    forms: &TrimForms,
+    count: usize,
+    body: &mut Body,
+    about: &mut About,
+) -> Result<(), NoMemory>
+    requires at { body.old.at < 2 ^ 32 - 1 }
+    requires idle { about.old.ask ≡ Ask.Runs }
+    ensures state { (modes : List Shape) → OnOk result (state_of body.new (stance_of about.new) ≡ operates modes (state_of body.old Stance.Idle) (operations.slice forms.now) count) }
+    ensures stays { OnOk result (StaysWhereAsking about.new.ask body.old.at body.new.at) }
+    ensures room { body.new.stack.room ≡ body.old.stack.room }
+{
+    match count {
+        2 => slice_by_one(alloc, forms, body, about),
+        3 => slice_by_two(alloc, forms, body, about),
+        _ => slice_by_many(alloc, forms, count, body, about),
+    }
 }
 
 // How many values a slice takes; none where there are fewer.

@@ -61,7 +61,7 @@ pub fn count_filled(
             if rows == 0 {
                 return counted + 1;
             }
-            count_elements(modes, depth, mode, &parts.items, rows - 1, counted)
+            count_elements(modes, depth, mode, &parts.values().items, rows - 1, counted)
         }
         _ => count_cell(rows, counted),
     }

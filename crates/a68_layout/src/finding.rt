@@ -251,7 +251,7 @@ fn find_filled<'a>(
 {
     match &value.node {
         ValueNode::Row { parts, .. } => {
-            find_elements(modes, depth, mode, &parts.items, rows)?;
+            find_elements(modes, depth, mode, &parts.values().items, rows)?;
             Ok(())
         }
         _ => Ok(()),

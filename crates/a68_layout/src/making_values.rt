@@ -57,9 +57,17 @@ pub fn make_filled(
     match &value.node {
         ValueNode::Row { bounds, parts } => {
             if rows == 0 {
-                return make_row_cell(alloc, modes, mode, &bounds.items, made);
+                return make_row_cell(alloc, modes, mode, bounds.as_slice(), made);
             }
-            make_elements(alloc, modes, depth, mode, &parts.items, rows - 1, made)
+            make_elements(
+                alloc,
+                modes,
+                depth,
+                mode,
+                &parts.values().items,
+                rows - 1,
+                made,
+            )
         }
         _ => make_cell(rows, made),
     }

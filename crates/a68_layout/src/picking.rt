@@ -34,15 +34,23 @@ pub fn parts_at(alloc: Global, parts: &[Value], places: &[u32]) -> Result<Vec<Va
     Ok(picked)
 }
 
+// Lists a lower and an upper bound for each dimension.
+fn pairs_of(alloc: Global, dims: &[Dim]) -> Result<Vec<(i64, i64)>, NoMemory>
+    ensures { IfOk result (λ pairs. pairs.items ≡ views.bounds_of dims.now) }
+{
+    let pairs = dims
+        .iter()
+        .map(|dim| (dim.lower, dim.upper))
+        .collect(alloc)?;
+    Ok(pairs)
+}
+
 // Lists the bounds of the dimensions.
 fn bounds_of(alloc: Global, dims: &[Dim]) -> Result<Bounds, NoMemory>
     ensures { IfOk result (λ bounds. bounds ≡ views.bounds_of dims.now) }
 {
-    let items = dims
-        .iter()
-        .map(|dim| (dim.lower, dim.upper))
-        .collect(alloc)?;
-    Ok(Bounds { items })
+    let pairs = pairs_of(alloc, dims)?;
+    Ok(Bounds::of(pairs))
 }
 
 // Takes the only one of them. The fault Kind comes where there is another number.
@@ -68,10 +76,8 @@ pub fn part_seen(alloc: Global, dims: &[Dim], parts: Vec<Value>) -> Result<Value
         return Ok(part);
     }
     let bounds = bounds_of(alloc, dims)?;
+    let parts = Values { items: parts }.shared()?;
     Ok(Value {
-        node: ValueNode::Row {
-            bounds,
-            parts: Values { items: parts },
-        },
+        node: ValueNode::Row { bounds, parts },
     })
 }

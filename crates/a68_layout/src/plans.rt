@@ -9,7 +9,7 @@ use crate::wanted::{Wanted, plan_wanted};
 use crate::{LayoutStop, Plan, takes_bounds};
 use a68_base::NoMemory;
 use a68_modes::{ModeId, Modes};
-use a68_values::{FaultKind, Value, Values};
+use a68_values::{FaultKind, Value};
 use std::alloc::Global;
 
 // Takes the bounds by twos, a lower and an upper one.
@@ -70,15 +70,12 @@ pub fn plan_elements(
     alloc: Global,
     modes: &Modes,
     mode: ModeId,
-    values: &Values,
+    values: &[Value],
 ) -> Result<Plan, LayoutStop>
     ensures cells { IfOk result (λ plan. Ok plan ≡ rooms.planned_elements modes.now mode (contents_of values.now)) }
     ensures fault { (kind : FaultKind) → IsErrOf result (LayoutStop.Fault kind) → Err kind ≡ rooms.planned_elements modes.now mode (contents_of values.now) }
 {
-    let wanted = Wanted::Elements {
-        mode,
-        values: &values.items,
-    };
+    let wanted = Wanted::Elements { mode, values };
     let modes = Measured::bare(alloc, modes);
     let plan = plan_wanted(alloc, &modes, &wanted)?;
     Ok(plan)

@@ -9,17 +9,18 @@ use crate::LayoutStop;
 use crate::extents::{BEYOND, elements, extent};
 use a68_base::{MOST_COUNTED, NoMemory};
 use a68_values::{Bounds, Descriptor, Dim, Dims, FaultKind};
+use smallvec::SmallVec;
 use std::alloc::Global;
 
 // Lists the dimensions of a row whose elements take so many cells each.
-fn new_dims(alloc: Global, width: u32, bounds: &[(i64, i64)]) -> Result<Vec<Dim>, NoMemory>
+fn new_dims(alloc: Global, width: u32, bounds: &[(i64, i64)]) -> Result<SmallVec<Dim, 2>, NoMemory>
     requires few { width * elements_of bounds.now ≤ most_cells }
     requires none { elements_of bounds.now ≡ 0 → width ≡ 0 }
     ensures { IfOk result (λ dims. dims.items ≡ strides width bounds.now) }
 {
     let most = BEYOND as u64;
     let mut stride = (elements(bounds, most) * width as u64) as u32;
-    let mut dims = Vec::with_capacity(alloc, bounds.len())?;
+    let mut dims = SmallVec::new(alloc);
     for (lower, upper) in bounds {
         let (lower, upper) = (*lower, *upper);
         let count = extent(lower, upper, most) as u32;
@@ -63,10 +64,10 @@ pub fn row_in(
     if behind_row(base, width, bounds) > MOST_COUNTED {
         return Err(LayoutStop::Fault(FaultKind::Cells));
     }
-    let items = new_dims(alloc, width_of(width, bounds), bounds)?;
+    let dims = new_dims(alloc, width_of(width, bounds), bounds)?;
     Ok(Descriptor {
         base,
-        dims: Dims::of(alloc, items)?,
+        dims: Dims::of(alloc, dims.as_slice())?,
     })
 }
 
@@ -81,6 +82,6 @@ pub fn new_row(
     ensures row { IfOk result (λ row. Ok row ≡ views.new_row base width bounds.now) }
     ensures fault { (kind : FaultKind) → IsErrOf result (LayoutStop.Fault kind) → Err kind ≡ views.new_row base width bounds.now }
 {
-    let row = row_in(alloc, base, width, &bounds.items)?;
+    let row = row_in(alloc, base, width, bounds.as_slice())?;
     Ok(row)
 }

@@ -4,6 +4,7 @@ ghost use Rattle.a68_layout.specs.declared.types.LayoutStop.TheVariants as stops
 
 use a68_base::NoMemory;
 use a68_values::{Cells, FaultKind};
+use smallvec::SmallVec;
 use std::alloc::{AllocError, AllocFailed};
 use std::marker::Model;
 
@@ -89,10 +90,22 @@ pub enum Trim {
     },
 }
 
-/// A subscript or trimmer for each dimension of a row.
-#[derive(Drop)]
+// An unused place of a list that keeps its first items within itself holds this.
+impl Default for Trim {
+    fn default() -> Trim {
+        Trim::At(0)
+    }
+}
+
+/// A subscript or trimmer for each dimension of a row. One or two take no memory.
 pub struct Trims {
-    pub items: Vec<Trim>,
+    pub items: SmallVec<Trim, 2>,
+}
+
+impl Drop for Trims {
+    fn drop(self) {
+        let Trims { items: _ } = self;
+    }
 }
 
 impl Model for Trims {

@@ -15,11 +15,12 @@ use crate::spreading::{last_behind, spread};
 use crate::stretches::{subscripted, taken};
 use crate::{LayoutStop, Trim, new_row};
 use a68_base::{MOST_COUNTED, NoMemory};
-use a68_values::{Bounds, Descriptor, Dim, Dims, FaultKind, Value, Values};
+use a68_values::{Bounds, Descriptor, Dim, Dims, FaultKind, Value};
+use smallvec::SmallVec;
 use std::alloc::Global;
 
 // Adds a dimension that stays.
-fn keep(kept: &mut Vec<Dim>, dim: Option<Dim>) -> Result<(), NoMemory>
+fn keep(kept: &mut SmallVec<Dim, 2>, dim: Option<Dim>) -> Result<(), NoMemory>
     ensures { OnOk result (kept.new.items ≡ kept.old.items ++ option_to_list dim) }
 {
     if let Some(dim) = dim {
@@ -29,7 +30,12 @@ fn keep(kept: &mut Vec<Dim>, dim: Option<Dim>) -> Result<(), NoMemory>
 }
 
 // Adds the dimensions that stay, and finds the cell where the part begins.
-fn seen(dims: &[Dim], trims: &[Trim], cell: u32, kept: &mut Vec<Dim>) -> Result<u32, LayoutStop>
+fn seen(
+    dims: &[Dim],
+    trims: &[Trim],
+    cell: u32,
+    kept: &mut SmallVec<Dim, 2>,
+) -> Result<u32, LayoutStop>
     ensures part { IfOk result (λ found. Ok (found, kept.new.items) ≡ joined cell kept.old.items (views.seen_from dims.now trims.now)) }
     ensures fault { (kind : FaultKind) → IsErrOf result (LayoutStop.Fault kind) → Err kind ≡ joined cell kept.old.items (views.seen_from dims.now trims.now) }
 {
@@ -60,19 +66,19 @@ pub fn view(
     ensures part { IfOk result (λ part. Ok part ≡ views.view descriptor.now trims.now) }
     ensures fault { (kind : FaultKind) → IsErrOf result (LayoutStop.Fault kind) → Err kind ≡ views.view descriptor.now trims.now }
 {
-    let mut items = Vec::new(alloc);
+    let mut dims = SmallVec::new(alloc);
     let base = seen(
         descriptor.dims.as_slice(),
         trims,
         descriptor.base,
-        &mut items,
+        &mut dims,
     )?;
     if base > MOST_COUNTED {
         return Err(LayoutStop::Fault(FaultKind::Cells));
     }
     Ok(Descriptor {
         base,
-        dims: Dims::of(alloc, items)?,
+        dims: Dims::of(alloc, dims.as_slice())?,
     })
 }
 
@@ -159,7 +165,7 @@ pub fn cells_seen(
 fn picked(
     alloc: Global,
     row: &Descriptor,
-    parts: &Values,
+    parts: &[Value],
     trims: &[Trim],
 ) -> Result<Value, LayoutStop>
     ensures part { IfOk result (λ part. Ok part ≡ views.part_by parts.now (views.view row.now trims.now)) }
@@ -167,7 +173,7 @@ fn picked(
 {
     let seen = view(alloc, row, trims)?;
     let cells = cells_seen(alloc, &seen, 1)?;
-    let picked = parts_at(alloc, &parts.items, &cells)?;
+    let picked = parts_at(alloc, parts, &cells)?;
     let part = part_seen(alloc, seen.dims.as_slice(), picked)?;
     Ok(part)
 }
@@ -179,13 +185,13 @@ fn picked(
 pub fn part_of(
     alloc: Global,
     bounds: &Bounds,
-    parts: &Values,
+    parts: &[Value],
     trims: &[Trim],
 ) -> Result<Value, LayoutStop>
     ensures part { IfOk result (λ part. Ok part ≡ views.part_of bounds.now parts.now trims.now) }
     ensures fault { (kind : FaultKind) → IsErrOf result (LayoutStop.Fault kind) → Err kind ≡ views.part_of bounds.now parts.now trims.now }
 {
-    if !is_filled(&bounds.items, parts.items.len()) {
+    if !is_filled(bounds.as_slice(), parts.len()) {
         return Err(LayoutStop::Fault(FaultKind::Kind));
     }
     let row = new_row(alloc, 0, 1, bounds)?;

@@ -46,8 +46,9 @@ pub fn items_of(value: &Value) -> Option<&[Value]>
 {
     match &value.node {
         ValueNode::Plain(Plain::Char(_)) => Some(std::slice::from_ref(value)),
-        ValueNode::Row { bounds, parts } if bounds.items.len() == 1 && are_chars(&parts.items) => {
-            Some(&parts.items)
+        ValueNode::Row { bounds, parts }
+            if bounds.as_slice().len() == 1 && are_chars(parts.as_slice()) => {
+            Some(parts.as_slice())
         }
         _ => None,
     }
@@ -113,12 +114,15 @@ fn row_to(alloc: Global, upper: i64, items: Vec<Value>) -> Result<Value, NoMemor
     ensures { IfOk result (λ value. value ≡ yields.row_from_1 items.items) }
 {
     match vec![in alloc; (1, upper)] {
-        Ok(bounds) => Ok(Value {
-            node: ValueNode::Row {
-                bounds: Bounds { items: bounds },
-                parts: Values { items },
-            },
-        }),
+        Ok(bounds) => {
+            let parts = Values { items }.shared()?;
+            Ok(Value {
+                node: ValueNode::Row {
+                    bounds: Bounds::of(bounds),
+                    parts,
+                },
+            })
+        }
         Err(_) => {
             drop(items);
             Err(NoMemory)

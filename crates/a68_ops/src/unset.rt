@@ -21,7 +21,7 @@ pub fn is_unset(value: &Value) -> bool
     match &value.node {
         ValueNode::Plain(held) => is_unset_plain(*held),
         ValueNode::Structure(parts) => some_unset(parts),
-        ValueNode::Row { parts, .. } => some_unset(parts),
+        ValueNode::Row { parts, .. } => some_unset(parts.values()),
         ValueNode::United { value, .. } => is_unset(value),
         ValueNode::Void | ValueNode::Layout(_) => false,
     }

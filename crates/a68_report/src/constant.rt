@@ -56,7 +56,7 @@ pub fn put_constant(text: &mut Text, value: &Value) -> Result<(), NoMemory>
     ensures { OnOk result (text.new ≡ text.old ++ constant value.now) }
 {
     match &value.node {
-        ValueNode::Row { parts, .. } => put_row(text, &parts.items),
+        ValueNode::Row { parts, .. } => put_row(text, parts.as_slice()),
         ValueNode::Layout(Layout::Newline) => put_behind(text, b"newline"),
         ValueNode::Layout(Layout::Space) => put_behind(text, b"space"),
         _ => put_item(text, value),

@@ -44,7 +44,7 @@ pub fn bound_of(alloc: Global, upper: bool, dims: &[Dim], dimension: i64) -> Res
     ensures { IfOk result (λ doing. doing ≡ rowing.yielding (rowing.bound_of upper (views.bounds_of dims.now) dimension)) }
 {
     let bounds = bounds_of(alloc, dims)?;
-    let doing = bound_in(upper, &bounds.items, dimension);
+    let doing = bound_in(upper, bounds.as_slice(), dimension);
     Ok(doing)
 }
 
@@ -59,7 +59,7 @@ pub fn bounded(upper: bool, dimension: i64, value: &Value) -> Doing
             Next::Bound { upper, dimension },
         ),
         ValueNode::Row { bounds, .. } if !is_unset(value) => {
-            bound_in(upper, &bounds.items, dimension)
+            bound_in(upper, bounds.as_slice(), dimension)
         }
         _ if is_unset(value) => Doing::Meets(FaultKind::Unset),
         _ => Doing::Meets(FaultKind::Kind),

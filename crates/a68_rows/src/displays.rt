@@ -23,7 +23,7 @@ fn bounds_behind(alloc: Global, count: usize, others: &[(i64, i64)]) -> Result<B
     let mut items = Vec::with_capacity(alloc, 1)?;
     items.push((1, count as i64))?;
     items.extend_from_slice(others)?;
-    Ok(Bounds { items })
+    Ok(Bounds::of(items))
 }
 
 // Is the value a row?
@@ -45,7 +45,7 @@ fn has_bounds(bounds: &Bounds, value: &Value) -> bool
     ensures { result ≡ rowing.has_bounds bounds.now value.now }
 {
     match &value.node {
-        ValueNode::Row { bounds: others, .. } => same_bounds(&bounds.items, &others.items),
+        ValueNode::Row { bounds: others, .. } => same_bounds(bounds.as_slice(), others.as_slice()),
         _ => false,
     }
 }
@@ -58,13 +58,13 @@ fn have_bounds(bounds: &Bounds, values: &[Value]) -> bool
 }
 
 // The elements of a row put behind others; a value that is no row has none.
-fn add_parts(value: Value, items: &mut Vec<Value>) -> Result<(), NoMemory>
+fn add_parts(alloc: Global, value: Value, items: &mut Vec<Value>) -> Result<(), NoMemory>
     ensures { OnOk result (items.new.items ≡ items.old.items ++ rowing.joined (value ∷ [])) }
 {
     match value.into_row() {
         Some((bounds, parts)) => {
             drop(bounds);
-            let mut parts = parts;
+            let mut parts = parts.into_values(alloc)?;
             items.append(&mut parts.items)?;
             Ok(())
         }
@@ -73,12 +73,12 @@ fn add_parts(value: Value, items: &mut Vec<Value>) -> Result<(), NoMemory>
 }
 
 // The elements of all these rows, of which the first is last, put one behind the other where there are none.
-fn add_all(rows: &mut Vec<Value>, items: &mut Vec<Value>) -> Result<(), NoMemory>
+fn add_all(alloc: Global, rows: &mut Vec<Value>, items: &mut Vec<Value>) -> Result<(), NoMemory>
     requires { items.old.items ≡ [] }
     ensures { OnOk result (items.new.items ≡ rowing.joined (reverse rows.old.items)) }
 {
     while let Some(value) = rows.pop() {
-        add_parts(value, items)?;
+        add_parts(alloc, value, items)?;
     }
     Ok(())
 }
@@ -90,7 +90,7 @@ fn joined(alloc: Global, rows: Values) -> Result<Values, NoMemory>
     let mut rows = rows;
     let mut items = Vec::new(alloc);
     rows.items.reverse();
-    add_all(&mut rows.items, &mut items)?;
+    add_all(alloc, &mut rows.items, &mut items)?;
     Ok(Values { items })
 }
 
@@ -108,7 +108,7 @@ fn bounds_with(
     if !have_bounds(bounds, others) {
         return Ok(Err(FaultKind::Bounds));
     }
-    let bounds = bounds_behind(alloc, others.len() + 1, &bounds.items)?;
+    let bounds = bounds_behind(alloc, others.len() + 1, bounds.as_slice())?;
     Ok(Ok(bounds))
 }
 
@@ -134,7 +134,7 @@ fn displayed_rows(alloc: Global, values: Values) -> Result<Doing, NoMemory>
 {
     match bounds_of_rows(alloc, &values.items)? {
         Ok(bounds) => {
-            let parts = joined(alloc, values)?;
+            let parts = joined(alloc, values)?.shared()?;
             Ok(Doing::Yields(Value {
                 node: ValueNode::Row { bounds, parts },
             }))
@@ -151,6 +151,7 @@ fn row_of(alloc: Global, parts: Values) -> Result<Doing, NoMemory>
     ensures { IfOk result (λ doing. doing ≡ rowing.row_of parts) }
 {
     let bounds = bounds_behind(alloc, parts.items.len(), &[])?;
+    let parts = parts.shared()?;
     Ok(Doing::Yields(Value {
         node: ValueNode::Row { bounds, parts },
     }))
@@ -199,7 +200,7 @@ fn widened_row(alloc: Global, value: Value) -> Result<Doing, NoMemory>
 {
     match value.into_row() {
         Some((bounds, parts)) => {
-            let bounds = bounds_behind(alloc, 1, &bounds.items)?;
+            let bounds = bounds.with_front(alloc, (1, 1))?;
             Ok(Doing::Yields(Value {
                 node: ValueNode::Row { bounds, parts },
             }))
@@ -255,7 +256,7 @@ fn widened_bits(alloc: Global, bits: u64) -> Result<Doing, NoMemory>
 {
     match item_text(alloc, &Value::of(Plain::Bits(bits))) {
         Ok(letters) => {
-            let parts = truths(alloc, &letters.items)?;
+            let parts = truths(alloc, &letters.items)?.shared()?;
             let bounds = bounds_behind(alloc, 64, &[])?;
             Ok(Doing::Yields(Value {
                 node: ValueNode::Row { bounds, parts },

@@ -9,6 +9,7 @@ use a68_base::{MOST_COUNTED, NoMemory};
 use a68_layout::Plan;
 use a68_modes::{ModeId, Modes, Shape};
 use a68_values::{Cells, Descriptor, Dim, Dims, FaultKind, Held, Name, Plain, Value, ValueNode};
+use smallvec::SmallVec;
 use std::alloc::Global;
 
 // The dimension 1:1 of a row of one element.
@@ -58,10 +59,10 @@ pub fn names_field(
 fn dims_behind(alloc: Global, dims: &[Dim]) -> Result<Dims, NoMemory>
     ensures { IfOk result (λ all. all ≡ rowing.one_dimension ∷ dims.now) }
 {
-    let mut items = Vec::with_capacity(alloc, 1)?;
+    let mut items: SmallVec<Dim, 2> = SmallVec::new(alloc);
     items.push(one_dimension())?;
     items.extend_from_slice(dims)?;
-    let dims = Dims::of(alloc, items)?;
+    let dims = Dims::of(alloc, items.as_slice())?;
     Ok(dims)
 }
 

@@ -13,7 +13,7 @@ use a68_acts::{Doing, Next, Want};
 use a68_base::NoMemory;
 use a68_layout::{LayoutStop, Trim, TrimForm, TrimForms, Trims, element, part_of, view};
 use a68_ops::OpStop;
-use a68_values::{Bounds, Descriptor, FaultKind, Name, Plain, Value, ValueNode, Values};
+use a68_values::{Bounds, Descriptor, FaultKind, Name, Plain, Value, ValueNode};
 use smallvec::SmallVec;
 use std::alloc::Global;
 
@@ -61,7 +61,11 @@ fn trim_from(form: TrimForm, ints: &[i64], from: usize) -> Option<(Trim, usize)>
 }
 
 // The subscripts and trimmers that are written so, with these integers, put where there are none.
-fn add_trims(forms: &[TrimForm], ints: &[i64], trims: &mut Vec<Trim>) -> Result<(), NoMemory>
+fn add_trims(
+    forms: &[TrimForm],
+    ints: &[i64],
+    trims: &mut SmallVec<Trim, 2>,
+) -> Result<(), NoMemory>
     requires { trims.old.items ≡ [] }
     ensures { OnOk result (trims.new.items ≡ rowing.trims_of forms.now ints.now) }
 {
@@ -80,7 +84,7 @@ fn add_trims(forms: &[TrimForm], ints: &[i64], trims: &mut Vec<Trim>) -> Result<
 fn trims_of(alloc: Global, forms: &TrimForms, ints: &[i64]) -> Result<Trims, NoMemory>
     ensures { IfOk result (λ trims. trims ≡ rowing.trims_of forms.now ints.now) }
 {
-    let mut items = Vec::with_capacity(alloc, forms.items.len())?;
+    let mut items = SmallVec::new(alloc);
     add_trims(&forms.items, ints, &mut items)?;
     Ok(Trims { items })
 }
@@ -89,12 +93,12 @@ fn trims_of(alloc: Global, forms: &TrimForms, ints: &[i64]) -> Result<Trims, NoM
 fn sliced_row(
     alloc: Global,
     bounds: &Bounds,
-    parts: &Values,
+    parts: &[Value],
     trims: &Trims,
 ) -> Result<Doing, NoMemory>
     ensures { IfOk result (λ doing. doing ≡ rowing.yielding (views.part_of bounds.now parts.now trims.now)) }
 {
-    match part_of(alloc, bounds, parts, &trims.items) {
+    match part_of(alloc, bounds, parts, trims.items.as_slice()) {
         Ok(value) => Ok(Doing::Yields(value)),
         Err(LayoutStop::Fault(kind)) => Ok(Doing::Meets(kind)),
         Err(LayoutStop::NoMemory) => Err(NoMemory),
@@ -107,7 +111,7 @@ fn sliced_by(alloc: Global, primary: &Value, trims: Trims) -> Result<Doing, NoMe
 {
     match &primary.node {
         ValueNode::Row { bounds, parts } => {
-            let doing = sliced_row(alloc, bounds, parts, &trims)?;
+            let doing = sliced_row(alloc, bounds, parts.as_slice(), &trims)?;
             Ok(doing)
         }
         ValueNode::Plain(Plain::Nil) => {
@@ -270,6 +274,6 @@ pub fn names_part(
 ) -> Result<Doing, NoMemory>
     ensures { IfOk result (λ doing. doing ≡ rowing.names_part scope (views.view descriptor.now trims.now)) }
 {
-    let doing = names_by(alloc, scope, descriptor, &trims.items)?;
+    let doing = names_by(alloc, scope, descriptor, trims.items.as_slice())?;
     Ok(doing)
 }

@@ -62,8 +62,8 @@ fn row(rt: &impl Abort, alloc: Global, bounds: &[(i64, i64)], count: usize) -> V
     for pair in bounds {
         items.push(*pair).expect(rt, "memory");
     }
-    let bounds = Bounds { items };
-    let parts = ints(rt, alloc, 1, count);
+    let bounds = Bounds::of(items);
+    let parts = ints(rt, alloc, 1, count).shared().expect(rt, "memory");
     Value {
         node: ValueNode::Row { bounds, parts },
     }
@@ -72,11 +72,12 @@ fn row(rt: &impl Abort, alloc: Global, bounds: &[(i64, i64)], count: usize) -> V
 // A text of two letters.
 fn ab(rt: &impl Abort, alloc: Global) -> Value {
     let items = vec![in alloc; (1, 2)].expect(rt, "memory");
-    let bounds = Bounds { items };
+    let bounds = Bounds::of(items);
     let items = vec![in alloc; Value::of(Plain::Char(97)), Value::of(Plain::Char(98))];
     let parts = Values {
         items: items.expect(rt, "memory"),
     };
+    let parts = parts.shared().expect(rt, "memory");
     Value {
         node: ValueNode::Row { bounds, parts },
     }

@@ -11,7 +11,7 @@ use std::string::String;
 fn tell_bounds(text: &mut String, bounds: &Bounds) -> Option<()> {
     text.push('[').ok()?;
     let mut is_first = true;
-    for (lower, upper) in &bounds.items {
+    for (lower, upper) in bounds.as_slice() {
         if !is_first {
             text.push(',').ok()?;
         }
@@ -29,7 +29,7 @@ fn tell(text: &mut String, value: &Value) -> Option<()> {
         ValueNode::Structure(parts) => tell_parts(text, parts),
         ValueNode::Row { bounds, parts } => {
             tell_bounds(text, bounds)?;
-            tell_parts(text, parts)
+            tell_parts(text, parts.values())
         }
         ValueNode::United { mode, value } => {
             write!(text, "{mode}: ").ok()?;

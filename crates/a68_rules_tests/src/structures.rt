@@ -31,10 +31,9 @@ pub fn row(rt: &impl Abort, alloc: Global, base: u32, upper: i64) -> Descriptor 
         upper,
         stride: 1,
     };
-    let items = vec![in alloc; dim].expect(rt, "memory");
     Descriptor {
         base,
-        dims: Dims::of(alloc, items).expect(rt, "memory"),
+        dims: Dims::of(alloc, &[dim]).expect(rt, "memory"),
     }
 }
 

@@ -519,6 +519,18 @@ impl Stack {
         Some((left, right))
     }
 
+    /// Takes the three topmost values off, the lowest first; none where there are no three, and then items may be gone.
+    pub fn pop_three(&mut self) -> Option<(Value, Value, Value)>
+        ensures popped { MatchOption result (pop_values 3 self.old.items [] ≡ None)
+            (λ three. pop_values 3 self.old.items [] ≡ Some (three.0 ∷ three.1 ∷ three.2 ∷ [], self.new.items)) }
+        ensures room { self.new.room ≡ self.old.room }
+    {
+        let third = self.pop_value()?;
+        let second = self.pop_value()?;
+        let first = self.pop_value()?;
+        Some((first, second, third))
+    }
+
     /// Takes the topmost values off, so many, the topmost first; none where there are fewer, and then items may be
     /// gone.
     pub fn pop_many(&mut self, alloc: Global, count: usize) -> Result<Option<Values>, NoMemory>

@@ -13,7 +13,7 @@ use a68_acts::{Reply, Step, Steps};
 use a68_base::NoMemory;
 use a68_layout::{LayoutStop, cells_of, cells_seen, new_row};
 use a68_modes::{ModeId, Modes};
-use a68_values::{Bounds, Descriptor, Dim, FaultKind, Held, Values};
+use a68_values::{Bounds, Descriptor, Dim, Elements, FaultKind, Held};
 use std::alloc::Global;
 
 /// The bounds of a row in the store.
@@ -24,7 +24,7 @@ pub fn bounds_of(alloc: Global, dims: &[Dim]) -> Result<Bounds, NoMemory>
     for dim in dims {
         items.push((dim.lower, dim.upper))?;
     }
-    Ok(Bounds { items })
+    Ok(Bounds::of(items))
 }
 
 /// Are these the same bounds?
@@ -65,11 +65,12 @@ pub fn fetches_row(
 // The steps of assigning a row's elements, whose first cells these are, put in front of the steps; or the fault that is
 // met.
 fn assigns_elements(
+    alloc: Global,
     modes: &Modes,
     of: ModeId,
     cells: &[u32],
     width: u32,
-    parts: Values,
+    parts: Elements,
     steps: &mut Steps,
 ) -> Result<Option<FaultKind>, NoMemory>
     requires width { width ≡ widths.cells_of modes.now of }
@@ -77,10 +78,11 @@ fn assigns_elements(
     ensures { (left : List Content) → IfOk result (λ why. then_goes why modes.now steps.new left
         ≡ spec.assigns_elements modes.now of (Ok cells.now) parts steps.old left) }
 {
-    if cells.len() != parts.items.len() {
+    if cells.len() != parts.as_slice().len() {
         drop(parts);
         return Ok(Some(FaultKind::Kind));
     }
+    let parts = parts.into_values(alloc)?;
     assign_elements(modes, of, cells, width, parts, steps)?;
     Ok(None)
 }
@@ -92,21 +94,21 @@ fn assigns_row(
     of: ModeId,
     descriptor: &Descriptor,
     bounds: &Bounds,
-    parts: Values,
+    parts: Elements,
     steps: &mut Steps,
 ) -> Result<Option<FaultKind>, NoMemory>
     ensures { (left : List Content) → IfOk result (λ why. then_goes why modes.now steps.new left
         ≡ spec.assigns_row modes.now of descriptor.now bounds.now parts steps.old left) }
 {
     let own = bounds_of(alloc, descriptor.dims.as_slice())?;
-    if !same_bounds(&own.items, &bounds.items) {
+    if !same_bounds(own.as_slice(), bounds.as_slice()) {
         drop(parts);
         return Ok(Some(FaultKind::Bounds));
     }
     let width = cells_of(modes, of)?;
     match cells_seen(alloc, descriptor, width) {
         Ok(cells) => {
-            let why = assigns_elements(modes, of, &cells, width, parts, steps)?;
+            let why = assigns_elements(alloc, modes, of, &cells, width, parts, steps)?;
             Ok(why)
         }
         Err(LayoutStop::Fault(kind)) => {
@@ -127,7 +129,7 @@ fn assigns_new(
     of: ModeId,
     cell: u32,
     descriptor: Descriptor,
-    parts: Values,
+    parts: Elements,
     steps: &mut Steps,
 ) -> Result<Option<FaultKind>, NoMemory>
     ensures { (left : List Content) → IfOk result (λ why. then_goes why modes.now steps.new left
@@ -138,7 +140,7 @@ fn assigns_new(
         Ok(cells) => {
             let held = Held::Rows(descriptor);
             steps.push(Step::Assign { cell, held })?;
-            let met = assigns_elements(modes, of, &cells, width, parts, steps)?;
+            let met = assigns_elements(alloc, modes, of, &cells, width, parts, steps)?;
             Ok(met)
         }
         Err(LayoutStop::Fault(kind)) => {
@@ -162,7 +164,7 @@ fn assigns_from(
     cell: u32,
     base: u32,
     bounds: &Bounds,
-    parts: Values,
+    parts: Elements,
     steps: &mut Steps,
 ) -> Result<Option<FaultKind>, NoMemory>
     ensures { (left : List Content) → IfOk result (λ why. then_goes why modes.now steps.new left
@@ -194,7 +196,7 @@ pub fn assigns(
     flex: bool,
     cell: u32,
     bounds: Bounds,
-    parts: Values,
+    parts: Elements,
     reply: Reply,
     steps: &mut Steps,
 ) -> Result<Option<FaultKind>, NoMemory>

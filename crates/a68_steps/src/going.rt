@@ -43,7 +43,7 @@ fn compose(alloc: Global, count: usize, left: &mut Left) -> Result<(), NoMemory>
 fn make_row(alloc: Global, bounds: Bounds, count: usize, left: &mut Left) -> Result<(), NoMemory>
     ensures { OnOk result (left.new ≡ row bounds (contents_of (reverse (take count left.old))) ∷ drop count left.old) }
 {
-    let parts = latest(alloc, count, left)?;
+    let parts = latest(alloc, count, left)?.shared()?;
     left.push(Value {
         node: ValueNode::Row { bounds, parts },
     })
@@ -147,7 +147,7 @@ fn replaces(
     of: ModeId,
     flex: bool,
     cell: u32,
-    parts: &Values,
+    parts: &[Value],
 ) -> Result<Result<Want, FaultKind>, NoMemory>
     ensures { IfOk result (λ want. want ≡ spec.replaces modes.now of flex cell parts.now) }
 {
@@ -171,7 +171,7 @@ fn updates(
     let Some((bounds, parts)) = made.into_row() else {
         return Ok(Err(FaultKind::Kind));
     };
-    let want = makes(plan_elements(alloc, modes, 3, &parts))?;
+    let want = makes(plan_elements(alloc, modes, 3, parts.as_slice()))?;
     steps.push(Step::Leave(Value::of(Plain::Name(name))))?;
     steps.push(Step::AssignRow {
         of: 3,
@@ -245,7 +245,7 @@ fn asked(
             bounds,
             parts,
         } => {
-            let want = replaces(alloc, modes, of, flex, cell, &parts)?;
+            let want = replaces(alloc, modes, of, flex, cell, parts.as_slice())?;
             steps.push(Step::AssignRow {
                 of,
                 flex,

@@ -30,12 +30,14 @@ pub fn no_elements(alloc: Global, dims: u32) -> Result<Value, NoMemory>
 {
     let mut items = Vec::new(alloc);
     add_bounds(&mut items, dims)?;
+    let none = Values {
+        items: Vec::new(alloc),
+    };
+    let parts = none.shared()?;
     Ok(Value {
         node: ValueNode::Row {
-            bounds: Bounds { items },
-            parts: Values {
-                items: Vec::new(alloc),
-            },
+            bounds: Bounds::of(items),
+            parts,
         },
     })
 }

@@ -13,7 +13,7 @@ use a68_acts::{Doing, Left, Next, Step, Steps, Want};
 use a68_base::{MOST_COUNTED, NoMemory};
 use a68_layout::{end_of, fields_width};
 use a68_modes::{Fields, ModeId, Modes, Shape};
-use a68_values::{Bounds, FaultKind, Held, Name, Plain, Value, ValueNode, Values};
+use a68_values::{Bounds, Elements, FaultKind, Held, Name, Plain, Value, ValueNode, Values};
 use std::alloc::Global;
 
 /// What a name refers to that is made of others.
@@ -277,15 +277,19 @@ fn fields_at(alloc: Global, parts: Values, field: usize) -> Result<Option<Values
 fn row_of_fields(
     alloc: Global,
     bounds: Bounds,
-    parts: Values,
+    parts: Elements,
     field: usize,
 ) -> Result<Doing, NoMemory>
     ensures { (rows : Bool) (offset : ℕ) → IfOk result (λ doing. doing ≡ operations.selected_from rows offset field (row bounds (contents_of parts))) }
 {
+    let parts = parts.into_values(alloc)?;
     match fields_at(alloc, parts, field)? {
-        Some(parts) => Ok(Doing::Yields(Value {
-            node: ValueNode::Row { bounds, parts },
-        })),
+        Some(fields) => {
+            let parts = fields.shared()?;
+            Ok(Doing::Yields(Value {
+                node: ValueNode::Row { bounds, parts },
+            }))
+        }
         None => {
             drop(bounds);
             Ok(Doing::Meets(FaultKind::Kind))

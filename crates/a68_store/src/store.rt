@@ -420,7 +420,7 @@ impl Store {
     }
 
     /// New cells, as planned. The number of the first comes back.
-    pub fn make(&mut self, alloc: Global, plan: &Plan) -> Result<u32, StoreStop>
+    pub fn make(&mut self, plan: &Plan) -> Result<u32, StoreStop>
         ensures { DoesAct result (λ base. Act.Make base (length plan.now.cells)) (λ base. Reply.Base base)
             (does (Want.Make plan.now) self.old) self.old self.new }
     {
@@ -432,7 +432,7 @@ impl Store {
         if count > (MOST_COUNTED - self.counted) as usize {
             return Err(StoreStop::Fault(FaultKind::Cells));
         }
-        add_cells(alloc, &mut self.cells, base, plan)?;
+        add_cells(&mut self.cells, base, plan)?;
         self.counted += count as u32;
         Ok(base)
     }
@@ -454,8 +454,8 @@ impl Store {
         Ok(Some(base))
     }
 
-    /// What a cell holds. A plain value takes no memory.
-    pub fn fetch(&self, alloc: Global, cell: u32) -> Result<Held, NoMemory>
+    /// What a cell holds. It takes no memory, and fails only where more share the dimensions of a row than can be counted.
+    pub fn fetch(&self, cell: u32) -> Result<Held, NoMemory>
         requires { cell < length self.now.cells }
         ensures held { IfOk result (λ held. does (Want.Fetch cell) self.now ≡ did (Act.Fetch cell) (Reply.Held held) self.now) }
         ensures memory { OnErr result (plain_held (slice_get self.now.cells cell) ≡ None) }
@@ -463,7 +463,7 @@ impl Store {
         if let Some(held) = self.plain_in(cell) {
             return Ok(Held::Plain(held));
         }
-        self.cells[cell as usize].copy(alloc)
+        self.cells[cell as usize].copy()
     }
 
     /// The plain value that a cell holds; none where it holds another, or is not there. It takes no memory.

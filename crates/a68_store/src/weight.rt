@@ -15,7 +15,7 @@ pub fn weight(value: &Value) -> u64
         ValueNode::Plain(_) => 0,
         ValueNode::Layout(_) => 0,
         ValueNode::Structure(parts) => weight_of_all(parts),
-        ValueNode::Row { parts, .. } => weight_of_all(parts),
+        ValueNode::Row { parts, .. } => weight_of_all(parts.values()),
         ValueNode::United { value, .. } => weight(value).saturating_add(1),
     }
 }

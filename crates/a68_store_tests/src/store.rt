@@ -92,7 +92,7 @@ fn make(rt: &impl Abort, alloc: Global, store: &mut Store)
         cells: Cells { items },
         shifted: false,
     };
-    let made = store.make(alloc, &plan).ok();
+    let made = store.make(&plan).ok();
     drop(plan);
     holds(rt, made == Some(0), "a cell");
 }
@@ -100,7 +100,7 @@ fn make(rt: &impl Abort, alloc: Global, store: &mut Store)
 // The only cell holds this.
 fn fetches(rt: &impl Abort, alloc: Global, store: &Store, wanted: Plain) {
     holds(rt, store.cells() == 1, "one cell");
-    let held = store.fetch(alloc, 0).expect(rt, "memory");
+    let held = store.fetch(0).expect(rt, "memory");
     holds(rt, plain_in(&held) == Some(wanted), "what the cell holds");
     drop(held);
 }
@@ -155,7 +155,7 @@ fn make_shifted(
         cells: Cells { items },
         shifted: true,
     };
-    let made = store.make(alloc, &plan);
+    let made = store.make(&plan);
     drop(plan);
     made
 }
@@ -163,7 +163,7 @@ fn make_shifted(
 // The third cell names the fourth one.
 fn names_the_last(rt: &impl Abort, alloc: Global, store: &Store) {
     holds(rt, store.cells() == 4, "four cells");
-    let held = store.fetch(alloc, 2).expect(rt, "memory");
+    let held = store.fetch(2).expect(rt, "memory");
     holds(
         rt,
         matches!(&held, Held::Member { mode: 1, base: 3 }),

@@ -73,7 +73,7 @@ abbrev mutual
   size_of (plain p) = 1
   size_of (layout l) = 1
   size_of (structure parts) = 1 + sizes_of parts
-  size_of (row bounds parts) = 1 + sizes_of parts
+  size_of (row bounds parts) = 2 + sizes_of parts
   size_of (united mode inner) = 1 + size_of inner
 
   pub sizes_of : Contents → ℕ

@@ -4,7 +4,7 @@ use Rattle.std.specs.Prelude.{◌≤◌, max}
 use Rattle.std.proofs.Common.{arith}
 use Rattle.a68_values.specs.declared.value.ValueNode.{ValueNode}
 use Rattle.a68_values.specs.declared.value.ValueNode.TheVariants.{Void, Plain, Layout, Structure, Row, United}
-use Rattle.a68_values.specs.declared.value.Value.TheDeep.{deep-ValueNode}
+use Rattle.a68_values.specs.declared.value.Elements.TheDeep.{deep-ValueNode}
 use Rattle.a68_values.specs.Content.{size_of}
 use Rattle.a68_values.specs.Nodes.{content_of}
 

@@ -5,6 +5,7 @@ use crate::{Plain, Value};
 use a68_base::NoMemory;
 use std::alloc::Global;
 use std::marker::Model;
+use std::sync::ArcSlice;
 
 /// A dimension of a row in the store: its bounds, and how many cells lie between two neighbours.
 #[derive(Clone, Copy)]
@@ -14,28 +15,48 @@ pub struct Dim {
     pub stride: u32,
 }
 
+// An unused place of a list that keeps its first items within itself holds this.
+impl Default for Dim {
+    fn default() -> Dim {
+        Dim {
+            lower: 0,
+            upper: 0,
+            stride: 0,
+        }
+    }
+}
+
 /// The dimensions of a row, from the first subscript to the last.
 #[derive(Drop)]
 pub struct Dims {
-    // In a box, so that a cell takes few bytes.
-    items: Box<Vec<Dim>>,
+    // They never change, so whoever looks at a row shares them, and a copy takes no memory.
+    items: ArcSlice<Dim>,
 }
 
 impl Model for Dims {
+    ghost use Rattle.std.specs.Arc.{arc_slice_items};
     ghost use Rattle.std.specs.Prelude.{List};
     ghost use Rattle.a68_values.specs.declared.held.Dim.{Dim};
 
     ghost Value = { List Dim };
 
-    ghost view = { λ dims. dims.items.value.items };
+    ghost view = { λ dims. arc_slice_items dims.items };
 }
 
 impl Dims {
     /// These dimensions, from the first subscript to the last.
-    pub fn of(alloc: Global, items: Vec<Dim>) -> Result<Dims, NoMemory>
-        ensures { IfOk result (λ dims. dims ≡ items.items) }
+    pub fn of(alloc: Global, dims: &[Dim]) -> Result<Dims, NoMemory>
+        ensures { IfOk result (λ made. made ≡ dims.now) }
     {
-        let items = Box::new(alloc, items)?;
+        let items = ArcSlice::from_slice(alloc, dims)?;
+        Ok(Dims { items })
+    }
+
+    /// The same dimensions once more, without memory of their own. It fails only where more share them than can be counted.
+    pub fn copy(&self) -> Result<Dims, NoMemory>
+        ensures { IfOk result (λ made. made ≡ self.now) }
+    {
+        let items = self.items.clone()?;
         Ok(Dims { items })
     }
 
@@ -116,19 +137,17 @@ impl Model for Slots {
 }
 
 impl Held {
-    /// An equal held value. A plain one takes no memory.
-    pub fn copy(&self, alloc: Global) -> Result<Held, NoMemory>
+    /// An equal held value, without memory of its own. It fails only where more share the dimensions of a row than can be
+    /// counted.
+    pub fn copy(&self) -> Result<Held, NoMemory>
         ensures { IfOk result (λ held. held ≡ self.now) }
     {
         match self {
             Held::Plain(plain) => Ok(Held::Plain(*plain)),
-            Held::Rows(descriptor) => {
-                let items = Vec::from_slice(alloc, descriptor.dims.as_slice())?;
-                Ok(Held::Rows(Descriptor {
-                    base: descriptor.base,
-                    dims: Dims::of(alloc, items)?,
-                }))
-            }
+            Held::Rows(descriptor) => Ok(Held::Rows(Descriptor {
+                base: descriptor.base,
+                dims: descriptor.dims.copy()?,
+            })),
             Held::Member { mode, base } => Ok(Held::Member {
                 mode: *mode,
                 base: *base,

@@ -2,6 +2,7 @@
 #![tactic(auto)]
 
 mod act;
+mod bounds;
 mod chain;
 mod held;
 mod kept;
@@ -10,9 +11,10 @@ mod plain;
 mod value;
 
 pub use act::{Act, Entry, FaultKind};
+pub use bounds::Bounds;
 pub use chain::{Chain, Entrances, Environ};
 pub use held::{Cells, Descriptor, Dim, Dims, Held, Slots};
 pub use kept::{End, Journal, Kept};
 pub use log::{Brief, Entries, Log};
 pub use plain::{Layout, Long, Name, Plain, Routine};
-pub use value::{Bounds, Value, ValueNode, Values};
+pub use value::{Elements, Value, ValueNode, Values};

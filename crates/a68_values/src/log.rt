@@ -1,15 +1,40 @@
 //! The journal of a run while it grows, and as it is kept.
-ghost use Rattle.std.specs.Prelude.{◌≡◌, ◌<◌, ◌++◌, [], ◌∷◌, ℕ, List, length, slice_get, IfOk, IfSome};
-ghost use Rattle.a68_values.specs.Logs.{entry_of, IsAmong};
+ghost use Rattle.std.specs.Prelude.{◌≡◌, ◌<◌, ◌++◌, ◌^◌, [], ◌∷◌, ℕ, List, length, slice_get, IfOk, IfSome};
+ghost use Rattle.a68_values.specs.Logs.{act_of, entry_of, IsAmong};
 ghost use Rattle.a68_values.specs.declared.act.Entry.{Entry};
+ghost use Rattle.a68_values.specs.declared.log.Numbers.{Numbers};
 
 use crate::{Act, Entry};
 use a68_base::NoMemory;
 use std::alloc::Global;
 use std::marker::Model;
 
-/// An entry in eight bytes, since a run writes one for each of its acts: one of strand 0 whose second number is small. Any
-/// other stands apart.
+/// What an act is, whose numbers stand elsewhere.
+#[derive(Clone, Copy)]
+pub enum ActKind {
+    Enter,
+    Bind,
+    Look,
+    Make,
+    Fetch,
+    Assign,
+    Up,
+    Down,
+    Print,
+    Turn,
+    Fork,
+    Close,
+}
+
+/// The numbers of an act. Those that it does not have are 0.
+#[derive(Clone, Copy)]
+pub struct Numbers {
+    pub first: u32,
+    pub second: u32,
+}
+
+/// An entry in eight bytes, since a run writes one for each of its acts: one of strand 0 whose second number is small. The numbers
+/// of any other stand apart, in eight bytes more.
 #[derive(Clone, Copy)]
 pub enum Brief {
     Enter { frame: u32 },
@@ -19,8 +44,65 @@ pub enum Brief {
     Fetch { cell: u32 },
     Assign { cell: u32 },
     Turn,
-    /// The entry is at this place among those that stand apart.
-    Apart { at: u32 },
+    /// The numbers of the act are at this place among those that stand apart.
+    Wide { kind: ActKind, strand: u16, at: u32 },
+}
+
+// The kind of an act, and its numbers.
+fn parted(act: Act) -> (ActKind, Numbers)
+    ensures { act_of result.0 result.1 ≡ act }
+{
+    let (kind, first, second) = match act {
+        Act::Enter { frame } => (ActKind::Enter, frame, 0),
+        Act::Bind { frame, slot } => (ActKind::Bind, frame, slot),
+        Act::Look { frame, slot } => (ActKind::Look, frame, slot),
+        Act::Make { base, count } => (ActKind::Make, base, count),
+        Act::Fetch { cell } => (ActKind::Fetch, cell, 0),
+        Act::Assign { cell } => (ActKind::Assign, cell, 0),
+        Act::Up { cell } => (ActKind::Up, cell, 0),
+        Act::Down { cell } => (ActKind::Down, cell, 0),
+        Act::Print { from, to } => (ActKind::Print, from, to),
+        Act::Turn => (ActKind::Turn, 0, 0),
+        Act::Fork { first, count } => (ActKind::Fork, first, count),
+        Act::Close => (ActKind::Close, 0, 0),
+    };
+    (kind, Numbers { first, second })
+}
+
+// The act of a kind with these numbers.
+fn act_of(kind: ActKind, numbers: Numbers) -> Act
+    ensures { result ≡ act_of kind numbers }
+{
+    let Numbers { first, second } = numbers;
+    match kind {
+        ActKind::Enter => Act::Enter { frame: first },
+        ActKind::Bind => Act::Bind {
+            frame: first,
+            slot: second,
+        },
+        ActKind::Look => Act::Look {
+            frame: first,
+            slot: second,
+        },
+        ActKind::Make => Act::Make {
+            base: first,
+            count: second,
+        },
+        ActKind::Fetch => Act::Fetch { cell: first },
+        ActKind::Assign => Act::Assign { cell: first },
+        ActKind::Up => Act::Up { cell: first },
+        ActKind::Down => Act::Down { cell: first },
+        ActKind::Print => Act::Print {
+            from: first,
+            to: second,
+        },
+        ActKind::Turn => Act::Turn,
+        ActKind::Fork => Act::Fork {
+            first,
+            count: second,
+        },
+        ActKind::Close => Act::Close,
+    }
 }
 
 // A number that fits two bytes.
@@ -38,7 +120,7 @@ impl Brief {
     // An act of strand 0; none where its entry has to stand apart.
     #[inline(always)]
     fn of(act: Act) -> Option<Brief>
-        ensures is { IfSome result (λ brief. (apart : List Entry) → entry_of apart brief ≡ record { strand = 0; act = act }) }
+        ensures is { IfSome result (λ brief. (apart : List Numbers) → entry_of apart brief ≡ record { strand = 0; act = act }) }
         ensures among { IfSome result (λ brief. (count : ℕ) → IsAmong count brief) }
     {
         let brief = match act {
@@ -65,7 +147,7 @@ impl Brief {
     }
 
     // The entry that it stands for.
-    fn entry(self, apart: &[Entry]) -> Entry
+    fn entry(self, apart: &[Numbers]) -> Entry
         requires { IsAmong (length apart.now) self }
         ensures { result ≡ entry_of apart.now self }
     {
@@ -86,7 +168,13 @@ impl Brief {
             Brief::Fetch { cell } => Act::Fetch { cell },
             Brief::Assign { cell } => Act::Assign { cell },
             Brief::Turn => Act::Turn,
-            Brief::Apart { at } => return apart[at as usize],
+            Brief::Wide { kind, strand, at } => {
+                let act = act_of(kind, apart[at as usize]);
+                return Entry {
+                    strand: u32::from(strand),
+                    act,
+                };
+            }
         };
         Entry { strand: 0, act }
     }
@@ -97,8 +185,8 @@ impl Brief {
 #[derive(Drop)]
 pub struct Log {
     briefs: Vec<Brief>,
-    // Those that are not brief.
-    apart: Vec<Entry>,
+    // The numbers of those that are wide.
+    apart: Vec<Numbers>,
     // For so many entries memory is reserved.
     room: u32,
 }
@@ -155,21 +243,27 @@ impl Log {
     {
         match Brief::of(act) {
             Some(brief) => self.briefs.push_reserved(brief),
-            None => self.note_apart(Entry { strand: 0, act }),
+            None => self.note_wide(Entry { strand: 0, act }),
         }
     }
 
-    /// Writes an entry behind the others, and keeps it apart.
+    /// Writes an entry behind the others. Its numbers stand apart.
     #[cold]
     #[inline(never)]
-    pub fn note_apart(&mut self, entry: Entry)
-        requires { length self.old.items < self.old.room }
+    pub fn note_wide(&mut self, entry: Entry)
+        requires room { length self.old.items < self.old.room }
+        requires few { entry.strand < 2 ^ 16 }
         ensures items { self.new.items ≡ self.old.items ++ entry ∷ [] }
         ensures room { self.new.room ≡ self.old.room }
     {
+        let (kind, numbers) = parted(entry.act);
         let at = self.apart.len() as u32;
-        self.apart.push_reserved(entry);
-        self.briefs.push_reserved(Brief::Apart { at });
+        self.apart.push_reserved(numbers);
+        self.briefs.push_reserved(Brief::Wide {
+            kind,
+            strand: entry.strand as u16,
+            at,
+        });
     }
 }
 

@@ -2,33 +2,16 @@
 //!
 //! Drops that are written by hand are proved once, in their crate; a derived one is proved anew in each crate that lets
 //! such a value go.
-ghost use Rattle.std.specs.Prelude.{◌≡◌, false, None, IfOk, MatchOption};
+ghost use Rattle.std.specs.Prelude.{◌≡◌, ◌<◌, ◌++◌, ◌∷◌, [], false, None, IfOk, MatchOption, OnOk, vec_len};
+ghost use Rattle.std.specs.Vec.{vec_capacity};
 ghost use Rattle.a68_values.specs.Content.{as_plain, is_row, is_structure, is_united, plain, row, structure, united, contents_of, scope_of, newest_scope};
 ghost use Rattle.a68_values.specs.Nodes.{content_of};
 
-use crate::{Layout, Plain};
+use crate::{Bounds, Layout, Plain};
 use a68_base::NoMemory;
 use std::alloc::Global;
 use std::marker::Model;
-
-/// A lower and an upper bound for each dimension of a row.
-pub struct Bounds {
-    pub items: Vec<(i64, i64)>,
-}
-
-impl Drop for Bounds {
-    fn drop(self) {
-        let Bounds { items: _ } = self;
-    }
-}
-
-impl Model for Bounds {
-    ghost use Rattle.std.specs.Prelude.{List, ℤ};
-
-    ghost Value = { List (ℤ × ℤ) };
-
-    ghost view = { λ bounds. bounds.items.items };
-}
+use std::sync::Arc;
 
 /// A value. Contracts see it as a tree of contents.
 #[cycle(value)]
@@ -53,7 +36,7 @@ pub enum ValueNode {
     /// The fields in order (2.1.3.3).
     Structure(Values),
     /// The elements in order, the last subscript running fastest (2.1.3.4).
-    Row { bounds: Bounds, parts: Values },
+    Row { bounds: Bounds, parts: Elements },
     /// A value united to a union, with the mode of the member that it has (2.1.3.6).
     United { mode: u32, value: Box<Value> },
 }
@@ -88,6 +71,80 @@ impl Drop for Values {
     }
 }
 
+/// The elements of a row in order, which all copies of the row share.
+#[cycle(value)]
+pub struct Elements {
+    shared: Arc<Values>,
+}
+
+impl Drop for Elements {
+    #[cycle(value)]
+    fn drop(self) {
+        let Elements { shared: _ } = self;
+    }
+}
+
+impl Model for Elements {
+    ghost use Rattle.std.specs.Arc.{arc_value};
+    ghost use Rattle.std.specs.Coded.{coded_list};
+    ghost use Rattle.std.specs.Prelude.{List, ◌+◌};
+    ghost use Rattle.a68_values.specs.Codes.{content_code};
+    ghost use Rattle.a68_values.specs.Content.{Content, size_of_all};
+
+    ghost Value = { List Content };
+
+    ghost coded = { coded_list content_code };
+
+    ghost view = { λ elements. arc_value elements.shared };
+
+    ghost size = { λ parts. 1 + size_of_all parts };
+
+    ghost use Rattle.std.proofs.Common.{arith};
+
+    ghost size_decreases = { λ a h. omega arith };
+}
+
+impl Elements {
+    /// The elements as values.
+    #[inline(always)]
+    pub fn values(&self) -> &Values
+        ensures { result.now ≡ self.now }
+    {
+        &self.shared
+    }
+
+    /// The elements.
+    #[inline(always)]
+    pub fn as_slice(&self) -> &[Value]
+        ensures { result.now ≡ self.now }
+    {
+        &self.values().items
+    }
+
+    /// The same as values of their own: themselves where no other row shares them, and else equal ones.
+    pub fn into_values(self, alloc: Global) -> Result<Values, NoMemory>
+        ensures { IfOk result (λ values. values ≡ self) }
+    {
+        let Elements { shared } = self;
+        match Arc::try_unwrap(shared) {
+            Ok(values) => Ok(values),
+            Err(shared) => {
+                let values = shared.copy(alloc);
+                drop(shared);
+                values
+            }
+        }
+    }
+
+    /// The same elements once more, without memory of their own. It fails only where more share them than can be counted.
+    pub fn copy(&self) -> Result<Elements, NoMemory>
+        ensures { IfOk result (λ made. made ≡ self.now) }
+    {
+        let shared = self.shared.clone()?;
+        Ok(Elements { shared })
+    }
+}
+
 impl ValueNode {
     // The parts of the structure that it is.
     fn into_parts(self) -> Option<Values>
@@ -107,7 +164,7 @@ impl ValueNode {
     }
 
     // The bounds and the elements of the row that it is.
-    fn into_row(self) -> Option<(Bounds, Values)>
+    fn into_row(self) -> Option<(Bounds, Elements)>
         ensures { MatchOption result (is_row (content_of self) ≡ false) (λ found. content_of self ≡ row found.0 (contents_of found.1)) }
     {
         match self {
@@ -177,16 +234,6 @@ impl Model for Values {
     ghost size_decreases = { λ a h. omega (arith, most_le-size_of_all a.items.items) };
 }
 
-impl Bounds {
-    /// Equal bounds.
-    pub fn copy(&self, alloc: Global) -> Result<Bounds, NoMemory>
-        ensures { IfOk result (λ bounds. bounds ≡ self.now) }
-    {
-        let items = Vec::from_slice(alloc, &self.items)?;
-        Ok(Bounds { items })
-    }
-}
-
 impl Value {
     /// A value that is not made of others.
     pub fn of(held: Plain) -> Value
@@ -217,7 +264,7 @@ impl Value {
     }
 
     /// The bounds and the elements of the row that it is; none where it is another.
-    pub fn into_row(self) -> Option<(Bounds, Values)>
+    pub fn into_row(self) -> Option<(Bounds, Elements)>
         ensures { MatchOption result (is_row self ≡ false) (λ found. self ≡ row found.0 (contents_of found.1)) }
     {
         let Value { node } = self;
@@ -244,7 +291,7 @@ impl Value {
             ValueNode::Structure(parts) => ValueNode::Structure(parts.copy(alloc)?),
             ValueNode::Row { bounds, parts } => ValueNode::Row {
                 bounds: bounds.copy(alloc)?,
-                parts: parts.copy(alloc)?,
+                parts: parts.copy()?,
             },
             ValueNode::United { mode, value } => ValueNode::United {
                 mode: *mode,
@@ -264,13 +311,21 @@ impl Value {
             ValueNode::Layout(_) => 0,
             ValueNode::Plain(plain) => plain.scope(),
             ValueNode::Structure(parts) => parts.scope(),
-            ValueNode::Row { parts, .. } => parts.scope(),
+            ValueNode::Row { parts, .. } => parts.values().scope(),
             ValueNode::United { value, .. } => value.scope(),
         }
     }
 }
 
 impl Values {
+    /// The same as elements of a row, which its copies share.
+    pub fn shared(self) -> Result<Elements, NoMemory>
+        ensures { IfOk result (λ elements. elements ≡ self) }
+    {
+        let shared = Arc::new(*self.items.allocator(), self)?;
+        Ok(Elements { shared })
+    }
+
     /// Equal parts.
     #[cycle(copy)]
     pub fn copy(&self, alloc: Global) -> Result<Values, NoMemory>
@@ -278,7 +333,7 @@ impl Values {
     {
         let mut items = Vec::with_capacity(alloc, self.items.len())?;
         for part in &self.items {
-            items.push(part.copy(alloc)?)?;
+            add_copy(part, alloc, &mut items)?;
         }
         Ok(Values { items })
     }
@@ -294,4 +349,52 @@ impl Values {
         }
         newest
     }
+}
+
+// Puts an equal value behind others, among which there is room. Structures lie within one another as deep as modes do, so a copy is put
+// where it is to stand and not handed back: that takes less of the stack at each level.
+#[cycle(copy)]
+fn add_copy(value: &Value, alloc: Global, to: &mut Vec<Value>) -> Result<(), NoMemory>
+    requires room { vec_len to.old < vec_capacity to.old }
+    ensures added { OnOk result (to.new.items ≡ to.old.items ++ value.now ∷ []) }
+    ensures room { vec_capacity to.new ≡ vec_capacity to.old }
+{
+    match &value.node {
+        ValueNode::Plain(plain) => {
+            to.push_reserved(Value::of(*plain));
+            Ok(())
+        }
+        ValueNode::Structure(parts) => add_structure(parts, alloc, to),
+        _ => add_other(value, alloc, to),
+    }
+}
+
+// The same of a structure with these fields.
+#[cycle(copy)]
+#[inline(never)]
+fn add_structure(parts: &Values, alloc: Global, to: &mut Vec<Value>) -> Result<(), NoMemory>
+    requires room { vec_len to.old < vec_capacity to.old }
+    ensures added { OnOk result (to.new.items ≡ to.old.items ++ structure (contents_of parts.now) ∷ []) }
+    ensures room { vec_capacity to.new ≡ vec_capacity to.old }
+{
+    let mut items = Vec::with_capacity(alloc, parts.items.len())?;
+    for part in &parts.items {
+        add_copy(part, alloc, &mut items)?;
+    }
+    to.push_reserved(Value {
+        node: ValueNode::Structure(Values { items }),
+    });
+    Ok(())
+}
+
+// The same of a value that is no structure.
+#[cycle(copy)]
+#[inline(never)]
+fn add_other(value: &Value, alloc: Global, to: &mut Vec<Value>) -> Result<(), NoMemory>
+    requires room { vec_len to.old < vec_capacity to.old }
+    ensures added { OnOk result (to.new.items ≡ to.old.items ++ value.now ∷ []) }
+    ensures room { vec_capacity to.new ≡ vec_capacity to.old }
+{
+    to.push_reserved(value.copy(alloc)?);
+    Ok(())
 }

@@ -245,8 +245,8 @@ fn nested(alloc: Global, count: u32) -> Option<Value> {
         bounds.push((1, 1)).ok()?;
         value = Value {
             node: ValueNode::Row {
-                bounds: Bounds { items: bounds },
-                parts: Values { items },
+                bounds: Bounds::of(bounds),
+                parts: Values { items }.shared().ok()?,
             },
         };
     }
@@ -298,7 +298,7 @@ fn rows_in_rows(rt: HostRuntime) {
 
 fn bounds_in(rt: &impl Abort, alloc: Global, bounds: &[(i64, i64)]) -> Bounds {
     let items = Vec::from_slice(alloc, bounds).expect(rt, "memory");
-    Bounds { items }
+    Bounds::of(items)
 }
 
 fn ints(rt: &impl Abort, alloc: Global, ints: &[i64]) -> Values {
@@ -309,7 +309,8 @@ fn ints(rt: &impl Abort, alloc: Global, ints: &[i64]) -> Values {
     Values { items }
 }
 
-fn row_value(bounds: Bounds, parts: Values) -> Value {
+fn row_value(rt: &impl Abort, bounds: Bounds, parts: Values) -> Value {
+    let parts = parts.shared().expect(rt, "memory");
     Value {
         node: ValueNode::Row { bounds, parts },
     }
@@ -317,7 +318,7 @@ fn row_value(bounds: Bounds, parts: Values) -> Value {
 
 // Makes a row of integers from a lower bound on.
 fn list(rt: &impl Abort, alloc: Global, bounds: (i64, i64), items: &[i64]) -> Value {
-    row_value(bounds_in(rt, alloc, &[bounds]), ints(rt, alloc, items))
+    row_value(rt, bounds_in(rt, alloc, &[bounds]), ints(rt, alloc, items))
 }
 
 // Makes two values beside each other.
@@ -341,10 +342,10 @@ fn plans_for_values(rt: HostRuntime) {
     let first = list(&rt, alloc, (1, 1), &[1]);
     let second = list(&rt, alloc, (0, 1), &[2, 3]);
     let parts = two(&rt, alloc, first, second);
-    let planned = plan_elements(alloc, &modes, LIST, &parts);
+    let planned = plan_elements(alloc, &modes, LIST, &parts.items);
     is_planned(&rt, alloc, planned, "at 2 1:1/1, at 3 0:1/1, -, -, -");
     let bounds = bounds_in(&rt, alloc, &[(1, 2)]);
-    let value = row_value(bounds, parts);
+    let value = row_value(&rt, bounds, parts);
     let planned = plan_for(alloc, &modes, LISTS, &value);
     is_planned(
         &rt,
@@ -424,10 +425,9 @@ const PARTS: &[(Option<i64>, Option<i64>, Option<i64>, &str)] = &[
 ];
 
 fn row_in_store(rt: &impl Abort, alloc: Global, base: u32, dims: &[Dim]) -> Descriptor {
-    let items = Vec::from_slice(alloc, dims).expect(rt, "memory");
     Descriptor {
         base,
-        dims: Dims::of(alloc, items).expect(rt, "memory"),
+        dims: Dims::of(alloc, dims).expect(rt, "memory"),
     }
 }
 
@@ -524,10 +524,10 @@ fn all_elements(rt: HostRuntime) {
 
 fn tell_value(text: &mut String, value: &Value) -> Option<()> {
     if let ValueNode::Row { bounds, parts } = &value.node {
-        for (lower, upper) in &bounds.items {
+        for (lower, upper) in bounds.as_slice() {
             write!(text, "{lower}:{upper} ").ok()?;
         }
-        for part in &parts.items {
+        for part in parts.as_slice() {
             let held = part.plain();
             write!(text, "{held:?} ").ok()?;
         }
@@ -557,19 +557,19 @@ fn parts_of_values(rt: HostRuntime) {
     let alloc = rt.alloc();
     let bounds = bounds_in(&rt, alloc, &[(2, 3), (0, 1)]);
     let parts = ints(&rt, alloc, &[1, 2, 3, 4]);
-    let part = part_of(alloc, &bounds, &parts, &[Trim::At(3), Trim::At(0)]);
+    let part = part_of(alloc, &bounds, &parts.items, &[Trim::At(3), Trim::At(0)]);
     is_value(&rt, alloc, part, "Some(Int(3))");
-    let part = part_of(alloc, &bounds, &parts, &[Trim::At(3), ALL]);
+    let part = part_of(alloc, &bounds, &parts.items, &[Trim::At(3), ALL]);
     is_value(&rt, alloc, part, "0:1 Some(Int(3)) Some(Int(4)) ");
-    let part = part_of(alloc, &bounds, &parts, &[ALL, Trim::At(1)]);
+    let part = part_of(alloc, &bounds, &parts.items, &[ALL, Trim::At(1)]);
     is_value(&rt, alloc, part, "2:3 Some(Int(2)) Some(Int(4)) ");
-    let part = part_of(alloc, &bounds, &parts, &[Trim::At(4), ALL]);
+    let part = part_of(alloc, &bounds, &parts.items, &[Trim::At(4), ALL]);
     is_value(&rt, alloc, part, "Bounds");
-    let part = part_of(alloc, &bounds, &parts, &[ALL]);
+    let part = part_of(alloc, &bounds, &parts.items, &[ALL]);
     is_value(&rt, alloc, part, "Kind");
     drop(parts);
     let parts = ints(&rt, alloc, &[1, 2, 3]);
-    let part = part_of(alloc, &bounds, &parts, &[ALL, ALL]);
+    let part = part_of(alloc, &bounds, &parts.items, &[ALL, ALL]);
     is_value(&rt, alloc, part, "Kind");
     drop(parts);
     drop(bounds);

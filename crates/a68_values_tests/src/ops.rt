@@ -375,8 +375,8 @@ fn row(rt: &impl Abort, alloc: Global, items: Vec<Value>) -> Value {
     let bounds = vec![in alloc; (1, items.len() as i64)].expect(rt, "memory");
     Value {
         node: ValueNode::Row {
-            bounds: Bounds { items: bounds },
-            parts: Values { items },
+            bounds: Bounds::of(bounds),
+            parts: Values { items }.shared().expect(rt, "memory"),
         },
     }
 }
@@ -455,15 +455,15 @@ fn stopped(rt: &impl Abort, alloc: Global, stop: OpStop) -> String {
 }
 
 // Adds the items of a row of CHAR, behind a quote; the row has bounds from 1.
-fn add_row(rt: &impl Abort, told: &mut String, bounds: &Bounds, parts: &Values) {
-    let upper = parts.items.len() as i64;
+fn add_row(rt: &impl Abort, told: &mut String, bounds: &Bounds, parts: &[Value]) {
+    let upper = parts.len() as i64;
     holds(
         rt,
-        bounds.items.as_slice() == [(1, upper)].as_slice(),
+        bounds.as_slice() == [(1, upper)].as_slice(),
         "bounds from 1",
     );
     told.push('"').expect(rt, "memory");
-    for part in &parts.items {
+    for part in parts {
         if let Some(Plain::Char(code)) = part.plain() {
             told.push(char::from(code)).expect(rt, "memory");
         }
@@ -488,7 +488,7 @@ fn shown(rt: &impl Abort, alloc: Global, value: &Value) -> String {
             told.push('\'').expect(rt, "memory");
             told.push(char::from(*code)).expect(rt, "memory");
         }
-        ValueNode::Row { bounds, parts } => add_row(rt, &mut told, bounds, parts),
+        ValueNode::Row { bounds, parts } => add_row(rt, &mut told, bounds, parts.as_slice()),
         _ => {}
     }
     told

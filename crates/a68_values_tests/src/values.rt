@@ -51,8 +51,8 @@ fn row(rt: &impl Abort, alloc: Global) -> Value {
     let bounds = Vec::new(alloc);
     Value {
         node: ValueNode::Row {
-            bounds: Bounds { items: bounds },
-            parts: Values { items },
+            bounds: Bounds::of(bounds),
+            parts: Values { items }.shared().expect(rt, "memory"),
         },
     }
 }

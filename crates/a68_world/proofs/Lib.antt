@@ -31,4 +31,5 @@ pub mod Standing
 pub mod Steady
 pub mod Syncs
 pub mod Telling
+pub mod ValueMarks
 pub mod Wanting

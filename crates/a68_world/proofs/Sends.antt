@@ -1,8 +1,5 @@
 -- A run may go to another thread.
 use denote.Param.Send.{IsSend, sendable}
-use denote.Model.Local.{Parts, rows}
-use denote.Model.Marks.{tied_send}
-use denote.Model.Goals.{send, has_of, part_has}
 use Rattle.std.proofs.Crossing.{crosses}
 use Rattle.a68_acts.specs.contracts.operation.Next as next
 use Rattle.a68_acts.specs.contracts.step.Left as left
@@ -41,42 +38,12 @@ use Rattle.a68_values.proofs.chain.Entrances.TheSendSync as entrances
 use Rattle.a68_values.proofs.held.Held.TheSendSync as held
 use Rattle.a68_values.proofs.kept.End.TheSendSync as end
 use Rattle.a68_values.proofs.log.Log.TheSendSync as log
-use Rattle.a68_values.proofs.plain.Layout.TheSendSync as layout
 use Rattle.a68_values.proofs.plain.Name.TheSendSync as name
 use Rattle.a68_values.proofs.plain.Plain.TheSendSync as plain
 use Rattle.a68_values.proofs.plain.Routine.TheSendSync as routine
-use Rattle.a68_values.proofs.value.Bounds.TheSendSync as bounds
-use Rattle.a68_values.specs.contracts.value.Value.TheKnot as knot
-use Rattle.a68_values.specs.contracts.value.Values as parts
-use Rattle.a68_values.specs.contracts.value.Value as value
+use Rattle.a68_values.proofs.bounds.Bounds.TheSendSync as bounds
+use Rattle.a68_world.proofs.ValueMarks.{elements_send, parts_send, value_send}
 use Rattle.a68_world.specs.contracts.world.World as world
-use Rattle.a68_values.specs.declared.value.Value.TheDeep.{the_members, member-Values, member-Value}
-
--- the parts of a value, from those within them
-parts_send : (p : Parts knot.frame) → IsSend (rows knot.frame p member-Value) → IsSend (knot.view-Values p)
-parts_send p v = search (sendable, crosses) depth 20
-
-node_send : (p : Parts knot.frame) → IsSend (rows knot.frame p member-Values) → IsSend (rows knot.frame p member-Value) → IsSend (knot.at-ValueNode p)
-node_send p ps v = search (sendable, crosses, plain.the_field_send, layout.the_field_send, bounds.the_send) depth 30
-
-fields_send : (p : Parts knot.frame) → IsSend (rows knot.frame p member-Values) → IsSend (rows knot.frame p member-Value) → IsSend (knot.at-Value p)
-fields_send p ps v = let n = node_send p ps v in search sendable depth 20
-
-value_send_in : (p : Parts knot.frame) → IsSend (rows knot.frame p member-Values) → IsSend (rows knot.frame p member-Value) → IsSend (knot.view-Value p)
-value_send_in p ps v = let f = fields_send p ps v in search sendable depth 20
-
-step_send : (p : Parts knot.frame) → ((j : the_members) → IsSend (rows knot.frame p j)) → (i : the_members) → IsSend (rows knot.frame (knot.step p) i)
-step_send p all member-Values = has_of knot.frame send (knot.step p) member-Values (part_has send (knot.view-Values p) (parts_send p (all member-Value)))
-step_send p all member-Value = has_of knot.frame send (knot.step p) member-Value (part_has send (knot.view-Value p) (value_send_in p (all member-Values) (all member-Value)))
-
-holes_send : (i : the_members) → IsSend (rows knot.frame knot.tied i)
-holes_send = tied_send knot.frame knot.step knot.sizes step_send
-
-pub value_send : IsSend value.the_row
-value_send =
-    let v = holes_send member-Value in
-    let p = holes_send member-Values in
-    search (sendable, crosses) depth 20
 
 -- ---- the code
 
@@ -123,11 +90,8 @@ want_send = search (sendable, crosses, value_send, plan.the_field_send, held.the
 ask_send : IsSend (ask.the_field).row
 ask_send = search (sendable, crosses, want_send) depth 20
 
-parts_row_send : IsSend parts.the_row
-parts_row_send = let p = holes_send member-Values in let v = holes_send member-Value in search (sendable, crosses) depth 20
-
 step_row_send : IsSend step.the_row
-step_row_send = search (sendable, crosses, value_send, held.the_field_send, parts_row_send, bounds.the_send) depth 60 fits 8000
+step_row_send = search (sendable, crosses, value_send, held.the_field_send, elements_send, bounds.the_send) depth 60 fits 8000
 
 steps_send : IsSend steps.the_row
 steps_send = search (sendable, crosses, step_row_send) depth 20
@@ -136,10 +100,10 @@ left_send : IsSend left.the_row
 left_send = search (sendable, crosses, value_send) depth 20
 
 next_send : IsSend (next.the_field).row
-next_send = search (sendable, crosses, value_send, parts_row_send, steps_send, left_send, trims.the_send) depth 60 fits 8000
+next_send = search (sendable, crosses, value_send, parts_send, steps_send, left_send, trims.the_send) depth 60 fits 8000
 
 parameters_send : IsSend parameters.the_row
-parameters_send = search (sendable, crosses, parts_row_send) depth 20
+parameters_send = search (sendable, crosses, parts_send) depth 20
 
 waiting_send : IsSend (waiting.the_field).row
 waiting_send = search (sendable, crosses, next_send, parameters_send) depth 20

@@ -57,7 +57,7 @@ use Rattle.a68_world.proofs.Behind.{now, many_seats}
 use Rattle.a68_world.proofs.Entering.{RoomAfter, RoomBehind, does-room}
 use Rattle.a68_world.proofs.Forking.{kin_none}
 use Rattle.a68_world.proofs.Outcomes.{number_of}
-use Rattle.a68_world.proofs.Places.{get_mapped}
+use Rattle.a68_world.proofs.Places.{get_mapped, is_within}
 use Rattle.a68_world.proofs.ScopesKept.{brings_room-below, want-of}
 use Rattle.a68_world.proofs.Showing.{AllAtHome, asking, shown, next_act, next_fault, turn_sits, turn_at_is, turn_not, end_seen, is_end}
 use Rattle.a68_world.proofs.Steady.{steady_run, counted_behind, opening_waits}
@@ -356,6 +356,15 @@ module _ (s : Inside) (sound : IsSound s) where
     pub ends_at : IsReady (run_of s) n → GoesOn (run_of s) → (full : Bool) → (full ≡ false → length s.journal.items < s.fuel) → (full ≡ true → s.fuel ≤ length s.journal.items)
         → MatchOption (end_asked strand.about.ask strand.place s.store full n) (IsDue (run_of s) n) (EndsAt (run_of s) n)
     ends_at ready goes full more none = ends_as n strand status.Home sits_there ready goes full more none
+
+-- the number of a strand takes 16 bits
+pub few_there : (s : Inside) → IsSound s → (n : ℕ) (strand : Strand) → slice_get (now s).strands n ≡ Some (standing strand) → n < 2 ^ 16
+few_there s sound n strand there =
+    let steady = steady_run (run_of s) sound.run in
+    omega (arith, steady.many, steady.most, is_within (now s).strands n (standing strand) there)
+
+pub few_number : (s : Inside) → IsSound s → (n : ℕ) (strand : Strand) → slice_get s.seats.items n ≡ Some (seat.Home strand) → n < 2 ^ 16
+few_number s sound n strand at = few_there s sound n strand (sound.seats n (seat.Home strand) at).there
 
 -- the same at its seat
 pub ends_seat : (s : Inside) (n : ℕ) (x : Seat) (full : Bool) (found : Option End) → IsSound s → IsReady (run_of s) n → GoesOn (run_of s) → slice_get s.seats.items n ≡ Some x

@@ -96,14 +96,15 @@ fn parts(
 
 /// An entry of a strand in the journal, which has room for it.
 pub fn note(journal: &mut Log, strand: u32, act: Act)
-    requires { length journal.old.items < journal.old.room }
+    requires room { length journal.old.items < journal.old.room }
+    requires few { strand < 2 ^ 16 }
     ensures items { journal.new.items ≡ journal.old.items ++ record { strand = strand; act = act } ∷ [] }
     ensures room { journal.old.room ≤ journal.new.room }
 {
     if strand == 0 {
         journal.note(act);
     } else {
-        journal.note_apart(Entry { strand, act });
+        journal.note_wide(Entry { strand, act });
     }
 }
 

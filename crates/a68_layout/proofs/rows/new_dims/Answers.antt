@@ -21,5 +21,5 @@ loop-lower-preserved c =
       few = omega (arith, div-le_self c.loop-lower.stride c.max-stride.result);
       whole = stride;
       none = none_left (between bounds.0 bounds.1) (elements_of rest) c.args.width none;
-      there = strides_more c.args.width c.loop-lower.dims.items _ bounds rest _ _ c.in_ok-push.ensures.items (rw (lower, upper, stride) refl) (rw more at c.loop-lower.invariant.there);
+      there = strides_more c.args.width c.loop-lower.dims.items _ bounds rest _ _ c.in_ok-push.ensures.ok (rw (lower, upper, stride) refl) (rw more at c.loop-lower.invariant.there);
     }

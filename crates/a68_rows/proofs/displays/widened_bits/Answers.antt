@@ -12,7 +12,7 @@ returns-in-Ok c =
     sym (bits-text c.args.bits) ∙ ap item_text (sym c.of.ensures) ∙ c.in-Ok.ensures in
     let same : places c.args.bits ≡ c.in-Ok.letters = cc in
     let parts : c.in_ok-parts-in-Ok.parts ≡ truths (places c.args.bits) =
-    c.in_ok-parts-in-Ok.ensures ∙ ap truths (c.deref.ensures.value ∙ c.letters.view_is ∙ sym same) in
+    c.in_ok-parts-in-Ok.ensures ∙ c.in_ok-truths-in-Ok.ensures ∙ ap truths (c.deref.ensures.value ∙ c.letters.view_is ∙ sym same) in
     rw (c.in_ok-bounds-in-Ok.ensures, parts) refl
 
 pub returns-in-Err-Fault : goal.returns-in-Err-Fault

@@ -9,5 +9,5 @@ use Rattle.a68_rows.proofs.slices.sliced_by.Goals as goal
 pub returns-in_ok-doing-in-Row : goal.returns-in_ok-doing-in-Row
 returns-in_ok-doing-in-Row c =
     c.in_ok-doing-in-Row.ensures
-    ∙ ap (λ (vs : List Content). yielding (part_of c.in-Row.bounds vs c.args.trims)) (sym (parts_in-contents c.in-Row.parts))
+    ∙ ap (λ (vs : List Content). yielding (part_of c.in-Row.bounds vs c.args.trims)) (c.as_slice.ensures ∙ sym (parts_in-contents c.in-Row.parts))
     ∙ ap (λ v. sliced_by v c.args.trims) (ap content_of (sym c.in-Row.is) ∙ c.primary.view_is)

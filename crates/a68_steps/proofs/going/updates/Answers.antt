@@ -11,7 +11,7 @@ use Rattle.a68_steps.proofs.going.updates.Goals as goal
 pub returns : goal.returns
 returns c left =
     let told = planned_elements c.args.modes.now 3 (contents_of c.in-Some.parts) in
-    let want : c.in_ok-want.want ≡ spec.makes told = c.in_ok-want.ensures told c.plan_elements.ensures.cells c.plan_elements.ensures.fault in
+    let want : c.in_ok-want.want ≡ spec.makes told = c.in_ok-want.ensures told (rw c.as_slice.ensures at c.plan_elements.ensures.cells) (rw c.as_slice.ensures at c.plan_elements.ensures.fault) in
     let behind = Leave (plain (value.Name c.args.name)) ∷ c.args.steps.now in
     let front = λ (ps : List Content). AssignRow 3 true c.args.name.cell c.in-Some.bounds ps ∷ behind in
     let first : c.push.new.self ≡ behind = c.in_ok-push.ensures.ok ∙ ap (λ v. Leave v ∷ c.args.steps.now) c.of.ensures in

@@ -14,7 +14,7 @@ use Rattle.a68_world.proofs.Behind.{Noted}
 use Rattle.a68_world.proofs.LentActs.{due_reached, fault_lent, lent_acts, lent_few, lent_there, run_lent, sits_turn}
 use Rattle.a68_world.proofs.Closing.{with_passed}
 use Rattle.a68_world.proofs.Places.{is_within}
-use Rattle.a68_world.proofs.Standing.{asking_as, due_other_as, few_asked_as, few_frames}
+use Rattle.a68_world.proofs.Standing.{asking_as, due_other_as, few_asked_as, few_frames, few_there}
 use Rattle.a68_world.proofs.world.World.act_due.Goals as goal
 
 pub units_for-requires-clause-numbers : goal.units_for-requires-clause-numbers
@@ -42,6 +42,15 @@ act_lent-requires-clause-frames c =
     let strand = c.args.strand.now in
     let due : IsDueAs (run_of s) strand.number status.Lent = subst (λ (r : Run). IsDueAs r strand.number status.Lent) (sym c.self.view_is) c.requires.due in
     few_frames s c.self.invariant due.fuel
+
+pub note-requires-clause-few : goal.note-requires-clause-few
+note-requires-clause-few c =
+    let s = c.self.inside in
+    let strand = c.args.strand.now in
+    let held : IsHeld (run_of s) strand = subst (λ (r : Run). IsHeld r strand) (sym c.self.view_is) c.requires.held in
+    let turn = ap (turn_shown strand.about.ask) c.self.invariant.store ∙ ap (λ (r : Run). turn_shown strand.about.ask (world r).store) c.self.view_is ∙ c.requires.turn in
+    let few = few_there s c.self.invariant strand.number strand (sits_turn s c.self.invariant strand held turn).there in
+    omega (arith, few, c.number-number.ensures)
 
 pub act_lent-requires-clause-asking : goal.act_lent-requires-clause-asking
 act_lent-requires-clause-asking c =

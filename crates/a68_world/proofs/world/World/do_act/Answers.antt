@@ -14,7 +14,7 @@ use Rattle.a68_world.proofs.Behind.{Noted}
 use Rattle.a68_world.proofs.Doing.{Told, left_sound, Woken, seat_there, told_all, told_few, told_shown, run_told, untold_all, refused_left, refused_ends, unfound_left, unfound_wants}
 use Rattle.a68_world.proofs.Closing.{with_passed}
 use Rattle.a68_world.proofs.Places.{is_within}
-use Rattle.a68_world.proofs.Standing.{due_other, seat_home, few_units, few_frames, asking_at}
+use Rattle.a68_world.proofs.Standing.{due_other, seat_home, few_number, few_units, few_frames, asking_at}
 use Rattle.a68_world.proofs.world.World.do_act.Goals as goal
 
 pub units_ready-requires-clause-numbers : goal.units_ready-requires-clause-numbers
@@ -41,6 +41,22 @@ index_mut-requires c =
     let due : IsDue (run_of s) n = subst (λ (r : Run). IsDue r n) (sym c.self.view_is) c.requires.due in
     let h = seat_home s.seats.items n due.ready.home in
     omega (arith, is_within s.seats.items n (seat.Home h.0) h.1, ap (λ (l : List Seat). length l) c.units_ready.ensures.same, c.units_ready.new.seats.ok.0)
+
+pub note-requires-clause-few : goal.note-requires-clause-few
+note-requires-clause-few c =
+    let s = c.self.inside in
+    let n = c.args.n in
+    let due : IsDue (run_of s) n = subst (λ (r : Run). IsDue r n) (sym c.self.view_is) c.requires.due in
+    let h = seat_home s.seats.items n due.ready.home in
+    few_number s c.self.invariant n h.0 h.1
+
+pub note-requires-in-Untold-clause-few : goal.note-requires-in-Untold-clause-few
+note-requires-in-Untold-clause-few c =
+    let s = c.self.inside in
+    let n = c.args.n in
+    let due : IsDue (run_of s) n = subst (λ (r : Run). IsDue r n) (sym c.self.view_is) c.requires.due in
+    let h = seat_home s.seats.items n due.ready.home in
+    few_number s c.self.invariant n h.0 h.1
 
 pub act_at-requires-clause-frames : goal.act_at-requires-clause-frames
 act_at-requires-clause-frames c =
