@@ -9,7 +9,7 @@
   (eval-when-compile
     (list
      (cons (regexp-opt '("BEGIN" "END" "IF" "THEN" "ELIF" "ELSE" "FI" "CASE" "IN" "OUSE" "OUT" "ESAC" "FOR" "FROM" "BY" "TO"
-                         "WHILE" "DO" "OD" "PAR" "AT" "OF" "MODE" "PRIO" "OP" "PROC" "LOC" "HEAP") 'symbols)
+                         "WHILE" "DO" "OD" "PAR" "AT" "OF" "MODE" "PRIO" "OP" "PROC" "LOC" "HEAP" "GO" "GOTO" "EXIT") 'symbols)
            'font-lock-keyword-face)
      (cons (regexp-opt '("LONG" "INT" "BOOL" "CHAR" "BITS" "SEMA" "STRING" "VOID" "REF" "FLEX" "STRUCT" "UNION") 'symbols)
            'font-lock-type-face)

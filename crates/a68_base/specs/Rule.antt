@@ -1,7 +1,7 @@
 -- The names of the rules and limits.
 use Rattle.std.specs.Prelude.{ℕ, List, codes}
 use Rattle.a68_base.specs.declared.refusal.Rule.{Rule}
-use Rattle.a68_base.specs.declared.refusal.Rule.TheVariants.{S1, S2, S3, S4, S5, S6, N1, N2, N3, N4, M1, M2, O1, O2, O3, C1, C2, C3, C4, P1, P2, L1, L2, L3, L4, L7, Q1, Q2, Q3, Q4, Q5}
+use Rattle.a68_base.specs.declared.refusal.Rule.TheVariants.{S1, S2, S3, S4, S5, S6, N1, N2, N3, N4, M1, M2, O1, O2, O3, C1, C2, C3, C4, P1, P2, J1, J2, L1, L2, L3, L4, L7, Q1, Q2, Q3, Q4, Q5}
 
 -- the bytes of the name that stands in the line of a refusal
 abbrev pub rule_name : Rule → List ℕ
@@ -26,6 +26,8 @@ rule_name C3 = codes "C3"
 rule_name C4 = codes "C4"
 rule_name P1 = codes "P1"
 rule_name P2 = codes "P2"
+rule_name J1 = codes "J1"
+rule_name J2 = codes "J2"
 rule_name L1 = codes "L1"
 rule_name L2 = codes "L2"
 rule_name L3 = codes "L3"

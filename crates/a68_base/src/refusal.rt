@@ -15,9 +15,9 @@ pub struct Span {
 /// A rule or limit that a text can break. Its name stands in the line of the refusal.
 ///
 /// S are the rules of symbols and of their order, N those of names, M of modes, O of operators, C of coercions and
-/// counts, P of the places of some clauses, and L are the limits. Q are the rules of what stands beside a text: a
-/// schedule, a journal, an input. The sections are those of the Revised Report; what is marked *own* is a rule of this
-/// compiler.
+/// counts, P of the places of some clauses, J of jumps, and L are the limits. Q are the rules of what stands beside
+/// a text: a schedule, a journal, an input. The sections are those of the Revised Report; what is marked *own* is a
+/// rule of this compiler.
 #[derive(Clone, Copy, Debug, PartialEq, Eq)]
 pub enum Rule {
     /// A string denotation, a comment or a pragmat has no end, or a string meets the end of its line (8.3, 9.2).
@@ -52,7 +52,8 @@ pub enum Rule {
     O3,
     /// No coercion leads from a unit to what its position asks for (6.1).
     C1,
-    /// No part of a choice or of an identity relation can give the mode of the others (3.4, 5.2.2).
+    /// No part of a choice, of a serial clause with EXIT or of an identity relation can give the mode of the others
+    /// (3.2.1, 3.4, 5.2.2).
     C2,
     /// A wrong count of parameters, fields or subscripts (3.3, 5.3.2, 5.4.3).
     C3,
@@ -63,6 +64,11 @@ pub enum Rule {
     P1,
     /// A tag of transput stands where it is not called (own).
     P2,
+    /// A jump has no label (5.4.4), or would leave a routine text, a unit of a parallel clause or the bounds of a mode
+    /// declaration (own).
+    J1,
+    /// A procedure is asked of a jump, or the tag of a label stands alone (own).
+    J2,
     /// More bytes than a text may have (own).
     L1,
     /// More symbols than a text may have (own).
@@ -112,6 +118,8 @@ impl Rule {
             Rule::C4 => "C4",
             Rule::P1 => "P1",
             Rule::P2 => "P2",
+            Rule::J1 => "J1",
+            Rule::J2 => "J2",
             Rule::L1 => "L1",
             Rule::L2 => "L2",
             Rule::L3 => "L3",

@@ -3,11 +3,12 @@ use Rattle.std.specs.Prelude.{ℕ, List, length, slice_get, slice_set}
 use Rattle.std.specs.Option.{option_map_or}
 use Rattle.a68_code.specs.declared.code.Instr.{Instr}
 use Rattle.a68_code.specs.declared.does.Does.{Does}
-use Rattle.a68_code.specs.declared.does.Does.TheVariants.{Jump, Unless, Case, Member, Step, Advance, Fork}
+use Rattle.a68_code.specs.declared.does.Does.TheVariants.{Jump, Goto, Unless, Case, Member, Step, Advance, Fork}
 
 -- how many places an instruction names
 abbrev pub names : Does → ℕ
 names (Jump to) = 1
+names (Goto to frames height gives) = 1
 names (Unless to) = 1
 names (Case places) = length places
 names (Member mode places whole) = length places
@@ -19,6 +20,7 @@ names _ = 0
 -- the instruction with another place where it names one, by its number among them
 abbrev pub aimed : Does → (which to : ℕ) → Does
 aimed (Jump place) which to = Jump to
+aimed (Goto place frames height gives) which to = Goto to frames height gives
 aimed (Unless place) which to = Unless to
 aimed (Case places) which to = Case (slice_set places which to)
 aimed (Member mode places whole) which to = Member mode (slice_set places which to) whole

@@ -1,3 +1,5 @@
 pub mod Aiming
+pub mod Known
+pub mod Labels
 pub mod Linking
 pub mod Stopping

@@ -1,10 +1,12 @@
 //! The builder of a code.
-ghost use Rattle.std.specs.Prelude.{◌≡◌, ◌<◌, ◌≤◌, ◌++◌, ◌∷◌, [], length, map, slice_index, slice_index_or, IfOk, OnErr, MatchResult};
+ghost use Rattle.std.specs.Prelude.{◌≡◌, ◌<◌, ◌≤◌, ◌++◌, ◌∷◌, [], drop, length, map, slice_index, slice_index_or, take, IfOk, OnErr, MatchResult};
 ghost use Rattle.a68_base.specs.declared.limits.TheConstants.{MOST_INSTRUCTIONS};
 ghost use Rattle.a68_builder.specs.Aiming.{aimed, aimed_at, names, names_at};
+ghost use Rattle.a68_builder.specs.Labels.{settled};
 ghost use Rattle.a68_builder.specs.Linking.{entrances_numbered, linked, linked_does};
 ghost use Rattle.a68_builder.specs.Stopping.{BuildStops};
 
+use crate::labels::{Labels, settle_all};
 use a68_base::{MOST_INSTRUCTIONS, NoMemory};
 use a68_code::{Code, Does, Instr, Instrs, Places, Routines};
 use a68_modes::Modes;
@@ -48,6 +50,7 @@ fn names(does: &Does) -> usize
 {
     match does {
         Does::Jump(_) | Does::Unless(_) | Does::Step(_) | Does::Advance(_) => 1,
+        Does::Goto { .. } => 1,
         Does::Case(places) => places.items.len(),
         Does::Fork(entrances) => entrances.items.len(),
         Does::Member { places, .. } => places.items.len(),
@@ -62,6 +65,7 @@ fn aim(does: &mut Does, which: usize, to: u32)
 {
     match does {
         Does::Jump(place) => *place = to,
+        Does::Goto { to: place, .. } => *place = to,
         Does::Unless(place) => *place = to,
         Does::Step(place) => *place = to,
         Does::Advance(place) => *place = to,
@@ -159,6 +163,15 @@ impl Builder {
     {
         let instr = &mut self.list[at as usize];
         aim(&mut instr.does, which as usize, to);
+    }
+
+    /// Lets the jumps from this instruction on that name these labels go to their places, which are the numbers of these.
+    pub fn settle(&mut self, from: u32, labels: &Labels)
+        ensures { self.new ≡ take from self.old ++ map (settled labels.now) (drop from self.old) }
+    {
+        if (from as usize) < self.list.len() {
+            settle_all(&mut self.list[from as usize..], labels);
+        }
     }
 
     /// The code of the instructions, with these entrances of routine texts and of units, and these modes. Each Fork, which

@@ -2,5 +2,7 @@
 #![tactic(auto)]
 
 mod builder;
+mod labels;
 
 pub use builder::{BuildStop, Builder};
+pub use labels::Labels;

@@ -94,7 +94,7 @@ fn annotate_flat(alloc: Global, tree: Tree, ranges: &Ranges) -> Result<Annotated
 /// sort twice, or a structure has two fields of one tag (Report, 7.1.1 and 7.2.1); by O3 where a sign between two operands
 /// has no priority (4.3); by N2, L4, M1, M2 or C4, the first of these that its declarers break (4.6 to 4.8 and 7.4); by O2
 /// where a range defines two operators of one sign with related parameters (7.1.1); each time at the first place in the text
-/// that breaks the rule. Else it is refused by the first of N1, N4, O1, C1, C2, C3, P1 and P2 that a node breaks, where parts
+/// that breaks the rule. Else it is refused by the first of N1, N4, O1, C1, C2, C3, P1, P2, J1 and J2 that a node breaks, where parts
 /// come before their node (3.3 to 3.4, 5.2 to 5.4, 6.1 and 7.2).
 pub fn annotate(alloc: Global, tree: Tree) -> Result<Annotated, Stop>
     ensures ok { IfOk result (λ program. Annotates tree program) }

@@ -1,6 +1,7 @@
 -- How the walk's table grows, a place at a time.
-use Rattle.std.proofs.Common.{◌≡◌, ◌<◌, ◌⊎◌, ◌+◌, ◌++◌, ℕ, zero, suc, List, [], ◌∷◌, length, take, map, get_or, set, replicate, refl, sym, ap, ◌∙◌, arith, subst, inl, inr, Some, None, ⊎_elim, get_or-set_same, get_or-set_other, length-set, length-append}
+use Rattle.std.proofs.Common.{◌≡◌, ◌<◌, ◌⊎◌, ◌+◌, ◌++◌, ℕ, Bool, true, false, zero, suc, List, [], ◌∷◌, length, take, map, get_or, set, replicate, refl, sym, ap, ◌∙◌, arith, subst, inl, inr, Some, None, ⊎_elim, get_or-set_same, get_or-set_other, length-set, length-append}
 use Rattle.std.specs.List.{Contains}
+use Rattle.std.specs.Prelude.{MatchBool}
 use Rattle.std.proofs.lemmas.List.Elements.{Contains-push_cases, Contains-push, Contains-append_left, Contains-get_or}
 use Rattle.std.proofs.lemmas.Bool.{cases_eq}
 use Rattle.std.proofs.lemmas.List.{map_more}
@@ -92,7 +93,7 @@ module _ (height_of : ℕ → ℕ) (H : Heights) (T : Places) (H1 : Heights) (T1
   -- one of these places clashes
   pub clash_from : (places : List ℕ) (k : ℕ) → k < length places → NotesAll (map (λ (to : ℕ). (to, height_of to)) (take k places)) H T H1 T1
       → Clashes (get_or places k 0) (height_of (get_or places k 0)) H1 → AnyClashes (map (λ (to : ℕ). (to, height_of to)) places) H
-  clash_from places k lt v c = (get_or places k 0, height_of (get_or places k 0), contains_map (λ (to : ℕ). (to, height_of to)) places (get_or places k 0) (Contains-get_or places k 0 lt), before c)
+  clash_from places k lt v c = inl (get_or places k 0, height_of (get_or places k 0), contains_map (λ (to : ℕ). (to, height_of to)) places (get_or places k 0) (Contains-get_or places k 0 lt), before c)
     where
       new : (to other : ℕ) → Contains {X = ℕ × ℕ} (map (λ (x : ℕ). (x, height_of x)) (take k places)) (to, other) → other ≡ height_of to
       new to other i =
@@ -103,3 +104,43 @@ module _ (height_of : ℕ → ℕ) (H : Heights) (T : Places) (H1 : Heights) (T1
       before : Clashes (get_or places k 0) (height_of (get_or places k 0)) H1 → Clashes (get_or places k 0) (height_of (get_or places k 0)) H
       before (inl past) = inl (let l = v.long in omega arith)
       before (inr (other, knows, differs)) = ⊎_elim (λ old. inr (other, old, differs)) (λ n. absurd (differs (new _ other n.0))) (v.only _ other knows)
+
+-- ---- two places, each with a height of its own
+
+nothing_yet : (H : Heights) (T : Places) → NotesAll [] H T H T
+nothing_yet H T = record {
+  long = refl;
+  kept = λ at known k. k;
+  all = λ at height i. absurd (let h = i.1 in omega arith);
+  only = λ at known k. inl k;
+  onward = λ at known i. i;
+  noted = λ at known i. inl i;
+  fewer = omega arith;
+  turns = refl;
+}
+
+module _ (to h other k : ℕ) (H : Heights) (T : Places) (H1 : Heights) (T1 : Places) where
+  one : NotesHeight to h H T H1 T1 → NotesAll ((to, h) ∷ []) H T H1 T1
+  one n = notes_more [] to h H T H T H1 T1 (nothing_yet H T) n
+
+  the_first : (x : ℕ × ℕ) → Contains {X = ℕ × ℕ} ((to, h) ∷ []) x → Contains {X = ℕ × ℕ} ((to, h) ∷ ((other, k) ∷ [])) x
+  the_first x i = Contains-append_left ((to, h) ∷ []) ((other, k) ∷ []) x i
+
+  the_other : Contains {X = ℕ × ℕ} ((to, h) ∷ ((other, k) ∷ [])) (other, k)
+  the_other = Contains-push ((to, h) ∷ []) (other, k)
+
+  pub first_clashes : Clashes to h H → AnyClashes ((to, h) ∷ ((other, k) ∷ [])) H
+  first_clashes c = inl (to, h, the_first (to, h) (Contains-push [] (to, h)), c)
+
+  other_clashes : NotesAll ((to, h) ∷ []) H T H1 T1 → Clashes other k H1 → AnyClashes ((to, h) ∷ ((other, k) ∷ [])) H
+  other_clashes v (inl past) = inl (other, k, the_other, inl (let l = v.long in omega arith))
+  other_clashes v (inr (known, knows, differs)) = ⊎_elim
+      (λ old. inl (other, k, the_other, inr (known, old, differs)))
+      (λ new. inr (other, known, k, the_first (other, known) new.0, the_other, differs))
+      (v.only other known knows)
+
+  -- the other one has its height, or it clashes
+  pub both : (after : Heights) (left : Places) (fits : Bool) → NotesHeight to h H T H1 T1 → MatchBool fits (NotesHeight other k H1 T1 after left) (Clashes other k H1)
+      → MatchBool fits (NotesAll ((to, h) ∷ ((other, k) ∷ [])) H T after left) (AnyClashes ((to, h) ∷ ((other, k) ∷ [])) H)
+  both after left true n m = notes_more ((to, h) ∷ []) other k H T H1 T1 after left (one n) m
+  both after left false n c = other_clashes (one n) c

@@ -1,5 +1,5 @@
 -- What the walk keeps, and why it decides.
-use Rattle.std.proofs.Common.{◌≡◌, ◌<◌, ◌≤◌, ◌⊎◌, ◌++◌, ◌+◌, ℕ, Bool, true, false, cond, List, [], ◌∷◌, IsTrue, length, get_or, replicate, sym, ap, ◌∙◌, arith, subst, inl, inr, Option, Some, None, ⊎_elim}
+use Rattle.std.proofs.Common.{◌≡◌, ◌<◌, ◌≤◌, ◌⊎◌, ◌++◌, ◌+◌, ℕ, suc, Bool, true, false, cond, refl, List, [], ◌∷◌, IsTrue, length, get_or, replicate, sym, ap, ◌∙◌, arith, subst, inl, inr, Option, Some, None, ⊎_elim}
 use Rattle.std.proofs.lemmas.List.{length-replicate, get_or-replicate, get_or_past, nil_from_length}
 use Rattle.std.proofs.lemmas.Option.{none-some, same_Some}
 use Rattle.std.proofs.lemmas.Bool.{cases_lt}
@@ -7,8 +7,8 @@ use Rattle.std.specs.List.{Contains}
 use Rattle.std.proofs.lemmas.List.Elements.{Contains-push_cases, Contains-push, Contains-append_left}
 use Rattle.a68_modes.specs.declared.shape.Shape.{Shape}
 use Rattle.std.specs.Prelude.{◌||◌, nat_eq}
-use Rattle.a68_code.specs.Flow.{does_at, takes, leaves, leaves_to, last_place, landings, entrances, Reaches, MayMeet}
-use Rattle.a68_code.specs.Flow.Reaches.{begins, goes_on}
+use Rattle.a68_code.specs.Flow.{does_at, one_if, takes, leaves, leaves_to, last_place, landings, entrances, Reaches, MayMeet}
+use Rattle.a68_code.specs.Flow.Reaches.{begins, goes_on, lands}
 use Rattle.a68_code.specs.Operands.{is_well_made}
 use Rattle.a68_modes.specs.Nodes.{shape_at, is_void}
 use Rattle.a68_code.specs.Valid.{IsValid}
@@ -17,7 +17,7 @@ use Rattle.a68_code.specs.Walk.{Heights, Places, Knows, ways, at_height, unknown
 use Rattle.a68_code.proofs.Noting.{unknown-replicate}
 use Rattle.a68_code.specs.declared.code.Code.{Code}
 use Rattle.a68_code.specs.declared.does.Does.{Does}
-use Rattle.a68_code.specs.declared.does.Does.TheVariants.{Apply, Skip, Leave, Call, Member}
+use Rattle.a68_code.specs.declared.does.Does.TheVariants.{Apply, Skip, Leave, Call, Goto, Member}
 use Rattle.a68_code.specs.declared.owner.Owner.{Owner}
 use Rattle.a68_code.specs.declared.owner.Owner.TheVariants as owner
 
@@ -29,7 +29,10 @@ pub record Passed (code : Code) (whose : Owner) (heights : Heights) (at height :
   pub meets : MayMeet whose does height
   pub below : ℕ
   pub finds : below + takes does ≡ height
-  pub onward : (to : ℕ) → Contains (landings at does) to → Knows heights to (below + leaves_to code.modes does to)
+  pub onward : (to known : ℕ) → Contains (ways code.modes at does below) (to, known) → Knows heights to known
+
+none_left : (q : ℕ × ℕ) → Contains [] q → ⊥
+none_left q i = let h = i.1 in omega arith
 
 pub record Halfway (code : Code) (whose : Owner) (heights : Heights) (todo : Places) : Type 0 where
   pub long : length heights ≡ length code.list
@@ -54,15 +57,39 @@ taken_small code whose heights todo rest at height e h = let k = h.small at heig
 
 -- a place among those where the machine goes on stands among the ways with its height
 pub way_to : (modes : List Shape) (at : ℕ) (does : Does) (below to : ℕ) → Contains (landings at does) to → Contains (ways modes at does below) (to, below + leaves_to modes does to)
+way_to modes at (Goto place frames height gives) below to i =
+    let next = contains_map (λ (x : ℕ). (x, below + leaves modes (Goto place frames height gives))) ((at + 1) ∷ []) to i in
+    (suc next.0, let inside = next.1 in omega arith, next.2)
 way_to modes at does below to i = contains_map (λ (x : ℕ). (x, below + leaves_to modes does x)) (landings at does) to i
+
+-- and so does that of a jump to a label
+pub way_of_jump : (modes : List Shape) (at to frames height : ℕ) (gives : Bool) (below : ℕ) → Contains (ways modes at (Goto to frames height gives) below) (to, height)
+way_of_jump modes at to frames height gives below = (0, omega arith, refl)
+
+-- the instruction is a jump to this place, which leaves so many values
+abbrev LandsAt : Does → (to height : ℕ) → Type 0
+LandsAt does to height = (frames : ℕ) × (gives : Bool) × (does ≡ Goto to frames height gives)
 
 -- and what stands among the ways is one of these
 way_from : (modes : List Shape) (at : ℕ) (does : Does) (below to height : ℕ) → Contains (ways modes at does below) (to, height)
-    → Contains (landings at does) to × (height ≡ below + leaves_to modes does to)
+    → (Contains (landings at does) to × (height ≡ below + leaves_to modes does to)) ⊎ LandsAt does to height
+way_from modes at (Goto place frames kept gives) below to height i = ⊎_elim
+    (λ first. ⊎_elim (λ none. absurd (none_left (to, height) none)) (λ e. inr (lands_so e)) (Contains-push_cases [] (place, kept) (to, height) first))
+    (λ e. inl (behind e, sym (ap (λ (q : ℕ × ℕ). q.1) e)))
+    (Contains-push_cases ((place, kept) ∷ []) (at + 1, below + leaves modes (Goto place frames kept gives)) (to, height) i)
+  where
+    lands_so : ◌≡◌ {A = ℕ × ℕ} (place, kept) (to, height) → LandsAt (Goto place frames kept gives) to height
+    lands_so e =
+        let there : place ≡ to = ap (λ (q : ℕ × ℕ). q.0) e in
+        let left : kept ≡ height = ap (λ (q : ℕ × ℕ). q.1) e in
+        (frames, gives, ap (λ (n : ℕ). Goto n frames kept gives) there ∙ ap (λ (n : ℕ). Goto to frames n gives) left)
+
+    behind : ◌≡◌ {A = ℕ × ℕ} (at + 1, below + leaves modes (Goto place frames kept gives)) (to, height) → Contains ((at + 1) ∷ []) to
+    behind e = (0, omega arith, ap (λ (q : ℕ × ℕ). q.0) e)
 way_from modes at does below to height i =
     let w = from_map (λ (x : ℕ). (x, below + leaves_to modes does x)) (landings at does) (to, height) i in
     let here : to ≡ w.0 = ap (λ (q : ℕ × ℕ). q.0) w.2 in
-    (subst (Contains (landings at does)) (sym here) w.1, ap (λ (q : ℕ × ℕ). q.1) w.2 ∙ ap (λ (x : ℕ). below + leaves_to modes does x) (sym here))
+    inl (subst (Contains (landings at does)) (sym here) w.1, ap (λ (q : ℕ × ℕ). q.1) w.2 ∙ ap (λ (x : ℕ). below + leaves_to modes does x) (sym here))
 
 -- nowhere does an instruction leave more values than it leaves at most
 leaves_to_most : (modes : List Shape) (does : Does) (to : ℕ) → leaves_to modes does to ≤ leaves modes does
@@ -86,10 +113,16 @@ module _ (code : Code) (whose : Owner) (heights : Heights) (todo rest : Places) 
   onward below to finds i = goes_on below (subst (λ (n : ℕ). Reaches code whose at n) (sym finds) (h.sound at height here)) is i
 
   led : (below : ℕ) → below + takes does ≡ height → (x k : ℕ) → Contains (ways code.modes at does below) (x, k) → Reaches code whose x k
-  led below finds x k i = let w = way_from code.modes at does below x k i in subst (λ (n : ℕ). Reaches code whose x n) (sym w.1) (onward below x finds w.0)
+  led below finds x k i = ⊎_elim
+      (λ w. subst (λ (n : ℕ). Reaches code whose x n) (sym w.1) (onward below x finds w.0))
+      (λ l. let cut : takes does ≡ k = ap takes l.2 in lands below (subst (λ (n : ℕ). Reaches code whose at n) (omega arith) (h.sound at height here)) (is ∙ ap (λ (d : Does). Some d) l.2))
+      (way_from code.modes at does below x k i)
 
   leaving_few : (below x k : ℕ) → Contains (ways code.modes at does below) (x, k) → k ≤ below + leaves code.modes does
-  leaving_few below x k i = let w = way_from code.modes at does below x k i in let e = w.1 in let m = leaves_to_most code.modes does x in omega arith
+  leaving_few below x k i = ⊎_elim
+      (λ w. let e = w.1 in let m = leaves_to_most code.modes does x in omega arith)
+      (λ l. let e : leaves code.modes does ≡ k + one_if l.1 = ap (leaves code.modes) l.2 in omega arith)
+      (way_from code.modes at does below x k i)
 
   pub halfway_on : (heights' : Heights) (todo' : Places) → leaves code.modes does ≤ takes does + 1 → NotesWays code.modes whose at does height heights rest heights' todo' → Halfway code whose heights' todo'
   halfway_on heights' todo' one (meets, (below, finds, v)) = record {
@@ -102,17 +135,18 @@ module _ (code : Code) (whose : Owner) (heights : Heights) (todo rest : Places) 
   }
     where
       was : (x k : ℕ) → Contains todo (x, k) ⊎ Passed code whose heights x k → Contains todo' (x, k) ⊎ Passed code whose heights' x k
-      was x k (inr p) = inr (record { does = p.does; is = p.is; meets = p.meets; below = p.below; finds = p.finds; onward = λ to i. v.kept to _ (p.onward to i) })
+      was x k (inr p) = inr (record { does = p.does; is = p.is; meets = p.meets; below = p.below; finds = p.finds; onward = λ to known i. v.kept to known (p.onward to known i) })
       was x k (inl i) = ⊎_elim (λ j. inl (v.onward x k j)) (λ same. inr (just x k same)) (Contains-push_cases rest (at, height) (x, k) (subst (λ (t : Places). Contains t (x, k)) e i))
         where
           just : (x k : ℕ) → ◌≡◌ {A = ℕ × ℕ} (at, height) (x, k) → Passed code whose heights' x k
-          just x k same = subst (λ (q : ℕ × ℕ). Passed code whose heights' q.0 q.1) same (record { does = does; is = is; meets = meets; below = below; finds = finds; onward = λ to i. v.all to _ (way_to code.modes at does below to i) })
+          just x k same = subst (λ (q : ℕ × ℕ). Passed code whose heights' q.0 q.1) same (record { does = does; is = is; meets = meets; below = below; finds = finds; onward = λ to known i. v.all to known i })
 
   pub not_valid : StepFails code.modes whose at does height heights → IsValid code → ⊥
   not_valid (inl never) valid = never (valid.ends whose at height does (h.sound at height here) is)
   not_valid (inr (inl few)) valid = let enough = valid.supplied whose at height does (h.sound at height here) is in absurd (omega arith)
-  not_valid (inr (inr (below, finds, (to, k, i, inl past)))) valid = let inside = valid.within whose to k (led below finds to k i) in let long = h.long in absurd (omega arith)
-  not_valid (inr (inr (below, finds, (to, k, i, inr (other, knows, differs))))) valid = differs (valid.agreed whose whose to other k (h.sound to other knows) (led below finds to k i))
+  not_valid (inr (inr (below, finds, inl (to, k, i, inl past)))) valid = let inside = valid.within whose to k (led below finds to k i) in let long = h.long in absurd (omega arith)
+  not_valid (inr (inr (below, finds, inl (to, k, i, inr (other, knows, differs))))) valid = differs (valid.agreed whose whose to other k (h.sound to other knows) (led below finds to k i))
+  not_valid (inr (inr (below, finds, inr (to, one, other, i, j, differs)))) valid = differs (valid.agreed whose whose to one other (led below finds to one i) (led below finds to other j))
 
 -- an instruction with operands that it may have leaves at most one value more than it takes
 pub leaves_one : (modes : List Shape) (texts count : ℕ) (does : Does) → IsTrue (is_well_made modes texts count does) → leaves modes does ≤ takes does + 1
@@ -129,10 +163,9 @@ leaves_one modes texts count (Apply r) w = cond_of (nat_eq r 35 || nat_eq r 36)
     cond_of false = omega arith
 leaves_one modes texts count (Call n true) w = omega arith
 leaves_one modes texts count (Call n false) w = omega arith
+leaves_one modes texts count (Goto to frames height true) w = omega arith
+leaves_one modes texts count (Goto to frames height false) w = omega arith
 leaves_one modes texts count _ w = omega arith
-
-none_left : (q : ℕ × ℕ) → Contains [] q → ⊥
-none_left q i = let h = i.1 in omega arith
 
 -- nothing is left to do
 pub heights_from : (code : Code) (whose : Owner) (heights : Heights) (todo : Places) → length todo ≡ 0 → Halfway code whose heights todo → AreHeights code whose heights
@@ -150,18 +183,21 @@ heights_from code whose heights todo none h = record {
     supplied : (at height : ℕ) (does : Does) → does_at code.list at ≡ Some does → Passed code whose heights at height → takes does ≤ height
     supplied at height does is p = let same : p.does ≡ does = same_Some p.does does (sym p.is ∙ is) in let f = p.finds in let g : takes p.does ≡ takes does = ap takes same in omega arith
 
-    goes : (at below to : ℕ) (does : Does) → does_at code.list at ≡ Some does → Contains (landings at does) to → Passed code whose heights at (below + takes does) → Knows heights to (below + leaves_to code.modes does to)
-    goes at below to does is i p =
+    goes : (at below to known : ℕ) (does : Does) → does_at code.list at ≡ Some does → Contains (ways code.modes at does below) (to, known) → Passed code whose heights at (below + takes does) → Knows heights to known
+    goes at below to known does is i p =
         let same : p.does ≡ does = same_Some p.does does (sym p.is ∙ is) in
         let f = p.finds in
         let g : takes p.does ≡ takes does = ap takes same in
         let e : p.below ≡ below = omega arith in
-        let k = p.onward to (subst (λ (d : Does). Contains (landings at d) to) (sym same) i) in
-        subst (λ (n : ℕ). Knows heights to (n + leaves_to code.modes does to)) e (subst (λ (d : Does). Knows heights to (p.below + leaves_to code.modes d to)) same k)
+        let there : Contains (ways code.modes at does p.below) (to, known) = subst (λ (n : ℕ). Contains (ways code.modes at does n) (to, known)) (sym e) i in
+        p.onward to known (subst (λ (d : Does). Contains (ways code.modes at d p.below) (to, known)) (sym same) there)
 
     complete : {at height : ℕ} → Reaches code whose at height → Knows heights at height
     complete (begins i) = h.first _ i
-    complete (goes_on {at = at} {to = to} {does = does} below r is i) = goes at below to does is i (passed at (below + takes does) (complete r))
+    complete (goes_on {at = at} {to = to} {does = does} below r is i) =
+        goes at below to (below + leaves_to code.modes does to) does is (way_to code.modes at does below to i) (passed at (below + takes does) (complete r))
+    complete (lands {at = at} {to = to} {frames = frames} {height = height} {gives = gives} below r is) =
+        goes at below to height (Goto to frames height gives) is (way_of_jump code.modes at to frames height gives below) (passed at (below + height) (complete r))
 
 -- ---- the walk before its first step
 
@@ -198,13 +234,14 @@ halfway_first code whose places heights todo same v = record {
 
 -- an entrance is behind the list, or has another height than 0
 pub no_entrance : (code : Code) (whose : Owner) (places : List ℕ) → places ≡ entrances code whose → AnyClashes (at_height 0 places) (replicate (length code.list) None) → IsValid code → ⊥
-no_entrance code whose places same (to, height, i, inl past) valid =
+no_entrance code whose places same (inl (to, height, i, inl past)) valid =
     let inside = valid.within whose to 0 (begins (subst (λ (ps : List ℕ). Contains ps to) same (at_entrance places to height i).0)) in
     let l = length-replicate (length code.list) unset in absurd (omega arith)
   where
     unset : Option ℕ
     unset = None
-no_entrance code whose places same (to, height, i, inr (other, knows, differs)) valid = absurd (no_height (length code.list) to other knows)
+no_entrance code whose places same (inl (to, height, i, inr (other, knows, differs))) valid = absurd (no_height (length code.list) to other knows)
+no_entrance code whose places same (inr (to, one, other, i, j, differs)) valid = differs ((at_entrance places to one i).1 ∙ sym (at_entrance places to other j).1)
 
 -- ---- all owners
 

@@ -6,7 +6,7 @@ use Rattle.a68_modes.specs.Nodes.{shape_at}
 use Rattle.a68_modes.specs.declared.shape.Shape.{Shape}
 use Rattle.a68_modes.specs.declared.shape.Shape.TheVariants as shape
 use Rattle.a68_code.specs.declared.does.Does.{Does}
-use Rattle.a68_code.specs.declared.does.Does.TheVariants.{Skip, Routine, Leave, Make, Heap, Same, Slice, Display, Vacuum, Compose, Select, RowUp, RowUpName, Deref, Store, Apply, Jump, Unless, Case, Member, Step, Advance, Fork}
+use Rattle.a68_code.specs.declared.does.Does.TheVariants.{Skip, Routine, Leave, Make, Heap, Same, Slice, Display, Vacuum, Compose, Select, RowUp, RowUpName, Deref, Store, Apply, Jump, Goto, Unless, Case, Member, Step, Advance, Fork}
 
 -- the members of a union; none of another mode
 abbrev pub members_of : Shape → List ℕ
@@ -39,6 +39,7 @@ is_well_made modes texts count (Select mode field) = nat_lt mode (length modes)
 is_well_made modes texts count (RowUp mode) = nat_lt mode (length modes)
 is_well_made modes texts count (RowUpName mode) = nat_lt mode (length modes)
 is_well_made modes texts count (Jump to) = nat_lt to count
+is_well_made modes texts count (Goto to frames height gives) = nat_lt to count
 is_well_made modes texts count (Unless to) = nat_lt to count
 is_well_made modes texts count (Case places) = nat_lt 0 (length places) && list_all (λ to. nat_lt to count) places
 is_well_made modes texts count (Member mode places whole) =

@@ -1,5 +1,5 @@
 -- Inner: the headline does not rest on this file.
--- Jumps go forward, but for the end of a loop.
+-- Instructions go forward, but for the end of a loop and jumps to labels.
 use Rattle.std.specs.Prelude.{◌≡◌, ◌<◌, ◌+◌, ⊤, ℕ, List, Some, IsTrue, nat_lt}
 use Rattle.std.specs.List.{list_all}
 use Rattle.a68_code.specs.Flow.{does_at}
@@ -16,7 +16,7 @@ pub record EndsLoop (list : List Instr) (at to : ℕ) : Type 0 where
   pub turn : does_at list (to + 1) ≡ Some Turn
   pub leaves_loop : at < behind
 
--- the instruction at this place jumps forward, or ends a loop
+-- the instruction at this place goes forward, ends a loop, or is a jump to a label, which may go anywhere
 abbrev pub IsInOrder : List Instr → ℕ → Does → Type 0
 IsInOrder list at (Jump to) = at < to
 IsInOrder list at (Unless to) = at < to

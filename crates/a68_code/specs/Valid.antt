@@ -13,7 +13,7 @@ pub record IsValid (code : Code) : Type 0 where
   pub begins : code.list ≢ []
   -- each instruction has operands that it may have
   pub well_made : (at : ℕ) (does : Does) → does_at code.list at ≡ Some does → IsTrue (is_well_made code.modes (length code.texts) (length code.list) does)
-  -- jumps go forward, but for the end of a loop
+  -- what goes elsewhere goes forward, but for the end of a loop and jumps to labels
   pub in_order : (at : ℕ) (does : Does) → does_at code.list at ≡ Some does → IsInOrder code.list at does
   -- no way passes the end of the list
   pub within : (whose : Owner) (at height : ℕ) → Reaches code whose at height → at < length code.list

@@ -4,11 +4,12 @@
 use Rattle.std.specs.Prelude.{◌≡◌, ◌≢◌, ◌<◌, ◌≤◌, ◌+◌, ◌⊎◌, IsTrue, ℕ, suc, List, [], ◌∷◌, ◌++◌, length, map, Some, None, Contains, slice_index_or, slice_set, nat_eq, if◌then◌else◌}
 use Rattle.std.specs.declared.option.Option.{Option}
 use Rattle.a68_modes.specs.declared.shape.Shape.{Shape}
-use Rattle.a68_code.specs.Flow.{does_at, takes, leaves_to, landings, Reaches, MayMeet}
+use Rattle.a68_code.specs.Flow.{does_at, takes, leaves, leaves_to, landings, Reaches, MayMeet}
 use Rattle.a68_code.specs.Operands.{is_well_made}
 use Rattle.a68_code.specs.Order.{IsInOrder}
 use Rattle.a68_code.specs.declared.code.Code.{Code}
 use Rattle.a68_code.specs.declared.does.Does.{Does}
+use Rattle.a68_code.specs.declared.does.Does.TheVariants.{Goto}
 use Rattle.a68_code.specs.declared.owner.Owner.{Owner}
 
 -- the instruction at this place, if there is one, has operands and a jump as it may have them
@@ -51,6 +52,7 @@ to_members last below places = map (λ to. (to, below + (if nat_eq to last then 
 
 -- where the machine may go on behind the instruction at this place, with the height that it has there above so many values
 abbrev pub ways : List Shape → ℕ → Does → (below : ℕ) → Places
+ways modes at (Goto to frames height gives) below = (to, height) ∷ ((at + 1, below + leaves modes (Goto to frames height gives)) ∷ [])
 ways modes at does below = map (λ to. (to, below + leaves_to modes does to)) (landings at does)
 
 -- all these places have their heights, and what is new is noted
@@ -65,8 +67,15 @@ pub record NotesAll (places : Places) (heights : Heights) (todo : Places) (heigh
   pub turns : unknown heights' + length todo' ≡ unknown heights + length todo
 
 -- one of these places is behind the list, or has another height than it has here
+abbrev pub OneClashes : Places → Heights → Type 0
+OneClashes places heights = (to : ℕ) × (height : ℕ) × Contains places (to, height) × Clashes to height heights
+
+-- these places have two heights for one place
+abbrev pub Differ : Places → Type 0
+Differ places = (to : ℕ) × (one : ℕ) × (other : ℕ) × Contains places (to, one) × Contains places (to, other) × (one ≢ other)
+
 abbrev pub AnyClashes : Places → Heights → Type 0
-AnyClashes places heights = (to : ℕ) × (height : ℕ) × Contains places (to, height) × Clashes to height heights
+AnyClashes places heights = OneClashes places heights ⊎ Differ places
 
 -- the owner may meet the instruction, which finds what it takes, and all places where the machine may go on are noted
 abbrev pub NotesWays : List Shape → Owner → ℕ → Does → ℕ → Heights → Places → Heights → Places → Type 0
@@ -74,7 +83,7 @@ NotesWays modes whose at does height heights todo heights' todo' =
     MayMeet whose does height × ((below : ℕ) × (below + takes does ≡ height) × NotesAll (ways modes at does below) heights todo heights' todo')
 
 -- the owner may not meet the instruction, or it finds too few values, or it comes to a place that has another height or is
--- behind the list
+-- behind the list, or to one place with two heights
 abbrev pub StepFails : List Shape → Owner → ℕ → Does → ℕ → Heights → Type 0
 StepFails modes whose at does height heights =
     (MayMeet whose does height → ⊥) ⊎ ((height < takes does) ⊎ ((below : ℕ) × (below + takes does ≡ height) × AnyClashes (ways modes at does below) heights))

@@ -42,6 +42,7 @@ use std::alloc::Global;
 /// | Call | count, whether a value comes back | routine, the parameters | value, where it comes back | Turn, Enter, Bind of each parameter in order | goes to the entrance of the routine text; the fault Kind where that yields just where nothing comes back |
 /// | Return | | value, where the body leaves one | the same, on the caller's stack | | goes behind the Call; the value may not be newer than the caller's frame |
 /// | Jump | place | | | | goes there |
+/// | Goto | place, frames, height, whether a value is counted | the values of the activation | the lowest ones, as many as the height | Turn | goes so many frames outwards, takes all other values of the activation off, and goes there; the fault Kind before its Turn where there are fewer frames or values. A way that leads on behind it is counted with one value more, or with none |
 /// | Unless | place | truth value | | | goes there for false |
 /// | Case | places | number | | | goes to the place of that number, counted from 1; to the last one for any other number |
 /// | Member | mode, places, whole | united value | value, but for the last place | | goes to the place of the member that the value has; to the last one for a member that no part takes. The member's value is left, or the united one where `whole` has 1 for it. There is a place for each member of the mode in order and one more, the last, and in `whole` a number for each member |
@@ -107,6 +108,12 @@ pub enum Does {
     },
     Return,
     Jump(u32),
+    Goto {
+        to: u32,
+        frames: u32,
+        height: u32,
+        gives: bool,
+    },
     Unless(u32),
     Case(Places),
     Member {
@@ -160,6 +167,12 @@ impl Drop for Does {
             | Does::Call { count: _, gives: _ }
             | Does::Return
             | Does::Jump(_)
+            | Does::Goto {
+                to: _,
+                frames: _,
+                height: _,
+                gives: _,
+            }
             | Does::Unless(_)
             | Does::Case(_)
             | Does::Member {
@@ -244,6 +257,17 @@ impl Does {
             },
             Does::Return => Does::Return,
             Does::Jump(to) => Does::Jump(*to),
+            Does::Goto {
+                to,
+                frames,
+                height,
+                gives,
+            } => Does::Goto {
+                to: *to,
+                frames: *frames,
+                height: *height,
+                gives: *gives,
+            },
             Does::Unless(to) => Does::Unless(*to),
             Does::Case(places) => Does::Case(places.copy(alloc)?),
             Does::Member {

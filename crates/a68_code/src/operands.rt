@@ -92,6 +92,7 @@ impl Does {
             Does::Apply(row) => 1 <= *row && *row <= 40,
             Does::Jump(to) | Does::Unless(to) | Does::Step(to) | Does::Advance(to) => (*to as usize)
                 < count,
+            Does::Goto { to, .. } => (*to as usize) < count,
             Does::Case(places) => places.are_inside(count),
             Does::Member {
                 mode,
@@ -131,20 +132,22 @@ impl Does {
             Does::Make { bounds, .. } | Does::Heap { bounds, .. } => *bounds as usize,
             Does::Display { count, .. } => *count as usize,
             Does::Call { count, .. } => *count as usize + 1,
+            Does::Goto { height, .. } => *height as usize,
             _ => 0,
         }
     }
 
     /// How many values it leaves there.
-    pub(crate) fn leaves(&self, modes: &Modes) -> u32
+    pub(crate) fn leaves(&self, modes: &Modes) -> usize
         ensures { result ≡ leaves modes.now self.now }
     {
         match self {
-            Does::Leave(kept) => *kept,
+            Does::Leave(kept) => *kept as usize,
             Does::Index => 2,
-            Does::Skip(mode) => u32::from(!modes.is_void(*mode)),
-            Does::Call { gives, .. } => u32::from(*gives),
-            Does::Apply(row) => u32::from(*row != 35 && *row != 36),
+            Does::Skip(mode) => usize::from(!modes.is_void(*mode)),
+            Does::Call { gives, .. } => usize::from(*gives),
+            Does::Goto { height, gives, .. } => *height as usize + usize::from(*gives),
+            Does::Apply(row) => usize::from(*row != 35 && *row != 36),
             Does::Enter(_) | Does::Bind(_) | Does::Drop | Does::Print(_) | Does::Jump(_) => 0,
             Does::Unless(_) | Does::Case(_) | Does::Turn | Does::Forget => 0,
             Does::Return | Does::Fork(_) | Does::Close | Does::End => 0,

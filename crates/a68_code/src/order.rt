@@ -4,7 +4,7 @@ ghost use Rattle.a68_code.specs.Order.{EndsLoop, IsInOrder};
 
 use crate::{Does, Instr};
 
-/// Whether the instruction at this place jumps forward, or ends a loop.
+/// Whether the instruction at this place goes forward, ends a loop, or is a jump to a label, which may go anywhere.
 pub fn is_in_order(list: &[Instr], at: usize, does: &Does) -> bool
     requires { at < length list.now }
     ensures { IsTrue result ↔ IsInOrder list.now at does.now }

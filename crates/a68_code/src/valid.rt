@@ -108,7 +108,7 @@ fn all_agree(
 
 impl Code {
     /// Whether the machine runs the code (own): it never leaves the list, finds on the stack what an instruction takes,
-    /// has a place for each member that a united value may have, goes back only at the end of a loop, to a Step with a Turn behind it, and ends the program at End, a routine at
+    /// has a place for each member that a united value may have, goes back only by a jump to a label, or at the end of a loop, to a Step with a Turn behind it, and ends the program at End, a routine at
     /// Return, with a value just where its entrance says so, and a unit of a parallel clause at Close, with nothing on its
     /// stack. Takes time in proportion to the list and the places that it names.
     pub fn valid(&self, alloc: Global) -> Result<bool, NoMemory>

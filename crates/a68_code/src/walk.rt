@@ -129,6 +129,26 @@ impl Walk {
         Ok(true)
     }
 
+    /// Ways come to a place and to another one, each with its height.
+    fn note_both(
+        &mut self,
+        to: usize,
+        height: usize,
+        other: usize,
+        other_height: usize,
+    ) -> Result<bool, NoMemory>
+        ensures { IfOk result (λ fits. MatchBool fits
+            (NotesAll ((to, height) ∷ ((other, other_height) ∷ [])) self.old.heights.items self.old.todo.items
+            self.new.heights.items self.new.todo.items)
+            (AnyClashes ((to, height) ∷ ((other, other_height) ∷ [])) self.old.heights.items)) }
+    {
+        if !self.note(to, height)? {
+            return Ok(false);
+        }
+        let fits = self.note(other, other_height)?;
+        Ok(fits)
+    }
+
     /// Ways come to the places where the machine may go on behind the instruction at this place, above so many values.
     fn note_landings(
         &mut self,
@@ -144,10 +164,15 @@ impl Walk {
             self.new.heights.items self.new.todo.items)
             (AnyClashes (ways modes.now at does.now below) self.old.heights.items)) }
     {
-        let height = below + does.leaves(modes) as usize;
+        let height = below + does.leaves(modes);
         match does {
             Does::Return | Does::Close | Does::End => self.note_all(&[], height),
             Does::Jump(to) => self.note_all(&[*to as usize], height),
+            Does::Goto {
+                to,
+                height: cut,
+                ..
+            } => self.note_both(*to as usize, *cut as usize, at + 1, height),
             Does::Case(places) => self.note_places(&places.items, height),
             Does::Member { places, .. } => self.note_members(&places.items, below),
             Does::Unless(to) | Does::Step(to) | Does::Advance(to) => self.note_all(

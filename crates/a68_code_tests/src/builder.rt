@@ -41,12 +41,14 @@ const PATCHES: &[(&str, u32, u32, u32, &str)] = &[
         "Step 0, Turn, Advance 0, End",
     ),
     ("Fork 0 0, End, Close", 0, 1, 1, "Fork 0 2, End, Close"),
+    ("Goto 0 1 2 1, End", 0, 0, 1, "Goto 1 1 2 1, End"),
 ];
 
 // A place that an instruction names, of a Case or a Fork the second one; 0 where it names none.
 fn first_place(does: &Does) -> u32 {
     match does {
         Does::Jump(to) => *to,
+        Does::Goto { to, .. } => *to,
         Does::Unless(to) => *to,
         Does::Step(to) => *to,
         Does::Advance(to) => *to,

@@ -43,6 +43,22 @@ const CASES: &str = "\
 + a loop with frames | Push, Push, Push, Counter, Step 15, Turn, Enter 1, Index, Bind 0, Push, Unless 14, Leave 0, Advance 4, Jump 15, Leave 0, Forget, End
 - a count of no counter | Index, Drop, Drop, End
 - a turn that leaves a value | Push, Push, Push, Counter, Step 8, Turn, Push, Advance 4, Forget, End
++ a jump to a label | Goto 1, End
++ a jump to a label before it | Skip 0, Goto 0, End
++ a jump to itself as to a label | Goto 0, End
+- a label outside | Goto 9, End
+- a way on behind a jump to a label passes the end | Goto 0
+- a way past the end by a jump to a label | Goto 2, End, Skip 0
+- more values are kept than are there | Goto 1 0 1, End
++ as many values are kept as are there | Push, Goto 2 0 1, Drop, End
+- a label finds fewer values than a way on behind the jump | Push, Goto 2 0 0 1, Drop, End
+- a label finds fewer values than it takes | Jump 4, Drop, End, End, Push, Goto 1 0 0, Drop, End
++ a label finds what is kept | Jump 4, Drop, End, End, Push, Goto 1 0 1, Drop, End
++ a way on behind a jump to a label has a value more | Goto 3 0 0 1, Drop, End, End
+- it has none more | Goto 3 0 0 0, Drop, End, End
++ it has a value more above those that are cut off | Push, Goto 4 0 0 1, Drop, Drop, End
+- a unit jumps to the end of the program | Fork 2 4, End, Goto 1, Close, Close
+- a jump to a label brings two heights to its place | Push, Unless 4, Push, Goto 5 0 1, Goto 5, End
 + SKIP of VOID | Skip 0, End
 - SKIP of VOID leaves nothing | Skip 0, Drop, End
 + SKIP of INT | Skip 1, Drop, End

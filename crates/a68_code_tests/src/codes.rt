@@ -1,6 +1,6 @@
 //! Codes by their instructions in words: a name and at most two numbers each, with commas between. A Case and a Fork have any
-//! number of them, a Member its mode and then its places, the last of them for none, and a Routine of scope 0 has - for its
-//! second number. A Member that leaves the united values is called United, and one that tells of a member more than it has
+//! number of them, a Goto four, a Member its mode and then its places, the last of them for none, and a Routine of scope 0 has - for
+//! its second number. A Member that leaves the united values is called United, and one that tells of a member more than it has
 //! places for is called Excess. Text is no instruction but the entrance of a routine text, with 1 where its body leaves a
 //! value.
 use a68_base::find;
@@ -175,6 +175,19 @@ fn routine(numbers: &str) -> Option<Does> {
     Some(Does::Routine { text, distance })
 }
 
+// A Goto of these numbers: its place, frames, height, and 1 where a value is counted.
+fn goto(numbers: &str) -> Option<Does> {
+    let (to, rest) = apart(numbers);
+    let (frames, rest) = apart(rest);
+    let (height, gives) = apart(rest);
+    Some(Does::Goto {
+        to: number(to)?,
+        frames: number(frames)?,
+        height: number(height)?,
+        gives: gives == "1",
+    })
+}
+
 // A number that is left out is 0.
 fn does(alloc: Global, op: &str) -> Option<Does> {
     let (name, numbers) = apart(op);
@@ -185,6 +198,7 @@ fn does(alloc: Global, op: &str) -> Option<Does> {
         "United" => member(alloc, numbers, 1, 0),
         "Excess" => member(alloc, numbers, 0, 1),
         "Routine" => routine(numbers),
+        "Goto" => goto(numbers),
         _ => {
             let (one, two) = apart(numbers);
             let form = find(INSTR_NAMES, name.as_bytes())?;

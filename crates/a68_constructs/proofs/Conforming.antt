@@ -9,11 +9,13 @@ use Rattle.a68_annot.specs.declared.note.Note.{Note}
 use Rattle.a68_base.specs.declared.refusal.Stop.{Stop}
 use Rattle.a68_builder.specs.Aiming.{aimed_at}
 use Rattle.a68_code.specs.declared.code.Instr.{Instr}
+use Rattle.a68_code.specs.Flow.{one_if}
 use Rattle.a68_code.specs.declared.does.Does.{Does}
 use Rattle.a68_code.specs.declared.does.Does.TheVariants as does
 use Rattle.a68_elab.proofs.Nodes.{behind_all}
-use Rattle.a68_elab.specs.Made.{before_out, begun_by, conformity_of, framed, goal_at, left_out, out_of, phrases_of, specs_of, trees_at}
-use Rattle.a68_elab.specs.Programs.{behind}
+use Rattle.a68_elab.specs.Made.{before_out, begun_by, framed, goal_at, left_out, out_of, phrases_of, trees_at, with_enquiry}
+use Rattle.a68_elab.specs.Programs.{Seat, behind, specs_seated}
+use Rattle.a68_elab.specs.Rows.{is_among}
 use Rattle.a68_elab.specs.Trees.{Tree, Trees, conformity, Specs, no_specs, spec, while_in}
 use Rattle.a68_emit.proofs.Chaining.{framed_list, kept_writes, never_none, was_none}
 use Rattle.a68_emit.proofs.Linking.{other_behind, parts_are}
@@ -27,7 +29,7 @@ use Rattle.a68_constructs.specs.Endings.{IsFront, member_front}
 use Rattle.a68_constructs.specs.Loops.{asked}
 use Rattle.a68_constructs.specs.declared.endings.Ending.{Ending}
 use Rattle.a68_emit.specs.Numbers.{put_all}
-use Rattle.a68_emit.specs.Stretches.{leave, member_places, wholes_of}
+use Rattle.a68_emit.specs.Stretches.{leave, member_places, place_for, whole_for, wholes_of}
 use Rattle.a68_emit.specs.Writing.{aim_all, places, ran_out, Writes}
 use Rattle.a68_modes.specs.Nodes.{shape_at}
 use Rattle.a68_parts.proofs.Between.{between-above}
@@ -103,6 +105,26 @@ member_names union wholes = record { many = λ l. refl; put = λ l k p. refl }
 count_members : (members : List ℕ) (specs : Specs) (ps : List ℕ) (none : ℕ) → length (member_places members specs ps none) ≡ length members + 1
 count_members [] specs ps none = refl
 count_members (m ∷ ms) specs ps none = let e = count_members ms specs ps none in omega arith
+
+-- where the parts lie does not matter for the places
+place_seated : (s : Seat) (m : ℕ) (specs : Specs) (ps : List ℕ) (none : ℕ) → place_for m (specs_seated s specs) ps none ≡ place_for m specs ps none
+place_seated s m no_specs ps none = refl
+place_seated s m (spec takes tagged united t behind) [] none = refl
+place_seated s m (spec takes tagged united t behind) (p ∷ ps) none = ap (λ (n : ℕ). if is_among m takes then p else n) (place_seated s m behind ps none)
+
+pub members_seated : (s : Seat) (ms : List ℕ) (specs : Specs) (ps : List ℕ) (none : ℕ) → member_places ms (specs_seated s specs) ps none ≡ member_places ms specs ps none
+members_seated s [] specs ps none = refl
+members_seated s (m ∷ ms) specs ps none =
+    ap (λ (n : ℕ). n ∷ member_places ms (specs_seated s specs) ps none) (place_seated s m specs ps none) ∙ ap (λ (l : List ℕ). place_for m specs ps none ∷ l) (members_seated s ms specs ps none)
+
+whole_seated : (s : Seat) (m : ℕ) (specs : Specs) → whole_for m (specs_seated s specs) ≡ whole_for m specs
+whole_seated s m no_specs = refl
+whole_seated s m (spec takes tagged united t behind) = ap (λ (n : ℕ). if is_among m takes then one_if united else n) (whole_seated s m behind)
+
+pub wholes_seated : (s : Seat) (ms : List ℕ) (specs : Specs) → wholes_of ms (specs_seated s specs) ≡ wholes_of ms specs
+wholes_seated s [] specs = refl
+wholes_seated s (m ∷ ms) specs =
+    ap (λ (n : ℕ). n ∷ wholes_of ms (specs_seated s specs)) (whole_seated s m specs) ∙ ap (λ (l : List ℕ). whole_for m specs ∷ l) (wholes_seated s ms specs)
 
 -- ---- the whole
 
@@ -290,14 +312,15 @@ tagged_writes s0 s1 s2 s3 s4 l0 l1 l2 l3 l4 place kept yields t ek w1 w2 w3 w4 =
 
 -- ---- a conformity clause is made of the trees behind its node
 
-pub conform_is : (a : Annotated) (f : ℕ → Tree) (id place goal : ℕ) (yields : Bool) (e : ℕ) (rest ids units : List ℕ) (other : Option ℕ) (node : Node) (note : Note) → slice_get a.tree.nodes e ≡ Some node
+pub conform_is : (a : Annotated) (f : ℕ → Tree) (specs : List ℕ → Specs) (id place goal : ℕ) (yields : Bool) (e : ℕ) (rest ids units : List ℕ) (other : Option ℕ) (node : Node) (note : Note) → slice_get a.tree.nodes e ≡ Some node
     → slice_get a.notes e ≡ Some note → option_map (λ (n : Node). n.parts) (slice_get a.tree.nodes e) ≡ Some ids → AllBetween e (length a.tree.nodes) ids → id < e
     → units ≡ before_out a rest → other ≡ out_of a rest → IfSome other (λ p. (id < p) × (p < length a.tree.nodes))
     → framed node.span.from place note.slots yields
-    (conformity place (goal_at a e) (members_of (shape_at a.modes (goal_at a e))) yields (phrases_of node.span.from (trees_at (behind e f) ids)) (specs_of a (behind id f) units)
+    (conformity place (goal_at a e) (members_of (shape_at a.modes (goal_at a e))) yields (phrases_of node.span.from (trees_at (behind e f) ids)) (specs units)
     (option_map_or f other (left_out place goal)))
-    ≡ conformity_of a (behind id f) place goal yields (e ∷ rest)
-conform_is a f id place goal yields e rest ids units other node note is noted parts all below eu eo within =
+    ≡ with_enquiry a (behind id f) place yields e
+    (λ q. conformity place (goal_at a e) (members_of (shape_at a.modes (goal_at a e))) yields q (specs (before_out a rest)) (option_map_or (behind id f) (out_of a rest) (left_out place goal)))
+conform_is a f specs id place goal yields e rest ids units other node note is noted parts all below eu eo within =
     let n = length a.tree.nodes in
     let g = behind id f in
     let at = node.span.from in
@@ -309,8 +332,8 @@ conform_is a f id place goal yields e rest ids units other node note is noted pa
     behind_all e n f ids all ∙ sym (behind_all id n f ids (between-above id e n ids below all)) ∙ ap (λ (l : List ℕ). trees_at g l) (sym same) in
     let out : option_map_or f other (left_out place goal) ≡ option_map_or g (out_of a rest) (left_out place goal) =
     sym (other_behind id n place goal f other within) ∙ ap (λ (o : Option ℕ). option_map_or g o (left_out place goal)) eo in
-    let go : Tree → Tree = λ q. conformity place union members yields q (specs_of a g (before_out a rest)) (option_map_or g (out_of a rest) (left_out place goal)) in
-    ap (λ (ph : Trees). whole ph (specs_of a g units) (option_map_or f other (left_out place goal))) phrases
-    ∙ ap (λ (us : List ℕ). whole (trees_at g node.parts) (specs_of a g us) (option_map_or f other (left_out place goal))) eu
-    ∙ ap (λ (o : Tree). whole (trees_at g node.parts) (specs_of a g (before_out a rest)) o) out
+    let go : Tree → Tree = λ q. conformity place union members yields q (specs (before_out a rest)) (option_map_or g (out_of a rest) (left_out place goal)) in
+    ap (λ (ph : Trees). whole ph (specs units) (option_map_or f other (left_out place goal))) phrases
+    ∙ ap (λ (us : List ℕ). whole (trees_at g node.parts) (specs us) (option_map_or f other (left_out place goal))) eu
+    ∙ ap (λ (o : Tree). whole (trees_at g node.parts) (specs (before_out a rest)) o) out
     ∙ sym (ap (λ (o : Option Node). begun_by g place yields o (slice_get a.notes e) go) is ∙ ap (λ (m : Option Note). begun_by g place yields (Some node) m go) noted)

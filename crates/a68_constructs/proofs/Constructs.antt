@@ -15,21 +15,25 @@ use Rattle.a68_code.specs.declared.does.Does.{Does}
 use Rattle.a68_code.specs.declared.does.Does.TheVariants as does
 use Rattle.a68_elab.specs.Made as made
 use Rattle.a68_elab.specs.Programs as programs
+use Rattle.a68_elab.specs.Programs.{Seat, test_seated}
 use Rattle.a68_elab.specs.Made.{coerced, behind_proc, behind_ref, leaf, only, rowed_to, trees_at, all_but_last, last_tree}
 use Rattle.a68_elab.specs.Programs.{tree_in}
 use Rattle.a68_elab.specs.declared.bound.Bound.{Bound}
 use Rattle.a68_elab.specs.declared.sight.Sight.{Sight}
-use Rattle.a68_elab.specs.Trees.{Tree, Trees, operation, together, collateral, serial, call, meaningless, no_trees, ◌and_tree◌, count}
+use Rattle.a68_elab.specs.Trees.{Tree, Trees, operation, together, collateral, serial, call, meaningless, no_trees, ◌and_tree◌, count, Test, no_test, while_in}
 use Rattle.a68_emit.specs.Coercing.{coercions, are_built}
 use Rattle.a68_emit.specs.Forms.{form_of}
 use Rattle.a68_emit.specs.declared.single.CollateralForm.TheVariants as form
 use Rattle.a68_emit.specs.Listing.{instr, opens, size, sizes, stretch, stretches, test_stretch}
+use Rattle.a68_constructs.proofs.Lying.{behind_lies, count_rising}
 use Rattle.a68_constructs.specs.Loops.{asked, unless_at}
 use Rattle.a68_constructs.specs.Sources.{assigned_tree}
 use Rattle.a68_emit.specs.Stretches.{does_of}
 use Rattle.a68_emit.proofs.Linking.{parts_are}
 use Rattle.a68_emit.proofs.Sizes.{size_stretch}
+use Rattle.a68_emit.specs.Views.{laid_of, lying, raised, rising}
 use Rattle.a68_emit.specs.Writing.{Writes}
+use Rattle.a68_emit.specs.declared.view.View.{View}
 use Rattle.a68_modes.specs.Nodes.{shape_at, is_void}
 use Rattle.a68_modes.specs.declared.coercion.Coercion.{Coercion}
 use Rattle.a68_modes.specs.declared.coercion.Coercion.TheVariants as coercion
@@ -125,20 +129,19 @@ count_trees f [] = refl
 count_trees f (i ∷ ids) = ap (λ n. suc n) (count_trees f ids)
 
 -- a call of the first part with the others
-pub call_list : (f : ℕ → Tree) (ids : List ℕ) (place n at : ℕ) (yields : Bool) → 0 < length ids → n ≡ length ids - 1
-    → stretches (trees_at f ids) at ++ instr place (does.Call n yields) ∷ [] ≡ stretch (call place yields (trees_at f ids)) at
-call_list f [] place n at yields some e = absurd (omega arith)
-call_list f (i ∷ ids) place n at yields some e =
-    let many : n ≡ count (trees_at f ids) = (let c = count_trees f ids in omega arith) in
-    ap (λ (k : ℕ). stretches (trees_at f (i ∷ ids)) at ++ instr place (does.Call k yields) ∷ []) many
+pub call_list : (v : View) (id : ℕ) (ids : List ℕ) (place n at : ℕ) (yields : Bool) → 0 < length ids → n ≡ length ids - 1
+    → stretches (rising v id ids) at ++ instr place (does.Call n yields) ∷ [] ≡ stretch (call place yields (rising v id ids)) at
+call_list v id [] place n at yields some e = absurd (omega arith)
+call_list v id (i ∷ ids) place n at yields some e =
+    let many : n ≡ count (rising (raised v) id ids) = (let c = count_rising (raised v) id ids in omega arith) in
+    ap (λ (k : ℕ). stretches (rising v id (i ∷ ids)) at ++ instr place (does.Call k yields) ∷ []) many
 
 -- a call of what a tag stands for
-pub applied_list : (f : ℕ → Tree) (ids : List ℕ) (place hops slot n at : ℕ) (yields : Bool) → n ≡ length ids
-    → (instr place (does.Tag hops slot) ∷ []) ++ (stretches (trees_at f ids) (at + 1) ++ instr place (does.Call n yields) ∷ [])
-    ≡ stretch (call place yields (leaf place (tag hops slot) and_tree trees_at f ids)) at
-applied_list f ids place hops slot n at yields e =
-    let many : n ≡ count (trees_at f ids) = e ∙ sym (count_trees f ids) in
-    ap (λ (k : ℕ). (instr place (does.Tag hops slot) ∷ []) ++ (stretches (trees_at f ids) (at + 1) ++ instr place (does.Call k yields) ∷ [])) many
+pub applied_list : (ts : Trees) (place hops slot n at : ℕ) (yields : Bool) → n ≡ count ts
+    → (instr place (does.Tag hops slot) ∷ []) ++ (stretches ts (at + 1) ++ instr place (does.Call n yields) ∷ [])
+    ≡ stretch (call place yields (leaf place (tag hops slot) and_tree ts)) at
+applied_list ts place hops slot n at yields many =
+    ap (λ (k : ℕ). (instr place (does.Tag hops slot) ∷ []) ++ (stretches ts (at + 1) ++ instr place (does.Call k yields) ∷ [])) many
 
 -- ---- bounds
 
@@ -182,6 +185,9 @@ none-behind a s id k is = go (nat_lt id k) is
     go : (b : Bool) → (b && nat_lt k (length a.tree.nodes)) ≡ false → (if b then tree_in a s k else meaningless) ≡ meaningless
     go true e = none-past a s k (ltb-false k (length a.tree.nodes) e)
     go false e = refl
+
+pub none_laid : (v : View) (id k : ℕ) → (nat_lt id k && nat_lt k (length v.of.now.tree.nodes)) ≡ false → programs.behind id (laid_of v) k ≡ meaningless
+none_laid v id k is = sym (behind_lies v id k) ∙ ap (λ (t : Tree). lying v t) (none-behind v.of.now v.sight id k is)
 
 pub stands-behind : (id k n : ℕ) → (nat_lt id k && nat_lt k n) ≡ true → (id < k) × (k < n)
 stands-behind id k n is = go (nat_lt id k) (nat_lt k n) refl refl is
@@ -277,6 +283,12 @@ framed_serial place (suc n) at kept yields t ts ne e =
     let l = instr place (does.Leave (if yields then 1 else 0)) in
     ap (λ k. instr place (does.Enter (suc n)) ∷ (stretches (t and_tree ts) (at + 1) ++ instr place (does.Leave k) ∷ [])) e
     ∙ ap (λ x. instr place (does.Enter (suc n)) ∷ (x ++ l ∷ [])) (sym (phrases_list t ts (at + 1)))
+
+-- a construct in a frame
+pub framed_whole : (place slots at kept : ℕ) (yields : Bool) (t : Tree) → slots ≢ 0 → kept ≡ (if yields then 1 else 0)
+    → (instr place (does.Enter slots) ∷ []) ++ (stretch t (at + 1) ++ instr place (does.Leave kept) ∷ []) ≡ stretch (made.framed place place slots yields t) at
+framed_whole place zero at kept yields t n e = absurd (n refl)
+framed_whole place (suc n) at kept yields t ne e = ap (λ k. instr place (does.Enter (suc n)) ∷ (stretch t (at + 1) ++ instr place (does.Leave k) ∷ [])) e
 
 -- ---- variables
 
@@ -382,34 +394,26 @@ phrases_whole place at no_trees = refl
 phrases_whole place at (t and_tree ts) = sym (phrases_list t ts at)
 
 -- an enquiry up to its Unless, and the Unless
-asked_list : (f : ℕ → Tree) (place at : ℕ) (node : Option Node) (noted : Option Note)
-    → asked (made.enquiry_of f node noted) at ++ instr place (does.Unless 0) ∷ [] ≡ test_stretch place 0 (made.enquiry_of f node noted) at
-asked_list f place at (Some node) (Some note) =
-    let o = opens note.slots node.span.from in
-    append_assoc o (stretch (made.phrases_of node.span.from (trees_at f node.parts)) (at + length o)) (instr place (does.Unless 0) ∷ [])
-asked_list f place at (Some node) None = refl
-asked_list f place at None noted = refl
-
-pub asked_whole : (a : Annotated) (f : ℕ → Tree) (place at : ℕ) (clause : Option ℕ)
-    → asked (made.enquiry_at a f clause) at ++ instr place (does.Unless 0) ∷ [] ≡ test_stretch place 0 (made.enquiry_at a f clause) at
-asked_whole a f place at (Some clause) = asked_list f place at (slice_get a.tree.nodes clause) (slice_get a.notes clause)
-asked_whole a f place at None = refl
+pub asked_whole : (place at : ℕ) (u : Test) → (u ≡ no_test → ⊥) → asked u at ++ instr place (does.Unless 0) ∷ [] ≡ test_stretch place 0 u at
+asked_whole place at no_test there = absurd (there refl)
+asked_whole place at (while_in begin slots t) there = append_assoc (opens slots begin) (stretch t (at + length (opens slots begin))) (instr place (does.Unless 0) ∷ [])
 
 -- where its Unless stands
-asked_end : (f : ℕ → Tree) (at : ℕ) (node : Option Node) (noted : Option Note)
-    → Some (at + length (asked (made.enquiry_of f node noted) at)) ≡ unless_at (made.enquiry_of f node noted) at
-asked_end f at (Some node) (Some note) =
-    let o = opens note.slots node.span.from in
-    let t = made.phrases_of node.span.from (trees_at f node.parts) in
-    let k = size_stretch t (at + length o) in
-    ap (λ n. Some n) (omega (arith, k, length-append o (stretch t (at + length o))))
-asked_end f at (Some node) None = ap (λ n. Some n) (omega arith)
-asked_end f at None noted = ap (λ n. Some n) (omega arith)
+pub unless_stands : (at : ℕ) (u : Test) → (u ≡ no_test → ⊥) → Some (at + length (asked u at)) ≡ unless_at u at
+unless_stands at no_test there = absurd (there refl)
+unless_stands at (while_in begin slots t) there =
+    let o = opens slots begin in
+    let long = size_stretch t (at + length o) in
+    ap (λ n. Some n) (omega (arith, length-append o (stretch t (at + length o)), long))
 
-pub unless_stands : (a : Annotated) (f : ℕ → Tree) (at : ℕ) (clause : Option ℕ)
-    → Some (at + length (asked (made.enquiry_at a f clause) at)) ≡ unless_at (made.enquiry_at a f clause) at
-unless_stands a f at (Some clause) = asked_end f at (slice_get a.tree.nodes clause) (slice_get a.notes clause)
-unless_stands a f at None = ap (λ n. Some n) (omega arith)
+enquiry_of_there : (s : Seat) (f : ℕ → Tree) (node : Option Node) (noted : Option Note) → test_seated s (made.enquiry_of f node noted) ≡ no_test → ⊥
+enquiry_of_there s f (Some node) (Some note) e = absurd (cc)
+enquiry_of_there s f (Some node) None e = absurd (cc)
+enquiry_of_there s f None noted e = absurd (cc)
+
+pub enquiry_there : (s : Seat) (a : Annotated) (f : ℕ → Tree) (clause : Option ℕ) → test_seated s (made.enquiry_at a f clause) ≡ no_test → ⊥
+enquiry_there s a f (Some clause) e = enquiry_of_there s f (slice_get a.tree.nodes clause) (slice_get a.notes clause) e
+enquiry_there s a f None e = absurd (cc)
 
 -- the test of a loop with WHILE
 pub test_is : (a : Annotated) (f : ℕ → Tree) (test : Option ℕ) (part : ℕ) (ids : List ℕ) → test ≡ Some part → option_map (λ (n : Node). n.parts) (slice_get a.tree.nodes part) ≡ Some ids

@@ -1,11 +1,9 @@
 -- Choices and loops, step by step.
 use Rattle.std.proofs.Common.{Bool, ◌≡◌, ℕ, ◌+◌, List, [], ◌∷◌, ◌++◌, length, refl, sym, ◌∙◌, ap, subst, arith, append_assoc, length-append, None, Some}
-use Rattle.std.specs.Option.{is_some}
 use Rattle.std.specs.declared.option.Option.{Option}
 use Rattle.a68_base.specs.declared.refusal.Stop.{Stop}
 use Rattle.a68_code.specs.declared.code.Instr.{Instr}
 use Rattle.a68_code.specs.declared.does.Does.TheVariants as does
-use Rattle.a68_elab.specs.Made.{controls_of}
 use Rattle.a68_elab.specs.Trees as trees
 use Rattle.a68_elab.specs.Trees.{Tree, Trees, Test, while_in, depth_of}
 use Rattle.a68_builder.specs.Aiming.{aimed_at}
@@ -89,22 +87,21 @@ loop_form at place controls limited counts test body frames e =
     (tail_of out place t (f + n)) (instr place does.Counter) (instr place (does.Step (f + n))))
 
 -- a loop, step by step
-pub loop_all : (s0 s1 s2 s3 s4 s5 s6 s7 s8 s9 s10 s11 : Option Stop) (l0 l1 l2 l3 l4 l5 l6 l7 l8 l9 l10 l11 : List Instr) (f : ℕ → Tree) (place : ℕ)
-    (from by to : Option ℕ) (counts : Bool) (test : Test) (body : Tree) (step quit end frames : ℕ) (o : Option ℕ)
-    → Writes s0 s1 l0 l1 (counted f place from by to (length l0)) → step ≡ length l1
+pub loop_all : (s0 s1 s2 s3 s4 s5 s6 s7 s8 s9 s10 s11 : Option Stop) (l0 l1 l2 l3 l4 l5 l6 l7 l8 l9 l10 l11 : List Instr) (place : ℕ) (controls : Trees) (limited : Bool)
+    (counts : Bool) (test : Test) (body : Tree) (step quit end frames : ℕ) (o : Option ℕ)
+    → Writes s0 s1 l0 l1 (counted controls limited place (length l0)) → step ≡ length l1
     → Writes s1 s2 l1 l2 (instr place (does.Step 0) ∷ instr place does.Turn ∷ indexes counts place)
     → Writes s2 s3 l2 l3 (test_stretch place 0 test (length l2)) → (s3 ≡ None → o ≡ unless_at test (length l2))
     → Writes s3 s4 l3 l4 (stretch body (length l3)) → frames ≡ depth_of counts test → Writes s4 s5 l4 l5 (leaves place frames)
     → quit ≡ length l5 + 2 → end ≡ quit + frames → l6 ≡ aimed_at l5 step 0 end → s6 ≡ s5 → l7 ≡ aimed_some l6 o quit → s7 ≡ s6
     → Writes s7 s8 l7 l8 (instr place (does.Advance step) ∷ []) → Writes s8 s9 l8 l9 (instr place (does.Jump end) ∷ []) → Writes s9 s10 l9 l10 (leaves place frames)
     → Writes s10 s11 l10 l11 (instr place does.Forget ∷ [])
-    → Writes s0 s11 l0 l11 (stretch (trees.loop place (controls_of f place from by to) (is_some to) counts test body) (length l0))
-loop_all s0 s1 s2 s3 s4 s5 s6 s7 s8 s9 s10 s11 l0 l1 l2 l3 l4 l5 l6 l7 l8 l9 l10 l11 f place from by to counts test body step quit end frames o
+    → Writes s0 s11 l0 l11 (stretch (trees.loop place controls limited counts test body) (length l0))
+loop_all s0 s1 s2 s3 s4 s5 s6 s7 s8 s9 s10 s11 l0 l1 l2 l3 l4 l5 l6 l7 l8 l9 l10 l11 place controls limited counts test body step quit end frames o
     w1 es w2 w3 eo w4 ed w5 eq ee e6 t6 e7 t7 w8 w9 w10 w11 =
     let at = length l0 in
-    let controls = controls_of f place from by to in
-    let lim = limits (is_some to) place in
-    let c = counted f place from by to at in
+    let lim = limits limited place in
+    let c = counted controls limited place at in
     let turns = instr place does.Turn ∷ indexes counts place in
     let s = instr place (does.Step 0) in
     let out = leaves place frames in
@@ -162,5 +159,5 @@ loop_all s0 s1 s2 s3 s4 s5 s6 s7 s8 s9 s10 s11 l0 l1 l2 l3 l4 l5 l6 l7 l8 l9 l10
     let tail : Writes s5 s11 l7 l11 (tail_of out place step end) = subst (λ (z : Option Stop). Writes z s11 l7 l11 (tail_of out place step end)) (t7 ∙ t6) w7' in
     let closed : Writes s5 s11 l7 l11 (tail_of out place t' e') =
     writes-at s5 s11 l7 l11 _ _ (λ n. ap (λ (k : ℕ). tail_of out place k end) (omega (arith, step_is n, long_c)) ∙ ap (λ (k : ℕ). tail_of out place t' k) (end_is n)) tail in
-    writes-as s0 s11 l0 l11 _ _ (loop_form at place controls (is_some to) counts test body frames ed)
+    writes-as s0 s11 l0 l11 _ _ (loop_form at place controls limited counts test body frames ed)
     (and_behind s0 s5 s11 l0 l7 l11 (front c turns (rest_at x') place e' f' test w') (λ n. tail_of out place t' e') all_front closed)

@@ -1,6 +1,10 @@
 pub mod Awaiting
+pub mod Calling
 pub mod Conforming
 pub mod Constructs
 pub mod Jumping
+pub mod Lying
 pub mod Numbering
 pub mod Patching
+pub mod Seen
+pub mod Stepping

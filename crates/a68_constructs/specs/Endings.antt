@@ -7,13 +7,16 @@ use Rattle.a68_annot.specs.declared.annotated.Annotated.{Annotated}
 use Rattle.a68_base.specs.declared.refusal.Stop.{Stop}
 use Rattle.a68_code.specs.declared.code.Instr.{Instr}
 use Rattle.a68_code.specs.declared.does.Does.TheVariants as does
-use Rattle.a68_elab.specs.Made.{case_of, conformity_of, left_out, out_of}
-use Rattle.a68_elab.specs.Programs.{behind}
-use Rattle.a68_elab.specs.Trees.{Specs, Tree, Trees, count}
+use Rattle.a68_acts.specs.Members.{members_of}
+use Rattle.a68_elab.specs.Made.{before_out, case_of, conformity_of, goal_at, left_out, out_of, specs_of, with_enquiry}
+use Rattle.a68_elab.specs.Programs.{behind, specs_seated}
+use Rattle.a68_elab.specs.Trees.{Specs, Tree, Trees, conformity, count, meaningless}
 use Rattle.a68_emit.specs.Chains.{TreeIsWritten, shuts}
 use Rattle.a68_emit.specs.Listing.{arm_places, arm_stretches, instr, sizes, spec_places, spec_sizes, spec_stretches, stretch}
 use Rattle.a68_emit.specs.Stretches.{member_places, wholes_of, with_last}
+use Rattle.a68_emit.specs.Views.{laid_of, seat_of, tree_of}
 use Rattle.a68_emit.specs.Writing.{aim_all, Writes}
+use Rattle.a68_emit.specs.declared.view.View.{View}
 use Rattle.a68_annot.specs.declared.note.Note.{Note}
 use Rattle.a68_constructs.specs.declared.choices.Tail.{Tail}
 use Rattle.a68_elab.specs.Runs.{runs}
@@ -60,6 +63,37 @@ conformity_tree a f id place goal parts = conformity_of a (behind id f) place go
 abbrev pub choice_tree : Annotated → (ℕ → Tree) → (by_mode : Bool) → (id place goal : ℕ) → List ℕ → Tree
 choice_tree a f true id place goal parts = conformity_tree a f id place goal parts
 choice_tree a f false id place goal parts = case_tree a f id place goal parts
+
+-- the slots of the frame of a choice with these parts
+abbrev pub slots_at : Option Note → ℕ
+slots_at o = option_map_or (λ (n : Note). n.slots) o 0
+
+abbrev pub enquiry_slots : Annotated → List ℕ → ℕ
+enquiry_slots a [] = 0
+enquiry_slots a (enquiry ∷ ids) = slots_at (slice_get a.notes enquiry)
+
+-- a choice by a mode, seen from within its frame
+abbrev pub laid_conformity_of : View → (f : ℕ → Tree) (specs : List ℕ → Specs) (place goal : ℕ) (yields : Bool) → List ℕ → Tree
+laid_conformity_of v f specs place goal yields [] = meaningless
+laid_conformity_of v f specs place goal yields (enquiry ∷ ids) =
+    let a = v.of.now in
+    let union = goal_at a enquiry in
+    with_enquiry a f place yields enquiry
+    (λ e. conformity place union (members_of (shape_at a.modes union)) yields e (specs (before_out a ids)) (option_map_or f (out_of a ids) (left_out place goal)))
+
+abbrev pub laid_conformity : View → (id place goal : ℕ) → List ℕ → Tree
+laid_conformity v id place goal parts =
+    laid_conformity_of v (behind id (laid_of v)) (λ ids. specs_seated (seat_of v) (specs_of v.of.now (behind id (tree_of v)) ids)) place goal
+    (not (is_void (shape_at v.of.now.modes goal))) parts
+
+-- either, seen from within its frame
+abbrev pub laid_choice : View → (by_mode : Bool) → (id place goal : ℕ) → List ℕ → Tree
+laid_choice v true id place goal parts = laid_conformity v id place goal parts
+laid_choice v false id place goal parts = case_tree v.of.now (laid_of v) id place goal parts
+
+-- the same program, seen alike, with the same clauses about what is written
+abbrev pub IsSeenAlike : View → View → Type 0
+IsSeenAlike v w = w ≡ record v { height = w.height; depth = w.depth }
 
 -- what is left of it behind its front, and what stands for that
 abbrev pub tail_behind : Annotated → (id place goal : ℕ) → List ℕ → Tail

@@ -1,3 +1,4 @@
 pub mod Endings
 pub mod Loops
 pub mod Sources
+pub mod Steps

@@ -1,17 +1,15 @@
 -- Inner: the headline does not rest on this file.
 -- The instructions of loops, piece by piece.
-use Rattle.std.specs.Prelude.{◌+◌, ℕ, List, [], ◌∷◌, ◌++◌, length, None, Some}
-use Rattle.std.specs.Option.{is_some}
+use Rattle.std.specs.Prelude.{◌+◌, ℕ, Bool, List, [], ◌∷◌, ◌++◌, length, None, Some}
 use Rattle.std.specs.declared.option.Option.{Option}
 use Rattle.a68_code.specs.declared.code.Instr.{Instr}
 use Rattle.a68_code.specs.declared.does.Does.TheVariants as does
-use Rattle.a68_elab.specs.Made.{controls_of}
-use Rattle.a68_elab.specs.Trees.{Tree, Test, no_test, while_in}
+use Rattle.a68_elab.specs.Trees.{Trees, Test, no_test, while_in}
 use Rattle.a68_emit.specs.Listing.{instr, limits, opens, size, stretch, stretches}
 
 -- FROM, BY and TO, TO's own step, and Counter
-abbrev pub counted : (f : ℕ → Tree) (place : ℕ) (from by to : Option ℕ) (at : ℕ) → List Instr
-counted f place from by to at = stretches (controls_of f place from by to) at ++ (limits (is_some to) place ++ instr place does.Counter ∷ [])
+abbrev pub counted : (controls : Trees) (limited : Bool) (place at : ℕ) → List Instr
+counted controls limited place at = stretches controls at ++ (limits limited place ++ instr place does.Counter ∷ [])
 
 -- WHILE up to its Unless
 abbrev pub asked : Test → (at : ℕ) → List Instr

@@ -7,12 +7,12 @@ ghost use Rattle.a68_elab.specs.Programs.{behind};
 ghost use Rattle.a68_elab.specs.Trees as trees;
 ghost use Rattle.a68_elab.specs.Trees.{◌and_tree◌};
 ghost use Rattle.a68_emit.specs.Listing.{instr, stretch, stretches};
-ghost use Rattle.a68_emit.specs.Views.{note_of, tree_of};
+ghost use Rattle.a68_emit.specs.Views.{lying, note_of, raised, rising, tree_of};
 ghost use Rattle.a68_emit.specs.Writers.{Wrote};
 ghost use Rattle.a68_modes.specs.Nodes.{shape_at, is_void};
 ghost use Rattle.a68_tree.specs.Trees.{AllBetween};
 
-use crate::rows::{all, operation};
+use crate::rows::{operation, values};
 use a68_annot::Note;
 use a68_code::Does;
 use a68_emit::{View, Writer, hops, meaningless};
@@ -33,7 +33,7 @@ fn applied(
 )
     requires { AllBetween id (length program.now.of.now.tree.nodes) parts.now }
     ensures { Wrote out.old out.new (stretch (trees.call place (not (is_void (shape_at program.now.of.now.modes note.now.mode)))
-        (made.leaf place (operations.tag (made.hops_seen program.now.of.now program.now.sight note.now) note.now.step.slot) and_tree trees_at (behind id (tree_of program.now)) parts.now)) (length out.old.list)) }
+        (made.leaf place (operations.tag (made.hops_seen program.now.of.now program.now.sight note.now) note.now.step.slot) and_tree rising (raised program.now) id parts.now)) (length out.old.list)) }
 {
     let gives = !program.of.is_void(note.mode);
     match u32::try_from(parts.len()) {
@@ -46,7 +46,7 @@ fn applied(
                 },
             );
             let call = Does::Call { count, gives };
-            operation(alloc, program, id, parts, place, call, out)
+            operation(alloc, &program.raised(), id, parts, place, call, out)
         }
         Err(_) => out.run_out(),
     }
@@ -65,8 +65,8 @@ fn declared_formula(
     out: &mut Writer,
 )
     requires { AllBetween id (length program.now.of.now.tree.nodes) parts.now }
-    ensures { Wrote out.old out.new (stretch (made.declared_formula place (not (is_void (shape_at program.now.of.now.modes note.now.mode))) (note_of program.now note.now) note.now.definition
-        (trees_at (behind id (tree_of program.now)) parts.now)) (length out.old.list)) }
+    ensures { Wrote out.old out.new (stretch (lying program.now (made.declared_formula place (not (is_void (shape_at program.now.of.now.modes note.now.mode))) (note_of program.now note.now) note.now.definition
+        (trees_at (behind id (tree_of program.now)) parts.now))) (length out.old.list)) }
 {
     match note.definition {
         Some(_) => applied(alloc, program, id, parts, place, note, out),
@@ -95,9 +95,9 @@ fn standard_formula(
     out: &mut Writer,
 )
     requires { AllBetween id (length program.now.of.now.tree.nodes) parts.now }
-    ensures { Wrote out.old out.new (stretches (trees_at (behind id (tree_of program.now)) parts.now) (length out.old.list) ++ instr place (Does.Apply row) ∷ []) }
+    ensures { Wrote out.old out.new (stretches (rising program.now id parts.now) (length out.old.list) ++ instr place (Does.Apply row) ∷ []) }
 {
-    all(alloc, program, id, parts, out);
+    values(alloc, program, id, parts, out);
     apply(place, row, out);
 }
 
@@ -114,8 +114,8 @@ pub fn formula(
     out: &mut Writer,
 )
     requires { AllBetween id (length program.now.of.now.tree.nodes) parts.now }
-    ensures { Wrote out.old out.new (stretch (made.formula place (not (is_void (shape_at program.now.of.now.modes note.now.mode))) (note_of program.now note.now)
-        (trees_at (behind id (tree_of program.now)) parts.now)) (length out.old.list)) }
+    ensures { Wrote out.old out.new (stretch (lying program.now (made.formula place (not (is_void (shape_at program.now.of.now.modes note.now.mode))) (note_of program.now note.now)
+        (trees_at (behind id (tree_of program.now)) parts.now))) (length out.old.list)) }
 {
     match note.op {
         Some(row) => standard_formula(alloc, program, id, parts, place, row, out),
@@ -127,7 +127,7 @@ pub fn formula(
 #[cycle(units)]
 fn prints(alloc: Global, program: &View, id: NodeId, items: &[NodeId], place: u32, out: &mut Writer)
     requires { AllBetween id (length program.now.of.now.tree.nodes) items.now }
-    ensures { Wrote out.old out.new (stretch (trees.operation place operations.print trees.collateral (trees_at (behind id (tree_of program.now)) items.now)) (length out.old.list)) }
+    ensures { Wrote out.old out.new (stretch (trees.operation place operations.print trees.collateral (rising program.now id items.now)) (length out.old.list)) }
 {
     match u32::try_from(items.len()) {
         Ok(count) => operation(alloc, program, id, items, place, Does::Print(count), out),
@@ -149,7 +149,7 @@ fn routine(
     requires between { AllBetween id (length program.now.of.now.tree.nodes) parts.now }
     requires some { 0 < length parts.now }
     ensures { Wrote out.old out.new (stretch (trees.call place (not (is_void (shape_at program.now.of.now.modes note.now.mode)))
-        (trees_at (behind id (tree_of program.now)) parts.now)) (length out.old.list)) }
+        (rising program.now id parts.now)) (length out.old.list)) }
 {
     let gives = !program.of.is_void(note.mode);
     match u32::try_from(parts.len() - 1) {
@@ -174,21 +174,26 @@ pub fn call(
     out: &mut Writer,
 )
     requires { AllBetween id (length program.now.of.now.tree.nodes) parts.now }
-    ensures { Wrote out.old out.new (stretch (made.call_of program.now.of.now (behind id (tree_of program.now)) place (not (is_void (shape_at program.now.of.now.modes note.now.mode))) parts.now)
+    ensures { Wrote out.old out.new (stretch (lying program.now (made.call_of program.now.of.now (behind id (tree_of program.now)) place (not (is_void (shape_at program.now.of.now.modes note.now.mode))) parts.now))
         (length out.old.list)) }
 {
     if parts.len() == 0 {
         meaningless(out);
         return;
     }
-    let name = called(program.of.annotated(), parts[0]);
+    let tree = program.of.annotated();
+    let name = called(tree, parts[0]);
     let rest = &parts[1..];
-    if is_one_of(printers(), name) {
-        let items = items_at(program.of.annotated(), id, rest);
+    let is_print = is_one_of(printers(), name);
+    if is_print {
+        let items = items_at(tree, id, rest);
         prints(alloc, program, id, items, place, out);
-    } else if is_one_of(wholes(), name) {
-        operation(alloc, program, id, rest, place, Does::Whole, out);
-    } else {
-        routine(alloc, program, id, parts, place, note, out);
+        return;
     }
+    let is_whole = is_one_of(wholes(), name);
+    if is_whole {
+        operation(alloc, program, id, rest, place, Does::Whole, out);
+        return;
+    }
+    routine(alloc, program, id, parts, place, note, out);
 }

@@ -7,8 +7,8 @@ ghost use Rattle.a68_elab.specs.Programs.{behind};
 ghost use Rattle.a68_emit.specs.Chains.{IsOpen, TreeIsWritten, LinkIsWithin, enquiry_tree, jump_of, link_list, link_tree, other_tree};
 ghost use Rattle.a68_emit.specs.Listing.{arm_places, arm_stretches, instr, size, stretch};
 ghost use Rattle.a68_emit.specs.Numbers.{arm_jumps};
-ghost use Rattle.a68_constructs.specs.Endings.{GoesOn, IsBareChoice, IsChoice, IsFront, TailIsWithin, by_mode, case_front, case_tree, choice_tree, out_tree, tail_behind};
-ghost use Rattle.a68_emit.specs.Views.{tree_of};
+ghost use Rattle.a68_constructs.specs.Endings.{GoesOn, IsBareChoice, IsChoice, IsFront, IsSeenAlike, TailIsWithin, by_mode, case_front, case_tree, choice_tree, enquiry_slots, laid_choice, out_tree, tail_behind};
+ghost use Rattle.a68_emit.specs.Views.{laid_of, lying, tree_of, within};
 ghost use Rattle.a68_emit.specs.Writers.{Wrote};
 ghost use Rattle.a68_modes.specs.Nodes.{shape_at, is_void};
 ghost use Rattle.a68_tree.specs.Trees.{AllBetween};
@@ -39,7 +39,7 @@ pub fn otherwise(
     out: &mut Writer,
 )
     requires { IfSome part (λ p. (id < p) × (p < length program.now.of.now.tree.nodes)) }
-    ensures { Wrote out.old out.new (stretch (option_map_or (tree_of program.now) part (made.left_out place goal)) (length out.old.list)) }
+    ensures { Wrote out.old out.new (stretch (option_map_or (laid_of program.now) part (made.left_out place goal)) (length out.old.list)) }
 {
     match part {
         Some(part) => unit(alloc, program, part, out),
@@ -47,14 +47,15 @@ pub fn otherwise(
     }
 }
 
-// [enquiry] Unless x [part] Jump 0 x: and gives the number of the Jump. With slots Enter stands before it.
+// [enquiry] Unless x [part] Jump 0 x: and gives the number of the Jump. With slots Enter stands before it. The program is
+// seen from within its frame.
 #[cycle(units)]
 fn write_link(alloc: Global, program: &View, link: &Link, out: &mut Writer) -> u32
     requires { LinkIsWithin program.now.of.now link.now }
-    ensures writes { Wrote out.old out.new (link_list link.now.at link.now.slots link.now.place (enquiry_tree program.now.of.now (tree_of program.now) link.now)
-        (tree_of program.now link.now.part) (length out.old.list)) }
-    ensures jump { out.new.stop ≡ None → result ≡ jump_of link.now.at link.now.slots (enquiry_tree program.now.of.now (tree_of program.now) link.now)
-        (tree_of program.now link.now.part) (length out.old.list) }
+    ensures writes { Wrote out.old out.new (link_list link.now.at link.now.slots link.now.place (enquiry_tree program.now.of.now (laid_of program.now) link.now)
+        (laid_of program.now link.now.part) (length out.old.list)) }
+    ensures jump { out.new.stop ≡ None → result ≡ jump_of link.now.at link.now.slots (enquiry_tree program.now.of.now (laid_of program.now) link.now)
+        (laid_of program.now link.now.part) (length out.old.list) }
 {
     let place = link.place;
     let phrases = program.of.parts(link.enquiry);
@@ -78,29 +79,34 @@ fn write_link(alloc: Global, program: &View, link: &Link, out: &mut Writer) -> u
 }
 
 // Writes the choices of a chain one behind the other, whose ends are yet to come, and gives the last one, whose other
-// part is yet to be written.
+// part is yet to be written, and how the program is seen from there.
 #[cycle(units)]
-fn write_links(
+fn write_links<'a>(
     alloc: Global,
-    program: &View,
+    program: &View<'a>,
     first: Link,
     opens: &mut Vec<Opened>,
     out: &mut Writer,
-) -> Link
+) -> (Link, View<'a>)
     requires within { LinkIsWithin program.now.of.now first }
     requires empty { opens.old.items ≡ [] }
-    ensures within { LinkIsWithin program.now.of.now result }
-    ensures behind { first.id ≤ result.id }
-    ensures chain { IsOpen (TreeIsWritten (link_tree program.now.of.now (tree_of program.now) first) out.old.stop out.old.list) opens.new.items (other_tree (tree_of program.now) result)
-        out.new.stop out.new.list }
+    ensures within { LinkIsWithin program.now.of.now result.0 }
+    ensures behind { first.id ≤ result.0.id }
+    ensures seen { IsSeenAlike program.now result.1 }
+    ensures chain { IsOpen (TreeIsWritten (link_tree program.now.of.now (laid_of (within first.slots program.now)) first) out.old.stop out.old.list) opens.new.items
+        (other_tree (laid_of result.1) result.0) out.new.stop out.new.list }
 {
     let mut link = first;
+    let mut inner = program.within(first.slots);
     'links: loop {
-        let jump = write_link(alloc, program, &link, out);
+        let jump = write_link(alloc, &inner, &link, out);
         keep_open(opens, &link, jump, out);
-        match next_link(program, &link) {
-            Some(next) => link = next,
-            None => return link,
+        match next_link(&inner, &link) {
+            Some(next) => {
+                link = next;
+                inner = inner.within(next.slots);
+            }
+            None => return (link, inner),
         }
     }
 }
@@ -109,12 +115,12 @@ fn write_links(
 #[cycle(units)]
 fn chain(alloc: Global, program: &View, first: Link, out: &mut Writer)
     requires { LinkIsWithin program.now.of.now first }
-    ensures { Wrote out.old out.new (stretch (link_tree program.now.of.now (tree_of program.now) first) (length out.old.list)) }
+    ensures { Wrote out.old out.new (stretch (link_tree program.now.of.now (laid_of (within first.slots program.now)) first) (length out.old.list)) }
 {
     let mut opens = Vec::new(alloc);
-    let last = write_links(alloc, program, first, &mut opens, out);
+    let (last, inner) = write_links(alloc, program, first, &mut opens, out);
     otherwise(
-        alloc, program, last.id, last.other, last.place, last.goal, out,
+        alloc, &inner, last.id, last.other, last.place, last.goal, out,
     );
     close_all(&opens, out);
 }
@@ -132,8 +138,8 @@ pub fn conditional(
     out: &mut Writer,
 )
     requires { AllBetween id (length program.now.of.now.tree.nodes) parts.now }
-    ensures { Wrote out.old out.new (stretch (made.choice_of program.now.of.now (behind id (tree_of program.now)) place goal
-        (not (is_void (shape_at program.now.of.now.modes goal))) parts.now) (length out.old.list)) }
+    ensures { Wrote out.old out.new (stretch (lying program.now (made.choice_of program.now.of.now (behind id (tree_of program.now)) place goal
+        (not (is_void (shape_at program.now.of.now.modes goal))) parts.now)) (length out.old.list)) }
 {
     match link_of(program, id, parts, place, goal) {
         Some(first) => chain(alloc, program, first, out),
@@ -154,9 +160,9 @@ fn write_arm(
     out: &mut Writer,
 )
     requires { (id < part) × (part < length program.now.of.now.tree.nodes) }
-    ensures writes { Wrote out.old out.new (stretch (behind id (tree_of program.now) part) (length out.old.list) ++ instr place (Does.Jump 0) ∷ []) }
+    ensures writes { Wrote out.old out.new (stretch (behind id (laid_of program.now) part) (length out.old.list) ++ instr place (Does.Jump 0) ∷ []) }
     ensures starts { out.new.stop ≡ None → starts.new.items ≡ starts.old.items ++ length out.old.list ∷ [] }
-    ensures jumps { out.new.stop ≡ None → jumps.new.items ≡ jumps.old.items ++ (length out.old.list + size (behind id (tree_of program.now) part)) ∷ [] }
+    ensures jumps { out.new.stop ≡ None → jumps.new.items ≡ jumps.old.items ++ (length out.old.list + size (behind id (laid_of program.now) part)) ∷ [] }
 {
     let start = out.len();
     keep(starts, start, out);
@@ -182,9 +188,9 @@ fn write_arms(
     requires between { AllBetween id (length program.now.of.now.tree.nodes) parts.now }
     requires no_starts { starts.old.items ≡ [] }
     requires no_jumps { jumps.old.items ≡ [] }
-    ensures writes { Wrote out.old out.new (arm_stretches place 0 (trees_at (behind id (tree_of program.now)) parts.now) (length out.old.list)) }
-    ensures starts { out.new.stop ≡ None → starts.new.items ≡ arm_places (trees_at (behind id (tree_of program.now)) parts.now) (length out.old.list) ++ length out.new.list ∷ [] }
-    ensures jumps { out.new.stop ≡ None → jumps.new.items ≡ arm_jumps (trees_at (behind id (tree_of program.now)) parts.now) (length out.old.list) }
+    ensures writes { Wrote out.old out.new (arm_stretches place 0 (trees_at (behind id (laid_of program.now)) parts.now) (length out.old.list)) }
+    ensures starts { out.new.stop ≡ None → starts.new.items ≡ arm_places (trees_at (behind id (laid_of program.now)) parts.now) (length out.old.list) ++ length out.new.list ∷ [] }
+    ensures jumps { out.new.stop ≡ None → jumps.new.items ≡ arm_jumps (trees_at (behind id (laid_of program.now)) parts.now) (length out.old.list) }
 {
     for part in parts {
         write_arm(alloc, program, id, *part, place, starts, jumps, out);
@@ -216,8 +222,8 @@ fn choose(
 )
     requires between { AllBetween id (length program.now.of.now.tree.nodes) parts.now }
     requires no_jumps { jumps.old.items ≡ [] }
-    ensures writes { Wrote out.old out.new (case_front place (trees_at (behind id (tree_of program.now)) parts.now) (length out.old.list)) }
-    ensures jumps { out.new.stop ≡ None → jumps.new.items ≡ arm_jumps (trees_at (behind id (tree_of program.now)) parts.now) (length out.old.list + 1) }
+    ensures writes { Wrote out.old out.new (case_front place (trees_at (behind id (laid_of program.now)) parts.now) (length out.old.list)) }
+    ensures jumps { out.new.stop ≡ None → jumps.new.items ≡ arm_jumps (trees_at (behind id (laid_of program.now)) parts.now) (length out.old.list + 1) }
 {
     let Ok(items) = zeros(alloc, parts.len() + 1) else {
         out.run_out();
@@ -231,7 +237,7 @@ fn choose(
 }
 
 // [enquiry] Case .. up to where the other part begins, and tells what is to be done at the end. With slots Enter stands
-// before it.
+// before it. The program is seen from within its frame.
 #[cycle(units)]
 fn write_front(
     alloc: Global,
@@ -244,8 +250,8 @@ fn write_front(
 ) -> Ending
     requires some { 0 < length parts.now }
     requires between { AllBetween id (length program.now.of.now.tree.nodes) parts.now }
-    ensures { IsFront (case_tree program.now.of.now (tree_of program.now) id place goal parts.now)
-        (out_tree (tree_of program.now) (tail_behind program.now.of.now id place goal parts.now)) result out.old.stop out.old.list out.new.stop out.new.list }
+    ensures { IsFront (case_tree program.now.of.now (laid_of program.now) id place goal parts.now)
+        (out_tree (laid_of program.now) (tail_behind program.now.of.now id place goal parts.now)) result out.old.stop out.old.list out.new.stop out.new.list }
 {
     let enquiry = parts[0];
     let begin = program.of.node(enquiry).span.from;
@@ -363,7 +369,8 @@ fn next_choice(program: &View, tail: &Tail) -> Option<NodeId>
     Some(unit)
 }
 
-// The front of a choice by a mode, or of one by a number, and what is to be done at its end.
+// The front of a choice by a mode, or of one by a number, and what is to be done at its end. The program is seen from within
+// its frame.
 #[cycle(units)]
 fn front_of(
     alloc: Global,
@@ -377,8 +384,8 @@ fn front_of(
 ) -> Ending
     requires some { 0 < length parts.now }
     requires between { AllBetween id (length program.now.of.now.tree.nodes) parts.now }
-    ensures { IsFront (choice_tree program.now.of.now (tree_of program.now) by_mode id place goal parts.now)
-        (out_tree (tree_of program.now) (tail_behind program.now.of.now id place goal parts.now)) result out.old.stop out.old.list out.new.stop out.new.list }
+    ensures { IsFront (laid_choice program.now by_mode id place goal parts.now)
+        (out_tree (laid_of program.now) (tail_behind program.now.of.now id place goal parts.now)) result out.old.stop out.old.list out.new.stop out.new.list }
 {
     if by_mode {
         return conform_front(alloc, program, id, parts, place, goal, out);
@@ -386,51 +393,67 @@ fn front_of(
     write_front(alloc, program, id, parts, place, goal, out)
 }
 
-// Writes a choice of a chain up to where its other part begins, and keeps what is to be done at its end.
+// How a program is seen from within the frame of a choice with these parts.
+fn inner<'a>(program: &View<'a>, id: NodeId, parts: &[NodeId]) -> View<'a>
+    requires some { 0 < length parts.now }
+    requires between { AllBetween id (length program.now.of.now.tree.nodes) parts.now }
+    ensures { result ≡ within (enquiry_slots program.now.of.now parts.now) program.now }
+{
+    program.within(program.of.note(parts[0]).slots)
+}
+
+// Writes a choice of a chain up to where its other part begins, and keeps what is to be done at its end. Gives what is left
+// of it, and how the program is seen from there.
 #[cycle(units)]
-fn write_choice(
+fn write_choice<'a>(
     alloc: Global,
-    program: &View,
+    program: &View<'a>,
     id: NodeId,
     endings: &mut Vec<Ending>,
     out: &mut Writer,
-) -> Tail
+) -> (Tail, View<'a>)
     requires there { id < length program.now.of.now.tree.nodes }
     requires choice { IsBareChoice program.now.of.now id }
-    ensures within { TailIsWithin program.now.of.now result }
-    ensures node { result.id ≡ id }
-    ensures on { GoesOn (tree_of program.now id) (out_tree (tree_of program.now) result) endings.old.items out.old.stop out.old.list endings.new.items out.new.stop out.new.list }
+    ensures within { TailIsWithin program.now.of.now result.0 }
+    ensures node { result.0.id ≡ id }
+    ensures seen { IsSeenAlike program.now result.1 }
+    ensures on { GoesOn (laid_of program.now id) (out_tree (laid_of result.1) result.0) endings.old.items out.old.stop out.old.list endings.new.items out.new.stop out.new.list }
 {
     let node = program.of.node(id);
     let note = program.of.note(id);
     let parts = program.of.parts(id);
     let place = node.span.from;
     let by_mode = is_by_mode(node);
-    let ending = front_of(alloc, program, by_mode, id, parts, place, note.goal, out);
+    let seen = inner(program, id, parts);
+    let ending = front_of(alloc, &seen, by_mode, id, parts, place, note.goal, out);
     keep_ending(endings, ending, out);
-    tail_of(program, id, parts, place, note.goal)
+    let tail = tail_of(&seen, id, parts, place, note.goal);
+    (tail, seen)
 }
 
-// Writes the choices of a chain one behind the other, whose ends are yet to come, and tells what is left of the last one.
+// Writes the choices of a chain one behind the other, whose ends are yet to come, and tells what is left of the last one, and
+// how the program is seen from there.
 #[cycle(units)]
-fn write_choices(
+fn write_choices<'a>(
     alloc: Global,
-    program: &View,
+    program: &View<'a>,
     first: Tail,
     endings: &mut Vec<Ending>,
     out: &mut Writer,
-) -> Tail
+) -> (Tail, View<'a>)
     requires { TailIsWithin program.now.of.now first }
-    ensures within { TailIsWithin program.now.of.now result }
-    ensures behind { first.id ≤ result.id }
-    ensures on { GoesOn (out_tree (tree_of program.now) first) (out_tree (tree_of program.now) result) endings.old.items out.old.stop out.old.list
+    ensures within { TailIsWithin program.now.of.now result.0 }
+    ensures behind { first.id ≤ result.0.id }
+    ensures seen { IsSeenAlike program.now result.1 }
+    ensures on { GoesOn (out_tree (laid_of program.now) first) (out_tree (laid_of result.1) result.0) endings.old.items out.old.stop out.old.list
         endings.new.items out.new.stop out.new.list }
 {
     let mut tail = first;
+    let mut seen = *program;
     'tails: loop {
-        match next_choice(program, &tail) {
-            Some(next) => tail = write_choice(alloc, program, next, endings, out),
-            None => return tail,
+        match next_choice(&seen, &tail) {
+            Some(next) => (tail, seen) = write_choice(alloc, &seen, next, endings, out),
+            None => return (tail, seen),
         }
     }
 }
@@ -450,15 +473,16 @@ pub fn choice_chain(
 )
     requires some { 0 < length parts.now }
     requires between { AllBetween id (length program.now.of.now.tree.nodes) parts.now }
-    ensures { Wrote out.old out.new (stretch (choice_tree program.now.of.now (tree_of program.now) by_mode id place goal parts.now) (length out.old.list)) }
+    ensures { Wrote out.old out.new (stretch (lying program.now (choice_tree program.now.of.now (tree_of program.now) by_mode id place goal parts.now)) (length out.old.list)) }
 {
     let mut endings = Vec::new(alloc);
-    let ending = front_of(alloc, program, by_mode, id, parts, place, goal, out);
+    let within = inner(program, id, parts);
+    let ending = front_of(alloc, &within, by_mode, id, parts, place, goal, out);
     keep_ending(&mut endings, ending, out);
-    let first = tail_of(program, id, parts, place, goal);
-    let last = write_choices(alloc, program, first, &mut endings, out);
+    let first = tail_of(&within, id, parts, place, goal);
+    let (last, seen) = write_choices(alloc, &within, first, &mut endings, out);
     otherwise(
-        alloc, program, last.id, last.other, last.place, last.goal, out,
+        alloc, &seen, last.id, last.other, last.place, last.goal, out,
     );
     end_all(&endings, out);
 }
@@ -476,8 +500,8 @@ pub fn case(
     out: &mut Writer,
 )
     requires { AllBetween id (length program.now.of.now.tree.nodes) parts.now }
-    ensures { Wrote out.old out.new (stretch (made.case_of program.now.of.now (behind id (tree_of program.now)) place goal
-        (not (is_void (shape_at program.now.of.now.modes goal))) parts.now) (length out.old.list)) }
+    ensures { Wrote out.old out.new (stretch (lying program.now (made.case_of program.now.of.now (behind id (tree_of program.now)) place goal
+        (not (is_void (shape_at program.now.of.now.modes goal))) parts.now)) (length out.old.list)) }
 {
     if parts.len() == 0 {
         meaningless(out);

@@ -1,13 +1,13 @@
 //! The instructions of conformity clauses. Above each function stands what it writes: `[x]` is what the part x writes.
 ghost use Rattle.std.specs.Prelude.{◌≡◌, ◌<◌, ◌+◌, ◌∷◌, ◌++◌, [], not, length};
 ghost use Rattle.a68_acts.specs.Members.{members_of};
-ghost use Rattle.a68_constructs.specs.Endings.{IsFront, conformity_tree, member_front, out_tree, tail_behind};
+ghost use Rattle.a68_constructs.specs.Endings.{IsFront, laid_conformity, member_front, out_tree, tail_behind};
 ghost use Rattle.a68_elab.specs.Made as made;
 ghost use Rattle.a68_elab.specs.Made.{specs_of};
-ghost use Rattle.a68_elab.specs.Programs.{behind};
+ghost use Rattle.a68_elab.specs.Programs.{behind, one_if, specs_seated};
 ghost use Rattle.a68_emit.specs.Conforming.{spec_body, spec_jumps, spec_size};
 ghost use Rattle.a68_emit.specs.Listing.{instr, spec_places, spec_stretches, stretch};
-ghost use Rattle.a68_emit.specs.Views.{tree_of};
+ghost use Rattle.a68_emit.specs.Views.{deeper, laid_of, lying, seat_of, tree_of};
 ghost use Rattle.a68_emit.specs.Writers.{Wrote};
 ghost use Rattle.a68_modes.specs.Nodes.{shape_at, is_void};
 ghost use Rattle.a68_tree.specs.Trees.{AllBetween};
@@ -38,16 +38,17 @@ fn write_specified(
     out: &mut Writer,
 )
     requires { (id < part) × (part < length program.now.of.now.tree.nodes) }
-    ensures { Wrote out.old out.new (spec_body place yields tagged (behind id (tree_of program.now) part) (length out.old.list)) }
+    ensures { Wrote out.old out.new (spec_body place yields tagged (behind id (laid_of (deeper (one_if tagged) program.now)) part) (length out.old.list)) }
 {
+    let within = program.deeper(u32::from(tagged));
     if !tagged {
         out.emit(place, Does::Drop);
-        write_part(alloc, program, id, part, out);
+        write_part(alloc, &within, id, part, out);
         return;
     }
     out.emit(place, Does::Enter(1));
     out.emit(place, Does::Bind(0));
-    write_part(alloc, program, id, part, out);
+    write_part(alloc, &within, id, part, out);
     out.emit(place, Does::Leave(u32::from(yields)));
 }
 
@@ -66,9 +67,9 @@ fn write_spec(
     out: &mut Writer,
 )
     requires { (id < part) × (part < length program.now.of.now.tree.nodes) }
-    ensures writes { Wrote out.old out.new (spec_body place yields tagged (behind id (tree_of program.now) part) (length out.old.list) ++ instr place (Does.Jump 0) ∷ []) }
+    ensures writes { Wrote out.old out.new (spec_body place yields tagged (behind id (laid_of (deeper (one_if tagged) program.now)) part) (length out.old.list) ++ instr place (Does.Jump 0) ∷ []) }
     ensures starts { out.new.stop ≡ None → starts.new.items ≡ starts.old.items ++ length out.old.list ∷ [] }
-    ensures jumps { out.new.stop ≡ None → jumps.new.items ≡ jumps.old.items ++ (length out.old.list + spec_size tagged (behind id (tree_of program.now) part)) ∷ [] }
+    ensures jumps { out.new.stop ≡ None → jumps.new.items ≡ jumps.old.items ++ (length out.old.list + spec_size tagged (behind id (laid_of (deeper (one_if tagged) program.now)) part)) ∷ [] }
 {
     let start = out.len();
     keep(starts, start, out);
@@ -95,9 +96,9 @@ fn write_specs(
     requires between { AllBetween id (length program.now.of.now.tree.nodes) specs.now }
     requires no_starts { starts.old.items ≡ [] }
     requires no_jumps { jumps.old.items ≡ [] }
-    ensures writes { Wrote out.old out.new (spec_stretches place 0 yields (specs_of program.now.of.now (behind id (tree_of program.now)) specs.now) (length out.old.list)) }
-    ensures starts { out.new.stop ≡ None → starts.new.items ≡ spec_places (specs_of program.now.of.now (behind id (tree_of program.now)) specs.now) (length out.old.list) }
-    ensures jumps { out.new.stop ≡ None → jumps.new.items ≡ spec_jumps (specs_of program.now.of.now (behind id (tree_of program.now)) specs.now) (length out.old.list) }
+    ensures writes { Wrote out.old out.new (spec_stretches place 0 yields (specs_seated (seat_of program.now) (specs_of program.now.of.now (behind id (tree_of program.now)) specs.now)) (length out.old.list)) }
+    ensures starts { out.new.stop ≡ None → starts.new.items ≡ spec_places (specs_seated (seat_of program.now) (specs_of program.now.of.now (behind id (tree_of program.now)) specs.now)) (length out.old.list) }
+    ensures jumps { out.new.stop ≡ None → jumps.new.items ≡ spec_jumps (specs_seated (seat_of program.now) (specs_of program.now.of.now (behind id (tree_of program.now)) specs.now)) (length out.old.list) }
 {
     let mut at = 0;
     while at + 1 < specs.len() {
@@ -134,8 +135,8 @@ fn conform(
     requires between { AllBetween id (length program.now.of.now.tree.nodes) specs.now }
     requires no_jumps { jumps.old.items ≡ [] }
     ensures writes { Wrote out.old out.new (member_front place union (members_of (shape_at program.now.of.now.modes union)) yields
-        (specs_of program.now.of.now (behind id (tree_of program.now)) specs.now) (length out.old.list)) }
-    ensures jumps { out.new.stop ≡ None → jumps.new.items ≡ spec_jumps (specs_of program.now.of.now (behind id (tree_of program.now)) specs.now) (length out.old.list + 1) }
+        (specs_seated (seat_of program.now) (specs_of program.now.of.now (behind id (tree_of program.now)) specs.now)) (length out.old.list)) }
+    ensures jumps { out.new.stop ≡ None → jumps.new.items ≡ spec_jumps (specs_seated (seat_of program.now) (specs_of program.now.of.now (behind id (tree_of program.now)) specs.now)) (length out.old.list + 1) }
 {
     let members = members_of(program.of.modes(), union);
     let Ok(does) = unaimed(alloc, program, id, specs, union, members) else {
@@ -163,7 +164,7 @@ fn conform(
 }
 
 /// [enquiry] Member .. up to where the other part begins, and tells what is to be done at the end. With slots Enter stands
-/// before it.
+/// before it. The program is seen from within its frame.
 #[cycle(units)]
 pub fn conform_front(
     alloc: Global,
@@ -176,8 +177,8 @@ pub fn conform_front(
 ) -> Ending
     requires some { 0 < length parts.now }
     requires between { AllBetween id (length program.now.of.now.tree.nodes) parts.now }
-    ensures { IsFront (conformity_tree program.now.of.now (tree_of program.now) id place goal parts.now)
-        (out_tree (tree_of program.now) (tail_behind program.now.of.now id place goal parts.now)) result out.old.stop out.old.list out.new.stop out.new.list }
+    ensures { IsFront (laid_conformity program.now id place goal parts.now)
+        (out_tree (laid_of program.now) (tail_behind program.now.of.now id place goal parts.now)) result out.old.stop out.old.list out.new.stop out.new.list }
 {
     let enquiry = parts[0];
     let begin = program.of.node(enquiry).span.from;
@@ -212,8 +213,8 @@ pub fn conformity(
     out: &mut Writer,
 )
     requires { AllBetween id (length program.now.of.now.tree.nodes) parts.now }
-    ensures { Wrote out.old out.new (stretch (made.conformity_of program.now.of.now (behind id (tree_of program.now)) place goal
-        (not (is_void (shape_at program.now.of.now.modes goal))) parts.now) (length out.old.list)) }
+    ensures { Wrote out.old out.new (stretch (lying program.now (made.conformity_of program.now.of.now (behind id (tree_of program.now)) place goal
+        (not (is_void (shape_at program.now.of.now.modes goal))) parts.now)) (length out.old.list)) }
 {
     if parts.len() == 0 {
         meaningless(out);

@@ -8,6 +8,7 @@ mod endings;
 mod names;
 mod parts;
 mod rows;
+mod steps;
 mod turns;
 
 pub use rows::unit;

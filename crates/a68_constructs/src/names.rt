@@ -7,7 +7,7 @@ ghost use Rattle.a68_elab.specs.Programs.{behind};
 ghost use Rattle.a68_elab.specs.declared.sight.Sight.TheVariants as sights;
 ghost use Rattle.a68_emit.specs.Listing.{stretch, stretches};
 ghost use Rattle.a68_constructs.specs.Sources.{assigned_tree, named};
-ghost use Rattle.a68_emit.specs.Views.{bound_of, tree_of};
+ghost use Rattle.a68_emit.specs.Views.{bound_of, laid_of, lying, raised, rising_bounds, tree_of};
 ghost use Rattle.a68_emit.specs.Writers.{Wrote};
 ghost use Rattle.a68_modes.specs.Nodes.{shape_at};
 ghost use Rattle.a68_tree.specs.Trees.{AllBetween};
@@ -16,7 +16,7 @@ use crate::rows::{unit, write_part};
 use a68_annot::Note;
 use a68_code::Does;
 use a68_elab::{Bound, Sight};
-use a68_emit::{Numbered, View, Writer, is_heap, meaningless, new_does, push_int};
+use a68_emit::{View, Writer, is_heap, meaningless, new_does, push_int};
 use a68_modes::ModeId;
 use a68_parts::{begins_in_heap, begins_with_declarer, behind_heap, behind_ref};
 use a68_runs::bounds_of;
@@ -34,7 +34,7 @@ fn stands_behind(program: &View, id: NodeId, other: NodeId) -> bool
 // A bound that is written: [bound]. One that does not stand behind its construct stands for none. No annotated tree has one.
 #[cycle(units)]
 fn write_written(alloc: Global, program: &View, id: NodeId, bound: NodeId, out: &mut Writer)
-    ensures { Wrote out.old out.new (stretch (behind id (tree_of program.now) bound) (length out.old.list)) }
+    ensures { Wrote out.old out.new (stretch (behind id (laid_of program.now) bound) (length out.old.list)) }
 {
     if stands_behind(program, id, bound) {
         write_part(alloc, program, id, bound, out);
@@ -45,17 +45,20 @@ fn write_written(alloc: Global, program: &View, id: NodeId, bound: NodeId, out: 
 
 // A bound of a definition that stands so many frames further out than where it is elaborated: [bound], as it is seen there.
 #[cycle(units)]
-fn write_outside(alloc: Global, program: &Numbered, frames: u32, bound: NodeId, out: &mut Writer)
-    ensures { Wrote out.old out.new (stretch (programs.defined_bound program.now sights.Here frames bound) (length out.old.list)) }
+fn write_outside(alloc: Global, program: &View, frames: u32, bound: NodeId, out: &mut Writer)
+    ensures { Wrote out.old out.new (stretch (lying program.now (programs.defined_bound program.now.of.now sights.Here frames bound)) (length out.old.list)) }
 {
-    if bound >= program.len() {
+    if bound >= program.of.len() {
         meaningless(out);
         return;
     }
-    let bytes = program.node(bound).span;
+    let bytes = program.of.node(bound).span;
     let within = View {
-        of: &*program,
+        of: program.of,
         sight: Sight::Within { frames, bytes },
+        height: program.height,
+        depth: program.depth,
+        clauses: program.clauses,
     };
     unit(alloc, &within, bound, out);
 }
@@ -63,10 +66,10 @@ fn write_outside(alloc: Global, program: &Numbered, frames: u32, bound: NodeId, 
 // A bound of a definition: [bound]. Within such a bound no other is elaborated, and Push of 0 stands in its place.
 #[cycle(units)]
 fn write_defined(alloc: Global, program: &View, frames: u32, bound: NodeId, out: &mut Writer)
-    ensures { Wrote out.old out.new (stretch (bound_of program.now frames bound) (length out.old.list)) }
+    ensures { Wrote out.old out.new (stretch (lying program.now (bound_of program.now frames bound)) (length out.old.list)) }
 {
     match program.sight {
-        Sight::Here => write_outside(alloc, program.of, frames, bound, out),
+        Sight::Here => write_outside(alloc, program, frames, bound, out),
         Sight::Within { .. } => out.emit(0, push_int(0)),
     }
 }
@@ -81,7 +84,7 @@ fn write_bound(
     place: u32,
     out: &mut Writer,
 )
-    ensures { Wrote out.old out.new (stretch (made.bound_tree (bound_of program.now) (behind id (tree_of program.now)) place bound) (length out.old.list)) }
+    ensures { Wrote out.old out.new (stretch (lying program.now (made.bound_tree (bound_of program.now) (behind id (tree_of program.now)) place bound)) (length out.old.list)) }
 {
     match bound {
         Bound::Written(bound) => write_written(alloc, program, id, bound, out),
@@ -90,7 +93,7 @@ fn write_bound(
     }
 }
 
-// [bounds], one behind the other.
+// [bounds], each over the values of those before it.
 #[cycle(units)]
 fn write_bounds(
     alloc: Global,
@@ -100,10 +103,12 @@ fn write_bounds(
     place: u32,
     out: &mut Writer,
 )
-    ensures { Wrote out.old out.new (stretches (made.bound_trees (bound_of program.now) (behind id (tree_of program.now)) place bounds.now) (length out.old.list)) }
+    ensures { Wrote out.old out.new (stretches (rising_bounds program.now id place bounds.now) (length out.old.list)) }
 {
+    let mut over = *program;
     for bound in bounds {
-        write_bound(alloc, program, id, *bound, place, out);
+        write_bound(alloc, &over, id, *bound, place, out);
+        over = over.raised();
     }
 }
 
@@ -119,7 +124,7 @@ fn bounded(
     mode: ModeId,
     out: &mut Writer,
 )
-    ensures { Wrote out.old out.new (stretch (made.new_name in_heap place mode (made.bound_trees (bound_of program.now) (behind id (tree_of program.now)) place bounds.now)) (length out.old.list)) }
+    ensures { Wrote out.old out.new (stretch (lying program.now (made.new_name in_heap place mode (made.bound_trees (bound_of program.now) (behind id (tree_of program.now)) place bounds.now))) (length out.old.list)) }
 {
     match u32::try_from(bounds.len()) {
         Ok(count) => {
@@ -142,7 +147,7 @@ fn new_name(
     mode: ModeId,
     out: &mut Writer,
 )
-    ensures { Wrote out.old out.new (stretch (named program.now.of.now (bound_of program.now) (behind id (tree_of program.now)) in_heap place mode parts.now) (length out.old.list)) }
+    ensures { Wrote out.old out.new (stretch (lying program.now (named program.now.of.now (bound_of program.now) (behind id (tree_of program.now)) in_heap place mode parts.now)) (length out.old.list)) }
 {
     let Ok(bounds) = bounds_of(alloc, program.of.annotated(), parts) else {
         out.run_out();
@@ -163,8 +168,8 @@ pub fn generator(
     out: &mut Writer,
 )
     requires { node.now.name < length program.now.of.now.tree.spellings }
-    ensures { Wrote out.old out.new (stretch (named program.now.of.now (bound_of program.now) (behind id (tree_of program.now)) (made.is_one_of made.heaps (made.spelling_of program.now.of.now node.now))
-        node.now.span.from (made.behind_ref (shape_at program.now.of.now.modes note.now.mode)) node.now.parts) (length out.old.list)) }
+    ensures { Wrote out.old out.new (stretch (lying program.now (named program.now.of.now (bound_of program.now) (behind id (tree_of program.now)) (made.is_one_of made.heaps (made.spelling_of program.now.of.now node.now))
+        node.now.span.from (made.behind_ref (shape_at program.now.of.now.modes note.now.mode)) node.now.parts)) (length out.old.list)) }
 {
     let in_heap = is_heap(program, node);
     let mode = behind_ref(program.of.modes(), note.mode);
@@ -195,11 +200,11 @@ fn assigned(
 )
     requires { (id < source) × (source < length program.now.of.now.tree.nodes) }
     ensures { Wrote out.old out.new (stretch (let mode = made.behind_ref (shape_at program.now.of.now.modes note.now.mode) in
-        assigned_tree (named program.now.of.now (bound_of program.now) (behind id (tree_of program.now)) in_heap place mode parts.now) place mode note.now.step.slot (behind id (tree_of program.now) source)) (length out.old.list)) }
+        assigned_tree (lying program.now (named program.now.of.now (bound_of program.now) (behind id (tree_of program.now)) in_heap place mode parts.now)) place mode note.now.step.slot (behind id (laid_of (raised program.now)) source)) (length out.old.list)) }
 {
     let mode = behind_ref(program.of.modes(), note.mode);
     new_name(alloc, program, id, parts, place, in_heap, mode, out);
-    write_part(alloc, program, id, source, out);
+    write_part(alloc, &program.raised(), id, source, out);
     out.emit(place, Does::Store(mode));
     out.emit(place, Does::Bind(note.step.slot));
 }
@@ -218,8 +223,8 @@ fn begun(
 )
     requires { AllBetween id (length program.now.of.now.tree.nodes) parts.now }
     ensures { let mode = made.behind_ref (shape_at program.now.of.now.modes note.now.mode) in
-        Wrote out.old out.new (stretch (made.variable_of (named program.now.of.now (bound_of program.now) (behind id (tree_of program.now)) in_heap place mode parts.now) false place mode note.now.step.slot
-        (trees_at (behind id (tree_of program.now)) parts.now)) (length out.old.list)) }
+        Wrote out.old out.new (stretch (lying program.now (made.variable_of (named program.now.of.now (bound_of program.now) (behind id (tree_of program.now)) in_heap place mode parts.now) false place mode note.now.step.slot
+        (trees_at (behind id (tree_of program.now)) parts.now))) (length out.old.list)) }
 {
     if parts.len() != 1 {
         meaningless(out);
@@ -244,8 +249,8 @@ fn declared(
 )
     requires { AllBetween id (length program.now.of.now.tree.nodes) parts.now }
     ensures { let mode = made.behind_ref (shape_at program.now.of.now.modes note.now.mode) in
-        Wrote out.old out.new (stretch (made.variable_of (named program.now.of.now (bound_of program.now) (behind id (tree_of program.now)) in_heap place mode parts.now) true place mode note.now.step.slot
-        (trees_at (behind id (tree_of program.now)) parts.now)) (length out.old.list)) }
+        Wrote out.old out.new (stretch (lying program.now (made.variable_of (named program.now.of.now (bound_of program.now) (behind id (tree_of program.now)) in_heap place mode parts.now) true place mode note.now.step.slot
+        (trees_at (behind id (tree_of program.now)) parts.now))) (length out.old.list)) }
 {
     if parts.len() == 1 {
         let mode = behind_ref(program.of.modes(), note.mode);
@@ -274,8 +279,8 @@ fn variable_of(
     out: &mut Writer,
 )
     requires { AllBetween id (length program.now.of.now.tree.nodes) parts.now }
-    ensures { Wrote out.old out.new (stretch (made.variable program.now.of.now (bound_of program.now) (behind id (tree_of program.now)) place (made.behind_ref (shape_at program.now.of.now.modes note.now.mode))
-        note.now.step.slot parts.now) (length out.old.list)) }
+    ensures { Wrote out.old out.new (stretch (lying program.now (made.variable program.now.of.now (bound_of program.now) (behind id (tree_of program.now)) place (made.behind_ref (shape_at program.now.of.now.modes note.now.mode))
+        note.now.step.slot parts.now)) (length out.old.list)) }
 {
     let in_heap = begins_in_heap(program.of.annotated(), id, parts);
     let rest = behind_heap(in_heap, parts);
@@ -298,8 +303,8 @@ pub fn variable(
     out: &mut Writer,
 )
     requires { AllBetween id (length program.now.of.now.tree.nodes) node.now.parts }
-    ensures { Wrote out.old out.new (stretch (made.variable program.now.of.now (bound_of program.now) (behind id (tree_of program.now)) node.now.span.from
-        (made.behind_ref (shape_at program.now.of.now.modes note.now.mode)) note.now.step.slot node.now.parts) (length out.old.list)) }
+    ensures { Wrote out.old out.new (stretch (lying program.now (made.variable program.now.of.now (bound_of program.now) (behind id (tree_of program.now)) node.now.span.from
+        (made.behind_ref (shape_at program.now.of.now.modes note.now.mode)) note.now.step.slot node.now.parts)) (length out.old.list)) }
 {
     variable_of(
         alloc,

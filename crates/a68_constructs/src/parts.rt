@@ -6,13 +6,13 @@ ghost use Rattle.a68_elab.specs.Made.{trees_at};
 ghost use Rattle.a68_elab.specs.Programs.{behind};
 ghost use Rattle.a68_elab.specs.Trees as trees;
 ghost use Rattle.a68_emit.specs.Listing.{stretch, stretches};
-ghost use Rattle.a68_emit.specs.Views.{tree_of};
+ghost use Rattle.a68_emit.specs.Views.{behind_values, laid_of, lying, rising, tree_of};
 ghost use Rattle.a68_emit.specs.Writers.{Wrote};
 ghost use Rattle.a68_modes.specs.Nodes.{shape_at};
 ghost use Rattle.a68_tree.specs.Trees.{AllBetween};
 ghost use Rattle.a68_tree.specs.declared.kind.NodeKind.TheVariants as kind;
 
-use crate::rows::{all, last, operation, write_part};
+use crate::rows::{all, last, operation, values, write_part};
 use a68_annot::Note;
 use a68_code::Does;
 use a68_emit::{CollateralForm, View, Writer, form_at, forms_of, meaningless, mode_in_front};
@@ -31,7 +31,7 @@ fn structure(
     out: &mut Writer,
 )
     requires { AllBetween id (length program.now.of.now.tree.nodes) parts.now }
-    ensures { let parts = trees_at (behind id (tree_of program.now)) parts.now in
+    ensures { let parts = rising program.now id parts.now in
         Wrote out.old out.new (stretch (trees.operation place (operations.compose (trees.count parts)) trees.collateral parts) (length out.old.list)) }
 {
     match u32::try_from(parts.len()) {
@@ -52,7 +52,7 @@ fn row(
     out: &mut Writer,
 )
     requires { AllBetween id (length program.now.of.now.tree.nodes) parts.now }
-    ensures { let parts = trees_at (behind id (tree_of program.now)) parts.now in
+    ensures { let parts = rising program.now id parts.now in
         Wrote out.old out.new (stretch (trees.operation place (operations.display (trees.count parts) mode) trees.collateral parts) (length out.old.list)) }
 {
     match u32::try_from(parts.len()) {
@@ -82,7 +82,7 @@ pub fn collateral(
     out: &mut Writer,
 )
     requires { AllBetween id (length program.now.of.now.tree.nodes) parts.now }
-    ensures { Wrote out.old out.new (stretch (made.collateral_of (shape_at program.now.of.now.modes note.now.goal) place note.now.goal (trees_at (behind id (tree_of program.now)) parts.now))
+    ensures { Wrote out.old out.new (stretch (lying program.now (made.collateral_of (shape_at program.now.of.now.modes note.now.goal) place note.now.goal (trees_at (behind id (tree_of program.now)) parts.now)))
         (length out.old.list)) }
 {
     match form_at(program, note.goal) {
@@ -109,7 +109,7 @@ pub fn selection(
     requires is { slice_get program.now.of.now.tree.nodes id ≡ Some node.now }
     requires selects { node.now.kind ≡ kind.Selection }
     ensures { Wrote out.old out.new (stretch (made.selection_of program.now.of.now.modes place (made.first_goal program.now.of.now node.now.parts) node.now.name
-        (trees_at (behind id (tree_of program.now)) node.now.parts)) (length out.old.list)) }
+        (trees_at (behind id (laid_of program.now)) node.now.parts)) (length out.old.list)) }
 {
     let parts = program.of.parts(id);
     let mode = mode_in_front(program, parts);
@@ -122,23 +122,31 @@ pub fn selection(
     }
 }
 
-// The units of an index: [units].
+// The units of an index: [units]; gives how a program is seen from over their values.
 #[cycle(units)]
-fn write_index(alloc: Global, program: &View, id: NodeId, index: NodeId, out: &mut Writer)
+fn write_index<'a>(
+    alloc: Global,
+    program: &View<'a>,
+    id: NodeId,
+    index: NodeId,
+    out: &mut Writer,
+) -> View<'a>
     requires { (id < index) × (index < length program.now.of.now.tree.nodes) }
-    ensures { Wrote out.old out.new (stretches (trees_at (behind id (tree_of program.now)) (made.parts_at program.now.of.now index)) (length out.old.list)) }
+    ensures writes { Wrote out.old out.new (stretches (rising program.now id (made.parts_at program.now.of.now index)) (length out.old.list)) }
+    ensures over { result ≡ behind_values program.now (made.parts_at program.now.of.now index) }
 {
-    all(alloc, program, id, program.of.parts(index), out);
+    values(alloc, program, id, program.of.parts(index), out)
 }
 
 // [units] of each index, in order.
 #[cycle(units)]
 fn write_indexes(alloc: Global, program: &View, id: NodeId, indexes: &[NodeId], out: &mut Writer)
     requires { AllBetween id (length program.now.of.now.tree.nodes) indexes.now }
-    ensures { Wrote out.old out.new (stretches (trees_at (behind id (tree_of program.now)) (made.index_units program.now.of.now indexes.now)) (length out.old.list)) }
+    ensures { Wrote out.old out.new (stretches (rising program.now id (made.index_units program.now.of.now indexes.now)) (length out.old.list)) }
 {
+    let mut over = *program;
     for index in indexes {
-        write_index(alloc, program, id, *index, out);
+        over = write_index(alloc, &over, id, *index, out);
     }
 }
 
@@ -154,7 +162,7 @@ pub fn slice(
     out: &mut Writer,
 )
     requires { AllBetween id (length program.now.of.now.tree.nodes) parts.now }
-    ensures { Wrote out.old out.new (stretch (made.slice_of program.now.of.now (behind id (tree_of program.now)) place parts.now) (length out.old.list)) }
+    ensures { Wrote out.old out.new (stretch (lying program.now (made.slice_of program.now.of.now (behind id (tree_of program.now)) place parts.now)) (length out.old.list)) }
 {
     if parts.len() == 0 {
         meaningless(out);
@@ -166,6 +174,6 @@ pub fn slice(
         return;
     };
     write_part(alloc, program, id, parts[0], out);
-    write_indexes(alloc, program, id, indexes, out);
+    write_indexes(alloc, &program.raised(), id, indexes, out);
     out.emit(place, Does::Slice(forms));
 }

@@ -7,7 +7,7 @@ ghost use Rattle.a68_elab.specs.Programs.{behind};
 ghost use Rattle.a68_elab.specs.Trees as trees;
 ghost use Rattle.a68_emit.specs.Listing.{instr, stretch, stretches};
 ghost use Rattle.a68_emit.specs.Stretches.{does_of};
-ghost use Rattle.a68_emit.specs.Views.{bound_of, note_of, tree_of};
+ghost use Rattle.a68_emit.specs.Views.{behind_values, bound_of, laid_of, lying, note_of, rising, tree_of};
 ghost use Rattle.a68_emit.specs.Writers.{Wrote};
 ghost use Rattle.a68_modes.specs.Nodes.{shape_at, is_void};
 ghost use Rattle.a68_tree.specs.Trees.{AllBetween};
@@ -17,14 +17,16 @@ use crate::choices::{case, conditional};
 use crate::conformity::conformity;
 use crate::names::{generator, variable};
 use crate::parts::{collateral, selection, slice};
+use crate::steps::labelled;
 use crate::turns::repeat;
 use a68_annot::Note;
 use a68_code::Does;
 use a68_emit::{
-    View, Writer, are_built, coerce, denotation, leave, long_denotation, meaningless, misfit,
+    View, Writer, are_built, coerce, denotation, jump, leave, long_denotation, meaningless, misfit,
     nothing, parallel, same, store, tag,
 };
 use a68_modes::ModeId;
+use a68_parts::is_labelled;
 use a68_tree::{Node, NodeId, NodeKind};
 use std::alloc::Global;
 
@@ -33,7 +35,7 @@ use std::alloc::Global;
 #[cycle(units)]
 pub fn unit(alloc: Global, program: &View, id: NodeId, out: &mut Writer)
     requires { id < length program.now.of.now.tree.nodes }
-    ensures { Wrote out.old out.new (stretch (tree_of program.now id) (length out.old.list)) }
+    ensures { Wrote out.old out.new (stretch (laid_of program.now id) (length out.old.list)) }
 {
     if out.has_stopped() {
         return;
@@ -118,7 +120,7 @@ fn assignation(
     out: &mut Writer,
 )
     requires { AllBetween id (length program.now.of.now.tree.nodes) parts.now }
-    ensures { Wrote out.old out.new (stretches (trees_at (behind id (tree_of program.now)) parts.now) (length out.old.list)
+    ensures { Wrote out.old out.new (stretches (rising program.now id parts.now) (length out.old.list)
         ++ instr place (Does.Store (made.behind_ref (shape_at program.now.of.now.modes note.now.mode))) ∷ []) }
 {
     let does = store(program, note);
@@ -139,7 +141,7 @@ fn identity(
 )
     requires between { AllBetween id (length program.now.of.now.tree.nodes) parts.now }
     requires named { node.now.name < length program.now.of.now.tree.spellings }
-    ensures { Wrote out.old out.new (stretches (trees_at (behind id (tree_of program.now)) parts.now) (length out.old.list)
+    ensures { Wrote out.old out.new (stretches (rising program.now id parts.now) (length out.old.list)
         ++ instr place (Does.Same (made.negated (made.is_one_of made.isnt (made.spelling_of program.now.of.now node.now)))) ∷ []) }
 {
     let does = same(program, node);
@@ -150,7 +152,7 @@ fn identity(
 #[cycle(units)]
 pub fn write_part(alloc: Global, program: &View, id: NodeId, part: NodeId, out: &mut Writer)
     requires { (id < part) × (part < length program.now.of.now.tree.nodes) }
-    ensures { Wrote out.old out.new (stretch (behind id (tree_of program.now) part) (length out.old.list)) }
+    ensures { Wrote out.old out.new (stretch (behind id (laid_of program.now) part) (length out.old.list)) }
 {
     unit(alloc, program, part, out);
 }
@@ -163,7 +165,7 @@ fn construct(alloc: Global, program: &View, id: NodeId, node: &Node, note: &Note
     requires between { AllBetween id (length program.now.of.now.tree.nodes) node.now.parts }
     requires named { node.now.name < length program.now.of.now.tree.spellings }
     requires begins { node.now.span.from < made.behind_all program.now.of.now.tree.nodes }
-    ensures { Wrote out.old out.new (stretch (made.made program.now.of.now (bound_of program.now) (behind id (tree_of program.now)) node.now (note_of program.now note.now) node.now.kind) (length out.old.list)) }
+    ensures { Wrote out.old out.new (stretch (lying program.now (made.made program.now.of.now (bound_of program.now) (behind id (tree_of program.now)) node.now (note_of program.now note.now) node.now.kind)) (length out.old.list)) }
 {
     let place = node.span.from;
     let parts = &node.parts.items;
@@ -192,7 +194,8 @@ fn construct(alloc: Global, program: &View, id: NodeId, node: &Node, note: &Note
         NodeKind::Selection => selection(alloc, program, id, node, place, out),
         NodeKind::Call => call(alloc, program, id, parts, place, note, out),
         NodeKind::Cast => last(alloc, program, id, parts, out),
-        NodeKind::Serial => serial(alloc, program, id, parts, place, note, out),
+        NodeKind::Serial => clause(alloc, program, id, parts, place, note, out),
+        NodeKind::GoTo => go_to(program, place, note, out),
         NodeKind::Closed
         | NodeKind::Out
         | NodeKind::From
@@ -216,11 +219,33 @@ fn construct(alloc: Global, program: &View, id: NodeId, node: &Node, note: &Note
 #[inline(never)]
 pub fn all(alloc: Global, program: &View, id: NodeId, parts: &[NodeId], out: &mut Writer)
     requires { AllBetween id (length program.now.of.now.tree.nodes) parts.now }
-    ensures { Wrote out.old out.new (stretches (trees_at (behind id (tree_of program.now)) parts.now) (length out.old.list)) }
+    ensures { Wrote out.old out.new (stretches (trees_at (behind id (laid_of program.now)) parts.now) (length out.old.list)) }
 {
     for part in parts {
         write_part(alloc, program, id, *part, out);
     }
+}
+
+/// [parts], each over the values of those before it; gives how a program is seen from over all of them.
+#[cycle(units)]
+#[inline(never)]
+pub fn values<'a>(
+    alloc: Global,
+    program: &View<'a>,
+    id: NodeId,
+    parts: &[NodeId],
+    out: &mut Writer,
+) -> View<'a>
+    requires { AllBetween id (length program.now.of.now.tree.nodes) parts.now }
+    ensures writes { Wrote out.old out.new (stretches (rising program.now id parts.now) (length out.old.list)) }
+    ensures over { result ≡ behind_values program.now parts.now }
+{
+    let mut over = *program;
+    for part in parts {
+        write_part(alloc, &over, id, *part, out);
+        over = over.raised();
+    }
+    over
 }
 
 /// [parts], and the instruction that takes their values.
@@ -236,9 +261,9 @@ pub fn operation(
     out: &mut Writer,
 )
     requires { AllBetween id (length program.now.of.now.tree.nodes) parts.now }
-    ensures { Wrote out.old out.new (stretches (trees_at (behind id (tree_of program.now)) parts.now) (length out.old.list) ++ instr place does ∷ []) }
+    ensures { Wrote out.old out.new (stretches (rising program.now id parts.now) (length out.old.list) ++ instr place does ∷ []) }
 {
-    all(alloc, program, id, parts, out);
+    values(alloc, program, id, parts, out);
     out.emit(place, does);
 }
 
@@ -247,7 +272,7 @@ pub fn operation(
 #[inline(never)]
 pub fn last(alloc: Global, program: &View, id: NodeId, parts: &[NodeId], out: &mut Writer)
     requires { AllBetween id (length program.now.of.now.tree.nodes) parts.now }
-    ensures { Wrote out.old out.new (stretch (made.last_tree (trees_at (behind id (tree_of program.now)) parts.now)) (length out.old.list)) }
+    ensures { Wrote out.old out.new (stretch (made.last_tree (trees_at (behind id (laid_of program.now)) parts.now)) (length out.old.list)) }
 {
     if parts.len() == 0 {
         meaningless(out);
@@ -269,8 +294,8 @@ fn definition(
     out: &mut Writer,
 )
     requires { AllBetween id (length program.now.of.now.tree.nodes) parts.now }
-    ensures { Wrote out.old out.new (stretch (trees.operation place (operations.bind note.now.step.slot) trees.serial
-        (made.only (made.last_tree (trees_at (behind id (tree_of program.now)) parts.now)))) (length out.old.list)) }
+    ensures { Wrote out.old out.new (stretch (lying program.now (trees.operation place (operations.bind note.now.step.slot) trees.serial
+        (made.only (made.last_tree (trees_at (behind id (tree_of program.now)) parts.now))))) (length out.old.list)) }
 {
     last(alloc, program, id, parts, out);
     out.emit(place, Does::Bind(note.step.slot));
@@ -289,8 +314,8 @@ fn serial(
     out: &mut Writer,
 )
     requires { AllBetween id (length program.now.of.now.tree.nodes) parts.now }
-    ensures { Wrote out.old out.new (stretch (made.serial_of place note.now.slots (not (is_void (shape_at program.now.of.now.modes note.now.goal)))
-        (trees_at (behind id (tree_of program.now)) parts.now)) (length out.old.list)) }
+    ensures { Wrote out.old out.new (stretch (lying program.now (made.serial_of place note.now.slots (not (is_void (shape_at program.now.of.now.modes note.now.goal)))
+        (trees_at (behind id (tree_of program.now)) parts.now))) (length out.old.list)) }
 {
     if parts.len() == 0 {
         meaningless(out);
@@ -301,8 +326,69 @@ fn serial(
         return;
     }
     out.emit(place, Does::Enter(note.slots));
-    all(alloc, program, id, parts, out);
+    all(alloc, &program.deeper(1), id, parts, out);
     out.emit(place, leave(program, note));
+}
+
+// [steps]; with slots Enter [steps] Leave.
+#[cycle(units)]
+#[inline(never)]
+fn framed_steps(
+    alloc: Global,
+    program: &View,
+    id: NodeId,
+    parts: &[NodeId],
+    place: u32,
+    note: &Note,
+    out: &mut Writer,
+)
+    requires between { AllBetween id (length program.now.of.now.tree.nodes) parts.now }
+    requires are { made.parts_at program.now.of.now id ≡ parts.now }
+    ensures { Wrote out.old out.new (stretch (lying program.now (made.framed place place note.now.slots (not (is_void (shape_at program.now.of.now.modes note.now.goal)))
+        (trees.labelled place (made.steps_of program.now.of.now (behind id (tree_of program.now)) [] parts.now)))) (length out.old.list)) }
+{
+    if note.slots == 0 {
+        labelled(alloc, program, id, parts, place, out);
+        return;
+    }
+    out.emit(place, Does::Enter(note.slots));
+    labelled(alloc, &program.deeper(1), id, parts, place, out);
+    out.emit(place, leave(program, note));
+}
+
+// A serial clause, with labels or without.
+#[cycle(units)]
+#[inline(never)]
+fn clause(
+    alloc: Global,
+    program: &View,
+    id: NodeId,
+    parts: &[NodeId],
+    place: u32,
+    note: &Note,
+    out: &mut Writer,
+)
+    requires between { AllBetween id (length program.now.of.now.tree.nodes) parts.now }
+    requires are { made.parts_at program.now.of.now id ≡ parts.now }
+    ensures { Wrote out.old out.new (stretch (lying program.now (made.clause_of program.now.of.now (behind id (tree_of program.now)) place note.now.slots
+        (not (is_void (shape_at program.now.of.now.modes note.now.goal))) parts.now)) (length out.old.list)) }
+{
+    if is_labelled(program.of.annotated(), parts) {
+        framed_steps(alloc, program, id, parts, place, note, out);
+    } else {
+        serial(alloc, program, id, parts, place, note, out);
+    }
+}
+
+// A jump to the label that its tag applies.
+#[inline(never)]
+fn go_to(program: &View, place: u32, note: &Note, out: &mut Writer)
+    ensures { Wrote out.old out.new (stretch (lying program.now (made.jump_of place (not (is_void (shape_at program.now.of.now.modes note.now.goal))) note.now.definition)) (length out.old.list)) }
+{
+    match note.definition {
+        Some(label) => jump(program, place, label, !program.of.is_void(note.goal), out),
+        None => meaningless(out),
+    }
 }
 
 // [part], the only one.
@@ -310,7 +396,7 @@ fn serial(
 #[inline(never)]
 fn only(alloc: Global, program: &View, id: NodeId, parts: &[NodeId], out: &mut Writer)
     requires { AllBetween id (length program.now.of.now.tree.nodes) parts.now }
-    ensures { Wrote out.old out.new (stretch (made.only_of (trees_at (behind id (tree_of program.now)) parts.now)) (length out.old.list)) }
+    ensures { Wrote out.old out.new (stretch (lying program.now (made.only_of (trees_at (behind id (tree_of program.now)) parts.now))) (length out.old.list)) }
 {
     if parts.len() != 1 {
         meaningless(out);

@@ -5,7 +5,7 @@ use Rattle.a68_base.specs.declared.limits.TheConstants.{MOST_MODES}
 use Rattle.a68_declare.specs.Outcome.{ByNode}
 use Rattle.a68_definitions.proofs.Defining.{all_longer, granted_long, mode_below, of_longer, requested_below, some_modes}
 use Rattle.a68_definitions.specs.Defined.{AllBelow, AreBelow, AreDefinedFrom, IsGranted, IsRequestBelow, none_yet, one_more, requested, with_mode}
-use Rattle.a68_definitions.specs.Tags.{AreTags, IsTagAt, is_tag}
+use Rattle.a68_definitions.specs.Tags.{AreTags, IsTagAt, applies_tag}
 use Rattle.a68_definitions.specs.declared.requests.Request.{Request}
 use Rattle.a68_definitions.specs.declared.requests.Request.TheVariants as request
 use Rattle.a68_equiv.specs.declared.mode.Mode.{Mode}
@@ -48,7 +48,7 @@ module _ (tree : Built) (once : (id : ℕ) → IsTwice tree id → ⊥) where
   pub tags_one : (tags others : List (Option ℕ)) → AreTags tree tags → AreTags tree others → tags ≡ others
   tags_one tags others p q =
       ext_get_or None tags others (p.long ∙ sym q.long)
-      (λ n h. let there : n < length tree.nodes = subst (λ (k : ℕ). n < k) p.long h in tag_at_one n (is_tag (kind_at tree n)) (get_or tags n None) (get_or others n None) (p.each n there) (q.each n there))
+      (λ n h. let there : n < length tree.nodes = subst (λ (k : ℕ). n < k) p.long h in tag_at_one n (applies_tag (kind_at tree n)) (get_or tags n None) (get_or others n None) (p.each n there) (q.each n there))
 
 -- ---- what is granted
 

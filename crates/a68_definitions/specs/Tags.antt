@@ -7,9 +7,19 @@ use Rattle.a68_tree.specs.Trees.{Built}
 use Rattle.a68_tree.specs.declared.kind.NodeKind.{NodeKind}
 use Rattle.a68_tree.specs.declared.kind.NodeKind.TheVariants as kind
 
-abbrev pub is_tag : NodeKind → Bool
-is_tag kind.Tag = true
-is_tag _ = false
+-- a node that applies a tag: the tag alone, or a jump to it
+abbrev pub applies_tag : NodeKind → Bool
+applies_tag kind.Tag = true
+applies_tag kind.GoTo = true
+applies_tag _ = false
+
+-- a label is defined by what is no value
+abbrev pub is_label : NodeKind → Bool
+is_label kind.Label = true
+is_label _ = false
+
+abbrev pub is_label_at : Built → (definition : ℕ) → Bool
+is_label_at tree d = is_label (kind_at tree d)
 
 -- the definition of a node that applies a tag, if it has one; none of another node
 abbrev pub IsTagAt : Built → (n : ℕ) → (applies : Bool) → Option ℕ → Type 0
@@ -19,7 +29,7 @@ IsTagAt tree n false found = found ≡ None
 -- the definitions of the nodes before one
 pub record AreTagsBefore (tree : Built) (count : ℕ) (tags : List (Option ℕ)) : Type 0 where
   pub long : length tags ≡ count
-  pub each : (n : ℕ) → n < count → IsTagAt tree n (is_tag (kind_at tree n)) (slice_index_or tags n None)
+  pub each : (n : ℕ) → n < count → IsTagAt tree n (applies_tag (kind_at tree n)) (slice_index_or tags n None)
 
 -- the definitions of the tags that all nodes apply; a standard tag has a number from that of the nodes upwards
 abbrev pub AreTags : Built → List (Option ℕ) → Type 0

@@ -1,6 +1,6 @@
 //! The definitions of applied tags.
 ghost use Rattle.std.specs.Prelude.{◌≡◌, ◌<◌, IfOk, None, length, slice_index_or};
-ghost use Rattle.a68_definitions.specs.Tags.{AreTags, IsTagAt, is_tag};
+ghost use Rattle.a68_definitions.specs.Tags.{AreTags, IsTagAt};
 ghost use Rattle.a68_definitions.specs.Tags as specs;
 ghost use Rattle.a68_ranges.specs.Nodes.{kind_at};
 ghost use Rattle.a68_ranges.specs.Tables.{AreRanges};
@@ -39,20 +39,30 @@ impl Tags {
     }
 }
 
+// Does a node of that kind apply a tag?
+fn applies_tag(kind: NodeKind) -> bool
+    ensures { result ≡ specs.applies_tag kind }
+{
+    match kind {
+        NodeKind::Tag | NodeKind::GoTo => true,
+        _ => false,
+    }
+}
+
 // Finds the definition of the tag that a node applies.
 fn tag_at(tree: &Tree, ranges: &Ranges, node: NodeId) -> Option<NodeId>
     requires ranges { AreRanges tree.now ranges.now }
     requires there { node < length tree.now.nodes }
-    ensures { IsTagAt tree.now node (is_tag (kind_at tree.now node)) result }
+    ensures { IsTagAt tree.now node (specs.applies_tag (kind_at tree.now node)) result }
 {
     let found = tree.node(node);
-    match found.kind {
-        NodeKind::Tag => ranges.tag(node, found.name),
-        _ => None,
+    if !applies_tag(found.kind) {
+        return None;
     }
+    ranges.tag(node, found.name)
 }
 
-/// Finds the definitions of the tags that the nodes of a tree apply (4.8.1): for each the one in the innermost range about it
+/// Finds the definitions of the tags that the nodes of a tree apply, jumps too (4.8.1, 5.4.4): for each the one in the innermost range about it
 /// that declares the tag, else the standard one.
 pub fn applied_tags(alloc: Global, tree: &Tree, ranges: &Ranges) -> Result<Tags, NoMemory>
     requires { AreRanges tree.now ranges.now }

@@ -13,5 +13,5 @@ pub use laws::{
     definitions_are_one, definitions_are_sound, definitions_keep_nodes, definitions_keep_shapes,
     modes_of_declarers_are_below,
 };
-pub use reading::{kind_of, part_from_end, part_number, parts_of};
+pub use reading::{is_label, kind_of, part_from_end, part_number, parts_from, parts_of};
 pub use requests::first_declarer;

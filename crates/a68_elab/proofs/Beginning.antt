@@ -10,14 +10,14 @@ use Rattle.a68_elab.specs.Made as made
 use Rattle.a68_elab.specs.Programs as programs
 use Rattle.a68_elab.specs.Made.{bytes_of, seen, last_id, parts_at, trees_at, coerced, behind_proc, behind_ref, all_but_last, last_tree, spelling_of, is_one_of, called, printers, wholes, items_at, begins_with, is_heap, is_declarer, behind_heap, first_bounds, new_name}
 use Rattle.a68_elab.specs.Runs.{agrees, is_outcome, left_by, outcome, outcome_by}
-use Rattle.a68_elab.specs.Programs.{asked_tree, body_yields, fitting, misfit, place_of, body_of, defined_bound, no_bound, tree_in, parallel_unit_of, program_of, tree_at, tree_from, unit}
-use Rattle.a68_elab.specs.Places.{BeginsBy, AllBeginBy, SpecsBeginBy, TestBeginsBy, ApartBeginBy, ProgramBeginsBy}
+use Rattle.a68_elab.specs.Programs.{Mark, Seat, first_seat, over, further_in, in_clause, mark_of, jump_by, one_if, seated, all_seated, specs_seated, test_seated, steps_seated, asked_tree, body_yields, fitting, misfit, place_of, body_of, defined_bound, no_bound, tree_in, parallel_unit_of, program_of, tree_at, tree_from, unit}
+use Rattle.a68_elab.specs.Places.{BeginsBy, AllBeginBy, StepsBeginBy, SpecsBeginBy, TestBeginsBy, ApartBeginBy, ProgramBeginsBy}
 use Rattle.a68_elab.specs.declared.bound.Bound.{Bound}
 use Rattle.a68_elab.specs.declared.bound.Bound.TheVariants as bound
 use Rattle.a68_elab.specs.declared.sight.Sight.{Sight}
 use Rattle.a68_elab.specs.declared.sight.Sight.TheVariants as sight
 use Rattle.a68_base.specs.declared.refusal.Span.{Span}
-use Rattle.a68_elab.specs.Trees.{Tree, Trees, no_trees, ◌and_tree◌, Specs, meaningless, Apart, routine_text, parallel_unit}
+use Rattle.a68_elab.specs.Trees.{Tree, Trees, operation, together, phrases, labelled, jump, range, choice, cases, conformity, loop, call, parallel, no_trees, ◌and_tree◌, Specs, no_specs, spec, Test, no_test, while_in, Steps, last_step, step, exit, labels_of, deeper, depth_of, meaningless, Apart, routine_text, parallel_unit}
 use Rattle.a68_modes.specs.Nodes.{shape_at, is_void}
 use Rattle.a68_modes.specs.declared.coercion.Coercion.{Coercion}
 use Rattle.a68_modes.specs.declared.coercion.Coercion.TheVariants as coercion
@@ -118,6 +118,27 @@ module _ (end : ℕ) where
   part_begins : (f : ℕ → Tree) (part : Option ℕ) (left_out : Tree) → BeginsBy end left_out → ((id : ℕ) → BeginsBy end (f id)) → BeginsBy end (option_map_or f part left_out)
   part_begins f (Some id) left_out b h = h id
   part_begins f None left_out b h = b
+
+  either_steps : (x : Bool) (one other : Steps) → StepsBeginBy end one → StepsBeginBy end other → StepsBeginBy end (if x then one else other)
+  either_steps true one other p q = p
+  either_steps false one other p q = q
+
+  steps_begin : (a : Annotated) (f : ℕ → Tree) (labels ids : List ℕ) → ((id : ℕ) → BeginsBy end (f id)) → StepsBeginBy end (made.steps_of a f labels ids)
+  steps_begin a f labels [] h = tt
+  steps_begin a f labels (id ∷ []) h = h id
+  steps_begin a f labels (id ∷ (i ∷ ids)) h =
+      either_steps (made.is_label (made.kind_at a id)) (made.steps_of a f (labels ++ id ∷ []) (i ∷ ids)) _ (steps_begin a f (labels ++ id ∷ []) (i ∷ ids) h)
+      (either_steps (made.is_exit (made.kind_at a i)) (exit labels (f id) (made.steps_of a f [] ids)) (step labels (f id) (made.steps_of a f [] (i ∷ ids))) (h id, steps_begin a f [] ids h)
+      (h id, steps_begin a f [] (i ∷ ids) h))
+
+  clause_begins : (a : Annotated) (f : ℕ → Tree) (place slots : ℕ) (yields : Bool) (ids : List ℕ) → place ≤ end → ((id : ℕ) → BeginsBy end (f id)) → BeginsBy end (made.clause_of a f place slots yields ids)
+  clause_begins a f place slots yields ids p h =
+      either_begins (made.is_labelled a ids) (made.framed place place slots yields (labelled place (made.steps_of a f [] ids))) (made.serial_of place slots yields (trees_at f ids))
+      (framed_begins place place slots yields (labelled place (made.steps_of a f [] ids)) p p (p, steps_begin a f [] ids h)) (serial_begins place slots yields (trees_at f ids) p (trees_begin f ids h))
+
+  jump_begins : (place : ℕ) (yields : Bool) (definition : Option ℕ) → place ≤ end → BeginsBy end (made.jump_of place yields definition)
+  jump_begins place yields None p = tt
+  jump_begins place yields (Some label) p = p
 
   phrases_begin : (place : ℕ) (ts : Trees) → place ≤ end → AllBeginBy end ts → BeginsBy end (made.phrases_of place ts)
   phrases_begin place no_trees p b = tt
@@ -233,8 +254,8 @@ module _ (end : ℕ) where
   construct_begins a g f node note kind.Vacuum p w h all = (p, tt)
   construct_begins a g f node note kind.Slice p w h all = slice_begins a f node.span.from node.parts p h
   construct_begins a g f node note kind.Selection p w h all = (p, (last_begins (trees_at f node.parts) (trees_begin f node.parts h), tt))
-  construct_begins a g f node note kind.Serial p w h all =
-      serial_begins node.span.from note.slots (not (is_void (shape_at a.modes note.goal))) (trees_at f node.parts) p (trees_begin f node.parts h)
+  construct_begins a g f node note kind.Serial p w h all = clause_begins a f node.span.from note.slots (not (is_void (shape_at a.modes note.goal))) node.parts p h
+  construct_begins a g f node note kind.GoTo p w h all = jump_begins node.span.from (not (is_void (shape_at a.modes note.goal))) note.definition p
   construct_begins a g f node note kind.Closed p w h all = only_begins (trees_at f node.parts) (trees_begin f node.parts h)
   construct_begins a g f node note kind.Out p w h all = only_begins (trees_at f node.parts) (trees_begin f node.parts h)
   construct_begins a g f node note kind.From p w h all = only_begins (trees_at f node.parts) (trees_begin f node.parts h)
@@ -283,10 +304,50 @@ module _ (end : ℕ) where
   tree_at_begins program h id =
       node_begins program sight.Here (defined_bound program sight.Here) 0 program.tree.nodes program.notes (λ frames k. within_begins program frames (bytes_of program k) h k) h h id
 
+  -- the numbers of jumps are no places
+  jump_by_begins : (place label : ℕ) (yields : Bool) (depth : ℕ) (o : Option Mark) → place ≤ end → BeginsBy end (jump_by place label yields depth o)
+  jump_by_begins place label yields depth None p = misfit_begins place yields p
+  jump_by_begins place label yields depth (Some m) p = p
+
+  mutual
+    seated_begins : (s : Seat) (t : Tree) → BeginsBy end t → BeginsBy end (seated s t)
+    seated_begins s (operation place op order parts) b = (b.0, all_seated_begin s true parts b.1)
+    seated_begins s (together parts) b = all_seated_begin s false parts b
+    seated_begins s (phrases place before final) b = (b.0, all_seated_begin s false before b.1, seated_begins s final b.2)
+    seated_begins s (labelled place steps) b = (b.0, steps_seated_begin (in_clause (labels_of steps) s) steps b.1)
+    seated_begins s (jump place label frames height yields) b = jump_by_begins place label yields s.depth (mark_of label s.marks) b
+    seated_begins s (range place out slots yields within) b = (b.0, b.1, seated_begins (further_in 1 s) within b.2)
+    seated_begins s (choice place enquiry if_true if_false) b = (b.0, seated_begins s enquiry b.1, seated_begins s if_true b.2, seated_begins s if_false b.3)
+    seated_begins s (cases place enquiry arms out) b = (b.0, seated_begins s enquiry b.1, all_seated_begin s false arms b.2, seated_begins s out b.3)
+    seated_begins s (conformity place union members yields enquiry specs out) b = (b.0, seated_begins s enquiry b.1, specs_seated_begin s specs b.2, seated_begins s out b.3)
+    seated_begins s (loop place controls limited counts test body) b =
+        (b.0, all_seated_begin s true controls b.1, test_seated_begins (further_in (one_if counts) (over true s)) test b.2, seated_begins (further_in (depth_of counts test) (over true s)) body b.3)
+    seated_begins s (call place yields parts) b = (b.0, all_seated_begin s true parts b.1)
+    seated_begins s (parallel place units) b = b
+    seated_begins s meaningless b = tt
+
+    all_seated_begin : (s : Seat) (leave : Bool) (ts : Trees) → AllBeginBy end ts → AllBeginBy end (all_seated s leave ts)
+    all_seated_begin s leave no_trees b = tt
+    all_seated_begin s leave (t and_tree ts) b = (seated_begins s t b.0, all_seated_begin (over leave s) leave ts b.1)
+
+    specs_seated_begin : (s : Seat) (specs : Specs) → SpecsBeginBy end specs → SpecsBeginBy end (specs_seated s specs)
+    specs_seated_begin s no_specs b = tt
+    specs_seated_begin s (spec takes tagged united part behind) b = (seated_begins (further_in (one_if tagged) s) part b.0, specs_seated_begin s behind b.1)
+
+    test_seated_begins : (s : Seat) (test : Test) → TestBeginsBy end test → TestBeginsBy end (test_seated s test)
+    test_seated_begins s no_test b = tt
+    test_seated_begins s (while_in at slots test) b = (b.0, seated_begins (further_in (deeper slots 0) s) test b.1)
+
+    steps_seated_begin : (s : Seat) (steps : Steps) → StepsBeginBy end steps → StepsBeginBy end (steps_seated s steps)
+    steps_seated_begin s (last_step labels t) b = seated_begins s t b
+    steps_seated_begin s (step labels t more) b = (seated_begins s t b.0, steps_seated_begin s more b.1)
+    steps_seated_begin s (exit labels t more) b = (seated_begins s t b.0, steps_seated_begin s more b.1)
+
   asked_begins_by : (a : Annotated) (wanted : Bool) (id : ℕ) → ((id : ℕ) (n : Node) → slice_get a.tree.nodes id ≡ Some n → n.span.from ≤ end) → BeginsBy end (asked_tree a wanted id)
   asked_begins_by a wanted id h =
-      either_begins (is_outcome wanted (outcome a id)) (tree_at a id) (misfit (place_of a id) wanted) (tree_at_begins a h id)
-      (misfit_begins (place_of a id) wanted (first_begins (slice_get a.tree.nodes id) (λ n e. h id n e)))
+      seated_begins first_seat (if is_outcome wanted (outcome a id) then tree_at a id else misfit (place_of a id) wanted)
+      (either_begins (is_outcome wanted (outcome a id)) (tree_at a id) (misfit (place_of a id) wanted) (tree_at_begins a h id)
+      (misfit_begins (place_of a id) wanted (first_begins (slice_get a.tree.nodes id) (λ n e. h id n e))))
 
   joined_begin : (xs ys : List Apart) → ApartBeginBy end xs → ApartBeginBy end ys → ApartBeginBy end (xs ++ ys)
   joined_begin [] ys p q = q

@@ -16,7 +16,7 @@ use Rattle.a68_elab.specs.declared.bound.Bound.{Bound}
 use Rattle.a68_elab.specs.declared.bound.Bound.TheVariants as bound
 use Rattle.a68_elab.specs.declared.sight.Sight.{Sight}
 use Rattle.a68_elab.specs.declared.sight.Sight.TheVariants as sight
-use Rattle.a68_elab.specs.Trees.{collateral, serial, Tree, Trees, operation, together, phrases, range, choice, cases, conformity, loop, call, parallel, meaningless, Specs, no_specs, spec, Test, no_test, while_in, no_trees, ◌and_tree◌, count, Body, ParallelUnit, Apart, routine_text, parallel_unit, Program}
+use Rattle.a68_elab.specs.Trees.{collateral, serial, Tree, Trees, operation, together, phrases, labelled, jump, range, choice, cases, conformity, loop, call, parallel, meaningless, Steps, last_step, step, exit, Specs, no_specs, spec, Test, no_test, while_in, no_trees, ◌and_tree◌, count}
 use Rattle.a68_layout.specs.Rooms.{bounds_needed}
 use Rattle.a68_layout.specs.declared.types.TrimForm.{TrimForm}
 use Rattle.a68_layout.specs.declared.types.TrimForm.TheVariants as form
@@ -375,6 +375,39 @@ abbrev pub only_of : Trees → Tree
 only_of (t and_tree no_trees) = t
 only_of _ = meaningless
 
+-- ---- serial clauses with labels (Report, 3.2)
+
+abbrev pub is_label : NodeKind → Bool
+is_label kind.Label = true
+is_label _ = false
+
+abbrev pub is_exit : NodeKind → Bool
+is_exit kind.Exit = true
+is_exit _ = false
+
+-- the steps of these nodes, where these labels stand before the first one
+abbrev pub steps_of : Annotated → (f : ℕ → Tree) → (labels : List ℕ) → List ℕ → Steps
+steps_of a f labels [] = last_step labels meaningless
+steps_of a f labels (id ∷ []) = last_step labels (f id)
+steps_of a f labels (id ∷ (i ∷ ids)) =
+    if is_label (kind_at a id) then steps_of a f (labels ++ id ∷ []) (i ∷ ids)
+    else (if is_exit (kind_at a i) then exit labels (f id) (steps_of a f [] ids) else step labels (f id) (steps_of a f [] (i ∷ ids)))
+
+-- whether a serial clause is one with labels: one of these nodes is a label or EXIT, behind which one stands
+abbrev pub is_labelled : Annotated → List ℕ → Bool
+is_labelled a ids = list_any (λ id. is_label (kind_at a id) || is_exit (kind_at a id)) ids
+
+-- a serial clause, in its frame where it has slots
+abbrev pub clause_of : Annotated → (f : ℕ → Tree) → (place slots : ℕ) (yields : Bool) → List ℕ → Tree
+clause_of a f place slots yields ids =
+    if is_labelled a ids then framed place place slots yields (labelled place (steps_of a f [] ids))
+    else serial_of place slots yields (trees_at f ids)
+
+-- a jump to the label that its tag applies, whose numbers are set when its surroundings are known (Report, 5.4.4)
+abbrev pub jump_of : (place : ℕ) (yields : Bool) → (definition : Option ℕ) → Tree
+jump_of place yields None = meaningless
+jump_of place yields (Some label) = jump place label 0 0 yields
+
 -- the phrases of a serial clause in a range that is not its own
 abbrev pub phrases_of : (place : ℕ) → Trees → Tree
 phrases_of place no_trees = meaningless
@@ -702,7 +735,8 @@ made a g f node note kind.Collateral = collateral_of (shape_at a.modes note.goal
 made a g f node note kind.Vacuum = leaf node.span.from (vacuum note.goal)
 made a g f node note kind.Slice = slice_of a f node.span.from node.parts
 made a g f node note kind.Selection = selection_of a.modes node.span.from (first_goal a node.parts) node.name (trees_at f node.parts)
-made a g f node note kind.Serial = serial_of node.span.from note.slots (not (is_void (shape_at a.modes note.goal))) (trees_at f node.parts)
+made a g f node note kind.Serial = clause_of a f node.span.from note.slots (not (is_void (shape_at a.modes note.goal))) node.parts
+made a g f node note kind.GoTo = jump_of node.span.from (not (is_void (shape_at a.modes note.goal))) note.definition
 made a g f node note kind.Closed = only_of (trees_at f node.parts)
 made a g f node note kind.Out = only_of (trees_at f node.parts)
 made a g f node note kind.From = only_of (trees_at f node.parts)

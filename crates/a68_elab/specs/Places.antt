@@ -1,7 +1,7 @@
 -- Inner: the headline does not rest on this file.
 -- Where the constructs of a program begin.
 use Rattle.std.specs.Prelude.{ℕ, ◌≤◌, List, [], ◌∷◌}
-use Rattle.a68_elab.specs.Trees.{Tree, Trees, operation, together, phrases, range, choice, cases, conformity, loop, call, parallel, meaningless, Specs, no_specs, spec, Test, no_test, while_in, no_trees, ◌and_tree◌, Body, ParallelUnit, Apart, routine_text, parallel_unit, Program}
+use Rattle.a68_elab.specs.Trees.{Tree, Trees, operation, together, phrases, labelled, jump, range, choice, cases, conformity, loop, call, parallel, meaningless, Specs, no_specs, spec, Test, no_test, while_in, no_trees, ◌and_tree◌, Steps, last_step, step, exit, Apart, routine_text, parallel_unit, Program}
 
 -- each construct of the tree begins at this byte or before it
 abbrev mutual
@@ -9,6 +9,8 @@ abbrev mutual
   BeginsBy end (operation place op order parts) = (place ≤ end) × AllBeginBy end parts
   BeginsBy end (together parts) = AllBeginBy end parts
   BeginsBy end (phrases place before final) = (place ≤ end) × AllBeginBy end before × BeginsBy end final
+  BeginsBy end (labelled place steps) = (place ≤ end) × StepsBeginBy end steps
+  BeginsBy end (jump place label frames height yields) = place ≤ end
   BeginsBy end (range place out slots yields within) = (place ≤ end) × (out ≤ end) × BeginsBy end within
   BeginsBy end (choice place enquiry if_true if_false) = (place ≤ end) × BeginsBy end enquiry × BeginsBy end if_true × BeginsBy end if_false
   BeginsBy end (cases place enquiry arms out) = (place ≤ end) × BeginsBy end enquiry × AllBeginBy end arms × BeginsBy end out
@@ -21,6 +23,11 @@ abbrev mutual
   pub AllBeginBy : (end : ℕ) → Trees → Type 0
   AllBeginBy end no_trees = Unit {0}
   AllBeginBy end (tree and_tree trees) = BeginsBy end tree × AllBeginBy end trees
+
+  pub StepsBeginBy : (end : ℕ) → Steps → Type 0
+  StepsBeginBy end (last_step labels t) = BeginsBy end t
+  StepsBeginBy end (step labels t more) = BeginsBy end t × StepsBeginBy end more
+  StepsBeginBy end (exit labels t more) = BeginsBy end t × StepsBeginBy end more
 
   pub SpecsBeginBy : (end : ℕ) → Specs → Type 0
   SpecsBeginBy end no_specs = Unit {0}

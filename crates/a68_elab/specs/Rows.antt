@@ -12,8 +12,8 @@ use Rattle.a68_acts.specs.declared.want.Reply.{Reply}
 use Rattle.a68_acts.specs.declared.want.Reply.TheVariants as reply
 use Rattle.a68_acts.specs.declared.want.Want.{Want}
 use Rattle.a68_acts.specs.declared.want.Want.TheVariants as want
-use Rattle.a68_elab.specs.Terms.{Job, operating, resuming, gathering, preceding, ending, ranged, choosing, casing, conforming, specifying, tagging, passing, chosen, limiting, counting, stepping, turning, opening, naming, indexing, ranging, testing, running, advancing, quitting, leaving, calling, entering, binding, inside, forking, joining, closing, Term, todo, part, yielded, unit_of, no_terms, ◌and_term◌, only, todos, unit_terms, values, last_of}
-use Rattle.a68_elab.specs.Trees.{Tree, operation, together, phrases, range, choice, cases, conformity, loop, call, parallel, meaningless, Trees, no_trees, ◌and_tree◌, count, Specs, no_specs, spec, Test, no_test, while_in, LoopTurns, depth, Body, ParallelUnit, Program, texts_of, units_of}
+use Rattle.a68_elab.specs.Terms.{Job, operating, resuming, gathering, preceding, ending, at_step, ranged, choosing, casing, conforming, specifying, tagging, passing, chosen, limiting, counting, stepping, turning, opening, naming, indexing, ranging, testing, running, advancing, quitting, leaving, calling, entering, binding, inside, forking, joining, closing, Term, todo, part, yielded, unit_of, no_terms, ◌and_term◌, only, todos, unit_terms, values, last_of}
+use Rattle.a68_elab.specs.Trees.{Tree, operation, together, phrases, labelled, jump, range, choice, cases, conformity, loop, call, parallel, meaningless, Trees, no_trees, ◌and_tree◌, count, Steps, last_step, step, exit, first, Specs, no_specs, spec, Test, no_test, while_in, LoopTurns, depth, Body, ParallelUnit, Program, texts_of, units_of}
 use Rattle.a68_acts.specs.Members.{member_of}
 use Rattle.a68_modes.specs.Nodes.{shape_at}
 use Rattle.a68_modes.specs.declared.shape.Shape.{Shape}
@@ -66,6 +66,18 @@ enters place slots (e ∷ outer) go = acts place (want.Enter e.frame (suc e.scop
 abbrev pub leaves : (place : ℕ) (yields : Bool) → List Environ → Content → Then Term
 leaves place yields (inner ∷ e ∷ outer) v = if yields && nat_lt e.scope (scope_of v) then meets fault.Scope place else goes (yielded v)
 leaves place yields _ v = meets fault.Kind place
+
+-- ---- serial clauses with labels (Report, 3.2.2)
+
+-- a clause at one of its steps
+abbrev pub stands_at : (all here : Steps) → List Environ → Term
+stands_at all here chain = part (at_step all here) chain (only (todo (first here) chain))
+
+-- a step has yielded: the clause goes on with the next one, or with that yield it ends
+abbrev pub goes_behind : (all here : Steps) → List Environ → Content → Then Term
+goes_behind all (last_step labels t) chain v = goes (yielded v)
+goes_behind all (step labels t more) chain v = goes (stands_at all more chain)
+goes_behind all (exit labels t more) chain v = goes (yielded v)
 
 -- ---- choices
 
@@ -198,33 +210,36 @@ forks units place chain numbers = acts place (want.Fork numbers) (joins units pl
 
 -- ---- the rules
 
--- what a construct does first that is to be elaborated
-abbrev pub begin : Tree → List Environ → Then Term
+-- what a construct does first that is to be elaborated; nothing where another one does it
+abbrev pub begin : Tree → List Environ → Option (Then Term)
 -- an operation: its parts (Report, 5.2.1.2 and 5.4.2.2)
-begin (operation place op order parts) chain = goes (part (operating place op order) chain (todos parts chain))
+begin (operation place op order parts) chain = Some (goes (part (operating place op order) chain (todos parts chain)))
 -- parts at any time (Report, 3.3.2)
-begin (together parts) chain = goes (part gathering chain (todos parts chain))
+begin (together parts) chain = Some (goes (part gathering chain (todos parts chain)))
 -- a serial clause: the phrases before the last one (Report, 3.2.2)
-begin (phrases place before final) chain = goes (part (preceding final) chain (todos before chain))
+begin (phrases place before final) chain = Some (goes (part (preceding final) chain (todos before chain)))
+-- a serial clause with labels: its first step; and a jump, which the clause does that has its label (Report, 3.2.2 and 5.4.4)
+begin (labelled place steps) chain = Some (goes (stands_at steps steps chain))
+begin (jump place label frames height yields) chain = None
 -- a range: its frame, and within it its construct (Report, 3.2.2)
-begin (range place out slots yields within) chain = enters place slots chain (λ inner. part (ranged out yields) inner (only (todo within inner)))
+begin (range place out slots yields within) chain = Some (enters place slots chain (λ inner. part (ranged out yields) inner (only (todo within inner))))
 -- a conditional clause: the enquiry (Report, 3.4.2)
-begin (choice place enquiry if_true if_false) chain = goes (part (choosing place if_true if_false) chain (only (todo enquiry chain)))
+begin (choice place enquiry if_true if_false) chain = Some (goes (part (choosing place if_true if_false) chain (only (todo enquiry chain))))
 -- a case clause: the enquiry (Report, 3.4.2)
-begin (cases place enquiry arms out) chain = goes (part (casing place arms out) chain (only (todo enquiry chain)))
+begin (cases place enquiry arms out) chain = Some (goes (part (casing place arms out) chain (only (todo enquiry chain))))
 -- a conformity clause: the enquiry (Report, 3.4.2)
-begin (conformity place union members yields enquiry specs out) chain = goes (part (conforming place union yields specs out) chain (only (todo enquiry chain)))
+begin (conformity place union members yields enquiry specs out) chain = Some (goes (part (conforming place union yields specs out) chain (only (todo enquiry chain))))
 -- a loop clause: FROM, BY and TO (Report, 3.5.2)
 begin (loop place controls true counts test body) chain =
-    goes (part (limiting (record { place = place; counts = counts; test = test; body = body })) chain (todos controls chain))
+    Some (goes (part (limiting (record { place = place; counts = counts; test = test; body = body })) chain (todos controls chain)))
 begin (loop place controls false counts test body) chain =
-    goes (part (counting (record { place = place; counts = counts; test = test; body = body })) chain (todos controls chain))
+    Some (goes (part (counting (record { place = place; counts = counts; test = test; body = body })) chain (todos controls chain)))
 -- a call: the routine and its parameters (Report, 5.4.3.2)
-begin (call place yields parts) chain = goes (part (calling place yields) chain (todos parts chain))
+begin (call place yields parts) chain = Some (goes (part (calling place yields) chain (todos parts chain)))
 -- a parallel clause: its strands (Report, 3.3.2)
-begin (parallel place numbers) chain = goes (part (forking place numbers) chain no_terms)
+begin (parallel place numbers) chain = Some (goes (part (forking place numbers) chain no_terms))
 -- what stands for no construct has no rule; no program that fits comes here (own)
-begin meaningless chain = meets fault.Kind 0
+begin meaningless chain = Some (meets fault.Kind 0)
 
 -- what a construct does whose parts at hand have yielded these values
 abbrev pub finish : Program → Job → List Environ → List Content → Then Term
@@ -236,6 +251,8 @@ finish program gathering chain vs = goes (yielded void)
 -- the last phrase comes, and its yield is that of the clause (Report, 3.2.2)
 finish program (preceding final) chain vs = goes (part ending chain (only (todo final chain)))
 finish program ending chain vs = goes (yielded (last_of vs))
+-- behind a step comes the next one; the yield of the last one, and of one before EXIT, is that of the clause (Report, 3.2.2)
+finish program (at_step all here) chain vs = goes_behind all here chain (last_of vs)
 -- a range leaves its frame
 finish program (ranged out yields) chain vs = leaves out yields chain (last_of vs)
 -- the enquiry chooses a part, and its yield is that of the clause (Report, 3.4.2)
@@ -281,9 +298,9 @@ finish program (forking place numbers) chain vs = forks (units_of program) place
 finish program joining chain vs = goes (yielded void)
 finish program (closing place) chain vs = acts place want.Close (turned place chain (yielded void))
 
--- what comes next for a term itself; none while its parts have not yielded, for a yield, and for a unit as a whole
+-- what comes next for a term itself; none while its parts have not yielded, for a yield, for a unit as a whole, and for a jump
 abbrev pub row : Program → Term → Option (Then Term)
-row program (todo tree chain) = Some (begin tree chain)
+row program (todo tree chain) = begin tree chain
 row program (part job chain parts) = option_map (finish program job chain) (values parts)
 row program (yielded v) = None
 row program (unit_of strand t) = None

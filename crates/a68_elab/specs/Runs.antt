@@ -11,7 +11,7 @@ use Rattle.a68_annot.specs.declared.annotated.Annotated.{Annotated}
 use Rattle.a68_annot.specs.declared.note.Note.{Note}
 use Rattle.a68_base.specs.declared.limits.TheConstants.{MOST_INSTRUCTIONS}
 use Rattle.a68_elab.specs.Constants.{long_value_in, value_in}
-use Rattle.a68_elab.specs.Made.{before_out, behind_heap, field_in, fields_at, first_bounds, first_goal, goal_at, form_of, behind_proc, behind_ref, begins_with, called, if_first, is_by, is_declarer, is_for, is_from, is_heap, is_one_of, is_to, is_while, items_at, only_id, out_of, parts_at, past, printers, rowed_to, spelling_of, standard_of, wholes}
+use Rattle.a68_elab.specs.Made.{is_label, is_exit, kind_at, before_out, behind_heap, field_in, fields_at, first_bounds, first_goal, goal_at, form_of, behind_proc, behind_ref, begins_with, called, if_first, is_by, is_declarer, is_for, is_from, is_heap, is_one_of, is_to, is_while, items_at, only_id, out_of, parts_at, past, printers, rowed_to, spelling_of, standard_of, wholes}
 use Rattle.a68_elab.specs.declared.bound.Bound.{Bound}
 use Rattle.a68_elab.specs.declared.bound.Bound.TheVariants as bound
 use Rattle.a68_layout.specs.Rooms.{bounds_needed}
@@ -129,6 +129,14 @@ abbrev pub are_phrases : Annotated → (wanted : Bool) → List ℕ → Bool
 are_phrases a wanted [] = false
 are_phrases a wanted (id ∷ []) = is_outcome wanted (outcome a id)
 are_phrases a wanted (id ∷ (i ∷ ids)) = is_outcome false (outcome a id) && are_phrases a wanted (i ∷ ids)
+
+-- steps: each leaves none, but the last one and those before EXIT, which leave what is wanted; a label is no step (Report, 3.2)
+abbrev pub are_steps : Annotated → (wanted : Bool) → List ℕ → Bool
+are_steps a wanted [] = false
+are_steps a wanted (id ∷ []) = is_outcome wanted (outcome a id)
+are_steps a wanted (id ∷ (i ∷ ids)) =
+    if is_label (kind_at a id) then are_steps a wanted (i ∷ ids)
+    else (if is_exit (kind_at a i) then is_outcome wanted (outcome a id) && are_steps a wanted ids else is_outcome false (outcome a id) && are_steps a wanted (i ∷ ids))
 
 -- ---- modes
 
@@ -349,7 +357,8 @@ leaves_as a node note kind.Collateral = collateral_leaves a (shape_at a.modes no
 leaves_as a node note kind.Vacuum = if_so (is_row (shape_at a.modes note.goal)) true
 leaves_as a node note kind.Slice = if_so (slice_runs a node.parts) true
 leaves_as a node note kind.Selection = if_so (selects a node.name node.parts && is_outcome true (last_outcome a node.parts)) true
-leaves_as a node note kind.Serial = if_so (are_phrases a (asks_value a note) node.parts) (asks_value a note)
+leaves_as a node note kind.Serial = if_so (are_steps a (asks_value a note) node.parts) (asks_value a note)
+leaves_as a node note kind.GoTo = if_so (is_some note.definition) (asks_value a note)
 leaves_as a node note kind.Closed = only_outcome a node.parts
 leaves_as a node note kind.Out = only_outcome a node.parts
 leaves_as a node note kind.From = only_outcome a node.parts

@@ -1,11 +1,11 @@
 -- Terms: how far the elaboration of a program has come.
-use Rattle.std.specs.Prelude.{ℕ, suc, Bool, List, [], ◌∷◌, None, Some, slice_get}
+use Rattle.std.specs.Prelude.{ℕ, suc, Bool, false, List, [], ◌∷◌, None, Some, slice_get}
 use Rattle.std.specs.Option.{option_map}
 use Rattle.std.specs.declared.option.Option.{Option}
 use Rattle.a68_acts.specs.Operations.{Operation}
 use Rattle.a68_acts.specs.declared.operation.Counter.{Counter}
 use Rattle.a68_acts.specs.declared.operation.Doing.{Doing}
-use Rattle.a68_elab.specs.Trees.{Order, collateral, serial, Tree, Trees, Specs, LoopTurns, meaningless, no_trees, ◌and_tree◌, ParallelUnit}
+use Rattle.a68_elab.specs.Trees.{Order, collateral, serial, Tree, Trees, Specs, Steps, LoopTurns, meaningless, no_trees, ◌and_tree◌, has_label, ParallelUnit}
 use Rattle.a68_values.specs.Content.{Content, void}
 use Rattle.a68_values.specs.declared.chain.Environ.{Environ}
 use Rattle.a68_values.specs.declared.plain.Routine.{Routine}
@@ -22,6 +22,8 @@ pub data Job : Type 0 where
   preceding : (final : Tree) → Job
   -- the yield of the last phrase
   ending : Job
+  -- a step of a serial clause with labels, which are all these steps: the step at hand and those behind it
+  at_step : (all here : Steps) → Job
   -- the frame of a range is left
   ranged : (out : ℕ) (yields : Bool) → Job
   -- one of two parts, by the value of an enquiry
@@ -120,6 +122,11 @@ order_of (counting l) = collateral
 order_of (calling place yields) = collateral
 order_of joining = collateral
 order_of _ = serial
+
+-- whether this is a serial clause that has a label
+abbrev pub has : (label : ℕ) → Job → Bool
+has label (at_step all here) = has_label label all
+has label _ = false
 
 -- the values of parts that have all yielded; a unit has once it has ended
 abbrev pub values : Terms → Option (List Content)

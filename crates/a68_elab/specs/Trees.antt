@@ -1,6 +1,6 @@
 -- The tree of a program as elaboration and translation see it: one form for each way in which the rules let a construct
 -- go on, and one for all constructs that do something with the values of their parts.
-use Rattle.std.specs.Prelude.{ℕ, zero, suc, Bool, List, [], ◌∷◌, if◌then◌else◌}
+use Rattle.std.specs.Prelude.{ℕ, zero, suc, Bool, false, List, [], ◌∷◌, ◌++◌, ◌||◌, nat_eq, if◌then◌else◌}
 use Rattle.a68_acts.specs.Operations.{Operation}
 use Rattle.a68_modes.specs.declared.shape.Shape.{Shape}
 
@@ -18,8 +18,13 @@ mutual
     -- parts at any time, and nothing behind them: a collateral clause of VOID (Report, 3.3), joined definitions (4.1), and
     -- without parts what is not elaborated
     together : (parts : Trees) → Tree
-    -- a serial clause: its phrases but the last, and the last (Report, 3.2)
+    -- a serial clause without labels: its phrases but the last, and the last (Report, 3.2)
     phrases : (place : ℕ) (before : Trees) (final : Tree) → Tree
+    -- a serial clause with labels: its steps (Report, 3.2)
+    labelled : (place : ℕ) (steps : Steps) → Tree
+    -- a jump to the step behind a label, whose clause has its frame so many frames outwards and began over so many values of
+    -- the activation; `yields` tells whether a value is asked of it (Report, 5.4.4). The elaboration does not look at the numbers.
+    jump : (place label frames height : ℕ) (yields : Bool) → Tree
     -- a range that makes a frame of so many slots: it is entered at one place of the text and left at another, and
     -- `yields` tells whether it yields a value (Report, 3.2.2)
     range : (place out slots : ℕ) (yields : Bool) (within : Tree) → Tree
@@ -57,7 +62,42 @@ mutual
     -- the enquiry
     while_in : (at slots : ℕ) (test : Tree) → Test
 
+  -- The steps of a serial clause, each with the labels before it: the last one; one behind which the clause goes on; one
+  -- before EXIT, with whose yield the clause ends.
+  pub data Steps : Type 0 where
+    last_step : (labels : List ℕ) (tree : Tree) → Steps
+    step : (labels : List ℕ) (tree : Tree) (behind : Steps) → Steps
+    exit : (labels : List ℕ) (tree : Tree) (behind : Steps) → Steps
+
 infixr 50 ◌and_tree◌
+-- the first step
+abbrev pub first : Steps → Tree
+first (last_step labels t) = t
+first (step labels t more) = t
+first (exit labels t more) = t
+
+abbrev pub is_label_in : (label : ℕ) → List ℕ → Bool
+is_label_in label [] = false
+is_label_in label (l ∷ ls) = nat_eq label l || is_label_in label ls
+
+-- all labels of a clause
+abbrev pub labels_of : Steps → List ℕ
+labels_of (last_step ls t) = ls
+labels_of (step ls t more) = ls ++ labels_of more
+labels_of (exit ls t more) = ls ++ labels_of more
+
+-- whether a label stands before one of these steps
+abbrev pub has_label : (label : ℕ) → Steps → Bool
+has_label label (last_step ls t) = is_label_in label ls
+has_label label (step ls t more) = is_label_in label ls || has_label label more
+has_label label (exit ls t more) = is_label_in label ls || has_label label more
+
+-- the steps from the one behind a label on; the last one where there is none
+abbrev pub from_label : (label : ℕ) → Steps → Steps
+from_label label (last_step ls t) = last_step ls t
+from_label label (step ls t more) = if is_label_in label ls then step ls t more else from_label label more
+from_label label (exit ls t more) = if is_label_in label ls then exit ls t more else from_label label more
+
 abbrev pub count : Trees → ℕ
 count no_trees = 0
 count (tree and_tree trees) = suc (count trees)

@@ -3,6 +3,7 @@ pub mod Entering
 pub mod Fronts
 pub mod Linking
 pub mod Ordered
+pub mod Seating
 pub mod Sizes
 pub mod Taking
 pub mod Writing

@@ -1,8 +1,10 @@
 -- How long a stretch is.
-use Rattle.std.proofs.Common.{◌≡◌, ℕ, zero, suc, ◌+◌, Bool, true, false, List, [], ◌∷◌, ◌++◌, length, refl, ap, arith, length-append}
+use Rattle.std.proofs.Common.{◌≡◌, ℕ, zero, suc, ◌+◌, Bool, true, false, List, [], ◌∷◌, ◌++◌, length, refl, ap, ◌∙◌, arith, length-append}
+use Rattle.std.proofs.lemmas.List.{length-map}
+use Rattle.a68_builder.specs.Labels.{settled}
 use Rattle.a68_code.specs.declared.does.Does.TheVariants as does
-use Rattle.a68_elab.specs.Trees.{Tree, Trees, operation, together, phrases, range, choice, cases, conformity, loop, call, parallel, meaningless, no_trees, ◌and_tree◌, count, Specs, no_specs, spec, Test, no_test, while_in, depth_of, Apart, routine_text, parallel_unit}
-use Rattle.a68_emit.specs.Listing.{instr, limits, indexes, opens, leaves, size, sizes, spec_sizes, test_size, arm_places, spec_places, stretch, stretches, arm_stretches, spec_stretches, test_stretch, apart_size, apart_stretch, apart_stretches}
+use Rattle.a68_elab.specs.Trees.{Tree, Trees, operation, together, phrases, labelled, jump, range, choice, cases, conformity, loop, call, parallel, meaningless, no_trees, ◌and_tree◌, count, Steps, last_step, step, exit, Specs, no_specs, spec, Test, no_test, while_in, depth_of, Apart, routine_text, parallel_unit}
+use Rattle.a68_emit.specs.Listing.{instr, limits, indexes, opens, leaves, size, sizes, spec_sizes, test_size, step_sizes, arm_places, spec_places, label_places, stretch, stretches, arm_stretches, spec_stretches, test_stretch, step_stretches, apart_size, apart_stretch, apart_stretches}
 use Rattle.a68_emit.specs.Stretches.{does_of, leave, member_places, wholes_of, with_last}
 
 pub size_leaves : (place n : ℕ) → length (leaves place n) ≡ n
@@ -18,6 +20,9 @@ mutual
   size_stretch (phrases place before final) at =
       let m = at + sizes before in
       let s = size_stretches before at in let t = size_stretch final m in omega (arith, length-append (stretches before at) (stretch final m))
+  size_stretch (labelled place steps) at =
+      length-map (step_stretches place (at + step_sizes steps) steps at) (settled (label_places steps at)) ∙ size_steps place (at + step_sizes steps) steps at
+  size_stretch (jump place label frames height yields) at = refl
   size_stretch (range place out slots yields within) at =
       let s = size_stretch within (at + 1) in omega (arith, length-append (stretch within (at + 1)) (instr out (leave yields) ∷ []))
   size_stretch (choice place enquiry if_true if_false) at =
@@ -113,6 +118,16 @@ mutual
       let unless = instr place (does.Unless f) ∷ [] in
       let s = size_stretch test m in
       omega (arith, length-append (opens slots begin) (stretch test m ++ unless), length-append (stretch test m) unless)
+
+  pub size_steps : (place e : ℕ) (steps : Steps) (at : ℕ) → length (step_stretches place e steps at) ≡ step_sizes steps
+  size_steps place e (last_step labels tree) at = size_stretch tree at
+  size_steps place e (step labels tree more) at =
+      let m = at + size tree in
+      let s = size_stretch tree at in let t = size_steps place e more m in omega (arith, length-append (stretch tree at) (step_stretches place e more m))
+  size_steps place e (exit labels tree more) at =
+      let m = at + size tree + 1 in
+      let s = size_stretch tree at in let t = size_steps place e more m in
+      omega (arith, length-append (stretch tree at) (instr place (does.Jump e) ∷ step_stretches place e more m))
 
 -- ---- what stands apart
 

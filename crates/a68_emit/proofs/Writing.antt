@@ -106,6 +106,7 @@ aim-middle xs ys y i which to e =
 
 names_none : (d : Does) (which to : ℕ) → names d ≡ 0 → aimed d which to ≡ d
 names_none (does.Jump x) which to e = absurd (omega arith)
+names_none (does.Goto x frames height gives) which to e = absurd (omega arith)
 names_none (does.Unless x) which to e = absurd (omega arith)
 names_none (does.Step x) which to e = absurd (omega arith)
 names_none (does.Advance x) which to e = absurd (omega arith)

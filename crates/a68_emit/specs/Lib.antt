@@ -4,6 +4,7 @@ pub mod Conforming
 pub mod Forms
 pub mod Listing
 pub mod Numbers
+pub mod Seats
 pub mod Stretches
 pub mod Texts
 pub mod Views

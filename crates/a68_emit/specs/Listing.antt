@@ -1,12 +1,13 @@
 -- The code of a program: the instructions of each construct, in order.
 use Rattle.std.specs.Prelude.{ℕ, zero, suc, Bool, true, false, ◌+◌, List, [], ◌∷◌, ◌++◌, length, map, if◌then◌else◌}
 use Rattle.a68_signs.specs.declared.operators.TheConstants as operators
+use Rattle.a68_builder.specs.Labels.{far, settled}
 use Rattle.a68_builder.specs.Linking.{linked}
 use Rattle.a68_code.specs.declared.code.Instr.{Instr}
 use Rattle.a68_code.specs.declared.code.RoutineEntrance.{RoutineEntrance}
 use Rattle.a68_code.specs.declared.does.Does.{Does}
 use Rattle.a68_code.specs.declared.does.Does.TheVariants as does
-use Rattle.a68_elab.specs.Trees.{Tree, Trees, operation, together, phrases, range, choice, cases, conformity, loop, call, parallel, meaningless, no_trees, ◌and_tree◌, count, Specs, no_specs, spec, Test, no_test, while_in, depth_of, Apart, routine_text, parallel_unit, Program}
+use Rattle.a68_elab.specs.Trees.{Tree, Trees, operation, together, phrases, labelled, jump, range, choice, cases, conformity, loop, call, parallel, meaningless, no_trees, ◌and_tree◌, count, Steps, last_step, step, exit, Specs, no_specs, spec, Test, no_test, while_in, depth_of, Apart, routine_text, parallel_unit, Program}
 use Rattle.a68_emit.specs.Stretches.{does_of, leave, member_places, wholes_of, with_last}
 
 -- an instruction keeps the place of its construct
@@ -33,12 +34,16 @@ abbrev pub leaves : (place count : ℕ) → List Instr
 leaves place zero = []
 leaves place (suc n) = instr place (does.Leave 0) ∷ leaves place n
 
+-- ---- trees
+
 -- how many instructions a tree becomes: the same wherever it stands
 abbrev mutual
   pub size : Tree → ℕ
   size (operation place op order parts) = sizes parts + 1
   size (together parts) = sizes parts
   size (phrases place before final) = sizes before + size final
+  size (labelled place steps) = step_sizes steps
+  size (jump place label frames height yields) = 1
   size (range place out slots yields within) = size within + 2
   size (choice place enquiry if_true if_false) = size enquiry + 1 + size if_true + 1 + size if_false
   size (cases place enquiry arms out) = size enquiry + 1 + sizes arms + count arms + size out
@@ -63,6 +68,12 @@ abbrev mutual
   test_size no_test = 0
   test_size (while_in at slots test) = length (opens slots at) + size test + 1
 
+  -- with a Jump behind each step before EXIT
+  pub step_sizes : Steps → ℕ
+  step_sizes (last_step labels tree) = size tree
+  step_sizes (step labels tree more) = size tree + step_sizes more
+  step_sizes (exit labels tree more) = size tree + 1 + step_sizes more
+
 -- the places of parts that are chosen among, from this one on, each with a Jump behind it
 abbrev pub arm_places : Trees → (at : ℕ) → List ℕ
 arm_places no_trees at = []
@@ -73,8 +84,14 @@ abbrev pub spec_places : Specs → (at : ℕ) → List ℕ
 spec_places no_specs at = []
 spec_places (spec takes tagged united part behind) at = at ∷ spec_places behind (at + ((if tagged then 3 else 1) + size part + 1))
 
+-- the labels before steps, with the places of the steps from this one on
+abbrev pub label_places : Steps → (at : ℕ) → List (ℕ × ℕ)
+label_places (last_step labels tree) at = map (λ label. (label, at)) labels
+label_places (step labels tree more) at = map (λ label. (label, at)) labels ++ label_places more (at + size tree)
+label_places (exit labels tree more) at = map (λ label. (label, at)) labels ++ label_places more (at + size tree + 1)
+
 -- The instructions of a tree, where the first of them is number `at`. Units of parallel clauses are named by their numbers,
--- since it is not known yet where they begin.
+-- since it is not known yet where they begin; so are labels of clauses about the tree.
 abbrev mutual
   pub stretch : Tree → (at : ℕ) → List Instr
   -- the parts, and then the instruction of the operation, which takes their values
@@ -83,6 +100,10 @@ abbrev mutual
   stretch (together parts) at = stretches parts at
   -- the phrases
   stretch (phrases place before final) at = stretches before at ++ stretch final (at + sizes before)
+  -- the steps, whose labels have their places
+  stretch (labelled place steps) at = map (settled (label_places steps at)) (step_stretches place (at + step_sizes steps) steps at)
+  -- Goto, which names the label
+  stretch (jump place label frames height yields) at = instr place (does.Goto (far + label) frames height yields) ∷ []
   -- Enter, the construct, Leave
   stretch (range place out slots yields within) at = instr place (does.Enter slots) ∷ (stretch within (at + 1) ++ instr out (leave yields) ∷ [])
   -- the enquiry, Unless x, the one part, Jump e, x: the other part, e:
@@ -143,6 +164,12 @@ abbrev mutual
   pub test_stretch : (place f : ℕ) → Test → (at : ℕ) → List Instr
   test_stretch place f no_test at = []
   test_stretch place f (while_in begin slots test) at = opens slots begin ++ (stretch test (at + length (opens slots begin)) ++ instr place (does.Unless f) ∷ [])
+
+  -- steps, with Jump e behind each before EXIT
+  pub step_stretches : (place e : ℕ) → Steps → (at : ℕ) → List Instr
+  step_stretches place e (last_step labels tree) at = stretch tree at
+  step_stretches place e (step labels tree more) at = stretch tree at ++ step_stretches place e more (at + size tree)
+  step_stretches place e (exit labels tree more) at = stretch tree at ++ (instr place (does.Jump e) ∷ step_stretches place e more (at + size tree + 1))
 
 -- ---- what stands apart
 

@@ -1,7 +1,8 @@
 //! Writing instructions.
 ghost use Rattle.std.specs.Option.{is_some, option_map_or};
-ghost use Rattle.std.specs.Prelude.{◌≡◌, ◌≤◌, ◌⊎◌, ◌∷◌, [], length, IfOk};
+ghost use Rattle.std.specs.Prelude.{◌≡◌, ◌≤◌, ◌⊎◌, ◌∷◌, ◌++◌, [], drop, length, map, take, IfOk};
 ghost use Rattle.a68_builder.specs.Aiming.{aimed_at};
+ghost use Rattle.a68_builder.specs.Labels.{settled};
 ghost use Rattle.a68_emit.specs.Listing.{instr};
 ghost use Rattle.a68_emit.specs.Numbers.{put_all, put_at};
 ghost use Rattle.a68_emit.specs.Writers.{Wrote};
@@ -11,7 +12,7 @@ ghost use Rattle.a68_values.specs.declared.plain.Plain.TheVariants as value_of;
 
 use crate::writer::Writer;
 use a68_base::{NoMemory, Refusal, Rule, Stop};
-use a68_builder::{BuildStop, Builder};
+use a68_builder::{BuildStop, Builder, Labels};
 use a68_code::{Does, Instr};
 use a68_values::{Plain, Value};
 use std::alloc::Global;
@@ -121,6 +122,14 @@ impl Writer {
             Ok(count) => self.patch_so_many(at, places, count),
             Err(_) => self.run_out(),
         }
+    }
+
+    /// Lets the jumps from this instruction on that name these labels go to their places, which are the numbers of these.
+    pub fn settle(&mut self, from: u32, labels: &Labels)
+        ensures list { self.new.list ≡ take from self.old.list ++ map (settled labels.now) (drop from self.old.list) }
+        ensures stop { self.new.stop ≡ self.old.stop }
+    {
+        self.list.settle(from, labels);
     }
 
     /// Stops for want of memory, where it has not stopped before.

@@ -8,8 +8,10 @@ mod emit;
 mod ends;
 mod entered;
 mod forks;
+mod labels;
 mod loops;
 mod numbered;
+mod seat;
 mod single;
 mod specifications;
 mod view;
@@ -23,6 +25,7 @@ pub use entered::{Entered, UnitNode};
 pub use forks::parallel;
 pub use loops::{depth, leave_frames, limit, loop_turn, open};
 pub use numbered::Numbered;
+pub use seat::{Clause, clauses_with, jump, keep_label};
 pub use single::{
     CollateralForm, denotation, form_at, forms_of, is_heap, leave, long_denotation, meaningless,
     misfit, mode_in_front, new_does, nothing, same, store, tag,

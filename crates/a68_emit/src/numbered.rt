@@ -1,9 +1,11 @@
-//! The numbers of routine texts and of units of parallel clauses, and which nodes run.
+//! The numbers of routine texts and of units of parallel clauses, which nodes run, and the labels of clauses.
 ghost use Rattle.std.specs.Option.{option_map};
 ghost use Rattle.std.specs.Prelude.{◌≡◌, ◌<◌, ◌≤◌, ◌++◌, ◌+◌, [], suc, true, max, map, length, slice_get, Some, IfOk, OnOk};
 ghost use Rattle.a68_elab.specs.Made as made;
 ghost use Rattle.a68_elab.specs.Programs as programs;
 ghost use Rattle.a68_elab.specs.Runs.{is_outcome, outcome, runs};
+ghost use Rattle.a68_elab.specs.Trees.{is_label_in};
+ghost use Rattle.a68_emit.specs.Seats.{labels_among};
 ghost use Rattle.a68_emit.specs.Texts as texts;
 ghost use Rattle.a68_emit.specs.Texts.{AreFirsts, AreFirstUnits, AreInside, AreNumbered};
 ghost use Rattle.a68_modes.specs.Nodes.{shape_at, is_void};
@@ -12,6 +14,7 @@ ghost use Rattle.a68_runs.specs.Running.{AreRuns};
 ghost use Rattle.a68_tree.specs.Trees.{AllBetween};
 
 use crate::entered::{Entered, UnitNode};
+use crate::labels::{ClauseLabels, clause_labels};
 use a68_annot::{Annotated, Note};
 use a68_base::NoMemory;
 use a68_modes::{ModeId, Modes};
@@ -22,8 +25,8 @@ use std::alloc::Global;
 use std::marker::Model;
 
 /// An annotated tree whose routine texts and units of parallel clauses are numbered in order of text, and of which it is
-/// known which nodes run and which fields selections take. The numbers are kept by the bytes at which these begin, so that
-/// each is found at once.
+/// known which nodes run, which fields selections take and which labels clauses have. The numbers are kept by the bytes at
+/// which these begin, so that each is found at once.
 #[derive(Drop)]
 pub struct Numbered<'a> {
     program: &'a Annotated,
@@ -32,11 +35,13 @@ pub struct Numbered<'a> {
     units: Vec<u32>,
     runs: Vec<bool>,
     fields: Vec<usize>,
+    labels: ClauseLabels,
 }
 
 impl<'a> Model for Numbered<'a> {
     ghost use Rattle.a68_annot.specs.contracts.annotated.Annotated as annotated;
     ghost use Rattle.a68_annot.specs.declared.annotated.Annotated.{Annotated};
+    ghost use Rattle.a68_emit.specs.Seats.{AreLabels};
     ghost use Rattle.a68_emit.specs.Texts.{AreNumbered};
     ghost use Rattle.a68_parts.specs.Selecting.{AreSelected};
     ghost use Rattle.a68_runs.specs.Running.{AreRuns};
@@ -47,7 +52,7 @@ impl<'a> Model for Numbered<'a> {
 
     ghost view = { λ numbered. numbered.program.now };
 
-    ghost invariant = { λ numbered. AreNumbered numbered.program.now numbered.apart.items numbered.texts.items numbered.units.items × AreRuns numbered.program.now numbered.runs.items × AreSelected numbered.program.now numbered.fields.items };
+    ghost invariant = { λ numbered. AreNumbered numbered.program.now numbered.apart.items numbered.texts.items numbered.units.items × AreRuns numbered.program.now numbered.runs.items × AreSelected numbered.program.now numbered.fields.items × AreLabels numbered.program.now numbered.labels.keys };
 }
 
 // The byte behind that at which a node begins, or one that is behind it already.
@@ -224,6 +229,7 @@ impl<'a> Numbered<'a> {
         ensures { IfOk result (λ numbered. numbered ≡ program.now) }
     {
         let fields = selected_fields(alloc, program)?;
+        let labels = clause_labels(alloc, program)?;
         let first_texts = first_texts(alloc, program)?;
         let first_units = first_units(alloc, program)?;
         let mut apart = Vec::new(alloc);
@@ -244,6 +250,7 @@ impl<'a> Numbered<'a> {
             units,
             runs,
             fields,
+            labels,
         })
     }
 
@@ -311,6 +318,13 @@ impl<'a> Numbered<'a> {
         ensures { option_map (selected self.now) (slice_get self.now.tree.nodes id) ≡ Some result }
     {
         self.fields[id as usize]
+    }
+
+    /// Has a serial clause a label?
+    pub fn has_label(&self, clause: NodeId, label: NodeId) -> bool
+        ensures { result ≡ is_label_in label (labels_among self.now (made.parts_at self.now clause)) }
+    {
+        self.labels.contains(&(clause, label))
     }
 
     /// Is a value asked of a node?

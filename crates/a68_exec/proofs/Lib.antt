@@ -1,4 +1,5 @@
 pub mod Alive
+pub mod Jumping
 pub mod Scopes
 pub mod Settled
 pub mod Sparing

@@ -7,7 +7,7 @@ mod members;
 mod reply;
 mod routines;
 
-pub use control::place_in;
+pub use control::{cut_back, place_in};
 pub use exec::{does_at, go_on, most_steps, run, runs, settle};
 pub use reply::{place_at, resume, resume_plain};
 pub use routines::go_back;

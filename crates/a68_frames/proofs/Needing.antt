@@ -6,15 +6,17 @@ use Rattle.std.proofs.lemmas.Bool.Decides.{eqb_tells, nat_tests}
 use Rattle.a68_ranges.proofs.Taking.{some_one, read, is_there, past, below_or}
 use Rattle.a68_ranges.proofs.Looking.{lies_one, defines_there}
 use Rattle.a68_ranges.specs.Nodes.{kind_at, name_at}
-use Rattle.a68_ranges.specs.Definitions.{defines, declared_in, Declares, FirstDefinition, here, further, IsWordDefinition, Undefined}
+use Rattle.a68_ranges.proofs.Single.{definition_one}
+use Rattle.a68_ranges.specs.Definitions.{defines, FirstDefinition, here, further, IsWordDefinition, Undefined}
 use Rattle.a68_ranges.specs.Surroundings.{Lies}
 use Rattle.a68_ranges.specs.Standard.{IsTagOf}
 use Rattle.a68_ranges.specs.Tables.{at_key}
+use Rattle.a68_ranges.specs.Twice.{IsTwice, single_tag}
 use Rattle.a68_ranges.specs.declared.nests.Layer.{Layer}
 use Rattle.a68_ranges.specs.declared.sort.IndicatorKind.TheVariants as sorts
 use Rattle.a68_frames.proofs.Finding.{no_slot, none_at, found_in, placed, Found}
-use Rattle.a68_frames.specs.Frames.{has_slot, with_slots, makes_frame, slots_in, frames_of, moved}
-use Rattle.a68_frames.specs.Needs.{Innermost, Uses, outside, within, DeclaresTag, HasSlotFor, UsesTag, IsNeed}
+use Rattle.a68_frames.specs.Frames.{makes_frame, slots_in, frames_of, moved}
+use Rattle.a68_frames.specs.Needs.{Innermost, Uses, outside, within, HasSlotFor, UsesSlotAt, UsesTag, IsNeed}
 use Rattle.a68_frames.specs.Needs.{here as innermost_here, further as innermost_further}
 use Rattle.a68_frames.specs.Tables.{Framed, outermost, passed, entered, TellsFrames, FindsSlot, nowhere, Crosses, crossed, onwards, IsPlaceIn, IsAtMost, Lowers, AreLowered, IsOneLowered, least_of, lowered, UsesAtFrame, UsesSlotAtFrame, UsesBefore, AreFrames, FrameTables, AreNeedsBefore, IsApplied, is_tag, below}
 use Rattle.a68_frames.specs.Tables.{here as reaches_here, further as reaches_further}
@@ -24,44 +26,6 @@ use Rattle.a68_tree.specs.declared.node.Node.{Node}
 use Rattle.std.specs.Option.{option_map_or}
 use Rattle.a68_tree.specs.declared.kind.NodeKind.{NodeKind}
 use Rattle.a68_tree.specs.declared.kind.NodeKind.TheVariants as kind
-
--- ---- a tag that a range declares has a slot there
-
-among_slots : (tree : Built) (d k : ℕ) (list : List ℕ) → slice_get list k ≡ Some d → has_slot (defines (kind_at tree d)) ≡ true → (place : ℕ) × (slice_get (with_slots tree list) place ≡ Some d)
-among_slots tree d k [] is has = absurd (cc)
-among_slots tree d zero (x ∷ xs) is has = (0, go (has_slot (defines (kind_at tree x))) (ap (λ y. has_slot (defines (kind_at tree y))) (some_one is) ∙ has))
-  where
-    go : (b : Bool) → b ≡ true → slice_get (if b then x ∷ with_slots tree xs else with_slots tree xs) 0 ≡ Some d
-    go true e = is
-    go false e = absurd (false≢true e)
-among_slots tree d (suc k) (x ∷ xs) is has = go (has_slot (defines (kind_at tree x))) (among_slots tree d k xs is has)
-  where
-    go : (b : Bool) → (place : ℕ) × (slice_get (with_slots tree xs) place ≡ Some d) → (place : ℕ) × (slice_get (if b then x ∷ with_slots tree xs else with_slots tree xs) place ≡ Some d)
-    go true r = (suc r.0, r.1)
-    go false r = r
-
-slots_among : (tree : Built) (d place : ℕ) (list : List ℕ) → slice_get (with_slots tree list) place ≡ Some d → (k : ℕ) × (slice_get list k ≡ Some d)
-slots_among tree d place [] is = absurd (cc)
-slots_among tree d place (x ∷ xs) is = go (has_slot (defines (kind_at tree x))) place is (λ p h. slots_among tree d p xs h)
-  where
-    go : (b : Bool) (p : ℕ) → slice_get (if b then x ∷ with_slots tree xs else with_slots tree xs) p ≡ Some d → ((q : ℕ) → slice_get (with_slots tree xs) q ≡ Some d → (k : ℕ) × (slice_get xs k ≡ Some d))
-        → (k : ℕ) × (slice_get (x ∷ xs) k ≡ Some d)
-    go true zero h rest = (0, h)
-    go true (suc p) h rest = let r = rest p h in (suc r.0, r.1)
-    go false p h rest = let r = rest p h in (suc r.0, r.1)
-
-declared_slot : (tree : Built) (range name d : ℕ) → Declares tree range sorts.Tag name d → (place : ℕ) × (slice_get (slots_in tree range) place ≡ Some d)
-unfolding slots_in
-declared_slot tree range name d declares =
-    let a = declares.among in
-    among_slots tree d a.0 (declared_in tree range) (read (declared_in tree range) a.0 d a.1 ∙ ap (λ (x : ℕ). Some x) a.2) (ap has_slot declares.sort_is)
-
-slot_declared : (tree : Built) (range name d place : ℕ) → slice_get (slots_in tree range) place ≡ Some d → defines (kind_at tree d) ≡ Some sorts.Tag → name_at tree d ≡ name → Declares tree range sorts.Tag name d
-unfolding slots_in
-slot_declared tree range name d place is sort named =
-    let r = slots_among tree d place (declared_in tree range) is in
-    let low = is_there (declared_in tree range) r.0 d r.1 in
-    record { among = (r.0, low, some_one (sym (read (declared_in tree range) r.0 d low) ∙ r.1)); sort_is = sort; name_is = named }
 
 -- ---- relations over lists of ranges, taken apart
 
@@ -87,29 +51,6 @@ module _ (tree : Built) (Has : ℕ → Type 0) where
       (subst (λ x. Has x → ⊥) (head_is e) never, inl (head_is e, subst (λ xs. Innermost tree Has xs hops) (tail_is e) inner))
   uses_in {user = user} {hops = hops} (within never rest) r more e =
       (subst (λ x. Has x → ⊥) (head_is e) never, inr (subst (λ xs. Uses tree Has xs user hops) (tail_is e) rest))
-
-module _ (tree : Built) (name : ℕ) where
-  first_in : {ranges : List ℕ} {d : ℕ} → FirstDefinition tree sorts.Tag name ranges d → (r : ℕ) (more : List ℕ) → ranges ≡ r ∷ more
-      → Declares tree r sorts.Tag name d ⊎ ((DeclaresTag tree name r → ⊥) × FirstDefinition tree sorts.Tag name more d)
-  first_in {d = d} (here s) r more e = inl (subst (λ x. Declares tree x sorts.Tag name d) (head_is e) s)
-  first_in {d = d} (further never rest) r more e =
-      inr (subst (λ x. DeclaresTag tree name x → ⊥) (head_is e) (λ w. never w.0 w.1), subst (λ xs. FirstDefinition tree sorts.Tag name xs d) (tail_is e) rest)
-
-  first_none : {ranges : List ℕ} {d : ℕ} → FirstDefinition tree sorts.Tag name ranges d → ranges ≡ [] → ⊥
-  first_none (here s) e = absurd (cc)
-  first_none (further never rest) e = absurd (cc)
-
-  first_named : {ranges : List ℕ} {d : ℕ} → FirstDefinition tree sorts.Tag name ranges d → (defines (kind_at tree d) ≡ Some sorts.Tag) × (name_at tree d ≡ name)
-  first_named (here s) = (s.sort_is, s.name_is)
-  first_named (further never rest) = first_named rest
-
-  innermost_first : {ranges : List ℕ} {hops : ℕ} → Innermost tree (DeclaresTag tree name) ranges hops → (d : ℕ) × FirstDefinition tree sorts.Tag name ranges d
-  innermost_first (innermost_here has) = (has.0, here has.1)
-  innermost_first (innermost_further never rest) = let r = innermost_first rest in (r.0, further (λ d s. never (d, s)) r.1)
-
-  uses_first : {ranges : List ℕ} {user hops : ℕ} → Uses tree (DeclaresTag tree name) ranges user hops → (d : ℕ) × FirstDefinition tree sorts.Tag name ranges d
-  uses_first (outside never inner) = let r = innermost_first inner in (r.0, further (λ d s. never (d, s)) r.1)
-  uses_first (within never rest) = let r = uses_first rest in (r.0, further (λ d s. never (d, s)) r.1)
 
 -- ---- steps along a chain, taken apart
 
@@ -227,37 +168,14 @@ uses_split tree d (within {range = range} never rest) =
     let s = uses_split tree d rest in
     record { inner = range ∷ s.inner; outer = s.outer; range = s.range; slot = s.slot; whole = ap (λ xs. range ∷ xs) s.whole; slot_is = s.slot_is }
 
-module _ (tree : Built) (name d : ℕ) (frames : List Layer) (entries : List ((ℕ × ℕ) × ℕ)) (place : (range : ℕ) → IsPlaceIn (slots_in tree range) d (at_key entries range d)) where
+module _ (tree : Built) (d : ℕ) (frames : List Layer) (entries : List ((ℕ × ℕ) × ℕ)) (place : (range : ℕ) → IsPlaceIn (slots_in tree range) d (at_key entries range d)) where
   placed_none : (range slot : ℕ) → at_key entries range d ≡ None → slice_get (slots_in tree range) slot ≡ Some d → ⊥
   placed_none range slot e is = let p = subst (IsPlaceIn (slots_in tree range) d) e (place range) in p slot is
 
   placed_some : (range slot : ℕ) → at_key entries range d ≡ Some slot → slice_get (slots_in tree range) slot ≡ Some d
   placed_some range slot e = subst (IsPlaceIn (slots_in tree range) d) e (place range)
 
-  agree_entered : (i : ℕ) (frame : Layer) (more : List ℕ) (nest : Option ℕ) (found : Option FrameStep) → nest ≡ Some i → slice_get frames i ≡ Some frame → makes_frame tree frame.range ≡ true
-      → FirstDefinition tree sorts.Tag name (frame.range ∷ more) d → FindsSlot frames entries d nest found
-      → ((rest : Option FrameStep) → FirstDefinition tree sorts.Tag name more d → FindsSlot frames entries d frame.outer rest → Agrees tree (DeclaresTag tree name) frames frame.outer rest more) → Agrees tree (DeclaresTag tree name) frames nest found (frame.range ∷ more)
-  agree_entered i frame more nest found e is makes first r go =
-      let named = first_named tree name first in
-      ⊎_elim
-      (λ s. let q = declared_slot tree frame.range name d s in
-      ⊎_elim (λ h. agree_here tree (DeclaresTag tree name) frames i frame more nest found (d, s) h.0 h.2) (λ h. absurd (placed_none frame.range q.0 h.0 q.1)) (reaches_on r i frame e is))
-      (λ n. ⊎_elim
-      (λ h. absurd (n.0 (d, slot_declared tree frame.range name d h.0 (placed_some frame.range h.0 h.1) named.0 named.1)))
-      (λ h. agree_further tree (DeclaresTag tree name) frames i frame more nest found h.1.0 e is makes n.0 h.1.2 (go h.1.0 n.1 h.1.1))
-      (reaches_on r i frame e is))
-      (first_in tree name first frame.range more refl)
-
-  pub agree : {to : Option ℕ} {ranges : List ℕ} → Framed tree frames to ranges → (nest : Option ℕ) (found : Option FrameStep) → nest ≡ to → FirstDefinition tree sorts.Tag name ranges d → FindsSlot frames entries d nest found → Agrees tree (DeclaresTag tree name) frames nest found ranges
-  agree outermost nest found e first r = absurd (first_none tree name first refl)
-  agree (passed {range = range} {more = more} frameless rest) nest found e first r =
-      ⊎_elim (λ s. let q = declared_slot tree range name d s in absurd (no_slot tree range frameless q.0 d q.1))
-      (λ n. agree_passed tree (DeclaresTag tree name) frames range more nest found frameless n.0 (agree rest nest found e n.1 r))
-      (first_in tree name first range more refl)
-  agree (entered {more = more} i frame is makes rest) nest found e first r =
-      agree_entered i frame more nest found e is makes first r (λ f s q. agree rest frame.outer f refl s q)
-
-  -- the same for the slots of a definition, wherever it is found
+  -- the walk that finds a slot passes what uses it
   agree_slots : {to : Option ℕ} {ranges : List ℕ} → Framed tree frames to ranges → (nest : Option ℕ) (found : Option FrameStep) (step : FrameStep) → nest ≡ to → found ≡ Some step → FindsSlot frames entries d nest found
       → Agrees tree (HasSlotFor tree d) frames nest found ranges
   agree_slots outermost nest found step e is r = let f : None ≡ Some step = sym (none_at tree frames entries d place r e) ∙ is in absurd (cc)
@@ -374,32 +292,37 @@ no_more frames nest steps needs e = lowered_none (Crosses frames nest steps) nee
 
 -- no range uses what is not defined in the tree
 pub unused : (tree : Built) (at : ℕ) (range hops : ℕ) → (kind_at tree at ≡ kind.Tag → Undefined tree at sorts.Tag (name_at tree at)) → UsesAtFrame tree at range hops → ⊥
-unused tree at range hops none u =
-    let r = uses_first tree (name_at tree at) u.1.uses in
-    none u.1.tag r.0 (record { ranges = u.1.ranges; lies = u.1.lies; first = r.1 })
+unused tree at range hops none u = none u.1.tag u.1.definition u.1.applied
 
-module _ (tree : Built) (at d : ℕ) (frames : List Layer) (entries : List ((ℕ × ℕ) × ℕ)) (place : (range : ℕ) → IsPlaceIn (slots_in tree range) d (at_key entries range d)) where
-  agree_at : (nest : Option ℕ) (found : Option FrameStep) → TellsFrames tree frames at nest → IsWordDefinition tree at sorts.Tag (name_at tree at) d → FindsSlot frames entries d nest found
-      → (ranges : List ℕ) × Lies tree at ranges × Agrees tree (DeclaresTag tree (name_at tree at)) frames nest found ranges
-  agree_at nest found t def r =
-      let same = lies_one def.lies t.lies refl in
-      (t.ranges, t.lies, agree tree (name_at tree at) d frames entries place t.framed nest found refl (subst (λ rs. FirstDefinition tree sorts.Tag (name_at tree at) rs d) same def.first) r)
-
-  -- what is found is what uses the tag
-  pub lowered_at : (nest : Option ℕ) (step : FrameStep) (old new : List (Option ℕ)) → TellsFrames tree frames at nest → kind_at tree at ≡ kind.Tag → IsWordDefinition tree at sorts.Tag (name_at tree at) d
-      → FindsSlot frames entries d nest (Some step) → AreLowered (Crosses frames nest step.hops) old new → AreLowered (UsesAtFrame tree at) old new
-  lowered_at nest step old new t tag def r are =
-      let a = agree_at nest (Some step) t def r in
-      let same : step ≡ a.2.step = some_one a.2.is in
-      lowered_same (Crosses frames nest step.hops) (UsesAtFrame tree at) old new
-      (λ range hops c. let u = a.2.to range hops (subst (λ (s : FrameStep). Crosses frames nest s.hops range hops) same c) in (u.0, record { ranges = a.0; tag = tag; lies = a.1; uses = u.1 }))
+module _ (tree : Built) (at d : ℕ) (frames : List Layer) (entries : List ((ℕ × ℕ) × ℕ)) (place : (range : ℕ) → IsPlaceIn (slots_in tree range) d (at_key entries range d)) (nest : Option ℕ) (t : TellsFrames tree frames at nest) where
+  -- what is found is what uses the definition
+  pub lowered_slot : (step : FrameStep) (old new : List (Option ℕ)) → FindsSlot frames entries d nest (Some step) → AreLowered (Crosses frames nest step.hops) old new → AreLowered (UsesSlotAtFrame tree at d) old new
+  lowered_slot step old new r lowers =
+      let a = agree_slots tree d frames entries place t.framed nest (Some step) step refl refl r in
+      let same : step ≡ a.step = some_one a.is in
+      lowered_same (Crosses frames nest step.hops) (UsesSlotAtFrame tree at d) old new
+      (λ range hops c. let u = a.to range hops (subst (λ (s : FrameStep). Crosses frames nest s.hops range hops) same c) in (u.0, record { ranges = t.ranges; lies = t.lies; uses = u.1 }))
       (λ range hops u. subst (λ (s : FrameStep). Crosses frames nest s.hops range hops) (sym same)
-      (a.2.from range hops u.0 (subst (λ rs. Uses tree (DeclaresTag tree (name_at tree at)) rs range hops) (lies_one u.1.lies a.1 refl) u.1.uses)))
-      are
+      (a.from range hops u.0 (subst (λ rs. Uses tree (HasSlotFor tree d) rs range hops) (lies_one u.1.lies t.lies refl) u.1.uses)))
+      lowers
 
-  -- a tag that is defined is found
-  pub is_found : (nest : Option ℕ) (found : Option FrameStep) → TellsFrames tree frames at nest → IsWordDefinition tree at sorts.Tag (name_at tree at) d → FindsSlot frames entries d nest found → found ≡ None → ⊥
-  is_found nest found t def r e = let a = agree_at nest found t def r in let f : None ≡ Some a.2.step = sym e ∙ a.2.is in absurd (cc)
+  -- what has no slot is not used
+  pub unused_slot : (found : Option FrameStep) (needs : List (Option ℕ)) → found ≡ None → FindsSlot frames entries d nest found → AreLowered (UsesSlotAtFrame tree at d) needs needs
+  unused_slot found needs is r =
+      lowered_none (UsesSlotAtFrame tree at d) needs
+      (λ range hops u. unused_slots tree d frames entries place t.framed nest found refl is r range hops
+      (subst (λ rs. Uses tree (HasSlotFor tree d) rs range hops) (lies_one u.1.lies t.lies refl) u.1.uses))
+
+-- a use of the tag that a node applies is one of its definition
+pub lowered_tag : (tree : Built) → ((id : ℕ) → IsTwice tree id → ⊥) → (at d : ℕ) (old new : List (Option ℕ)) → kind_at tree at ≡ kind.Tag → IsWordDefinition tree at sorts.Tag (name_at tree at) d
+    → AreLowered (UsesSlotAtFrame tree at d) old new → AreLowered (UsesAtFrame tree at) old new
+lowered_tag tree once at d old new tag def are =
+    lowered_same (UsesSlotAtFrame tree at d) (UsesAtFrame tree at) old new
+    (λ range hops u. (u.0, record { definition = d; tag = tag; applied = def; uses = u.1 }))
+    (λ range hops u.
+    let same = definition_one tree sorts.Tag (name_at tree at) single_tag once at u.1.definition d u.1.applied def in
+    (u.0, subst (λ x. UsesSlotAt tree at x range hops) same u.1.uses))
+    are
 
 lowers_both : (P Q R : ℕ → Type 0) (mid new : Option ℕ) → ((n : ℕ) → P n → R n) → ((n : ℕ) → Q n → R n) → ((n : ℕ) → R n → P n ⊎ Q n) → Lowers P None mid → Lowers Q mid new → Lowers R None new
 lowers_both P Q R mid new p q both a b = record {
@@ -444,6 +367,10 @@ need_is tree text (Some n) form l = (
 
 -- ---- the tag that a node applies
 
+first_sort : (tree : Built) (name : ℕ) {ranges : List ℕ} {d : ℕ} → FirstDefinition tree sorts.Tag name ranges d → defines (kind_at tree d) ≡ Some sorts.Tag
+first_sort tree name (here s) = s.sort_is
+first_sort tree name (further never rest) = first_sort tree name rest
+
 tag_is : (form : NodeKind) → is_tag form ≡ true → form ≡ kind.Tag
 tag_is kind.Tag e = refl
 tag_is _ e = absurd (false≢true e)
@@ -458,7 +385,7 @@ applied_by tree at (Some id) tag of = go (nat_lt id (length tree.nodes)) refl
         ⊎_elim (λ h. (tag, h)) (λ h. absurd (omega (arith, h.3))) of
     go false e =
         let high : length tree.nodes ≤ id = grind (arith, nat_tests, e) in
-        λ _. ⊎_elim (λ h. let low = defines_there tree id sorts.Tag (first_named tree (name_at tree at) h.first).0 in absurd (omega arith)) (λ h. h.0) of
+        λ _. ⊎_elim (λ h. let low = defines_there tree id sorts.Tag (first_sort tree (name_at tree at) h.first) in absurd (omega arith)) (λ h. h.0) of
 
 pub applied_is : (tree : Built) (at : ℕ) (node : Node) (found : Option ℕ) → slice_get tree.nodes at ≡ Some node → is_tag node.kind ≡ true → IsTagOf tree at node.name found → IsApplied tree at (below (length tree.nodes) found)
 applied_is tree at node found is tag of =
@@ -486,17 +413,7 @@ module _ (tree : Built) (t : FrameTables) (at d : ℕ) (are : AreFrames tree t) 
 
   pub lowered_use : (step : FrameStep) (old new : List (Option ℕ)) → FindsSlot t.chain.frames t.places d nest_at (Some step) → AreLowered (Crosses t.chain.frames nest_at step.hops) old new
       → AreLowered (UsesSlotAtFrame tree at d) old new
-  lowered_use step old new r lowers =
-      let a = agree_slots tree 0 d t.chain.frames t.places place_of tells_of.framed nest_at (Some step) step refl refl r in
-      let same : step ≡ a.step = some_one a.is in
-      lowered_same (Crosses t.chain.frames nest_at step.hops) (UsesSlotAtFrame tree at d) old new
-      (λ range hops c. let u = a.to range hops (subst (λ (s : FrameStep). Crosses t.chain.frames nest_at s.hops range hops) same c) in (u.0, record { ranges = tells_of.ranges; lies = tells_of.lies; uses = u.1 }))
-      (λ range hops u. subst (λ (s : FrameStep). Crosses t.chain.frames nest_at s.hops range hops) (sym same)
-      (a.from range hops u.0 (subst (λ rs. Uses tree (HasSlotFor tree d) rs range hops) (lies_one u.1.lies tells_of.lies refl) u.1.uses)))
-      lowers
+  lowered_use step old new r lowers = lowered_slot tree at d t.chain.frames t.places place_of nest_at tells_of step old new r lowers
 
   pub lowered_unused : (found : Option FrameStep) (needs : List (Option ℕ)) → found ≡ None → FindsSlot t.chain.frames t.places d nest_at found → AreLowered (UsesSlotAtFrame tree at d) needs needs
-  lowered_unused found needs is r =
-      lowered_none (UsesSlotAtFrame tree at d) needs
-      (λ range hops u. unused_slots tree 0 d t.chain.frames t.places place_of tells_of.framed nest_at found refl is r range hops
-      (subst (λ rs. Uses tree (HasSlotFor tree d) rs range hops) (lies_one u.1.lies tells_of.lies refl) u.1.uses))
+  lowered_unused found needs is r = unused_slot tree at d t.chain.frames t.places place_of nest_at tells_of found needs is r

@@ -6,7 +6,7 @@ use Rattle.std.proofs.lemmas.Bool.Decides.{eqb_tells}
 use Rattle.a68_ranges.proofs.Taking.{some_one, take_next, read, past, below_or}
 use Rattle.a68_ranges.proofs.Layering.{get_front, get_last}
 use Rattle.a68_ranges.specs.Nodes.{kind_at}
-use Rattle.a68_ranges.specs.Definitions.{defines, declared_in}
+use Rattle.a68_ranges.specs.Definitions.{declared_in}
 use Rattle.a68_ranges.specs.Tables.{at_key}
 use Rattle.a68_frames.specs.Frames.{has_slot, with_slots, slots_in, makes, makes_frame, place_behind, place_of}
 use Rattle.a68_frames.specs.Tables.{IsPlaceIn, IsSlotNoted, AreSlotsBefore, AreMade}
@@ -14,7 +14,7 @@ use Rattle.a68_tree.specs.Trees.{Built}
 
 with_slots_append : (tree : Built) (ps qs : List ℕ) → with_slots tree (ps ++ qs) ≡ with_slots tree ps ++ with_slots tree qs
 with_slots_append tree [] qs = refl
-with_slots_append tree (p ∷ ps) qs = go (has_slot (defines (kind_at tree p))) (with_slots_append tree ps qs)
+with_slots_append tree (p ∷ ps) qs = go (has_slot (kind_at tree p)) (with_slots_append tree ps qs)
   where
     go : (b : Bool) → with_slots tree (ps ++ qs) ≡ with_slots tree ps ++ with_slots tree qs
         → (if b then p ∷ with_slots tree (ps ++ qs) else with_slots tree (ps ++ qs)) ≡ (if b then p ∷ with_slots tree ps else with_slots tree ps) ++ with_slots tree qs
@@ -22,7 +22,7 @@ with_slots_append tree (p ∷ ps) qs = go (has_slot (defines (kind_at tree p))) 
     go false e = e
 
 with_slots_next : (tree : Built) (list : List ℕ) (i id : ℕ) → slice_get list i ≡ Some id
-    → with_slots tree (take (i + 1) list) ≡ with_slots tree (take i list) ++ (if has_slot (defines (kind_at tree id)) then id ∷ [] else [])
+    → with_slots tree (take (i + 1) list) ≡ with_slots tree (take i list) ++ (if has_slot (kind_at tree id) then id ∷ [] else [])
 with_slots_next tree list i id is = ap (with_slots tree) (take_next list i id is) ∙ with_slots_append tree (take i list) (id ∷ [])
 
 append_nil : (xs : List ℕ) → xs ++ [] ≡ xs
@@ -79,11 +79,11 @@ slotted_one range id xs old mid new slot next true before noted =
 
 -- one node more of a range
 pub slotted_more : (tree : Built) (range : ℕ) (list : List ℕ) (i id : ℕ) (old mid new : List ((ℕ × ℕ) × ℕ)) (slot next : ℕ) → slice_get list i ≡ Some id
-    → Slotted range (with_slots tree (take i list)) old mid slot → IsSlotNoted mid new range id slot (has_slot (defines (kind_at tree id))) next
+    → Slotted range (with_slots tree (take i list)) old mid slot → IsSlotNoted mid new range id slot (has_slot (kind_at tree id)) next
     → Slotted range (with_slots tree (take (i + 1) list)) old new next
 slotted_more tree range list i id old mid new slot next is before noted =
     subst (λ ys. Slotted range ys old new next) (sym (with_slots_next tree list i id is))
-    (slotted_one range id (with_slots tree (take i list)) old mid new slot next (has_slot (defines (kind_at tree id))) before noted)
+    (slotted_one range id (with_slots tree (take i list)) old mid new slot next (has_slot (kind_at tree id)) before noted)
 
 pub none_slotted : (range : ℕ) (old : List ((ℕ × ℕ) × ℕ)) → ((d : ℕ) → at_key old range d ≡ None) → Slotted range [] old old 0
 none_slotted range old fresh = record {

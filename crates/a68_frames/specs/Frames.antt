@@ -11,21 +11,26 @@ use Rattle.a68_tree.specs.declared.kind.NodeKind.TheVariants as kind
 use Rattle.a68_tree.specs.declared.node.FrameStep.{FrameStep}
 
 -- a tag or an operator has a slot; a mode word, a priority or a field has none
-abbrev pub has_slot : Option IndicatorKind → Bool
-has_slot (Some sorts.Tag) = true
-has_slot (Some sorts.Operator) = true
-has_slot _ = false
+abbrev pub sort_has_slot : Option IndicatorKind → Bool
+sort_has_slot (Some sorts.Tag) = true
+sort_has_slot (Some sorts.Operator) = true
+sort_has_slot _ = false
+
+-- whether what a node of that kind defines has a slot; a label, which has no value, has none
+abbrev pub has_slot : NodeKind → Bool
+has_slot kind.Label = false
+has_slot form = sort_has_slot (defines form)
 
 -- those of these nodes that have slots
 abbrev pub with_slots : Built → List ℕ → List ℕ
 with_slots tree [] = []
-with_slots tree (d ∷ ds) = if has_slot (defines (kind_at tree d)) then d ∷ with_slots tree ds else with_slots tree ds
+with_slots tree (d ∷ ds) = if has_slot (kind_at tree d) then d ∷ with_slots tree ds else with_slots tree ds
 
 -- the definitions of the slots of a range, from slot 0 on, in order of text
 unfoldable pub slots_in : Built → (range : ℕ) → List ℕ
 slots_in tree range = with_slots tree (declared_in tree range)
 
--- A call always enters a frame; every other range makes one where it declares at least one tag or operator.
+-- A call always enters a frame; every other range makes one where it declares at least one tag or operator, a label aside.
 abbrev pub makes : NodeKind → (slots : ℕ) → Bool
 makes kind.RoutineText slots = true
 makes _ slots = nat_lt 0 slots

@@ -3,7 +3,7 @@ use Rattle.std.specs.Prelude.{◌≡◌, ◌≤◌, ◌+◌, ℕ, List, [], ◌�
 use Rattle.a68_frames.specs.Frames.{frames_of, slots_in}
 use Rattle.a68_ranges.specs.Nodes.{kind_at, name_at}
 use Rattle.a68_ranges.specs.Surroundings.{Lies}
-use Rattle.a68_ranges.specs.Definitions.{Declares}
+use Rattle.a68_ranges.specs.Definitions.{IsWordDefinition}
 use Rattle.a68_ranges.specs.declared.sort.IndicatorKind.TheVariants as sorts
 use Rattle.a68_tree.specs.Trees.{Built}
 use Rattle.a68_tree.specs.declared.kind.NodeKind.TheVariants as kind
@@ -19,10 +19,6 @@ pub data Uses (tree : Built) (Has : ℕ → Type 0) : List ℕ → (user hops : 
   outside : {user hops : ℕ} {more : List ℕ} → (Has user → ⊥) → Innermost tree Has more hops → Uses tree Has (user ∷ more) user hops
   within : {range user hops : ℕ} {more : List ℕ} → (Has range → ⊥) → Uses tree Has more user hops → Uses tree Has (range ∷ more) user hops
 
--- the range declares that tag
-abbrev pub DeclaresTag : Built → (name range : ℕ) → Type 0
-DeclaresTag tree name range = (definition : ℕ) × Declares tree range sorts.Tag name definition
-
 -- the range has a slot for that definition
 abbrev pub HasSlotFor : Built → (definition range : ℕ) → Type 0
 HasSlotFor tree definition range = (slot : ℕ) × (slice_get (slots_in tree range) slot ≡ Some definition)
@@ -34,12 +30,13 @@ pub record UsesSlotAt (tree : Built) (at definition text hops : ℕ) : Type 0 wh
   pub lies : Lies tree at ranges
   pub uses : Uses tree (HasSlotFor tree definition) ranges text hops
 
--- a routine text uses from outside the tag that is applied at a node: the text is one of the ranges about the node
+-- a routine text uses from outside the definition of the tag that is applied at a node; a label, which has no slot, is never
+-- used so
 pub record UsesTagAt (tree : Built) (at text hops : ℕ) : Type 0 where
-  pub ranges : List ℕ
+  pub definition : ℕ
   pub tag : kind_at tree at ≡ kind.Tag
-  pub lies : Lies tree at ranges
-  pub uses : Uses tree (DeclaresTag tree (name_at tree at)) ranges text hops
+  pub applied : IsWordDefinition tree at sorts.Tag (name_at tree at) definition
+  pub uses : UsesSlotAt tree at definition text hops
 
 -- a routine text uses some tag from outside, also one in bounds that stand within it
 abbrev pub UsesTag : Built → (text hops : ℕ) → Type 0

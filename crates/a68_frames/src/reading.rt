@@ -1,7 +1,6 @@
 //! Nodes, read at any number.
 ghost use Rattle.std.specs.Prelude.{◌≡◌, false, slice_index_or};
 ghost use Rattle.a68_frames.specs.Frames as frames;
-ghost use Rattle.a68_ranges.specs.Definitions as definitions;
 ghost use Rattle.a68_ranges.specs.Nodes as nodes;
 ghost use Rattle.a68_frames.specs.Tables as tables;
 
@@ -19,15 +18,25 @@ pub fn kind_of(tree: &Tree, id: NodeId) -> NodeKind
     }
 }
 
-/// Has a definition of that kind a slot?
-pub fn has_slot(kind: NodeKind) -> bool
-    ensures { result ≡ frames.has_slot (definitions.defines kind) }
+// Has what is defined with that sort a slot?
+fn sort_has_slot(sort: Option<IndicatorKind>) -> bool
+    ensures { result ≡ frames.sort_has_slot sort }
 {
-    match defines(kind) {
+    match sort {
         Some(IndicatorKind::Tag) => true,
         Some(IndicatorKind::Operator) => true,
         Some(_) => false,
         None => false,
+    }
+}
+
+/// Has a definition of that kind a slot?
+pub fn has_slot(kind: NodeKind) -> bool
+    ensures { result ≡ frames.has_slot kind }
+{
+    match kind {
+        NodeKind::Label => false,
+        _ => sort_has_slot(defines(kind)),
     }
 }
 

@@ -3,7 +3,6 @@ ghost use Rattle.std.specs.Prelude.{◌≡◌, ◌<◌, ◌+◌, ℕ, IfOk, OnOk
 ghost use Rattle.a68_frames.specs.Frames.{place_of, with_slots};
 ghost use Rattle.a68_frames.specs.Frames as frames;
 ghost use Rattle.a68_frames.specs.Tables.{IsSlotNoted, AreSlotsBefore};
-ghost use Rattle.a68_ranges.specs.Definitions as definitions;
 ghost use Rattle.a68_ranges.specs.Nodes.{kind_at};
 ghost use Rattle.a68_ranges.specs.Tables.{at_key, AreRanges};
 
@@ -44,7 +43,7 @@ fn note_slot(
     id: NodeId,
     slot: u32,
 ) -> Result<u32, NoMemory>
-    ensures { IfOk result (λ next. IsSlotNoted places.old.entries places.new.entries range id slot (frames.has_slot (definitions.defines (kind_at tree.now id))) next) }
+    ensures { IfOk result (λ next. IsSlotNoted places.old.entries places.new.entries range id slot (frames.has_slot (kind_at tree.now id)) next) }
 {
     if !has_slot(kind_of(tree, id)) {
         return Ok(slot);

@@ -11,9 +11,10 @@ use Rattle.a68_code.specs.Operands.{is_well_made}
 use Rattle.a68_code.specs.declared.does.Does.TheVariants as does
 use Rattle.a68_elab.specs.Made as made
 use Rattle.a68_elab.specs.Made.{all_but_last, before_out, behind_all, behind_heap, behind_proc, behind_ref, begins_with, called, coerced, field_in, fields_at, first_bounds, first_goal, form_of, forms_of, if_first, index_units, is_by, is_collateral, is_declarer, is_for, is_from, is_heap, is_one_of, is_out, is_routine_text, is_to, is_while, isnt, items_at, kind_at, last_id, last_tree, leaf, mode_of, new_name, only, only_id, out_of, parts_at, past, printers, rowed_to, spelling_of, standard_of, tag_of, text_among, text_number, texts_before, texts_in, trees_at, wholes}
-use Rattle.a68_elab.specs.Trees.{Order, serial, Tree, Trees, operation, call, meaningless, no_trees, ◌and_tree◌, count, Specs}
-use Rattle.a68_gen.specs.Fits.{Fits, AllFit, SpecsFit}
-use Rattle.a68_gen.specs.Operands.{FitsModes, FitAll, SpecsFitModes}
+use Rattle.a68_elab.specs.Programs.{misfit}
+use Rattle.a68_elab.specs.Trees.{Order, serial, Tree, Trees, operation, call, meaningless, no_trees, ◌and_tree◌, count, Steps, Specs}
+use Rattle.a68_gen.specs.Fits.{Fits, AllFit, SpecsFit, StepsFit}
+use Rattle.a68_gen.specs.Operands.{FitsModes, FitAll, SpecsFitModes, StepsFitModes}
 use Rattle.a68_elab.specs.Runs.{if_so, is_outcome, is_row, is_there, outcome, path_leaves}
 use Rattle.a68_emit.specs.Stretches.{does_of}
 use Rattle.a68_layout.proofs.Shaping.{no-shape}
@@ -110,6 +111,10 @@ pub record SpecsAreFit (modes : List Shape) (texts units : ℕ) (gives : Bool) (
   pub fits : SpecsFit modes units gives specs
   pub operands : SpecsFitModes modes texts specs
 
+pub record StepsAreFit (modes : List Shape) (texts units : ℕ) (gives : Bool) (steps : Steps) : Type 0 where
+  pub fits : StepsFit modes units gives steps
+  pub operands : StepsFitModes modes texts steps
+
 module _ (ms : List Shape) (texts units : ℕ) where
   pub fit-none : (gives : Bool) (place : ℕ) (op : Operation) (order : Order) → gives ≡ leaves ms op → takes (does_of op 0) ≡ 0 → IsTrue (is_well_made ms texts 0 (does_of op 0))
       → IsFit ms texts units gives (operation place op order no_trees)
@@ -131,6 +136,11 @@ module _ (ms : List Shape) (texts units : ℕ) where
         fits = (l, subst (λ k. takes (does_of op k) ≡ k) (sym e) t, a.fits);
         operands = (subst (λ k. IsTrue (is_well_made ms texts 0 (does_of op k))) (sym e) w, a.operands);
       }
+
+  -- a misfit leaves what is asked of it
+  pub misfit-fits : (place : ℕ) (wanted : Bool) → IsFit ms texts units wanted (misfit place wanted)
+  misfit-fits place true = record { fits = (refl, refl, ((refl, refl, tt), tt)); operands = (refl, ((refl, tt), tt)) }
+  misfit-fits place false = record { fits = (refl, refl, ((refl, refl, ((refl, refl, tt), tt)), tt)); operands = (refl, ((refl, ((refl, tt), tt)), tt)) }
 
   -- ---- coercions
 

@@ -3,7 +3,7 @@ use Rattle.std.proofs.Common.{◌≡◌, ℕ, zero, suc, ◌+◌, ◌<◌, ◌�
 use Rattle.std.proofs.lemmas.Bool.{false≢true, eq-eqb, leb-true, lt-ltb}
 use Rattle.std.proofs.lemmas.Option.{same_Some, slice_get_within}
 use Rattle.std.specs.List.{list_all}
-use Rattle.std.specs.Option.{option_and_then, option_map_or}
+use Rattle.std.specs.Option.{is_some, option_and_then, option_map_or}
 use Rattle.std.specs.Prelude.{IsTrue, pos, nat_eq, nat_le, nat_lt, map, ◌-◌, ◌&&◌, if◌then◌else◌}
 use Rattle.std.specs.declared.option.Option.{Option}
 use Rattle.a68_acts.specs.Operations.{constant, skip, nil, store, same, vacuum}
@@ -14,7 +14,7 @@ use Rattle.a68_elab.proofs.Nodes.{behind_is, defined_is, tree_of_nodes}
 use Rattle.a68_elab.specs.Constants.{long_value_in, value_in}
 use Rattle.a68_elab.specs.Made as made
 use Rattle.a68_elab.specs.Made.{beginning_at, is_parallel, numbers_of, or_other, unit_among, unit_in, unit_number, units_before, bytes_of, hops_seen, seen, all_but_last, before_out, behind_all, behind_heap, behind_proc, behind_ref, begins_with, called, coerced, field_in, fields_at, first_bounds, first_goal, form_of, forms_of, if_first, index_units, is_by, is_collateral, is_declarer, is_for, is_from, is_heap, is_one_of, is_out, is_routine_text, is_to, is_while, isnt, items_at, kind_at, last_id, last_tree, leaf, mode_of, new_name, only, only_id, out_of, parts_at, past, printers, rowed_to, spelling_of, standard_of, tag_of, text_among, text_number, texts_before, texts_in, trees_at, wholes}
-use Rattle.a68_elab.specs.Programs.{asked_tree, body_yields, fitting, misfit, place_of, apart_before, parallel_unit_of, defined_bound, tree_in, behind, body_of, program_of, tree_at}
+use Rattle.a68_elab.specs.Programs.{asked_tree, body_yields, first_seat, fitting, misfit, place_of, apart_before, parallel_unit_of, defined_bound, tree_in, behind, body_of, program_of, tree_at}
 use Rattle.a68_elab.specs.declared.sight.Sight.{Sight}
 use Rattle.a68_elab.specs.declared.sight.Sight.TheVariants as sight
 use Rattle.a68_elab.specs.Trees.{collateral, serial, Tree, Apart, routine_text, parallel_unit}
@@ -22,7 +22,7 @@ use Rattle.a68_emit.proofs.Ordered.{all-before}
 use Rattle.a68_emit.proofs.Entering.{index-is, map-long}
 use Rattle.a68_gen.specs.Fits.{ApartFits}
 use Rattle.a68_gen.specs.Operands.{ApartFitsModes}
-use Rattle.a68_elab.specs.Runs.{agrees, all_leave, are_phrases, are_values, asks_value, call_leaves, case_runs, choice_runs, if_so, is_outcome, is_row, is_there, last_outcome, leaves_as, left_by, loop_runs, parallel_runs, new_runs, outcome, outcome_at, outcome_by, path_leaves, proc_yields, refers, selects, slice_runs, variable_runs, yields_value, conformity_runs}
+use Rattle.a68_elab.specs.Runs.{agrees, all_leave, are_steps, are_values, asks_value, call_leaves, case_runs, choice_runs, if_so, is_outcome, is_row, is_there, last_outcome, leaves_as, left_by, loop_runs, parallel_runs, new_runs, outcome, outcome_at, outcome_by, path_leaves, proc_yields, refers, selects, slice_runs, variable_runs, yields_value, conformity_runs}
 use Rattle.a68_parts.proofs.Between.{between-above, between-each}
 use Rattle.a68_runs.specs.Running.{AreThere}
 use Rattle.a68_modes.specs.Nodes.{shape_at, HoldsNodes}
@@ -33,9 +33,15 @@ use Rattle.a68_tree.specs.declared.kind.NodeKind.TheVariants as kind
 use Rattle.a68_tree.specs.declared.node.Node.{Node}
 use Rattle.a68_values.specs.Content.{plain}
 use Rattle.a68_values.specs.declared.plain.Plain.TheVariants as value
-use Rattle.a68_gen.proofs.Fitted.{IsFit, both, coerced-fits, denoted-fits, first, fit-none, negated-fits, routine-fits, row-there, second, so-holds, so-is, tag-fits, then-is, wanted-is}
-use Rattle.a68_gen.proofs.FittingParts.{all_units, Given, GivenBounds, all-fit, behind-between, call-by, collateral-fits, definition-fits, formula-fits, last-fits, named-fits, only-fits, selection-fits, serial-fits, texts_of, values-fit, variable-fits}
+use Rattle.a68_gen.proofs.Fitted.{IsFit, both, coerced-fits, denoted-fits, first, fit-none, misfit-fits, negated-fits, routine-fits, row-there, second, so-holds, so-is, tag-fits, then-is, wanted-is}
+use Rattle.a68_gen.proofs.FittingParts.{all_units, Given, GivenBounds, all-fit, behind-between, call-by, collateral-fits, definition-fits, formula-fits, last-fits, clause-fits, named-fits, only-fits, selection-fits, texts_of, values-fit, variable-fits}
+use Rattle.a68_gen.proofs.FittingSeats.{seated-fits}
 use Rattle.a68_gen.proofs.FittingChoices.{case-fits, choice-fits, first-bounds-behind, loop-fits, nothing-fits, parts-behind, slice-fits, conformity-fits}
+
+-- a jump leaves what is asked of it
+jump-fits : (ms : List Shape) (texts units place : ℕ) (yields : Bool) (definition : Option ℕ) → IsTrue (is_some definition) → IsFit ms texts units yields (made.jump_of place yields definition)
+jump-fits ms texts units place yields None e = absurd (false≢true e)
+jump-fits ms texts units place yields (Some label) e = record { fits = refl; operands = tt }
 
 module _ (a : Annotated) (there : AreThere a (length a.tree.nodes)) (nodes : HoldsNodes a.modes) (id : ℕ) (f : ℕ → Tree) (given : Given a id f) where
   -- ---- nodes
@@ -117,8 +123,10 @@ module _ (a : Annotated) (there : AreThere a (length a.tree.nodes)) (nodes : Hol
       by-so (selects a node.name node.parts && is_outcome true (last_outcome a node.parts)) true left _ e
       (selection-fits a id (length a.tree.nodes) f given node.span.from node.name node.parts b)
   made-fits s g defined node note left kind.Serial r u b e =
-      by-so (are_phrases a (asks_value a note) node.parts) (asks_value a note) left _ e
-      (serial-fits a id (length a.tree.nodes) f given (asks_value a note) node.span.from note.slots node.parts b)
+      by-so (are_steps a (asks_value a note) node.parts) (asks_value a note) left _ e
+      (clause-fits a id (length a.tree.nodes) f given (asks_value a note) node.span.from note.slots node.parts b)
+  made-fits s g defined node note left kind.GoTo r u b e =
+      by-so (is_some note.definition) (asks_value a note) left _ e (jump-fits a.modes (texts_of a) (all_units a) node.span.from (asks_value a note) note.definition)
   made-fits s g defined node note left kind.Closed r u b e = only-fits a id (length a.tree.nodes) f given left node.parts b e
   made-fits s g defined node note left kind.Out r u b e = only-fits a id (length a.tree.nodes) f given left node.parts b e
   made-fits s g defined node note left kind.From r u b e = only-fits a id (length a.tree.nodes) f given left node.parts b e
@@ -277,11 +285,6 @@ has-outcome a id wanted e = go (slice_get a.tree.nodes id) (slice_get a.notes id
 -- ---- misfits
 
 module _ (ms : List Shape) (texts units : ℕ) where
-  -- a misfit leaves what is asked of it
-  misfit-fits : (place : ℕ) (wanted : Bool) → IsFit ms texts units wanted (misfit place wanted)
-  misfit-fits place true = record { fits = (refl, refl, ((refl, refl, tt), tt)); operands = (refl, ((refl, tt), tt)) }
-  misfit-fits place false = record { fits = (refl, refl, ((refl, refl, ((refl, refl, tt), tt)), tt)); operands = (refl, ((refl, ((refl, tt), tt)), tt)) }
-
   -- what stands for a node leaves what is asked of it
   fitting-fits : (a : Annotated) (node : Node) (note : Note) (wanted : Bool) (t : Tree) → outcome_by a node note node.kind ≡ Some wanted
       → (left_by a node note ≡ Some wanted → IsFit ms texts units wanted t) → IsFit ms texts units wanted (fitting a node note t)
@@ -295,8 +298,8 @@ module _ (ms : List Shape) (texts units : ℕ) where
       go false e = stands wanted
         where
           stands : (w : Bool) → IsFit ms texts units w (misfit node.span.from (is_outcome true (Some w)))
-          stands true = misfit-fits node.span.from true
-          stands false = misfit-fits node.span.from false
+          stands true = misfit-fits ms texts units node.span.from true
+          stands false = misfit-fits ms texts units node.span.from false
 
 module _ (a : Annotated) (there : AreThere a (length a.tree.nodes)) (nodes : HoldsNodes a.modes) where
   -- from the last node to the first, as they are seen
@@ -330,7 +333,7 @@ module _ (a : Annotated) (there : AreThere a (length a.tree.nodes)) (nodes : Hol
 
   -- a node of which a value is asked or none
   pub asked-fits : (wanted : Bool) (id : ℕ) → IsFit a.modes (texts_of a) (all_units a) wanted (asked_tree a wanted id)
-  asked-fits wanted id = go (is_outcome wanted (outcome a id)) refl
+  asked-fits wanted id = seated-fits a.modes (texts_of a) (all_units a) first_seat wanted _ (go (is_outcome wanted (outcome a id)) refl)
     where
       go : (b : Bool) → is_outcome wanted (outcome a id) ≡ b → IsFit a.modes (texts_of a) (all_units a) wanted (if b then tree_at a id else misfit (place_of a id) wanted)
       go true e = node-fits sight.Here here-fits (length a.tree.nodes) id wanted (omega arith) e

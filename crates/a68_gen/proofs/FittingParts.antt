@@ -1,5 +1,5 @@
 -- Constructs fit whose parts do.
-use Rattle.std.proofs.Common.{◌≡◌, ℕ, ◌<◌, Bool, true, false, List, [], ◌∷◌, length, refl, sym, ◌∙◌, subst, None, Some}
+use Rattle.std.proofs.Common.{◌≡◌, ℕ, ◌<◌, Bool, true, false, List, [], ◌∷◌, ◌++◌, length, refl, sym, ◌∙◌, ap, subst, None, Some}
 use Rattle.std.proofs.lemmas.Bool.{false≢true, eqb-true}
 use Rattle.std.specs.List.{list_all}
 use Rattle.std.specs.Option.{option_map_or}
@@ -12,13 +12,13 @@ use Rattle.a68_base.specs.declared.limits.TheConstants.{MOST_INSTRUCTIONS}
 use Rattle.a68_code.specs.Flow.{operands_of, takes}
 use Rattle.a68_code.specs.Operands.{is_well_made}
 use Rattle.a68_elab.specs.Made as made
-use Rattle.a68_elab.specs.Made.{all_but_last, before_out, behind_all, behind_heap, behind_proc, behind_ref, begins_with, called, coerced, field_in, fields_at, first_bounds, first_goal, form_of, forms_of, if_first, index_units, is_by, is_collateral, is_declarer, is_for, is_from, is_heap, is_one_of, is_out, is_routine_text, is_to, is_while, isnt, items_at, kind_at, last_id, last_tree, leaf, mode_of, new_name, only, only_id, out_of, parts_at, past, printers, rowed_to, spelling_of, standard_of, tag_of, text_among, text_number, texts_before, texts_in, units_in, trees_at, wholes, has_tag, spec_mode, specs_of}
+use Rattle.a68_elab.specs.Made.{all_but_last, before_out, behind_all, behind_heap, behind_proc, behind_ref, begins_with, called, coerced, field_in, fields_at, first_bounds, first_goal, form_of, forms_of, if_first, index_units, is_by, is_collateral, is_declarer, is_for, is_from, is_heap, is_one_of, is_out, is_routine_text, is_to, is_while, isnt, items_at, kind_at, last_id, last_tree, leaf, mode_of, new_name, only, only_id, out_of, parts_at, past, printers, rowed_to, spelling_of, standard_of, tag_of, text_among, text_number, texts_before, texts_in, units_in, trees_at, wholes, has_tag, is_exit, is_label, is_labelled, spec_mode, specs_of, steps_of}
 use Rattle.a68_elab.specs.declared.bound.Bound.{Bound}
 use Rattle.a68_elab.specs.declared.bound.Bound.TheVariants as bound
-use Rattle.a68_elab.specs.Trees.{Order, collateral, serial, Tree, operation, call, ◌and_tree◌, count, Specs}
+use Rattle.a68_elab.specs.Trees.{Order, collateral, serial, Tree, operation, call, ◌and_tree◌, count, Specs, exit, labelled, step}
 use Rattle.a68_emit.proofs.Taking.{spec_is}
 use Rattle.a68_constructs.proofs.Constructs.{count_trees}
-use Rattle.a68_elab.specs.Runs.{all_leave, applies, are_phrases, are_values, bounds_run, collateral_leaves, declared_leaves, declared_runs, formula_leaves, formula_runs, gives, if_so, is_bounding, is_outcome, is_row, last_outcome, new_runs, only_outcome, out_runs, outcome, refers, routine_runs, selects, source_runs, variable_runs, specs_run}
+use Rattle.a68_elab.specs.Runs.{all_leave, applies, are_phrases, are_values, bounds_run, collateral_leaves, declared_leaves, declared_runs, formula_leaves, formula_runs, gives, if_so, is_bounding, is_outcome, is_row, are_steps, last_outcome, new_runs, only_outcome, out_runs, outcome, refers, routine_runs, selects, source_runs, variable_runs, specs_run}
 use Rattle.a68_emit.specs.Stretches.{does_of}
 use Rattle.a68_layout.specs.Rooms.{bounds_needed}
 use Rattle.a68_modes.specs.Nodes.{shape_at, is_void}
@@ -27,7 +27,7 @@ use Rattle.a68_modes.specs.declared.shape.Shape.TheVariants as shape
 use Rattle.a68_tree.specs.Trees.{AllBetween}
 use Rattle.a68_values.specs.Content.{plain}
 use Rattle.a68_values.specs.declared.plain.Plain.TheVariants as value
-use Rattle.a68_gen.proofs.Fitted.{AreFit, IsFit, first, fit-all, fit-none, fit-one, fit-two, framed-fits, is-wanted, new-fits, second, selected-there, so-holds, so-is, tag-fits, wanted-is, SpecsAreFit}
+use Rattle.a68_gen.proofs.Fitted.{AreFit, IsFit, StepsAreFit, first, fit-all, fit-none, fit-one, fit-two, framed-fits, is-wanted, new-fits, second, selected-there, so-holds, so-is, tag-fits, wanted-is, SpecsAreFit}
 
 -- ---- parts
 
@@ -36,6 +36,23 @@ texts_of a = length (texts_in a)
 
 abbrev pub all_units : Annotated → ℕ
 all_units a = length (units_in a)
+
+either : (x y z : Bool) → ((x || y) || z) ≡ false → (x ≡ false) × (y ≡ false) × (z ≡ false)
+either false false z e = (refl, refl, e)
+either false true z e = absurd (false≢true (sym e))
+either true y z e = absurd (false≢true (sym e))
+
+-- the steps of a clause without labels are its phrases
+plain_steps : (a : Annotated) (wanted : Bool) (ids : List ℕ) → is_labelled a ids ≡ false → are_steps a wanted ids ≡ are_phrases a wanted ids
+plain_steps a wanted [] none = refl
+plain_steps a wanted (x ∷ []) none = refl
+plain_steps a wanted (x ∷ (y ∷ ids)) none =
+    let here = either (is_label (kind_at a x)) (is_exit (kind_at a x)) (is_labelled a (y ∷ ids)) none in
+    let next = either (is_label (kind_at a y)) (is_exit (kind_at a y)) (is_labelled a ids) here.2 in
+    let on = is_outcome false (outcome a x) && are_steps a wanted (y ∷ ids) in
+    let ends = is_outcome wanted (outcome a x) && are_steps a wanted ids in
+    ap (λ (b : Bool). if b then are_steps a wanted (y ∷ ids) else (if is_exit (kind_at a y) then ends else on)) here.0 ∙ ap (λ (b : Bool). if b then ends else on) next.1
+    ∙ ap (λ (b : Bool). is_outcome false (outcome a x) && b) (plain_steps a wanted (y ∷ ids) here.2)
 
 -- bounds that are written stand behind a node
 abbrev pub AreBehind : (id : ℕ) → List Bound → Type 0
@@ -100,6 +117,44 @@ module _ (a : Annotated) (id end : ℕ) (f : ℕ → Tree) (given : Given a id f
       → IsFit a.modes (texts_of a) (all_units a) wanted (made.serial_of place slots wanted (trees_at f ids))
   serial-fits wanted place slots [] b e = absurd (false≢true e)
   serial-fits wanted place slots (x ∷ xs) b e = framed-fits a.modes (texts_of a) (all_units a) place place slots wanted _ (phrases-fit wanted place (x ∷ xs) b e)
+
+  -- steps: all but those that end the clause leave nothing
+  pub steps-fit : (wanted : Bool) (labels ids : List ℕ) → AllBetween id end ids → IsTrue (are_steps a wanted ids) → StepsAreFit a.modes (texts_of a) (all_units a) wanted (steps_of a f labels ids)
+  steps-fit wanted labels [] b e = absurd (false≢true e)
+  steps-fit wanted labels (x ∷ []) b e = let t = given x wanted b.0 e in record { fits = t.fits; operands = t.operands }
+  steps-fit wanted labels (x ∷ (y ∷ ids)) b e =
+      go (is_label (kind_at a x)) (is_exit (kind_at a y)) e (steps-fit wanted (labels ++ x ∷ []) (y ∷ ids) b.2) (steps-fit wanted [] ids b.2.2) (steps-fit wanted [] (y ∷ ids) b.2)
+    where
+      go : (l z : Bool)
+          → IsTrue (if l then are_steps a wanted (y ∷ ids)
+          else (if z then is_outcome wanted (outcome a x) && are_steps a wanted ids else is_outcome false (outcome a x) && are_steps a wanted (y ∷ ids)))
+          → (IsTrue (are_steps a wanted (y ∷ ids)) → StepsAreFit a.modes (texts_of a) (all_units a) wanted (steps_of a f (labels ++ x ∷ []) (y ∷ ids)))
+          → (IsTrue (are_steps a wanted ids) → StepsAreFit a.modes (texts_of a) (all_units a) wanted (steps_of a f [] ids))
+          → (IsTrue (are_steps a wanted (y ∷ ids)) → StepsAreFit a.modes (texts_of a) (all_units a) wanted (steps_of a f [] (y ∷ ids)))
+          → StepsAreFit a.modes (texts_of a) (all_units a) wanted
+          (if l then steps_of a f (labels ++ x ∷ []) (y ∷ ids) else (if z then exit labels (f x) (steps_of a f [] ids) else step labels (f x) (steps_of a f [] (y ∷ ids))))
+      go true z e p q r = p e
+      go false true e p q r =
+          let t = given x wanted b.0 (first (is_outcome wanted (outcome a x)) (are_steps a wanted ids) e) in
+          let more = q (second (is_outcome wanted (outcome a x)) (are_steps a wanted ids) e) in
+          record { fits = (t.fits, more.fits); operands = (t.operands, more.operands) }
+      go false false e p q r =
+          let t = given x false b.0 (first (is_outcome false (outcome a x)) (are_steps a wanted (y ∷ ids)) e) in
+          let more = r (second (is_outcome false (outcome a x)) (are_steps a wanted (y ∷ ids)) e) in
+          record { fits = (t.fits, more.fits); operands = (t.operands, more.operands) }
+
+  -- a serial clause, with labels or without
+  pub clause-fits : (wanted : Bool) (place slots : ℕ) (ids : List ℕ) → AllBetween id end ids → IsTrue (are_steps a wanted ids)
+      → IsFit a.modes (texts_of a) (all_units a) wanted (made.clause_of a f place slots wanted ids)
+  clause-fits wanted place slots ids b e = go (is_labelled a ids) refl
+    where
+      go : (l : Bool) → is_labelled a ids ≡ l
+          → IsFit a.modes (texts_of a) (all_units a) wanted
+          (if l then made.framed place place slots wanted (labelled place (steps_of a f [] ids)) else made.serial_of place slots wanted (trees_at f ids))
+      go true is =
+          let all = steps-fit wanted [] ids b e in
+          framed-fits a.modes (texts_of a) (all_units a) place place slots wanted (labelled place (steps_of a f [] ids)) (record { fits = all.fits; operands = all.operands })
+      go false is = serial-fits wanted place slots ids b (subst IsTrue (plain_steps a wanted ids is) e)
 
   -- ---- rows with parts
 

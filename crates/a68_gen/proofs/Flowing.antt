@@ -1,7 +1,7 @@
 -- Each instruction of a stretch finds what it takes, and goes on where the heights say so.
-use Rattle.std.proofs.Common.{◌≡◌, ◌≢◌, ◌<◌, ◌≤◌, ◌⊎◌, ◌+◌, ℕ, zero, suc, arith, Bool, true, false, IsTrue, List, [], ◌∷◌, length, get_or, Some, refl, sym, ap, ◌∙◌, subst, inl, inr, ⊎_elim, nat_lt, nat_eq}
+use Rattle.std.proofs.Common.{◌≡◌, ◌≢◌, ◌<◌, ◌≤◌, ◌⊎◌, ◌+◌, ◌-◌, ℕ, zero, suc, arith, Bool, true, false, IsTrue, List, [], ◌∷◌, length, get_or, None, Some, refl, sym, ap, ◌∙◌, subst, inl, inr, ⊎_elim, nat_lt, nat_eq}
 use Rattle.std.proofs.lemmas.Bool.{le-leb, lt-ltb, eqb-true, eqb-false}
-use Rattle.std.proofs.lemmas.Option.{slice_get_read}
+use Rattle.std.proofs.lemmas.Option.{same_Some, slice_get_read}
 use Rattle.std.proofs.lemmas.List.Elements.{All-cons, All-contains, All-from_get_or, All-from_recursion, Contains-get_or, Contains-push_cases}
 use Rattle.std.proofs.lemmas.List.Sums.{list_all-from_AllPass}
 use Rattle.std.specs.List.{All, Contains}
@@ -22,13 +22,14 @@ use Rattle.a68_code.specs.declared.does.Does.TheVariants as does
 use Rattle.a68_code.specs.declared.owner.Owner.{Owner}
 use Rattle.a68_code.specs.declared.owner.Owner.TheVariants as owner
 use Rattle.a68_elab.specs.Rows.{is_among}
-use Rattle.a68_elab.specs.Trees.{Tree, Trees, operation, together, phrases, range, choice, cases, conformity, loop, call, parallel, meaningless, no_trees, ◌and_tree◌, count, Specs, no_specs, spec, Test, no_test, while_in, depth_of}
-use Rattle.a68_gen.proofs.Forward.{forward, forward_index, forward_leaves, forward_arms, forward_specs, forward_test}
+use Rattle.a68_elab.specs.Trees.{Tree, Trees, operation, together, phrases, labelled, jump, range, choice, cases, conformity, loop, call, parallel, meaningless, no_trees, ◌and_tree◌, count, Steps, last_step, step, exit, has_label, is_label_in, Specs, no_specs, spec, Test, no_test, while_in, deeper, depth_of}
+use Rattle.a68_gen.proofs.Forward.{forward, forward_index, forward_leaves, forward_arms, forward_specs, forward_steps, forward_test}
 use Rattle.a68_emit.proofs.Entering.{IsUnit, each_is_unit, entrances_many}
 use Rattle.a68_gen.proofs.Members.{both_true, each_served, last_is, taken_or, members_all}
-use Rattle.a68_gen.proofs.Heights.{bit, after, after_true, after_false, At, LimitHeights, IndexHeights, OpenHeights, LeaveHeights, HeightsOf, AllHeights, ArmHeights, SpecHeights, TestHeights, nothing_more, starts, starts_all, starts_limit, starts_index, starts_leave, starts_test}
-use Rattle.a68_gen.specs.Operands.{FitsModes, FitAll, SpecsFitModes, TestFitsModes}
-use Rattle.a68_emit.specs.Stretches.{Has, Limits, Indexes, EntersSlots, Leaves, Stands, StandAll, StandArms, StandSpecs, Tests, place_for, member_places, wholes_of, with_last, does_of, leave}
+use Rattle.a68_gen.proofs.Heights.{bit, after, after_true, after_false, At, LimitHeights, IndexHeights, OpenHeights, LeaveHeights, HeightsOf, AllHeights, ArmHeights, SpecHeights, StepHeights, TestHeights, nothing_more, starts, starts_all, starts_limit, starts_index, starts_leave, starts_test}
+use Rattle.a68_gen.proofs.Seated.{about_nearer}
+use Rattle.a68_gen.specs.Operands.{FitsModes, FitAll, SpecsFitModes, StepsFitModes, TestFitsModes}
+use Rattle.a68_emit.specs.Stretches.{Around, Has, Limits, Indexes, EntersSlots, Leaves, Lie, about, above, deeper_by, in_clause, outermost, place_of, Stands, StandAll, StandArms, StandSpecs, StandSteps, Tests, place_for, member_places, wholes_of, with_last, does_of, leave}
 use Rattle.a68_modes.specs.Nodes.{shape_at, is_void}
 use Rattle.a68_modes.specs.declared.shape.Shape.{Shape}
 
@@ -194,8 +195,8 @@ module _ (code : Code) (whose : Owner) (W : ℕ → ℕ → Type 0) (is_inside :
     forks = no_fork code d alone;
   }
 
-  jump : (k b p to h : ℕ) → Has code p (does.Jump to) k b → k < to → W to h → Flows code whose W k h
-  jump k b p x h has less w = record {
+  jumps : (k b p to h : ℕ) → Has code p (does.Jump to) k b → k < to → W to h → Flows code whose W k h
+  jumps k b p x h has less w = record {
     does = does.Jump x;
     is = does_is k b p (does.Jump x) has;
     below = h;
@@ -257,32 +258,32 @@ module _ (code : Code) (whose : Owner) (W : ℕ → ℕ → Type 0) (is_inside :
   leave_flows p (suc n) a b s base into out k h (inr x) = leave_flows p n s.0 b s.2 base (λ k h y. into k h (inr y)) out k h x
 
   -- what holds where the parts of a choice begin, and at one place more, holds at all places of a list
-  arms_all : (g : Bool) (p e : ℕ) (ts : Trees) (ps : List ℕ) (a b : ℕ) (s : StandArms code g p e ts ps a b) (base x : ℕ) (P : ℕ → Type 0)
-      → ((k : ℕ) → a ≤ k → ArmHeights code g p e ts ps a b s base k base → P k) → P x → All P (with_last ps x)
-  arms_all g p e no_trees [] a b s base x P each last = All-cons P x [] last (All-from_recursion P [] tt)
-  arms_all g p e no_trees (q ∷ ps) a b s base x P each last = absurd s
-  arms_all g p e (t and_tree ts) [] a b s base x P each last = absurd s
-  arms_all g p e (t and_tree ts) (q ∷ ps) a b s base x P each last =
-      All-cons P q (with_last ps x) (subst P (sym s.2) (each a (omega arith) (⊎_elim (λ y. inl y) (λ e. inr (inl (e.0, nothing_more base g e.1))) (starts code g t a s.0 s.3 base))))
-      (arms_all g p e ts ps s.1 b s.5 base x P (λ k le y. each k (let f = forward code g t a s.0 s.3 in let z = s.4.1 in omega arith) (inr (inr y))) last)
+  arms_all : (lie : Lie) (g : Bool) (p e : ℕ) (ts : Trees) (ps : List ℕ) (a b : ℕ) (s : StandArms code lie g p e ts ps a b) (base x : ℕ) (P : ℕ → Type 0)
+      → ((k : ℕ) → a ≤ k → ArmHeights code lie g p e ts ps a b s base k base → P k) → P x → All P (with_last ps x)
+  arms_all lie g p e no_trees [] a b s base x P each last = All-cons P x [] last (All-from_recursion P [] tt)
+  arms_all lie g p e no_trees (q ∷ ps) a b s base x P each last = absurd s
+  arms_all lie g p e (t and_tree ts) [] a b s base x P each last = absurd s
+  arms_all lie g p e (t and_tree ts) (q ∷ ps) a b s base x P each last =
+      All-cons P q (with_last ps x) (subst P (sym s.2) (each a (omega arith) (⊎_elim (λ y. inl y) (λ e. inr (inl (e.0, nothing_more base g e.1))) (starts code lie g t a s.0 s.3 base))))
+      (arms_all lie g p e ts ps s.1 b s.5 base x P (λ k le y. each k (let f = forward code lie g t a s.0 s.3 in let z = s.4.1 in omega arith) (inr (inr y))) last)
 
   -- what holds where the specifications stand, over a value, and at one place more, holds where each member is taken
-  specs_all : (g : Bool) (p e : ℕ) (specs : Specs) (ps : List ℕ) (a b : ℕ) (s : StandSpecs code g p e specs ps a b) (base : ℕ) (P : ℕ → Type 0)
-      → ((k : ℕ) → a ≤ k → k < b → SpecHeights code g p e specs ps a b s base k (base + 1) → P k) → P b → (m : ℕ) → P (place_for m specs ps b)
-  specs_all g p e no_specs [] a b s base P each last m = last
-  specs_all g p e no_specs (q ∷ ps) a b s base P each last m = absurd s
-  specs_all g p e (spec takes true united t behind) [] a b s base P each last m = absurd s
-  specs_all g p e (spec takes false united t behind) [] a b s base P each last m = absurd s
-  specs_all g p e (spec takes true united t behind) (q ∷ ps) a b s base P each last m =
-      let f = forward code g t s.1 s.2 s.8 in let r = forward_specs code g p e behind ps s.4 b s.11 in
+  specs_all : (lie : Lie) (g : Bool) (p e : ℕ) (specs : Specs) (ps : List ℕ) (a b : ℕ) (s : StandSpecs code lie g p e specs ps a b) (base : ℕ) (P : ℕ → Type 0)
+      → ((k : ℕ) → a ≤ k → k < b → SpecHeights code lie g p e specs ps a b s base k (base + 1) → P k) → P b → (m : ℕ) → P (place_for m specs ps b)
+  specs_all lie g p e no_specs [] a b s base P each last m = last
+  specs_all lie g p e no_specs (q ∷ ps) a b s base P each last m = absurd s
+  specs_all lie g p e (spec takes true united t behind) [] a b s base P each last m = absurd s
+  specs_all lie g p e (spec takes false united t behind) [] a b s base P each last m = absurd s
+  specs_all lie g p e (spec takes true united t behind) (q ∷ ps) a b s base P each last m =
+      let f = forward code (deeper_by 1 lie) g t s.1 s.2 s.8 in let r = forward_specs code lie g p e behind ps s.4 b s.11 in
       let i = s.6.1 in let j = s.7.1 in let y = s.9.1 in let z = s.10.1 in
       taken_or P (is_among m takes) q (place_for m behind ps b) (subst P (sym s.5) (each a (omega arith) (omega arith) (inl (refl, refl))))
-      (specs_all g p e behind ps s.4 b s.11 base P (λ k le less x. each k (omega arith) less (inr (inr (inr (inr (inr x)))))) last m)
-  specs_all g p e (spec takes false united t behind) (q ∷ ps) a b s base P each last m =
-      let f = forward code g t s.0 s.1 s.5 in let r = forward_specs code g p e behind ps s.2 b s.7 in
+      (specs_all lie g p e behind ps s.4 b s.11 base P (λ k le less x. each k (omega arith) less (inr (inr (inr (inr (inr x)))))) last m)
+  specs_all lie g p e (spec takes false united t behind) (q ∷ ps) a b s base P each last m =
+      let f = forward code lie g t s.0 s.1 s.5 in let r = forward_specs code lie g p e behind ps s.2 b s.7 in
       let i = s.4.1 in let z = s.6.1 in
       taken_or P (is_among m takes) q (place_for m behind ps b) (subst P (sym s.3) (each a (omega arith) (omega arith) (inl (refl, refl))))
-      (specs_all g p e behind ps s.2 b s.7 base P (λ k le less x. each k (omega arith) less (inr (inr (inr x)))) last m)
+      (specs_all lie g p e behind ps s.2 b s.7 base P (λ k le less x. each k (omega arith) less (inr (inr (inr x)))) last m)
 
   -- a place of a Member, by whether it is that for none
   at_test : (to last base : ℕ) → (to ≡ last → W to base) → (to ≢ last → W to (base + 1)) → W to (base + (if nat_eq to last then 0 else 1))
@@ -297,23 +298,101 @@ module _ (code : Code) (whose : Owner) (W : ℕ → ℕ → Type 0) (is_inside :
   some_last (p ∷ ps) x = lt-ltb 0 (length (with_last (p ∷ ps) x)) (omega arith)
 
   -- a tree is reached at its height, whether it is empty or not
-  begun : (g : Bool) (t : Tree) (a b : ℕ) (s : Stands code g t a b) (base : ℕ) → ((k h : ℕ) → HeightsOf code g t a b s base k h → W k h) → W b (base + bit g) → W a base
-  begun g t a b s base into out =
+  begun : (lie : Lie) (g : Bool) (t : Tree) (a b : ℕ) (s : Stands code lie g t a b) (base : ℕ) → ((k h : ℕ) → HeightsOf code lie g t a b s base k h → W k h) → W b (base + bit g) → W a base
+  begun lie g t a b s base into out =
       ⊎_elim (λ y. into a base y)
       (λ e. at_place b a (base + bit g) base e.0 (sym (nothing_more base g e.1)) out)
-      (starts code g t a b s base)
+      (starts code lie g t a b s base)
+
+  begun_steps : (lie : Lie) (g : Bool) (p e : ℕ) (steps : Steps) (ps : List ℕ) (a b : ℕ) (s : StandSteps code lie g p e steps ps a b) (base : ℕ)
+      → ((k h : ℕ) → StepHeights code lie g p e steps ps a b s base k h → W k h) → W b (base + bit g) → W a base
+  begun_steps lie g p e (last_step ls t) [] a b s base into out = absurd s
+  begun_steps lie g p e (step ls t more) [] a b s base into out = absurd s
+  begun_steps lie g p e (exit ls t more) [] a b s base into out = absurd s
+  begun_steps lie g p e (last_step ls t) (q ∷ (r ∷ ps)) a b s base into out = absurd s
+  begun_steps lie g p e (last_step ls t) (q ∷ []) a b s base into out = begun lie g t a b s.1 base into out
+  begun_steps lie g p e (step ls t more) (q ∷ ps) a b s base into out =
+      begun lie false t a s.0 s.2 base (λ k h y. into k h (inl y))
+      (at_place s.0 s.0 base (base + 0) refl (omega arith) (begun_steps lie g p e more ps s.0 b s.3 base (λ k h y. into k h (inr y)) out))
+  begun_steps lie g p e (exit ls t more) (q ∷ ps) a b s base into out =
+      begun lie g t a s.0 s.3 base (λ k h y. into k h (inl y)) (into s.0 (base + bit g) (inr (inl (refl, refl))))
+
+  -- ---- labels
+
+  here_or : (q to base : ℕ) (x : Bool) (later : Option ℕ) → (if x then Some q else later) ≡ Some to → W q base → (later ≡ Some to → W to base) → W to base
+  here_or q to base true later is first more = subst (λ (n : ℕ). W n base) (same_Some q to is) first
+  here_or q to base false later is first more = more is
+
+  -- a label of a clause stands at the height of the clause
+  steps_placed : (lie : Lie) (g : Bool) (p e : ℕ) (steps : Steps) (ps : List ℕ) (a b : ℕ) (s : StandSteps code lie g p e steps ps a b) (base : ℕ)
+      → ((k h : ℕ) → StepHeights code lie g p e steps ps a b s base k h → W k h) → W b (base + bit g) → (label to : ℕ) → place_of label steps ps ≡ Some to → W to base
+  steps_placed lie g p e (last_step ls t) [] a b s base into out label to is = absurd s
+  steps_placed lie g p e (step ls t more) [] a b s base into out label to is = absurd s
+  steps_placed lie g p e (exit ls t more) [] a b s base into out label to is = absurd s
+  steps_placed lie g p e (last_step ls t) (q ∷ (r ∷ ps)) a b s base into out label to is = absurd s
+  steps_placed lie g p e (last_step ls t) (q ∷ []) a b s base into out label to is =
+      here_or q to base (is_label_in label ls) None is (subst (λ (n : ℕ). W n base) (sym s.0) (begun lie g t a b s.1 base into out)) (λ i. absurd (cc))
+  steps_placed lie g p e (step ls t more) (q ∷ ps) a b s base into out label to is =
+      here_or q to base (is_label_in label ls) (place_of label more ps) is (subst (λ (n : ℕ). W n base) (sym s.1) (begun_steps lie g p e (step ls t more) (q ∷ ps) a b s base into out))
+      (steps_placed lie g p e more ps s.0 b s.3 base (λ k h y. into k h (inr y)) out label to)
+  steps_placed lie g p e (exit ls t more) (q ∷ ps) a b s base into out label to is =
+      here_or q to base (is_label_in label ls) (place_of label more ps) is (subst (λ (n : ℕ). W n base) (sym s.2) (begun_steps lie g p e (exit ls t more) (q ∷ ps) a b s base into out))
+      (steps_placed lie g p e more ps s.1 b s.5 base (λ k h y. into k h (inr (inr y))) out label to)
+
+  -- The activation has so many values where a tree begins. No clause with labels about it began over more, and each label stands
+  -- at the height of its clause.
+  pub record Rests (lie : Lie) (base : ℕ) : Type 0 where
+    pub high : lie.height ≡ base
+    pub low : (label : ℕ) (c : Around) → about label lie.around ≡ Some c → c.height ≤ base
+    pub placed : (label : ℕ) (c : Around) (to : ℕ) → about label lie.around ≡ Some c → place_of label c.steps c.places ≡ Some to → W to c.height
+
+  pub rests_first : Rests outermost 0
+  rests_first = record { high = refl; low = λ label c is. absurd (cc); placed = λ label c to is at. absurd (cc) }
+
+  rests_over : (g : Bool) (lie : Lie) (base : ℕ) → Rests lie base → Rests (above g lie) (base + bit g)
+  rests_over true lie base r = record { high = (let e = r.high in omega arith); low = λ label c is. (let l = r.low label c is in omega arith); placed = r.placed }
+  rests_over false lie base r = record { high = (let e = r.high in omega arith); low = λ label c is. (let l = r.low label c is in omega arith); placed = r.placed }
+
+  rests_further : (n : ℕ) (lie : Lie) (base : ℕ) → Rests lie base → Rests (deeper_by n lie) base
+  rests_further n lie base r = record {
+    high = r.high;
+    low = λ label c is. let d = about_nearer n label c lie.around is in let l = r.low label d.nearer d.is in let e = ap (λ (x : Around). x.height) d.same in omega arith;
+    placed = λ label c to is at.
+        let d = about_nearer n label c lie.around is in
+        subst (λ (x : Around). W to x.height) (sym d.same) (r.placed label d.nearer to d.is (subst (λ (x : Around). place_of label x.steps x.places ≡ Some to) d.same at));
+  }
+
+  rests_clause : (steps : Steps) (places : List ℕ) (lie : Lie) (base : ℕ) → Rests lie base → ((label to : ℕ) → place_of label steps places ≡ Some to → W to base) → Rests (in_clause steps places lie) base
+  rests_clause steps places lie base r each = record {
+    high = r.high;
+    low = λ label c is. low_by label c (has_label label steps) is;
+    placed = λ label c to is at. placed_by label c to (has_label label steps) is at;
+  }
+    where
+      here : Around
+      here = record { frames = 0; height = lie.height; steps = steps; places = places }
+
+      low_by : (label : ℕ) (c : Around) (x : Bool) → (if x then Some here else about label lie.around) ≡ Some c → c.height ≤ base
+      low_by label c true is = let e = ap (λ (y : Around). y.height) (same_Some here c is) in let h = r.high in omega arith
+      low_by label c false is = r.low label c is
+
+      placed_by : (label : ℕ) (c : Around) (to : ℕ) (x : Bool) → (if x then Some here else about label lie.around) ≡ Some c → place_of label c.steps c.places ≡ Some to → W to c.height
+      placed_by label c to true is at =
+          let same : here ≡ c = same_Some here c is in
+          subst (λ (y : Around). W to y.height) same (subst (W to) (sym r.high) (each label to (subst (λ (y : Around). place_of label y.steps y.places ≡ Some to) (sym same) at)))
+      placed_by label c to false is at = r.placed label c to is at
 
   -- the places of a loop, in order
-  in_loop : (g : Bool) (p : ℕ) (controls : Trees) (limited counts : Bool) (test : Test) (body : Tree) (a b : ℕ) (s : Stands code g (loop p controls limited counts test body) a b)
+  in_loop : (lie : Lie) (g : Bool) (p : ℕ) (controls : Trees) (limited counts : Bool) (test : Test) (body : Tree) (a b : ℕ) (s : Stands code lie g (loop p controls limited counts test body) a b)
       → (s.2 < s.11) × (s.6 ≤ s.10) × (s.2 < s.8) × (s.8 < s.11) × (s.9 < s.11)
-  in_loop g p controls limited counts test body a b s =
-      let i = forward_index code counts p s.4 s.5 s.19 in let o = forward_test code test p s.10 s.5 s.6 s.20 in let y = forward code false body s.6 s.7 s.21 in
+  in_loop lie g p controls limited counts test body a b s =
+      let i = forward_index code counts p s.4 s.5 s.19 in let o = forward_test code (deeper_by (if counts then 1 else 0) (above true lie)) test p s.10 s.5 s.6 s.20 in let y = forward code (deeper_by (depth_of counts test) (above true lie)) false body s.6 s.7 s.21 in
       let l = forward_leaves code p (depth_of counts test) s.7 s.8 s.22 in let r = forward_leaves code p (depth_of counts test) s.10 s.11 s.25 in
       let p2 = s.17.1 in let p3 = s.18.1 in let p5 = s.23.1 in let p6 = s.24.1 in
       (omega arith, omega arith, omega arith, omega arith, omega arith)
 
   -- the places of a loop with their heights
-  record LoopHeights (g : Bool) (p : ℕ) (controls : Trees) (limited counts : Bool) (test : Test) (body : Tree) (a b : ℕ) (s : Stands code g (loop p controls limited counts test body) a b) (base : ℕ) : Type 0 where
+  record LoopHeights (lie : Lie) (g : Bool) (p : ℕ) (controls : Trees) (limited counts : Bool) (test : Test) (body : Tree) (a b : ℕ) (s : Stands code lie g (loop p controls limited counts test body) a b) (base : ℕ) : Type 0 where
     at_c : W s.0 (base + 3)
     at_c' : W s.1 (base + 3)
     at_t : W s.2 (base + 1)
@@ -327,17 +406,17 @@ module _ (code : Code) (whose : Owner) (W : ℕ → ℕ → Type 0) (is_inside :
     at_f : W s.10 (base + 1)
     at_e : W s.11 (base + 1)
 
-  loop_heights : (g : Bool) (p : ℕ) (controls : Trees) (limited counts : Bool) (test : Test) (body : Tree) (a b : ℕ) (s : Stands code g (loop p controls limited counts test body) a b) (base : ℕ) → ((k h : ℕ) → HeightsOf code g (loop p controls limited counts test body) a b s base k h → W k h) → LoopHeights g p controls limited counts test body a b s base
-  loop_heights g p controls limited counts test body a b s base into =
+  loop_heights : (lie : Lie) (g : Bool) (p : ℕ) (controls : Trees) (limited counts : Bool) (test : Test) (body : Tree) (a b : ℕ) (s : Stands code lie g (loop p controls limited counts test body) a b) (base : ℕ) → ((k h : ℕ) → HeightsOf code lie g (loop p controls limited counts test body) a b s base k h → W k h) → LoopHeights lie g p controls limited counts test body a b s base
+  loop_heights lie g p controls limited counts test body a b s base into =
       let at_e : W s.11 (base + 1) = into s.11 (base + 1) (inr (inr (inr (inr (inr (inr (inr (inr (inr (inr (inr (inr (refl, refl))))))))))))) in
       let at_v : W s.9 (base + 1) = into s.9 (base + 1) (inr (inr (inr (inr (inr (inr (inr (inr (inr (inr (inl (refl, refl)))))))))))) in
       let at_n' : W s.8 (base + 1) = into s.8 (base + 1) (inr (inr (inr (inr (inr (inr (inr (inr (inr (inl (refl, refl))))))))))) in
       let at_n : W s.7 (base + 1) =
       ⊎_elim (λ y. into s.7 (base + 1) (inr (inr (inr (inr (inr (inr (inr (inr (inl y)))))))))) (λ e. subst (λ (y : ℕ). W y (base + 1)) (sym e) at_n') (starts_leave code p (depth_of counts test) s.7 s.8 s.22 (base + 1)) in
       let at_x : W s.6 (base + 1) =
-      begun false body s.6 s.7 s.21 (base + 1) (λ k h y. into k h (inr (inr (inr (inr (inr (inr (inr (inl y))))))))) (at_place s.7 s.7 (base + 1) (base + 1 + 0) refl (omega arith) at_n) in
+      begun (deeper_by (depth_of counts test) (above true lie)) false body s.6 s.7 s.21 (base + 1) (λ k h y. into k h (inr (inr (inr (inr (inr (inr (inr (inl y))))))))) (at_place s.7 s.7 (base + 1) (base + 1 + 0) refl (omega arith) at_n) in
       let at_c' : W s.1 (base + 3) = into s.1 (base + 3) (inr (inr (inl (refl, refl)))) in
-      let at_w : W s.5 (base + 1) = ⊎_elim (λ y. into s.5 (base + 1) (inr (inr (inr (inr (inr (inr (inl y)))))))) (λ e. subst (λ (y : ℕ). W y (base + 1)) (sym e) at_x) (starts_test code test p s.10 s.5 s.6 s.20 (base + 1)) in
+      let at_w : W s.5 (base + 1) = ⊎_elim (λ y. into s.5 (base + 1) (inr (inr (inr (inr (inr (inr (inl y)))))))) (λ e. subst (λ (y : ℕ). W y (base + 1)) (sym e) at_x) (starts_test code (deeper_by (if counts then 1 else 0) (above true lie)) test p s.10 s.5 s.6 s.20 (base + 1)) in
       record {
         at_c = ⊎_elim (λ y. into s.0 (base + 3) (inr (inl y))) (λ e. subst (λ (y : ℕ). W y (base + 3)) (sym e) at_c') (starts_limit code limited p s.0 s.1 s.15 base);
         at_c' = at_c';
@@ -354,11 +433,11 @@ module _ (code : Code) (whose : Owner) (W : ℕ → ℕ → Type 0) (is_inside :
       }
 
   mutual
-    pub flows : (g : Bool) (t : Tree) (a b : ℕ) (s : Stands code g t a b) (base : ℕ) → FitsModes code.modes (length code.texts) t → ((k h : ℕ) → HeightsOf code g t a b s base k h → W k h)
-        → W b (base + bit g) → (k h : ℕ) → HeightsOf code g t a b s base k h → Flows code whose W k h
-    flows g (operation p op o parts) a b s base fit into out k h (inl x) =
-        flows_all true parts a s.0 s.3 base fit.1 (λ k h y. into k h (inl y)) (into s.0 (after true parts base) (inr (refl, refl))) k h x
-    flows g (operation p op o parts) a b s base fit into out k h (inr x) = at_flows s.0 (after true parts base) here k h x
+    pub flows : (lie : Lie) (g : Bool) (t : Tree) (a b : ℕ) (s : Stands code lie g t a b) (base : ℕ) → Rests lie base → FitsModes code.modes (length code.texts) t → ((k h : ℕ) → HeightsOf code lie g t a b s base k h → W k h)
+        → W b (base + bit g) → (k h : ℕ) → HeightsOf code lie g t a b s base k h → Flows code whose W k h
+    flows lie g (operation p op o parts) a b s base rests fit into out k h (inl x) =
+        flows_all lie true parts a s.0 s.3 base rests fit.1 (λ k h y. into k h (inl y)) (into s.0 (after true parts base) (inr (refl, refl))) k h x
+    flows lie g (operation p op o parts) a b s base rests fit into out k h (inr x) = at_flows s.0 (after true parts base) here k h x
       where
         n : ℕ
         n = count parts
@@ -371,67 +450,102 @@ module _ (code : Code) (whose : Owner) (W : ℕ → ℕ → Type 0) (is_inside :
             next s.0 b p (does_of op n) base _ s.4 (straightly.lands base) (ap (λ (x : ℕ). base + x) s.2 ∙ sym (after_true parts base))
             (subst (W b) (ap (λ (x : ℕ). base + x) (ap bit s.1 ∙ sym straightly.left)) out)
             (subst IsTrue (sym straightly.made) fit.0) straightly.ordered straightly.alone
-    flows g (together parts) a b s base fit into out k h x =
-        flows_all false parts a b s.1 base fit into (subst (W b) (sym (nothing_more base g s.0) ∙ sym (after_false parts base)) out) k h x
-    flows g (phrases p before final) a b s base fit into out k h (inl x) =
-        flows_all false before a s.0 s.1 base fit.0 (λ k h y. into k h (inl y))
-        (subst (W s.0) (sym (after_false before base)) (begun g final s.0 b s.2 base (λ k h y. into k h (inr y)) out)) k h x
-    flows g (phrases p before final) a b s base fit into out k h (inr x) = flows g final s.0 b s.2 base fit.1 (λ k h y. into k h (inr y)) out k h x
-    flows g (range p left n yields within) a b s base fit into out k h (inl x) =
+    flows lie g (together parts) a b s base rests fit into out k h x =
+        flows_all lie false parts a b s.1 base rests fit into (subst (W b) (sym (nothing_more base g s.0) ∙ sym (after_false parts base)) out) k h x
+    flows lie g (phrases p before final) a b s base rests fit into out k h (inl x) =
+        flows_all lie false before a s.0 s.1 base rests fit.0 (λ k h y. into k h (inl y))
+        (subst (W s.0) (sym (after_false before base)) (begun lie g final s.0 b s.2 base (λ k h y. into k h (inr y)) out)) k h x
+    flows lie g (phrases p before final) a b s base rests fit into out k h (inr x) = flows lie g final s.0 b s.2 base rests fit.1 (λ k h y. into k h (inr y)) out k h x
+    flows lie g (labelled p steps) a b s base rests fit into out k h x =
+        let inner = in_clause steps s.0 lie in
+        steps_flow inner g p b steps s.0 a b s.1 base (rests_clause steps s.0 lie base rests (steps_placed inner g p b steps s.0 a b s.1 base into out)) fit into out out (omega arith) k h x
+    flows lie g (jump p label frames height yields) a b s base rests fit into out k h x = at_flows a base here k h x
+      where
+        d : Does
+        d = does.Goto s.1 frames height yields
+
+        low : height ≤ base
+        low = let l = rests.low label s.0 s.2 in let e = s.5 in omega arith
+
+        under : ℕ
+        under = base - height
+
+        there : W s.1 height
+        there = subst (W s.1) (sym s.5) (rests.placed label s.0 s.1 s.2 s.3)
+
+        left : base + bit g ≡ under + (height + one_if yields)
+        left = let e = ap bit s.6 ∙ bit_is yields in omega (arith, low, e)
+
+        here : Flows code whose W a base
+        here = record {
+          does = d;
+          is = does_is a b p d s.7;
+          below = under;
+          finds = omega (arith, low);
+          leads = λ to h i.
+              ⊎_elim (λ e. at_way s.1 height (to, h) e there)
+              (λ e. at_way (a + 1) (under + (height + one_if yields)) (to, h) e (at_place b (a + 1) (base + bit g) (under + (height + one_if yields)) s.7.1 left out))
+              (either (s.1, height) (a + 1, under + (height + one_if yields)) (to, h) i);
+          meets = may_meet whose code.modes d base a under (s.1, height) ((a + 1, under + (height + one_if yields)) ∷ []) refl;
+          made = is_place s.1 height there;
+          ordered = tt;
+          forks = no_fork code d refl;
+        }
+    flows lie g (range p left n yields within) a b s base rests fit into out k h (inl x) =
         at_flows a base
         (next a s.0 p (does.Enter n) base base s.3 refl (omega arith)
-        (at_place s.0 s.0 base (base + 0) refl (omega arith) (begun g within s.0 s.1 s.4 base (λ k h y. into k h (inr (inl y))) (into s.1 (base + bit g) (inr (inr (refl, refl)))))) refl tt refl) k h x
-    flows g (range p left n yields within) a b s base fit into out k h (inr (inl x)) =
-        flows g within s.0 s.1 s.4 base fit (λ k h y. into k h (inr (inl y))) (into s.1 (base + bit g) (inr (inr (refl, refl)))) k h x
-    flows g (range p left n yields within) a b s base fit into out k h (inr (inr x)) =
+        (at_place s.0 s.0 base (base + 0) refl (omega arith) (begun (deeper_by 1 lie) g within s.0 s.1 s.4 base (λ k h y. into k h (inr (inl y))) (into s.1 (base + bit g) (inr (inr (refl, refl)))))) refl tt refl) k h x
+    flows lie g (range p left n yields within) a b s base rests fit into out k h (inr (inl x)) =
+        flows (deeper_by 1 lie) g within s.0 s.1 s.4 base (rests_further 1 lie base rests) fit (λ k h y. into k h (inr (inl y))) (into s.1 (base + bit g) (inr (inr (refl, refl)))) k h x
+    flows lie g (range p left n yields within) a b s base rests fit into out k h (inr (inr x)) =
         at_flows s.1 (base + bit g)
         (next s.1 b left (leave g) base (base + bit g) s.5 refl (ap (λ (x : ℕ). base + x) (leave_takes g))
         (subst (W b) (ap (λ (x : ℕ). base + x) (sym (leave_leaves g))) out) (leave_made g) tt refl) k h x
-    flows g (choice p enquiry if_true if_false) a b s base fit into out k h (inl x) =
-        flows true enquiry a s.0 s.4 base fit.0 (λ k h y. into k h (inl y)) (into s.0 (base + 1) (inr (inl (refl, refl)))) k h x
-    flows g (choice p enquiry if_true if_false) a b s base fit into out k h (inr (inl x)) = at_flows s.0 (base + 1) here k h x
+    flows lie g (choice p enquiry if_true if_false) a b s base rests fit into out k h (inl x) =
+        flows lie true enquiry a s.0 s.4 base rests fit.0 (λ k h y. into k h (inl y)) (into s.0 (base + 1) (inr (inl (refl, refl)))) k h x
+    flows lie g (choice p enquiry if_true if_false) a b s base rests fit into out k h (inr (inl x)) = at_flows s.0 (base + 1) here k h x
       where
         yes : W s.1 base
-        yes = begun g if_true s.1 s.2 s.6 base (λ k h y. into k h (inr (inr (inl y)))) (into s.2 (base + bit g) (inr (inr (inr (inl (refl, refl))))))
+        yes = begun lie g if_true s.1 s.2 s.6 base (λ k h y. into k h (inr (inr (inl y)))) (into s.2 (base + bit g) (inr (inr (inr (inl (refl, refl))))))
 
         no : W s.3 base
-        no = begun g if_false s.3 b s.8 base (λ k h y. into k h (inr (inr (inr (inr y))))) out
+        no = begun lie g if_false s.3 b s.8 base (λ k h y. into k h (inr (inr (inr (inr y))))) out
 
         here : Flows code whose W s.0 (base + 1)
         here =
             branch s.0 s.1 p (does.Unless s.3) base (base + 1) s.3 s.5 refl refl (at_place s.1 s.1 base (base + 0) refl (omega arith) yes)
             (at_place s.3 s.3 base (base + 0) refl (omega arith) no) (is_place s.3 base no)
-            (let x = forward code g if_true s.1 s.2 s.6 in let y = s.5.1 in let z = s.7.1 in omega arith) refl
-    flows g (choice p enquiry if_true if_false) a b s base fit into out k h (inr (inr (inl x))) =
-        flows g if_true s.1 s.2 s.6 base fit.1 (λ k h y. into k h (inr (inr (inl y)))) (into s.2 (base + bit g) (inr (inr (inr (inl (refl, refl)))))) k h x
-    flows g (choice p enquiry if_true if_false) a b s base fit into out k h (inr (inr (inr (inl x)))) =
-        at_flows s.2 (base + bit g) (jump s.2 s.3 p b (base + bit g) s.7 (let x = forward code g if_false s.3 b s.8 in let y = s.7.1 in omega arith) out) k h x
-    flows g (choice p enquiry if_true if_false) a b s base fit into out k h (inr (inr (inr (inr x)))) =
-        flows g if_false s.3 b s.8 base fit.2 (λ k h y. into k h (inr (inr (inr (inr y))))) out k h x
-    flows g (cases p enquiry arms final) a b s base fit into out k h (inl x) =
-        flows true enquiry a s.0 s.4 base fit.0 (λ k h y. into k h (inl y)) (into s.0 (base + 1) (inr (inl (refl, refl)))) k h x
-    flows g (cases p enquiry arms final) a b s base fit into out k h (inr (inl x)) = at_flows s.0 (base + 1) here k h x
+            (let x = forward code lie g if_true s.1 s.2 s.6 in let y = s.5.1 in let z = s.7.1 in omega arith) refl
+    flows lie g (choice p enquiry if_true if_false) a b s base rests fit into out k h (inr (inr (inl x))) =
+        flows lie g if_true s.1 s.2 s.6 base rests fit.1 (λ k h y. into k h (inr (inr (inl y)))) (into s.2 (base + bit g) (inr (inr (inr (inl (refl, refl)))))) k h x
+    flows lie g (choice p enquiry if_true if_false) a b s base rests fit into out k h (inr (inr (inr (inl x)))) =
+        at_flows s.2 (base + bit g) (jumps s.2 s.3 p b (base + bit g) s.7 (let x = forward code lie g if_false s.3 b s.8 in let y = s.7.1 in omega arith) out) k h x
+    flows lie g (choice p enquiry if_true if_false) a b s base rests fit into out k h (inr (inr (inr (inr x)))) =
+        flows lie g if_false s.3 b s.8 base rests fit.2 (λ k h y. into k h (inr (inr (inr (inr y))))) out k h x
+    flows lie g (cases p enquiry arms final) a b s base rests fit into out k h (inl x) =
+        flows lie true enquiry a s.0 s.4 base rests fit.0 (λ k h y. into k h (inl y)) (into s.0 (base + 1) (inr (inl (refl, refl)))) k h x
+    flows lie g (cases p enquiry arms final) a b s base rests fit into out k h (inr (inl x)) = at_flows s.0 (base + 1) here k h x
       where
         places : List ℕ
         places = with_last s.3 s.2
 
         last : W s.2 base
-        last = begun g final s.2 b s.7 base (λ k h y. into k h (inr (inr (inr y)))) out
+        last = begun lie g final s.2 b s.7 base (λ k h y. into k h (inr (inr (inr y)))) out
 
-        each : (k : ℕ) → ArmHeights code g p b arms s.3 s.1 s.2 s.6 base k base → W k base
+        each : (k : ℕ) → ArmHeights code lie g p b arms s.3 s.1 s.2 s.6 base k base → W k base
         each k y = into k base (inr (inr (inl y)))
 
         behind : s.0 < s.2
-        behind = let y = forward_arms code g p b arms s.3 s.1 s.2 s.6 in let z = s.5.1 in omega arith
+        behind = let y = forward_arms code lie g p b arms s.3 s.1 s.2 s.6 in let z = s.5.1 in omega arith
 
         inside : All (λ to. nat_lt to (length code.list) ≡ true) (with_last s.3 s.2)
-        inside = arms_all g p b arms s.3 s.1 s.2 s.6 base s.2 (λ to. nat_lt to (length code.list) ≡ true) (λ k le y. is_place k base (each k y)) (is_place s.2 base last)
+        inside = arms_all lie g p b arms s.3 s.1 s.2 s.6 base s.2 (λ to. nat_lt to (length code.list) ≡ true) (λ k le y. is_place k base (each k y)) (is_place s.2 base last)
 
         onward : All (λ to. nat_lt s.0 to ≡ true) (with_last s.3 s.2)
-        onward = arms_all g p b arms s.3 s.1 s.2 s.6 base s.2 (λ to. nat_lt s.0 to ≡ true) (λ k le y. let z = s.5.1 in lt-ltb s.0 k (omega arith)) (lt-ltb s.0 s.2 behind)
+        onward = arms_all lie g p b arms s.3 s.1 s.2 s.6 base s.2 (λ to. nat_lt s.0 to ≡ true) (λ k le y. let z = s.5.1 in lt-ltb s.0 k (omega arith)) (lt-ltb s.0 s.2 behind)
 
         led : All (λ to. W to base) (with_last s.3 s.2)
-        led = arms_all g p b arms s.3 s.1 s.2 s.6 base s.2 (λ to. W to base) (λ k le y. each k y) last
+        led = arms_all lie g p b arms s.3 s.1 s.2 s.6 base s.2 (λ to. W to base) (λ k le y. each k y) last
 
         here : Flows code whose W s.0 (base + 1)
         here = record {
@@ -447,29 +561,29 @@ module _ (code : Code) (whose : Owner) (W : ℕ → ℕ → Type 0) (is_inside :
           ordered = list_all-from_AllPass (λ to. nat_lt s.0 to) places onward;
           forks = no_fork code (does.Case places) refl;
         }
-    flows g (cases p enquiry arms final) a b s base fit into out k h (inr (inr (inl x))) =
-        arms_flow g p b arms s.3 s.1 s.2 s.6 base fit.1 (λ k h y. into k h (inr (inr (inl y)))) out
-        (let y = forward_arms code g p b arms s.3 s.1 s.2 s.6 in let z = forward code g final s.2 b s.7 in omega arith) k h x
-    flows g (cases p enquiry arms final) a b s base fit into out k h (inr (inr (inr x))) =
-        flows g final s.2 b s.7 base fit.2 (λ k h y. into k h (inr (inr (inr y)))) out k h x
-    flows g (conformity p union members yields enquiry specs final) a b s base fit into out k h (inl x) =
-        flows true enquiry a s.0 s.6 base fit.1 (λ k h y. into k h (inl y)) (into s.0 (base + 1) (inr (inl (refl, refl)))) k h x
-    flows g (conformity p union members yields enquiry specs final) a b s base fit into out k h (inr (inl x)) = at_flows s.0 (base + 1) here k h x
+    flows lie g (cases p enquiry arms final) a b s base rests fit into out k h (inr (inr (inl x))) =
+        arms_flow lie g p b arms s.3 s.1 s.2 s.6 base rests fit.1 (λ k h y. into k h (inr (inr (inl y)))) out
+        (let y = forward_arms code lie g p b arms s.3 s.1 s.2 s.6 in let z = forward code lie g final s.2 b s.7 in omega arith) k h x
+    flows lie g (cases p enquiry arms final) a b s base rests fit into out k h (inr (inr (inr x))) =
+        flows lie g final s.2 b s.7 base rests fit.2 (λ k h y. into k h (inr (inr (inr y)))) out k h x
+    flows lie g (conformity p union members yields enquiry specs final) a b s base rests fit into out k h (inl x) =
+        flows lie true enquiry a s.0 s.6 base rests fit.1 (λ k h y. into k h (inl y)) (into s.0 (base + 1) (inr (inl (refl, refl)))) k h x
+    flows lie g (conformity p union members yields enquiry specs final) a b s base rests fit into out k h (inr (inl x)) = at_flows s.0 (base + 1) here k h x
       where
         places : List ℕ
         places = member_places members specs s.3 s.2
 
         last : W s.2 base
-        last = begun g final s.2 b s.9 base (λ k h y. into k h (inr (inr (inr y)))) out
+        last = begun lie g final s.2 b s.9 base (λ k h y. into k h (inr (inr (inr y)))) out
 
-        each : (k : ℕ) → SpecHeights code g p b specs s.3 s.1 s.2 s.8 base k (base + 1) → W k (base + 1)
+        each : (k : ℕ) → SpecHeights code lie g p b specs s.3 s.1 s.2 s.8 base k (base + 1) → W k (base + 1)
         each k y = into k (base + 1) (inr (inr (inl y)))
 
         behind : s.0 < s.2
-        behind = let y = forward_specs code g p b specs s.3 s.1 s.2 s.8 in let z = s.7.1 in omega arith
+        behind = let y = forward_specs code lie g p b specs s.3 s.1 s.2 s.8 in let z = s.7.1 in omega arith
 
-        all : (P : ℕ → Type 0) → ((k : ℕ) → s.1 ≤ k → k < s.2 → SpecHeights code g p b specs s.3 s.1 s.2 s.8 base k (base + 1) → P k) → P s.2 → All P (member_places members specs s.3 s.2)
-        all P one final_one = members_all P members specs s.3 s.2 (λ m. specs_all g p b specs s.3 s.1 s.2 s.8 base P one final_one m) final_one
+        all : (P : ℕ → Type 0) → ((k : ℕ) → s.1 ≤ k → k < s.2 → SpecHeights code lie g p b specs s.3 s.1 s.2 s.8 base k (base + 1) → P k) → P s.2 → All P (member_places members specs s.3 s.2)
+        all P one final_one = members_all P members specs s.3 s.2 (λ m. specs_all lie g p b specs s.3 s.1 s.2 s.8 base P one final_one m) final_one
 
         inside : All (λ to. nat_lt to (length code.list) ≡ true) (member_places members specs s.3 s.2)
         inside = all (λ to. nat_lt to (length code.list) ≡ true) (λ k le less y. is_place k (base + 1) (each k y)) (is_place s.2 base last)
@@ -499,66 +613,68 @@ module _ (code : Code) (whose : Owner) (W : ℕ → ℕ → Type 0) (is_inside :
           ordered = list_all-from_AllPass (λ to. nat_lt s.0 to) places onward;
           forks = no_fork code (does.Member union places (wholes_of members specs)) refl;
         }
-    flows g (conformity p union members yields enquiry specs final) a b s base fit into out k h (inr (inr (inl x))) =
-        specs_flow g p b specs s.3 s.1 s.2 s.8 base fit.2 (λ k h y. into k h (inr (inr (inl y)))) out
-        (let y = forward code g final s.2 b s.9 in omega arith) k h x
-    flows g (conformity p union members yields enquiry specs final) a b s base fit into out k h (inr (inr (inr x))) =
-        flows g final s.2 b s.9 base fit.3 (λ k h y. into k h (inr (inr (inr y)))) out k h x
-    flows g (loop p controls limited counts test body) a b s base fit into out k h (inl x) =
-        let l = loop_heights g p controls limited counts test body a b s base into in
-        flows_all true controls a s.0 s.14 base fit.0 (λ k h y. into k h (inl y)) (subst (W s.0) (sym (after_true controls base ∙ ap (λ (n : ℕ). base + n) s.13)) l.at_c) k h x
-    flows g (loop p controls limited counts test body) a b s base fit into out k h (inr (inl x)) =
-        let l = loop_heights g p controls limited counts test body a b s base into in
+    flows lie g (conformity p union members yields enquiry specs final) a b s base rests fit into out k h (inr (inr (inl x))) =
+        specs_flow lie g p b specs s.3 s.1 s.2 s.8 base rests fit.2 (λ k h y. into k h (inr (inr (inl y)))) out
+        (let y = forward code lie g final s.2 b s.9 in omega arith) k h x
+    flows lie g (conformity p union members yields enquiry specs final) a b s base rests fit into out k h (inr (inr (inr x))) =
+        flows lie g final s.2 b s.9 base rests fit.3 (λ k h y. into k h (inr (inr (inr y)))) out k h x
+    flows lie g (loop p controls limited counts test body) a b s base rests fit into out k h (inl x) =
+        let l = loop_heights lie g p controls limited counts test body a b s base into in
+        flows_all lie true controls a s.0 s.14 base rests fit.0 (λ k h y. into k h (inl y)) (subst (W s.0) (sym (after_true controls base ∙ ap (λ (n : ℕ). base + n) s.13)) l.at_c) k h x
+    flows lie g (loop p controls limited counts test body) a b s base rests fit into out k h (inr (inl x)) =
+        let l = loop_heights lie g p controls limited counts test body a b s base into in
         limit_flows limited p s.0 s.1 s.15 base l.at_c' k h x
-    flows g (loop p controls limited counts test body) a b s base fit into out k h (inr (inr (inl x))) =
-        let l = loop_heights g p controls limited counts test body a b s base into in
+    flows lie g (loop p controls limited counts test body) a b s base rests fit into out k h (inr (inr (inl x))) =
+        let l = loop_heights lie g p controls limited counts test body a b s base into in
         at_flows s.1 (base + 3) (next s.1 s.2 p does.Counter base (base + 3) s.16 refl refl l.at_t refl tt refl) k h x
-    flows g (loop p controls limited counts test body) a b s base fit into out k h (inr (inr (inr (inl x)))) =
-        let l = loop_heights g p controls limited counts test body a b s base into in
+    flows lie g (loop p controls limited counts test body) a b s base rests fit into out k h (inr (inr (inr (inl x)))) =
+        let l = loop_heights lie g p controls limited counts test body a b s base into in
         at_flows s.2 (base + 1)
-        (branch s.2 s.3 p (does.Step s.11) base (base + 1) s.11 s.17 refl refl l.at_t' l.at_e (is_place s.11 (base + 1) l.at_e) (in_loop g p controls limited counts test body a b s).0 refl) k h x
-    flows g (loop p controls limited counts test body) a b s base fit into out k h (inr (inr (inr (inr (inl x))))) =
-        let l = loop_heights g p controls limited counts test body a b s base into in
+        (branch s.2 s.3 p (does.Step s.11) base (base + 1) s.11 s.17 refl refl l.at_t' l.at_e (is_place s.11 (base + 1) l.at_e) (in_loop lie g p controls limited counts test body a b s).0 refl) k h x
+    flows lie g (loop p controls limited counts test body) a b s base rests fit into out k h (inr (inr (inr (inr (inl x))))) =
+        let l = loop_heights lie g p controls limited counts test body a b s base into in
         at_flows s.3 (base + 1) (next s.3 s.4 p does.Turn (base + 1) (base + 1) s.18 refl (omega arith) (at_place s.4 s.4 (base + 1) (base + 1 + 0) refl (omega arith) l.at_u) refl tt refl) k h x
-    flows g (loop p controls limited counts test body) a b s base fit into out k h (inr (inr (inr (inr (inr (inl x)))))) =
-        let l = loop_heights g p controls limited counts test body a b s base into in
+    flows lie g (loop p controls limited counts test body) a b s base rests fit into out k h (inr (inr (inr (inr (inr (inl x)))))) =
+        let l = loop_heights lie g p controls limited counts test body a b s base into in
         index_flows counts p s.4 s.5 s.19 base (λ k h y. into k h (inr (inr (inr (inr (inr (inl y))))))) l.at_w k h x
-    flows g (loop p controls limited counts test body) a b s base fit into out k h (inr (inr (inr (inr (inr (inr (inl x))))))) =
-        let l = loop_heights g p controls limited counts test body a b s base into in
-        test_flows test p s.10 s.5 s.6 s.20 (base + 1) fit.1 (λ k h y. into k h (inr (inr (inr (inr (inr (inr (inl y)))))))) l.at_x l.at_f (in_loop g p controls limited counts test body a b s).1 k h x
-    flows g (loop p controls limited counts test body) a b s base fit into out k h (inr (inr (inr (inr (inr (inr (inr (inl x)))))))) =
-        let l = loop_heights g p controls limited counts test body a b s base into in
-        flows false body s.6 s.7 s.21 (base + 1) fit.2 (λ k h y. into k h (inr (inr (inr (inr (inr (inr (inr (inl y))))))))) (at_place s.7 s.7 (base + 1) (base + 1 + 0) refl (omega arith) l.at_n) k h x
-    flows g (loop p controls limited counts test body) a b s base fit into out k h (inr (inr (inr (inr (inr (inr (inr (inr (inl x))))))))) =
-        let l = loop_heights g p controls limited counts test body a b s base into in
+    flows lie g (loop p controls limited counts test body) a b s base rests fit into out k h (inr (inr (inr (inr (inr (inr (inl x))))))) =
+        let l = loop_heights lie g p controls limited counts test body a b s base into in
+        test_flows (deeper_by (if counts then 1 else 0) (above true lie)) test p s.10 s.5 s.6 s.20 (base + 1)
+        (rests_further (if counts then 1 else 0) (above true lie) (base + 1) (rests_over true lie base rests)) fit.1 (λ k h y. into k h (inr (inr (inr (inr (inr (inr (inl y)))))))) l.at_x l.at_f (in_loop lie g p controls limited counts test body a b s).1 k h x
+    flows lie g (loop p controls limited counts test body) a b s base rests fit into out k h (inr (inr (inr (inr (inr (inr (inr (inl x)))))))) =
+        let l = loop_heights lie g p controls limited counts test body a b s base into in
+        flows (deeper_by (depth_of counts test) (above true lie)) false body s.6 s.7 s.21 (base + 1)
+        (rests_further (depth_of counts test) (above true lie) (base + 1) (rests_over true lie base rests)) fit.2 (λ k h y. into k h (inr (inr (inr (inr (inr (inr (inr (inl y))))))))) (at_place s.7 s.7 (base + 1) (base + 1 + 0) refl (omega arith) l.at_n) k h x
+    flows lie g (loop p controls limited counts test body) a b s base rests fit into out k h (inr (inr (inr (inr (inr (inr (inr (inr (inl x))))))))) =
+        let l = loop_heights lie g p controls limited counts test body a b s base into in
         leave_flows p (depth_of counts test) s.7 s.8 s.22 (base + 1) (λ k h y. into k h (inr (inr (inr (inr (inr (inr (inr (inr (inl y)))))))))) l.at_n' k h x
-    flows g (loop p controls limited counts test body) a b s base fit into out k h (inr (inr (inr (inr (inr (inr (inr (inr (inr (inl x)))))))))) =
-        let l = loop_heights g p controls limited counts test body a b s base into in
+    flows lie g (loop p controls limited counts test body) a b s base rests fit into out k h (inr (inr (inr (inr (inr (inr (inr (inr (inr (inl x)))))))))) =
+        let l = loop_heights lie g p controls limited counts test body a b s base into in
         at_flows s.8 (base + 1)
         (branch s.8 s.9 p (does.Advance s.2) base (base + 1) s.2 s.23 refl refl l.at_v l.at_t (is_place s.2 (base + 1) l.at_t)
         (record {
-          back = (in_loop g p controls limited counts test body a b s).2;
+          back = (in_loop lie g p controls limited counts test body a b s).2;
           behind = s.11;
           step = does_is s.2 s.3 p (does.Step s.11) s.17;
           turn = ap (does_at code.list) s.17.1 ∙ does_is s.3 s.4 p does.Turn s.18;
-          leaves_loop = (in_loop g p controls limited counts test body a b s).3;
+          leaves_loop = (in_loop lie g p controls limited counts test body a b s).3;
         }) refl) k h x
-    flows g (loop p controls limited counts test body) a b s base fit into out k h (inr (inr (inr (inr (inr (inr (inr (inr (inr (inr (inl x))))))))))) =
-        let l = loop_heights g p controls limited counts test body a b s base into in
-        at_flows s.9 (base + 1) (jump s.9 s.10 p s.11 (base + 1) s.24 (in_loop g p controls limited counts test body a b s).4 l.at_e) k h x
-    flows g (loop p controls limited counts test body) a b s base fit into out k h (inr (inr (inr (inr (inr (inr (inr (inr (inr (inr (inr (inl x)))))))))))) =
-        let l = loop_heights g p controls limited counts test body a b s base into in
+    flows lie g (loop p controls limited counts test body) a b s base rests fit into out k h (inr (inr (inr (inr (inr (inr (inr (inr (inr (inr (inl x))))))))))) =
+        let l = loop_heights lie g p controls limited counts test body a b s base into in
+        at_flows s.9 (base + 1) (jumps s.9 s.10 p s.11 (base + 1) s.24 (in_loop lie g p controls limited counts test body a b s).4 l.at_e) k h x
+    flows lie g (loop p controls limited counts test body) a b s base rests fit into out k h (inr (inr (inr (inr (inr (inr (inr (inr (inr (inr (inr (inl x)))))))))))) =
+        let l = loop_heights lie g p controls limited counts test body a b s base into in
         leave_flows p (depth_of counts test) s.10 s.11 s.25 (base + 1) (λ k h y. into k h (inr (inr (inr (inr (inr (inr (inr (inr (inr (inr (inr (inl y))))))))))))) l.at_e k h x
-    flows g (loop p controls limited counts test body) a b s base fit into out k h (inr (inr (inr (inr (inr (inr (inr (inr (inr (inr (inr (inr x)))))))))))) =
+    flows lie g (loop p controls limited counts test body) a b s base rests fit into out k h (inr (inr (inr (inr (inr (inr (inr (inr (inr (inr (inr (inr x)))))))))))) =
         at_flows s.11 (base + 1) (next s.11 b p does.Forget base (base + 1) s.26 refl refl (subst (λ (y : Bool). W b (base + bit y)) s.12 out) refl tt refl) k h x
-    flows g (call p yields no_trees) a b s base fit into out k h x = absurd s
-    flows g (call p yields (primary and_tree parts)) a b s base fit into out k h (inl x) =
-        flows_all true (primary and_tree parts) a s.0 s.2 base fit (λ k h y. into k h (inl y)) (into s.0 (after true (primary and_tree parts) base) (inr (refl, refl))) k h x
-    flows g (call p yields (primary and_tree parts)) a b s base fit into out k h (inr x) =
+    flows lie g (call p yields no_trees) a b s base rests fit into out k h x = absurd s
+    flows lie g (call p yields (primary and_tree parts)) a b s base rests fit into out k h (inl x) =
+        flows_all lie true (primary and_tree parts) a s.0 s.2 base rests fit (λ k h y. into k h (inl y)) (into s.0 (after true (primary and_tree parts) base) (inr (refl, refl))) k h x
+    flows lie g (call p yields (primary and_tree parts)) a b s base rests fit into out k h (inr x) =
         at_flows s.0 (after true (primary and_tree parts) base)
         (next s.0 b p (does.Call (count parts) yields) base _ s.3 refl (sym (after_true (primary and_tree parts) base))
         (subst (W b) (ap (λ (y : ℕ). base + y) (ap bit s.1 ∙ bit_is yields)) out) refl tt refl) k h x
-    flows g (parallel p numbers) a b s base fit into out k h x = at_flows a base here k h x
+    flows lie g (parallel p numbers) a b s base rests fit into out k h x = at_flows a base here k h x
       where
         many : 2 ≤ length s.0
         many = let e = entrances_many code.units numbers s.0 s.3 in let m = s.2 in omega arith
@@ -575,79 +691,99 @@ module _ (code : Code) (whose : Owner) (W : ℕ → ℕ → Type 0) (is_inside :
         here =
             next_by a b p (does.Fork s.0) base base s.4 refl (omega arith) (at_place b b base (base + 0) refl (omega arith) (subst (W b) (sym (nothing_more base g s.1)) out))
             (both_true (le-leb 2 (length s.0) many) (list_all-from_AllPass (λ to. nat_lt to (length code.list)) s.0 inside)) tt unit
-    flows g meaningless a b s base fit into out k h x = absurd s
+    flows lie g meaningless a b s base rests fit into out k h x = absurd s
 
-    pub flows_all : (g : Bool) (ts : Trees) (a b : ℕ) (s : StandAll code g ts a b) (base : ℕ) → FitAll code.modes (length code.texts) ts → ((k h : ℕ) → AllHeights code g ts a b s base k h → W k h)
-        → W b (after g ts base) → (k h : ℕ) → AllHeights code g ts a b s base k h → Flows code whose W k h
-    flows_all g no_trees a b s base fit into out k h x = absurd x
-    flows_all g (t and_tree ts) a b s base fit into out k h (inl x) =
-        flows g t a s.0 s.1 base fit.0 (λ k h y. into k h (inl y)) first k h x
+    pub flows_all : (lie : Lie) (g : Bool) (ts : Trees) (a b : ℕ) (s : StandAll code lie g ts a b) (base : ℕ) → Rests lie base → FitAll code.modes (length code.texts) ts → ((k h : ℕ) → AllHeights code lie g ts a b s base k h → W k h)
+        → W b (after g ts base) → (k h : ℕ) → AllHeights code lie g ts a b s base k h → Flows code whose W k h
+    flows_all lie g no_trees a b s base rests fit into out k h x = absurd x
+    flows_all lie g (t and_tree ts) a b s base rests fit into out k h (inl x) =
+        flows lie g t a s.0 s.1 base rests fit.0 (λ k h y. into k h (inl y)) first k h x
       where
         first : W s.0 (base + bit g)
         first =
             ⊎_elim (λ y. into s.0 (base + bit g) (inr y)) (λ e. at_place b s.0 (after g ts (base + bit g)) (base + bit g) e.0 (sym e.1) out)
-            (starts_all code g ts s.0 b s.2 (base + bit g))
-    flows_all g (t and_tree ts) a b s base fit into out k h (inr x) = flows_all g ts s.0 b s.2 (base + bit g) fit.1 (λ k h y. into k h (inr y)) out k h x
+            (starts_all code (above g lie) g ts s.0 b s.2 (base + bit g))
+    flows_all lie g (t and_tree ts) a b s base rests fit into out k h (inr x) = flows_all (above g lie) g ts s.0 b s.2 (base + bit g) (rests_over g lie base rests) fit.1 (λ k h y. into k h (inr y)) out k h x
 
     -- parts that are chosen among
-    arms_flow : (g : Bool) (p e : ℕ) (ts : Trees) (ps : List ℕ) (a b : ℕ) (s : StandArms code g p e ts ps a b) (base : ℕ) → FitAll code.modes (length code.texts) ts
-        → ((k h : ℕ) → ArmHeights code g p e ts ps a b s base k h → W k h) → W e (base + bit g) → b ≤ e → (k h : ℕ) → ArmHeights code g p e ts ps a b s base k h → Flows code whose W k h
-    arms_flow g p e no_trees [] a b s base fit into quit le k h x = absurd x
-    arms_flow g p e no_trees (q ∷ ps) a b s base fit into quit le k h x = absurd s
-    arms_flow g p e (t and_tree ts) [] a b s base fit into quit le k h x = absurd s
-    arms_flow g p e (t and_tree ts) (q ∷ ps) a b s base fit into quit le k h (inl x) =
-        flows g t a s.0 s.3 base fit.0 (λ k h y. into k h (inl y)) (into s.0 (base + bit g) (inr (inl (refl, refl)))) k h x
-    arms_flow g p e (t and_tree ts) (q ∷ ps) a b s base fit into quit le k h (inr (inl x)) =
-        at_flows s.0 (base + bit g) (jump s.0 s.1 p e (base + bit g) s.4 (let y = forward_arms code g p e ts ps s.1 b s.5 in let z = s.4.1 in omega arith) quit) k h x
-    arms_flow g p e (t and_tree ts) (q ∷ ps) a b s base fit into quit le k h (inr (inr x)) =
-        arms_flow g p e ts ps s.1 b s.5 base fit.1 (λ k h y. into k h (inr (inr y))) quit le k h x
+    arms_flow : (lie : Lie) (g : Bool) (p e : ℕ) (ts : Trees) (ps : List ℕ) (a b : ℕ) (s : StandArms code lie g p e ts ps a b) (base : ℕ) → Rests lie base → FitAll code.modes (length code.texts) ts
+        → ((k h : ℕ) → ArmHeights code lie g p e ts ps a b s base k h → W k h) → W e (base + bit g) → b ≤ e → (k h : ℕ) → ArmHeights code lie g p e ts ps a b s base k h → Flows code whose W k h
+    arms_flow lie g p e no_trees [] a b s base rests fit into quit le k h x = absurd x
+    arms_flow lie g p e no_trees (q ∷ ps) a b s base rests fit into quit le k h x = absurd s
+    arms_flow lie g p e (t and_tree ts) [] a b s base rests fit into quit le k h x = absurd s
+    arms_flow lie g p e (t and_tree ts) (q ∷ ps) a b s base rests fit into quit le k h (inl x) =
+        flows lie g t a s.0 s.3 base rests fit.0 (λ k h y. into k h (inl y)) (into s.0 (base + bit g) (inr (inl (refl, refl)))) k h x
+    arms_flow lie g p e (t and_tree ts) (q ∷ ps) a b s base rests fit into quit le k h (inr (inl x)) =
+        at_flows s.0 (base + bit g) (jumps s.0 s.1 p e (base + bit g) s.4 (let y = forward_arms code lie g p e ts ps s.1 b s.5 in let z = s.4.1 in omega arith) quit) k h x
+    arms_flow lie g p e (t and_tree ts) (q ∷ ps) a b s base rests fit into quit le k h (inr (inr x)) =
+        arms_flow lie g p e ts ps s.1 b s.5 base rests fit.1 (λ k h y. into k h (inr (inr y))) quit le k h x
 
     -- specifications
-    specs_flow : (g : Bool) (p e : ℕ) (specs : Specs) (ps : List ℕ) (a b : ℕ) (s : StandSpecs code g p e specs ps a b) (base : ℕ) → SpecsFitModes code.modes (length code.texts) specs
-        → ((k h : ℕ) → SpecHeights code g p e specs ps a b s base k h → W k h) → W e (base + bit g) → b ≤ e → (k h : ℕ) → SpecHeights code g p e specs ps a b s base k h → Flows code whose W k h
-    specs_flow g p e no_specs [] a b s base fit into quit le k h x = absurd x
-    specs_flow g p e no_specs (q ∷ ps) a b s base fit into quit le k h x = absurd s
-    specs_flow g p e (spec takes true united t behind) [] a b s base fit into quit le k h x = absurd s
-    specs_flow g p e (spec takes false united t behind) [] a b s base fit into quit le k h x = absurd s
-    specs_flow g p e (spec takes true united t behind) (q ∷ ps) a b s base fit into quit le k h (inl x) =
+    specs_flow : (lie : Lie) (g : Bool) (p e : ℕ) (specs : Specs) (ps : List ℕ) (a b : ℕ) (s : StandSpecs code lie g p e specs ps a b) (base : ℕ) → Rests lie base → SpecsFitModes code.modes (length code.texts) specs
+        → ((k h : ℕ) → SpecHeights code lie g p e specs ps a b s base k h → W k h) → W e (base + bit g) → b ≤ e → (k h : ℕ) → SpecHeights code lie g p e specs ps a b s base k h → Flows code whose W k h
+    specs_flow lie g p e no_specs [] a b s base rests fit into quit le k h x = absurd x
+    specs_flow lie g p e no_specs (q ∷ ps) a b s base rests fit into quit le k h x = absurd s
+    specs_flow lie g p e (spec takes true united t behind) [] a b s base rests fit into quit le k h x = absurd s
+    specs_flow lie g p e (spec takes false united t behind) [] a b s base rests fit into quit le k h x = absurd s
+    specs_flow lie g p e (spec takes true united t behind) (q ∷ ps) a b s base rests fit into quit le k h (inl x) =
         at_flows a (base + 1)
         (next a s.0 p (does.Enter 1) (base + 1) (base + 1) s.6 refl (omega arith) (at_place s.0 s.0 (base + 1) (base + 1 + 0) refl (omega arith) (into s.0 (base + 1) (inr (inl (refl, refl))))) refl tt refl) k h x
-    specs_flow g p e (spec takes true united t behind) (q ∷ ps) a b s base fit into quit le k h (inr (inl x)) =
+    specs_flow lie g p e (spec takes true united t behind) (q ∷ ps) a b s base rests fit into quit le k h (inr (inl x)) =
         at_flows s.0 (base + 1)
         (next s.0 s.1 p (does.Bind 0) base (base + 1) s.7 refl refl
         (at_place s.1 s.1 base (base + 0) refl (omega arith)
-        (begun g t s.1 s.2 s.8 base (λ k h y. into k h (inr (inr (inl y)))) (into s.2 (base + bit g) (inr (inr (inr (inl (refl, refl)))))))) refl tt refl) k h x
-    specs_flow g p e (spec takes true united t behind) (q ∷ ps) a b s base fit into quit le k h (inr (inr (inl x))) =
-        flows g t s.1 s.2 s.8 base fit.0 (λ k h y. into k h (inr (inr (inl y)))) (into s.2 (base + bit g) (inr (inr (inr (inl (refl, refl)))))) k h x
-    specs_flow g p e (spec takes true united t behind) (q ∷ ps) a b s base fit into quit le k h (inr (inr (inr (inl x)))) =
+        (begun (deeper_by 1 lie) g t s.1 s.2 s.8 base (λ k h y. into k h (inr (inr (inl y)))) (into s.2 (base + bit g) (inr (inr (inr (inl (refl, refl)))))))) refl tt refl) k h x
+    specs_flow lie g p e (spec takes true united t behind) (q ∷ ps) a b s base rests fit into quit le k h (inr (inr (inl x))) =
+        flows (deeper_by 1 lie) g t s.1 s.2 s.8 base (rests_further 1 lie base rests) fit.0 (λ k h y. into k h (inr (inr (inl y)))) (into s.2 (base + bit g) (inr (inr (inr (inl (refl, refl)))))) k h x
+    specs_flow lie g p e (spec takes true united t behind) (q ∷ ps) a b s base rests fit into quit le k h (inr (inr (inr (inl x)))) =
         at_flows s.2 (base + bit g)
         (next s.2 s.3 p (leave g) base (base + bit g) s.9 refl (ap (λ (x : ℕ). base + x) (leave_takes g))
         (subst (W s.3) (ap (λ (x : ℕ). base + x) (sym (leave_leaves g))) (into s.3 (base + bit g) (inr (inr (inr (inr (inl (refl, refl)))))))) (leave_made g) tt refl) k h x
-    specs_flow g p e (spec takes true united t behind) (q ∷ ps) a b s base fit into quit le k h (inr (inr (inr (inr (inl x))))) =
-        at_flows s.3 (base + bit g) (jump s.3 s.4 p e (base + bit g) s.10 (let y = forward_specs code g p e behind ps s.4 b s.11 in let z = s.10.1 in omega arith) quit) k h x
-    specs_flow g p e (spec takes true united t behind) (q ∷ ps) a b s base fit into quit le k h (inr (inr (inr (inr (inr x))))) =
-        specs_flow g p e behind ps s.4 b s.11 base fit.1 (λ k h y. into k h (inr (inr (inr (inr (inr y)))))) quit le k h x
-    specs_flow g p e (spec takes false united t behind) (q ∷ ps) a b s base fit into quit le k h (inl x) =
+    specs_flow lie g p e (spec takes true united t behind) (q ∷ ps) a b s base rests fit into quit le k h (inr (inr (inr (inr (inl x))))) =
+        at_flows s.3 (base + bit g) (jumps s.3 s.4 p e (base + bit g) s.10 (let y = forward_specs code lie g p e behind ps s.4 b s.11 in let z = s.10.1 in omega arith) quit) k h x
+    specs_flow lie g p e (spec takes true united t behind) (q ∷ ps) a b s base rests fit into quit le k h (inr (inr (inr (inr (inr x))))) =
+        specs_flow lie g p e behind ps s.4 b s.11 base rests fit.1 (λ k h y. into k h (inr (inr (inr (inr (inr y)))))) quit le k h x
+    specs_flow lie g p e (spec takes false united t behind) (q ∷ ps) a b s base rests fit into quit le k h (inl x) =
         at_flows a (base + 1)
         (next a s.0 p does.Drop base (base + 1) s.4 refl refl
         (at_place s.0 s.0 base (base + 0) refl (omega arith)
-        (begun g t s.0 s.1 s.5 base (λ k h y. into k h (inr (inl y))) (into s.1 (base + bit g) (inr (inr (inl (refl, refl))))))) refl tt refl) k h x
-    specs_flow g p e (spec takes false united t behind) (q ∷ ps) a b s base fit into quit le k h (inr (inl x)) =
-        flows g t s.0 s.1 s.5 base fit.0 (λ k h y. into k h (inr (inl y))) (into s.1 (base + bit g) (inr (inr (inl (refl, refl))))) k h x
-    specs_flow g p e (spec takes false united t behind) (q ∷ ps) a b s base fit into quit le k h (inr (inr (inl x))) =
-        at_flows s.1 (base + bit g) (jump s.1 s.2 p e (base + bit g) s.6 (let y = forward_specs code g p e behind ps s.2 b s.7 in let z = s.6.1 in omega arith) quit) k h x
-    specs_flow g p e (spec takes false united t behind) (q ∷ ps) a b s base fit into quit le k h (inr (inr (inr x))) =
-        specs_flow g p e behind ps s.2 b s.7 base fit.1 (λ k h y. into k h (inr (inr (inr y)))) quit le k h x
+        (begun lie g t s.0 s.1 s.5 base (λ k h y. into k h (inr (inl y))) (into s.1 (base + bit g) (inr (inr (inl (refl, refl))))))) refl tt refl) k h x
+    specs_flow lie g p e (spec takes false united t behind) (q ∷ ps) a b s base rests fit into quit le k h (inr (inl x)) =
+        flows lie g t s.0 s.1 s.5 base rests fit.0 (λ k h y. into k h (inr (inl y))) (into s.1 (base + bit g) (inr (inr (inl (refl, refl))))) k h x
+    specs_flow lie g p e (spec takes false united t behind) (q ∷ ps) a b s base rests fit into quit le k h (inr (inr (inl x))) =
+        at_flows s.1 (base + bit g) (jumps s.1 s.2 p e (base + bit g) s.6 (let y = forward_specs code lie g p e behind ps s.2 b s.7 in let z = s.6.1 in omega arith) quit) k h x
+    specs_flow lie g p e (spec takes false united t behind) (q ∷ ps) a b s base rests fit into quit le k h (inr (inr (inr x))) =
+        specs_flow lie g p e behind ps s.2 b s.7 base rests fit.1 (λ k h y. into k h (inr (inr (inr y)))) quit le k h x
+
+    -- steps
+    steps_flow : (lie : Lie) (g : Bool) (p e : ℕ) (steps : Steps) (ps : List ℕ) (a b : ℕ) (s : StandSteps code lie g p e steps ps a b) (base : ℕ) → Rests lie base → StepsFitModes code.modes (length code.texts) steps
+        → ((k h : ℕ) → StepHeights code lie g p e steps ps a b s base k h → W k h) → W b (base + bit g) → W e (base + bit g) → b ≤ e → (k h : ℕ) → StepHeights code lie g p e steps ps a b s base k h → Flows code whose W k h
+    steps_flow lie g p e (last_step ls t) [] a b s base rests fit into out quit le k h x = absurd s
+    steps_flow lie g p e (step ls t more) [] a b s base rests fit into out quit le k h x = absurd s
+    steps_flow lie g p e (exit ls t more) [] a b s base rests fit into out quit le k h x = absurd s
+    steps_flow lie g p e (last_step ls t) (q ∷ (r ∷ ps)) a b s base rests fit into out quit le k h x = absurd s
+    steps_flow lie g p e (last_step ls t) (q ∷ []) a b s base rests fit into out quit le k h x = flows lie g t a b s.1 base rests fit into out k h x
+    steps_flow lie g p e (step ls t more) (q ∷ ps) a b s base rests fit into out quit le k h (inl x) =
+        flows lie false t a s.0 s.2 base rests fit.0 (λ k h y. into k h (inl y))
+        (at_place s.0 s.0 base (base + 0) refl (omega arith) (begun_steps lie g p e more ps s.0 b s.3 base (λ k h y. into k h (inr y)) out)) k h x
+    steps_flow lie g p e (step ls t more) (q ∷ ps) a b s base rests fit into out quit le k h (inr x) =
+        steps_flow lie g p e more ps s.0 b s.3 base rests fit.1 (λ k h y. into k h (inr y)) out quit le k h x
+    steps_flow lie g p e (exit ls t more) (q ∷ ps) a b s base rests fit into out quit le k h (inl x) =
+        flows lie g t a s.0 s.3 base rests fit.0 (λ k h y. into k h (inl y)) (into s.0 (base + bit g) (inr (inl (refl, refl)))) k h x
+    steps_flow lie g p e (exit ls t more) (q ∷ ps) a b s base rests fit into out quit le k h (inr (inl x)) =
+        at_flows s.0 (base + bit g) (jumps s.0 s.1 p e (base + bit g) s.4 (let y = forward_steps code lie g p e more ps s.1 b s.5 in let z = s.4.1 in omega arith) quit) k h x
+    steps_flow lie g p e (exit ls t more) (q ∷ ps) a b s base rests fit into out quit le k h (inr (inr x)) =
+        steps_flow lie g p e more ps s.1 b s.5 base rests fit.1 (λ k h y. into k h (inr (inr y))) out quit le k h x
 
     -- the test of a loop
-    test_flows : (t : Test) (p f a b : ℕ) (s : Tests code t p f a b) (base : ℕ) → TestFitsModes code.modes (length code.texts) t → ((k h : ℕ) → TestHeights code t p f a b s base k h → W k h)
-        → W b base → W f base → b ≤ f → (k h : ℕ) → TestHeights code t p f a b s base k h → Flows code whose W k h
-    test_flows no_test p f a b s base fit into out quit le k h x = absurd x
-    test_flows (while_in at slots t) p f a b s base fit into out quit le k h (inl x) =
-        open_flows slots at a s.0 s.2 base (begun true t s.0 s.1 s.3 base (λ k h y. into k h (inr (inl y))) (into s.1 (base + 1) (inr (inr (refl, refl))))) k h x
-    test_flows (while_in at slots t) p f a b s base fit into out quit le k h (inr (inl x)) =
-        flows true t s.0 s.1 s.3 base fit (λ k h y. into k h (inr (inl y))) (into s.1 (base + 1) (inr (inr (refl, refl)))) k h x
-    test_flows (while_in at slots t) p f a b s base fit into out quit le k h (inr (inr x)) =
+    test_flows : (lie : Lie) (t : Test) (p f a b : ℕ) (s : Tests code lie t p f a b) (base : ℕ) → Rests lie base → TestFitsModes code.modes (length code.texts) t → ((k h : ℕ) → TestHeights code lie t p f a b s base k h → W k h)
+        → W b base → W f base → b ≤ f → (k h : ℕ) → TestHeights code lie t p f a b s base k h → Flows code whose W k h
+    test_flows lie no_test p f a b s base rests fit into out quit le k h x = absurd x
+    test_flows lie (while_in at slots t) p f a b s base rests fit into out quit le k h (inl x) =
+        open_flows slots at a s.0 s.2 base (begun (deeper_by (deeper slots 0) lie) true t s.0 s.1 s.3 base (λ k h y. into k h (inr (inl y))) (into s.1 (base + 1) (inr (inr (refl, refl))))) k h x
+    test_flows lie (while_in at slots t) p f a b s base rests fit into out quit le k h (inr (inl x)) =
+        flows (deeper_by (deeper slots 0) lie) true t s.0 s.1 s.3 base (rests_further (deeper slots 0) lie base rests) fit (λ k h y. into k h (inr (inl y))) (into s.1 (base + 1) (inr (inr (refl, refl)))) k h x
+    test_flows lie (while_in at slots t) p f a b s base rests fit into out quit le k h (inr (inr x)) =
         at_flows s.1 (base + 1)
         (branch s.1 b p (does.Unless f) base (base + 1) f s.4 refl refl (at_place b b base (base + 0) refl (omega arith) out)
         (at_place f f base (base + 0) refl (omega arith) quit) (is_place f base quit) (let y = s.4.1 in omega arith) refl) k h x

@@ -1,7 +1,7 @@
 -- What a whole translation has written.
-use Rattle.std.proofs.Common.{◌≡◌, ◌⊎◌, ℕ, zero, suc, ◌+◌, ◌-◌, ◌<◌, List, [], ◌∷◌, ◌++◌, length, length-append, append_assoc, drop, get_or, add-one, drop-cons, append-nil, refl, sym, ◌∙◌, ap, arith, subst, false, None, Some, slice_get}
+use Rattle.std.proofs.Common.{◌≡◌, ◌⊎◌, ℕ, zero, suc, ◌+◌, ◌-◌, ◌<◌, List, [], ◌∷◌, ◌++◌, length, length-append, append_assoc, drop, get_or, add-one, drop-cons, append-nil, refl, sym, ◌∙◌, ap, arith, subst, false, true, None, Some, slice_get}
 use Rattle.std.specs.Option.{option_map_or}
-use Rattle.std.specs.Prelude.{map, slice_index_or}
+use Rattle.std.specs.Prelude.{◌≤◌, Bool, map, slice_index_or, if◌then◌else◌}
 use Rattle.std.specs.declared.option.Option.{Option}
 use Rattle.a68_annot.specs.declared.annotated.Annotated.{Annotated}
 use Rattle.a68_base.specs.declared.refusal.Stop.{Stop}
@@ -12,7 +12,9 @@ use Rattle.a68_code.specs.declared.code.RoutineEntrance.{RoutineEntrance}
 use Rattle.a68_code.specs.declared.does.Does.TheVariants as does
 use Rattle.a68_builder.specs.Linking.{linked}
 use Rattle.a68_elab.specs.Made.{behind_all, last_id, parts_at, text_among, texts_before, texts_in, unit_among, units_before, units_in}
-use Rattle.a68_elab.specs.Programs.{apart_before, asked_tree, body_of, body_yields, parallel_unit_of, place_of, program_of}
+use Rattle.a68_base.specs.declared.limits.TheConstants.{MOST_INSTRUCTIONS}
+use Rattle.a68_elab.specs.Programs.{apart_before, asked_tree, body_of, body_yields, first_seat, misfit, parallel_unit_of, place_of, program_of, seated, tree_at}
+use Rattle.a68_elab.specs.Runs.{is_outcome, outcome}
 use Rattle.a68_elab.specs.Trees.{Apart, Program, bodies, routine_text, parallel_unit, units}
 use Rattle.a68_gen.specs.Fits.{Fits, ApartFits}
 use Rattle.a68_emit.specs.Listing.{apart_size, apart_stretch, apart_stretches, instr, listing, size, stretch, text_entrances, texts_entered, unit_entrances, units_entered, written}
@@ -22,10 +24,13 @@ use Rattle.a68_emit.specs.declared.entered.Entered.{Entered}
 use Rattle.a68_emit.specs.declared.entered.UnitNode.{UnitNode}
 use Rattle.a68_emit.specs.Stretches.{Translates}
 use Rattle.a68_emit.specs.Writing.{Stops, Writes, places, ran_out}
+use Rattle.a68_constructs.proofs.Lying.{misfit_lies}
 use Rattle.a68_constructs.proofs.Numbering.{kept_before}
 use Rattle.a68_gen.proofs.Listed.{texts_listed}
+use Rattle.a68_emit.proofs.Entering.{map-long}
 use Rattle.a68_emit.proofs.Sizes.{size_one, size_stretch}
-use Rattle.a68_gen.proofs.Standing.{translated}
+use Rattle.a68_gen.proofs.Seated.{IsSeated, is_seated}
+use Rattle.a68_gen.proofs.Standing.{ApartSeated, translated}
 use Rattle.a68_gen.proofs.Validity.{valid}
 use Rattle.a68_tree.specs.declared.node.Node.{Node}
 use Rattle.a68_emit.proofs.Writing.{and_behind, had_not, is_written, stops-places, writes-as}
@@ -44,6 +49,18 @@ apart_first all s l texts units no_texts no_units = record {
   texts_entered = λ none. ap (λ (es : List RoutineEntrance). es ++ text_entrances all (length l)) no_texts;
   units_entered = λ none. ap (λ (es : List ℕ). es ++ unit_entrances all (length l)) no_units;
 }
+
+-- ---- nodes of which a value is asked or none
+
+-- a misfit in the place of one that leaves something else
+pub asked_none : (a : Annotated) (wanted : Bool) (id : ℕ) (node : Node) → slice_get a.tree.nodes id ≡ Some node → is_outcome wanted (outcome a id) ≡ false → misfit node.span.from wanted ≡ asked_tree a wanted id
+asked_none a wanted id node is none =
+    let place : place_of a id ≡ node.span.from = ap (λ (m : Option Node). option_map_or (λ (n : Node). n.span.from) m 0) is in
+    sym (misfit_lies first_seat node.span.from wanted) ∙ ap (λ (p : ℕ). seated first_seat (misfit p wanted)) (sym place)
+    ∙ ap (λ (b : Bool). seated first_seat (if b then tree_at a id else misfit (place_of a id) wanted)) (sym none)
+
+pub asked_some : (a : Annotated) (wanted : Bool) (id : ℕ) → is_outcome wanted (outcome a id) ≡ true → seated first_seat (tree_at a id) ≡ asked_tree a wanted id
+asked_some a wanted id some = ap (λ (b : Bool). seated first_seat (if b then tree_at a id else misfit (place_of a id) wanted)) (sym some)
 
 -- a body and its Return
 pub text_written : (a : Annotated) (id part : ℕ) (node : Node) (s0 s1 s2 s3 : Option Stop) (l0 l1 l2 l3 : List Instr) → slice_get a.tree.nodes id ≡ Some node → part ≡ last_id (parts_at a id)
@@ -236,20 +253,50 @@ texts_many a code e =
 units_many : (a : Annotated) (code : Code) → code.units ≡ units_entered (program_of a) → length code.units ≡ length (units_in a)
 units_many a code e = ap (λ (es : List ℕ). length es) e ∙ units_long (program_of a).apart (size (program_of a).tree + 1) ∙ many_units a (behind_all a.tree.nodes)
 
+-- ---- jumps
+
+-- those of a program have their numbers
+asked_seated : (a : Annotated) (wanted : Bool) (id : ℕ) → IsSeated first_seat (asked_tree a wanted id)
+asked_seated a wanted id = is_seated first_seat (if is_outcome wanted (outcome a id) then tree_at a id else misfit (place_of a id) wanted)
+
+seated_behind : (xs ys : List Apart) → ApartSeated xs → ApartSeated ys → ApartSeated (xs ++ ys)
+seated_behind [] ys p q = q
+seated_behind (routine_text body ∷ xs) ys p q = (p.0, seated_behind xs ys p.1 q)
+seated_behind (parallel_unit unit ∷ xs) ys p q = (p.0, seated_behind xs ys p.1 q)
+
+texts_seated : (a : Annotated) (ids : List ℕ) → ApartSeated (map (λ id. routine_text (body_of a id)) ids)
+texts_seated a [] = tt
+texts_seated a (id ∷ ids) = (asked_seated a (body_yields a id) (last_id (parts_at a id)), texts_seated a ids)
+
+units_seated : (a : Annotated) (us : List (ℕ × ℕ)) → ApartSeated (map (λ u. parallel_unit (parallel_unit_of a u)) us)
+units_seated a [] = tt
+units_seated a (u ∷ us) = (asked_seated a false u.1, units_seated a us)
+
+apart_seated : (a : Annotated) (byte : ℕ) → ApartSeated (apart_before a byte)
+apart_seated a zero = tt
+apart_seated a (suc byte) =
+    let us = unit_among a byte a.tree.nodes in
+    let ids = text_among byte 0 a.tree.nodes in
+    let xs = map (λ u. parallel_unit (parallel_unit_of a u)) us in
+    let ys = map (λ id. routine_text (body_of a id)) ids in
+    seated_behind (apart_before a byte) (xs ++ ys) (apart_seated a byte) (seated_behind xs ys (units_seated a us) (texts_seated a ids))
+
 -- code with this list and these entrances translates the program
 pub is_translated : (program : Annotated) (code : Code) (list : List Instr) (s2 : Option Stop) → s2 ≡ None → Writes None s2 [] list (written (program_of program)) → code.list ≡ map (linked code.units) list
-    → code.texts ≡ texts_entered (program_of program) → code.units ≡ units_entered (program_of program) → code.modes ≡ program.modes
+    → length list ≤ MOST_INSTRUCTIONS → code.texts ≡ texts_entered (program_of program) → code.units ≡ units_entered (program_of program) → code.modes ≡ program.modes
     → Fits program.modes (length (units_in program)) false (program_of program).tree → ApartFits program.modes (length (units_in program)) (program_of program).apart
     → Translates (program_of program) code
-is_translated program code list None e w l x u m f t =
+is_translated program code list None e w l few x u m f t =
     let many = sym (units_many program code u) in
     let p = program_of program in
     let fits : Fits code.modes (length code.units) false p.tree =
     subst (λ ms. Fits ms (length code.units) false p.tree) (sym m) (subst (λ (n : ℕ). Fits program.modes n false p.tree) many f) in
     let apart_fit : ApartFits code.modes (length code.units) p.apart =
     subst (λ ms. ApartFits ms (length code.units) p.apart) (sym m) (subst (λ (n : ℕ). ApartFits program.modes n p.apart) many t) in
-    translated p code (l ∙ ap (λ (is : List Instr). map (linked code.units) is) w) x u m fits apart_fit
-is_translated program code list (Some s) e w l x u m f t = absurd (cc)
+    let short : length code.list ≤ MOST_INSTRUCTIONS =
+    subst (λ (n : ℕ). n ≤ MOST_INSTRUCTIONS) (sym (ap (λ (is : List Instr). length is) l ∙ map-long (linked code.units) list)) few in
+    translated p code (l ∙ ap (λ (is : List Instr). map (linked code.units) is) w) x u m short (asked_seated program false 0) (apart_seated program (behind_all program.tree.nodes)) fits apart_fit
+is_translated program code list (Some s) e w l few x u m f t = absurd (cc)
 
 -- and it is valid
 pub is_valid : (program : Annotated) (code : Code) → Translates (program_of program) code → code.modes ≡ program.modes → FitsModes program.modes (length (texts_in program)) (program_of program).tree

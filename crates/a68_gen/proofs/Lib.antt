@@ -2,6 +2,7 @@ pub mod Fitted
 pub mod Fitting
 pub mod FittingChoices
 pub mod FittingParts
+pub mod FittingSeats
 pub mod Flowing
 pub mod Forward
 pub mod Generating
@@ -10,5 +11,7 @@ pub mod Listed
 pub mod Members
 pub mod Places
 pub mod Refusing
+pub mod Seated
+pub mod Settling
 pub mod Standing
 pub mod Validity

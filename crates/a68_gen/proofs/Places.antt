@@ -3,13 +3,14 @@ use Rattle.std.proofs.Common.{◌≡◌, ℕ, zero, suc, ◌+◌, ◌≤◌, Boo
 use Rattle.std.proofs.lemmas.Option.{same_Some}
 use Rattle.a68_base.specs.declared.refusal.Refusal.{Refusal}
 use Rattle.std.specs.Prelude.{map}
+use Rattle.a68_builder.specs.Labels.{settled}
 use Rattle.a68_builder.specs.Linking.{linked}
 use Rattle.a68_code.specs.declared.code.Code.{Code}
 use Rattle.a68_code.specs.declared.code.Instr.{Instr}
 use Rattle.a68_code.specs.declared.does.Does.TheVariants as does
-use Rattle.a68_elab.specs.Places.{BeginsBy, AllBeginBy, SpecsBeginBy, TestBeginsBy, ApartBeginBy, ProgramBeginsBy}
-use Rattle.a68_elab.specs.Trees.{Tree, Trees, operation, together, phrases, range, choice, cases, conformity, loop, call, parallel, meaningless, no_trees, ◌and_tree◌, count, Specs, no_specs, spec, Test, no_test, while_in, depth_of, Apart, routine_text, parallel_unit, Program}
-use Rattle.a68_emit.specs.Listing.{instr, limits, indexes, opens, leaves, size, sizes, spec_sizes, test_size, arm_places, spec_places, stretch, stretches, arm_stretches, spec_stretches, test_stretch, apart_stretch, apart_stretches, listing, units_entered, written}
+use Rattle.a68_elab.specs.Places.{BeginsBy, AllBeginBy, SpecsBeginBy, StepsBeginBy, TestBeginsBy, ApartBeginBy, ProgramBeginsBy}
+use Rattle.a68_elab.specs.Trees.{Tree, Trees, operation, together, phrases, labelled, jump, range, choice, cases, conformity, loop, call, parallel, meaningless, no_trees, ◌and_tree◌, count, Steps, last_step, step, exit, Specs, no_specs, spec, Test, no_test, while_in, depth_of, Apart, routine_text, parallel_unit, Program}
+use Rattle.a68_emit.specs.Listing.{instr, limits, indexes, opens, leaves, size, sizes, spec_sizes, step_sizes, test_size, arm_places, spec_places, label_places, stretch, stretches, arm_stretches, spec_stretches, step_stretches, test_stretch, apart_stretch, apart_stretches, listing, units_entered, written}
 use Rattle.a68_gen.proofs.Listed.{listed}
 use Rattle.a68_emit.specs.Stretches.{does_of, leave, member_places, wholes_of, with_last, Translates}
 use Rattle.a68_emit.specs.Writing.{IsTooLong, most, places}
@@ -50,12 +51,19 @@ module _ (end : ℕ) where
   leave_lies place zero p = tt
   leave_lies place (suc n) p = (p, leave_lies place n p)
 
+  -- places of labels change no place of the text
+  settled_lie : (labels : List (ℕ × ℕ)) (list : List Instr) → LieBy end list → LieBy end (map (settled labels) list)
+  settled_lie labels [] b = tt
+  settled_lie labels (i ∷ list) b = (b.0, settled_lie labels list b.1)
+
   mutual
     lies : (tree : Tree) (at : ℕ) → BeginsBy end tree → LieBy end (stretch tree at)
     lies (operation place op order parts) at b = lie-append (stretches parts at) (instr place (does_of op (count parts)) ∷ []) (all_lie parts at b.1) (b.0, tt)
     lies (together parts) at b = all_lie parts at b
     lies (phrases place before final) at b =
         let m = at + sizes before in lie-append (stretches before at) (stretch final m) (all_lie before at b.1) (lies final m b.2)
+    lies (labelled place steps) at b = settled_lie (label_places steps at) (step_stretches place (at + step_sizes steps) steps at) (steps_lie place (at + step_sizes steps) steps at b.0 b.1)
+    lies (jump place label frames height yields) at b = (b, tt)
     lies (range place out slots yields within) at b =
         (b.0, lie-append (stretch within (at + 1)) (instr out (leave yields) ∷ []) (lies within (at + 1) b.2) (b.1, tt))
     lies (choice place enquiry if_true if_false) at b =
@@ -129,6 +137,14 @@ module _ (end : ℕ) where
     specs_lie place e yields (spec takes false united part behind) at p b =
         let n = at + (1 + size part + 1) in
         (p, lie-append (stretch part (at + 1)) (instr place (does.Jump e) ∷ spec_stretches place e yields behind n) (lies part (at + 1) b.0) (p, specs_lie place e yields behind n p b.1))
+
+    steps_lie : (place e : ℕ) (steps : Steps) (at : ℕ) → place ≤ end → StepsBeginBy end steps → LieBy end (step_stretches place e steps at)
+    steps_lie place e (last_step labels tree) at p b = lies tree at b
+    steps_lie place e (step labels tree more) at p b =
+        let m = at + size tree in lie-append (stretch tree at) (step_stretches place e more m) (lies tree at b.0) (steps_lie place e more m p b.1)
+    steps_lie place e (exit labels tree more) at p b =
+        let m = at + size tree + 1 in
+        lie-append (stretch tree at) (instr place (does.Jump e) ∷ step_stretches place e more m) (lies tree at b.0) (p, steps_lie place e more m p b.1)
 
     test_lies : (place f : ℕ) (test : Test) (at : ℕ) → place ≤ end → TestBeginsBy end test → LieBy end (test_stretch place f test at)
     test_lies place f no_test at p b = tt

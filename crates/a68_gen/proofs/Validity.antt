@@ -9,13 +9,14 @@ use Rattle.std.specs.List.{Contains}
 use Rattle.std.specs.Option.{option_map}
 use Rattle.std.specs.declared.option.Option.{Option}
 use Rattle.a68_code.proofs.Reading.{does_at_within}
-use Rattle.a68_code.proofs.Ways.{way_to}
+use Rattle.a68_code.proofs.Ways.{way_of_jump, way_to}
 use Rattle.a68_code.specs.Flow.{does_at, takes, entrances, entrances_in, entrance_if, Reaches, MayMeet}
 use Rattle.a68_code.specs.Flow as flow
-use Rattle.a68_code.specs.Flow.Reaches.{begins, goes_on}
+use Rattle.a68_code.specs.Flow.Reaches.{begins, goes_on, lands}
 use Rattle.a68_code.specs.Operands.{is_well_made}
 use Rattle.a68_code.specs.Order.{IsInOrder}
 use Rattle.a68_code.specs.Valid.{IsValid}
+use Rattle.a68_code.specs.Walk.{ways}
 use Rattle.a68_code.specs.declared.code.Code.{Code}
 use Rattle.a68_code.specs.declared.code.Instr.{Instr}
 use Rattle.a68_code.specs.declared.code.RoutineEntrance.{RoutineEntrance}
@@ -25,16 +26,16 @@ use Rattle.a68_code.specs.declared.owner.Owner.{Owner}
 use Rattle.a68_code.specs.declared.owner.Owner.TheVariants as owner
 use Rattle.a68_elab.specs.Trees.{Tree, Apart, routine_text, parallel_unit, Program}
 use Rattle.a68_emit.proofs.Entering.{IsUnit}
-use Rattle.a68_gen.proofs.Flowing.{Flows, flows, bit_is, no_fork, none, no_way, only}
+use Rattle.a68_gen.proofs.Flowing.{Flows, flows, rests_first, bit_is, no_fork, none, no_way, only}
 use Rattle.a68_gen.proofs.Heights.{At, HeightsOf, Piece, bit, both, nothing, nothing_more, one, piece, starts}
 use Rattle.a68_gen.specs.Operands.{FitsModes, ApartFitsModes}
-use Rattle.a68_emit.specs.Stretches.{Has, Stands, StandApart, Translates}
+use Rattle.a68_emit.specs.Stretches.{Has, outermost, Stands, StandApart, Translates}
 
 -- ---- what stands apart
 
 -- the height at each place of a tree that stands over no values, and of the end behind it
-abbrev Within : (code : Code) (gives : Bool) (tree : Tree) (a m : ℕ) → Stands code gives tree a m → ℕ → ℕ → Type 0
-Within code gives tree a m s k h = HeightsOf code gives tree a m s 0 k h ⊎ At m (0 + bit gives) k h
+abbrev Within : (code : Code) (gives : Bool) (tree : Tree) (a m : ℕ) → Stands code outermost gives tree a m → ℕ → ℕ → Type 0
+Within code gives tree a m s k h = HeightsOf code outermost gives tree a m s 0 k h ⊎ At m (0 + bit gives) k h
 
 -- the height at each place of what stands apart
 abbrev AllApart : (code : Code) (xs : List Apart) (es : List RoutineEntrance) (us : List ℕ) (a b : ℕ) → StandApart code xs es us a b → ℕ → ℕ → Type 0
@@ -51,8 +52,8 @@ SomeApart whose code (routine_text body ∷ more) (e ∷ es) us a b s k h =
 SomeApart whose code (parallel_unit unit ∷ more) es (u ∷ us) a b s k h = ((owner.Units ≡ whose) × Within code false unit.tree a s.0 s.3 k h) ⊎ SomeApart whose code more es us s.1 b s.5 k h
 SomeApart whose code _ _ _ a b s k h = ⊥
 
-within_piece : (code : Code) (gives : Bool) (tree : Tree) (a m n : ℕ) (s : Stands code gives tree a m) → m + 1 ≡ n → Piece a n (Within code gives tree a m s)
-within_piece code gives tree a m n s e = both _ _ _ _ _ (piece code gives tree a m s 0) (one m n (0 + bit gives) e)
+within_piece : (code : Code) (gives : Bool) (tree : Tree) (a m n : ℕ) (s : Stands code outermost gives tree a m) → m + 1 ≡ n → Piece a n (Within code gives tree a m s)
+within_piece code gives tree a m n s e = both _ _ _ _ _ (piece code outermost gives tree a m s 0) (one m n (0 + bit gives) e)
 
 apart_piece : (code : Code) (xs : List Apart) (es : List RoutineEntrance) (us : List ℕ) (a b : ℕ) (s : StandApart code xs es us a b) → Piece a b (AllApart code xs es us a b s)
 apart_piece code [] [] [] a b s = nothing a b s
@@ -95,8 +96,8 @@ of_some code (parallel_unit unit ∷ more) es (u ∷ us) a b s k h (inl x) = (ow
 of_some code (parallel_unit unit ∷ more) es (u ∷ us) a b s k h (inr x) = let y = of_some code more es us s.1 b s.5 k h x in (y.0, y.1, inr y.2)
 
 -- a tree is reached over no values, whether it is empty or not
-within_begins : (code : Code) (gives : Bool) (tree : Tree) (a m : ℕ) (s : Stands code gives tree a m) → Within code gives tree a m s a 0
-within_begins code gives tree a m s = ⊎_elim (λ y. inl y) (λ e. inr (e.0, nothing_more 0 gives e.1)) (starts code gives tree a m s 0)
+within_begins : (code : Code) (gives : Bool) (tree : Tree) (a m : ℕ) (s : Stands code outermost gives tree a m) → Within code gives tree a m s a 0
+within_begins code gives tree a m s = ⊎_elim (λ y. inl y) (λ e. inr (e.0, nothing_more 0 gives e.1)) (starts code outermost gives tree a m s 0)
 
 beq-true : (x y : Bool) → beq x y ≡ true → x ≡ y
 beq-true true true e = refl
@@ -145,10 +146,10 @@ unit_begins code (parallel_unit unit ∷ more) es (u ∷ us) a b s (suc n) to e 
 
 module _ (whose : Owner) (code : Code) (W : ℕ → ℕ → Type 0) (is_inside : (k h : ℕ) → W k h → k < length code.list) (unit_inside : (to : ℕ) → IsUnit code.units to → to < length code.list) where
   -- the ways through a tree go on within it, and end behind it
-  within_flows : (gives : Bool) (tree : Tree) (a m : ℕ) (s : Stands code gives tree a m) → FitsModes code.modes (length code.texts) tree → ((k h : ℕ) → Within code gives tree a m s k h → W k h)
+  within_flows : (gives : Bool) (tree : Tree) (a m : ℕ) (s : Stands code outermost gives tree a m) → FitsModes code.modes (length code.texts) tree → ((k h : ℕ) → Within code gives tree a m s k h → W k h)
       → Flows code whose W m (0 + bit gives) → (k h : ℕ) → Within code gives tree a m s k h → Flows code whose W k h
   within_flows gives tree a m s fit into ends k h (inl x) =
-      flows code whose W is_inside unit_inside gives tree a m s 0 fit (λ k h y. into k h (inl y)) (into m (0 + bit gives) (inr (refl, refl))) k h x
+      flows code whose W is_inside unit_inside outermost gives tree a m s 0 (rests_first code whose W is_inside unit_inside) fit (λ k h y. into k h (inl y)) (into m (0 + bit gives) (inr (refl, refl))) k h x
   within_flows gives tree a m s fit into ends k h (inr x) = subst (λ (y : ℕ). Flows code whose W y h) (sym x.0) (subst (Flows code whose W m) (sym x.1) ends)
 
   -- Return, over what a body leaves
@@ -208,7 +209,7 @@ forked_somewhere (x ∷ list) to i =
 module _ (program : Program) (code : Code) (tr : Translates program code) (fit : FitsModes code.modes (length code.texts) program.tree)
     (apart_fit : ApartFitsModes code.modes (length code.texts) program.apart) where
   abbrev InProgram : ℕ → ℕ → Type 0
-  InProgram k h = HeightsOf code false program.tree 0 tr.end tr.stands 0 k h ⊎ At tr.end 0 k h
+  InProgram k h = HeightsOf code outermost false program.tree 0 tr.end tr.stands 0 k h ⊎ At tr.end 0 k h
 
   -- the height of each place
   abbrev W : ℕ → ℕ → Type 0
@@ -226,7 +227,7 @@ module _ (program : Program) (code : Code) (tr : Translates program code) (fit :
 
   whole : Piece 0 tr.last W
   whole =
-      both 0 (tr.end + 1) tr.last _ _ (both 0 tr.end (tr.end + 1) _ _ (piece code false program.tree 0 tr.end tr.stands 0) (one tr.end (tr.end + 1) 0 refl))
+      both 0 (tr.end + 1) tr.last _ _ (both 0 tr.end (tr.end + 1) _ _ (piece code outermost false program.tree 0 tr.end tr.stands 0) (one tr.end (tr.end + 1) 0 refl))
       (apart_piece code program.apart code.texts code.units (tr.end + 1) tr.last tr.apart)
 
   own : (whose : Owner) (k h : ℕ) → Own whose k h → W k h
@@ -255,7 +256,8 @@ module _ (program : Program) (code : Code) (tr : Translates program code) (fit :
 
   all_flow : (whose : Owner) (k h : ℕ) → Own whose k h → Flows code whose (Own whose) k h
   all_flow owner.Program k h (inl x) =
-      flows code owner.Program (Own owner.Program) (is_inside owner.Program) unit_inside false program.tree 0 tr.end tr.stands 0 fit (λ k h y. inl y) (inr (refl, refl)) k h x
+      flows code owner.Program (Own owner.Program) (is_inside owner.Program) unit_inside outermost false program.tree 0 tr.end tr.stands 0
+      (rests_first code owner.Program (Own owner.Program) (is_inside owner.Program) unit_inside) fit (λ k h y. inl y) (inr (refl, refl)) k h x
   all_flow owner.Program k h (inr x) =
       subst (λ (y : ℕ). Flows code owner.Program (Own owner.Program) y h) (sym x.0) (subst (Flows code owner.Program (Own owner.Program) tr.end) (sym x.1) last)
     where
@@ -299,7 +301,7 @@ module _ (program : Program) (code : Code) (tr : Translates program code) (fit :
   -- the ways of an owner begin at its own places
   begun_at : (whose : Owner) (k : ℕ) → Contains (entrances code whose) k → Own whose k 0
   begun_at owner.Program k i =
-      subst (λ (x : ℕ). InProgram x 0) (sym (only 0 k i)) (⊎_elim (λ y. inl y) (λ e. inr (e.0, refl)) (starts code false program.tree 0 tr.end tr.stands 0))
+      subst (λ (x : ℕ). InProgram x 0) (sym (only 0 k i)) (⊎_elim (λ y. inl y) (λ e. inr (e.0, refl)) (starts code outermost false program.tree 0 tr.end tr.stands 0))
   begun_at (owner.Texts yields) k i = text_begins yields code program.apart code.texts code.units (tr.end + 1) tr.last tr.apart k i
   begun_at owner.Units k i = let f = forked_somewhere code.list k i in begun_unit k ((known f.0 f.1 f.2).forks k f.3)
 
@@ -315,6 +317,12 @@ module _ (program : Program) (code : Code) (tr : Translates program code) (fit :
           subst (λ (x : Does). Own whose to (below + flow.leaves_to code.modes x to)) same
           (subst (λ (x : ℕ). Own whose to (x + flow.leaves_to code.modes f.does to)) under
           (f.leads to (f.below + flow.leaves_to code.modes f.does to) (way_to code.modes at f.does f.below to (subst (λ (x : Does). Contains (flow.landings at x) to) (sym same) i))))
+  reached whose k h (lands {at = at} {to = to} {frames = frames} {height = height} {gives = gives} below r is) = on (all_flow whose at (below + height) (reached whose at (below + height) r))
+    where
+      on : Flows code whose (Own whose) at (below + height) → Own whose to height
+      on f =
+          let same : f.does ≡ does.Goto to frames height gives = same_Some f.does (does.Goto to frames height gives) (sym f.is ∙ is) in
+          f.leads to height (subst (λ (x : Does). Contains {X = ℕ × ℕ} (ways code.modes at x f.below) (to, height)) (sym same) (way_of_jump code.modes at to frames height gives f.below))
 
   pub valid : IsValid code
   valid = record {

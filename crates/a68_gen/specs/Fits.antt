@@ -4,7 +4,7 @@ use Rattle.std.specs.Prelude.{◌≡◌, ◌≤◌, ℕ, Bool, IsTrue, true, fal
 use Rattle.std.specs.List.{list_all}
 use Rattle.a68_acts.specs.Operations.{leaves}
 use Rattle.a68_code.specs.Flow.{takes}
-use Rattle.a68_elab.specs.Trees.{Tree, Trees, operation, together, phrases, range, choice, cases, conformity, loop, call, parallel, meaningless, Specs, no_specs, spec, Test, no_test, while_in, no_trees, ◌and_tree◌, count, Apart, routine_text, parallel_unit}
+use Rattle.a68_elab.specs.Trees.{Tree, Trees, operation, together, phrases, labelled, jump, range, choice, cases, conformity, loop, call, parallel, meaningless, Steps, last_step, step, exit, Specs, no_specs, spec, Test, no_test, while_in, no_trees, ◌and_tree◌, count, Apart, routine_text, parallel_unit}
 use Rattle.a68_emit.specs.Stretches.{does_of}
 use Rattle.a68_acts.specs.Members.{members_of}
 use Rattle.a68_modes.specs.Nodes.{shape_at}
@@ -18,6 +18,8 @@ abbrev mutual
       (gives ≡ leaves modes op) × (takes (does_of op (count parts)) ≡ count parts) × AllFit modes units true parts
   Fits modes units gives (together parts) = (gives ≡ false) × AllFit modes units false parts
   Fits modes units gives (phrases place before final) = AllFit modes units false before × Fits modes units gives final
+  Fits modes units gives (labelled place steps) = StepsFit modes units gives steps
+  Fits modes units gives (jump place label frames height yields) = gives ≡ yields
   Fits modes units gives (range place out slots yields within) = (gives ≡ yields) × Fits modes units gives within
   Fits modes units gives (choice place enquiry if_true if_false) =
       Fits modes units true enquiry × Fits modes units gives if_true × Fits modes units gives if_false
@@ -42,6 +44,12 @@ abbrev mutual
   pub TestFits : List Shape → (units : ℕ) → Test → Type 0
   TestFits modes units no_test = Unit {0}
   TestFits modes units (while_in at slots test) = Fits modes units true test
+
+  -- the last step and each before EXIT yield what the clause does, and the others nothing
+  pub StepsFit : List Shape → (units : ℕ) → (gives : Bool) → Steps → Type 0
+  StepsFit modes units gives (last_step labels tree) = Fits modes units gives tree
+  StepsFit modes units gives (step labels tree more) = Fits modes units false tree × StepsFit modes units gives more
+  StepsFit modes units gives (exit labels tree more) = Fits modes units gives tree × StepsFit modes units gives more
 
 -- and so do the bodies of routine texts, and the units of parallel clauses
 abbrev pub ApartFits : List Shape → (units : ℕ) → List Apart → Type 0

@@ -2,7 +2,7 @@
 -- Trees whose operations have operands that the instructions may have.
 use Rattle.std.specs.Prelude.{⊤, ℕ, IsTrue, List, [], ◌∷◌, length, nat_lt}
 use Rattle.a68_code.specs.Operands.{is_well_made}
-use Rattle.a68_elab.specs.Trees.{Tree, Trees, operation, together, phrases, range, choice, cases, conformity, loop, call, parallel, meaningless, Specs, no_specs, spec, Test, no_test, while_in, no_trees, ◌and_tree◌, count, Apart, routine_text, parallel_unit}
+use Rattle.a68_elab.specs.Trees.{Tree, Trees, operation, together, phrases, labelled, jump, range, choice, cases, conformity, loop, call, parallel, meaningless, Steps, last_step, step, exit, Specs, no_specs, spec, Test, no_test, while_in, no_trees, ◌and_tree◌, count, Apart, routine_text, parallel_unit}
 use Rattle.a68_emit.specs.Stretches.{does_of}
 use Rattle.a68_modes.specs.declared.shape.Shape.{Shape}
 
@@ -13,6 +13,8 @@ abbrev mutual
   FitsModes modes texts (operation place op order parts) = IsTrue (is_well_made modes texts 0 (does_of op (count parts))) × FitAll modes texts parts
   FitsModes modes texts (together parts) = FitAll modes texts parts
   FitsModes modes texts (phrases place before final) = FitAll modes texts before × FitsModes modes texts final
+  FitsModes modes texts (labelled place steps) = StepsFitModes modes texts steps
+  FitsModes modes texts (jump place label frames height yields) = ⊤
   FitsModes modes texts (range place out slots yields within) = FitsModes modes texts within
   FitsModes modes texts (choice place enquiry if_true if_false) = FitsModes modes texts enquiry × FitsModes modes texts if_true × FitsModes modes texts if_false
   FitsModes modes texts (cases place enquiry arms out) = FitsModes modes texts enquiry × FitAll modes texts arms × FitsModes modes texts out
@@ -34,6 +36,11 @@ abbrev mutual
   pub TestFitsModes : List Shape → (texts : ℕ) → Test → Type 0
   TestFitsModes modes texts no_test = ⊤
   TestFitsModes modes texts (while_in at slots test) = FitsModes modes texts test
+
+  pub StepsFitModes : List Shape → (texts : ℕ) → Steps → Type 0
+  StepsFitModes modes texts (last_step labels tree) = FitsModes modes texts tree
+  StepsFitModes modes texts (step labels tree more) = FitsModes modes texts tree × StepsFitModes modes texts more
+  StepsFitModes modes texts (exit labels tree more) = FitsModes modes texts tree × StepsFitModes modes texts more
 
 -- and so have those in the bodies of routine texts, and in units
 abbrev pub ApartFitsModes : List Shape → (texts : ℕ) → List Apart → Type 0

@@ -68,6 +68,9 @@ fn write_asked(alloc: Global, program: &Numbered, wanted: bool, id: NodeId, out:
     let view = View {
         of: program,
         sight: Sight::Here,
+        height: 0,
+        depth: 0,
+        clauses: &[],
     };
     unit(alloc, &view, id, out);
 }

@@ -7,13 +7,13 @@ use Rattle.a68_code.specs.declared.code.Instr.{Instr}
 use Rattle.a68_code.specs.declared.owner.Owner.{Owner}
 use Rattle.a68_code.specs.declared.owner.Owner.TheVariants as owner
 use Rattle.a68_heights.proofs.Rising.{few_values}
-use Rattle.a68_heights.specs.Heights.{height, Awaits, Below, Calls, Enters, Fits, FitsBy, MayGoOn, MayStand}
+use Rattle.a68_heights.specs.Heights.{Awaits, Below, Calls, Enters, Fits, FitsBy, MayGoOn, MayStand}
 use Rattle.a68_instructions.specs.Machine.{State}
 use Rattle.a68_instructions.specs.declared.ask.Stance.{Stance}
 use Rattle.a68_instructions.specs.declared.ask.Stance.TheVariants.{Idle, Asking, Failed, Waits, Closed}
 use Rattle.a68_instructions.specs.declared.ask.Waiting.{Waiting}
 use Rattle.a68_instructions.specs.declared.ask.Waiting.TheVariants as waiting
-use Rattle.a68_stack.specs.Values.{callers}
+use Rattle.a68_stack.specs.Values.{callers, height}
 use Rattle.a68_stack.specs.declared.stack.Item.{Item}
 use Rattle.a68_stack.specs.declared.stack.Item.TheVariants as item
 
@@ -42,6 +42,7 @@ module _ (code : Code) (valid : IsValid code) where
   awaits-small at (waiting.Operation next) items a = goes_on-small _ _ items a
   awaits-small at waiting.Frame items a = stands-small _ items a
   awaits-small at waiting.Turn items a = stands-small _ items a
+  awaits-small at (waiting.Jump to) items a = stands-small _ items a
   awaits-small at (waiting.Called r ps) items a = calls-small _ _ items a
   awaits-small at (waiting.Entered text ps) items a = calls-small _ _ items a
   awaits-small at (waiting.Bound text ps) items a = enters-small _ items a

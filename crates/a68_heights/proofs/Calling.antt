@@ -18,11 +18,11 @@ use Rattle.a68_code.specs.declared.owner.Owner.{Owner}
 use Rattle.a68_code.specs.declared.owner.Owner.TheVariants as owner
 use Rattle.a68_heights.proofs.Leading.{behind, first, leads}
 use Rattle.a68_heights.proofs.Popping.{popped, PoppedLower}
-use Rattle.a68_heights.specs.Heights.{height, Below, Calls, Enters, Fits}
+use Rattle.a68_heights.specs.Heights.{Below, Calls, Enters, Fits}
 use Rattle.a68_instructions.specs.Machine.{State, begins_body, binds, calling, calls, enters_body, fails, into_routine, returns, returns_to, stack_of}
 use Rattle.a68_instructions.specs.Unbound.{Unbound}
 use Rattle.a68_instructions.specs.declared.ask.Stance.TheVariants.{Idle}
-use Rattle.a68_stack.specs.Values.{pop_values}
+use Rattle.a68_stack.specs.Values.{height, pop_values}
 use Rattle.a68_stack.specs.declared.stack.Item.{Item}
 use Rattle.a68_stack.specs.declared.stack.Item.TheVariants as item
 use Rattle.a68_values.specs.Content.{Content, plain, scope_of}

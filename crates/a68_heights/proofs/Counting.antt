@@ -11,9 +11,9 @@ use Rattle.a68_code.specs.declared.code.Code.{Code}
 use Rattle.a68_code.specs.declared.does.Does.TheVariants as does
 use Rattle.a68_code.specs.declared.owner.Owner.{Owner}
 use Rattle.a68_heights.proofs.Leading.{behind, second, stands}
-use Rattle.a68_heights.specs.Heights.{height, Below, Fits}
+use Rattle.a68_heights.specs.Heights.{Below, Fits}
 use Rattle.a68_instructions.specs.Machine.{State, advances, counts, forgets, goes_on, goes_to, indexes, steps, with_counter}
-use Rattle.a68_stack.specs.Values.{top_counter}
+use Rattle.a68_stack.specs.Values.{height, top_counter}
 use Rattle.a68_stack.specs.declared.stack.Item.{Item}
 use Rattle.a68_stack.specs.declared.stack.Item.TheVariants as item
 use Rattle.a68_values.specs.Content.{plain}

@@ -10,7 +10,8 @@ use Rattle.a68_code.specs.declared.does.Does.TheVariants as does
 use Rattle.a68_code.specs.declared.owner.Owner.{Owner}
 use Rattle.a68_code.specs.declared.owner.Owner.TheVariants as owner
 use Rattle.a68_heights.proofs.Leading.{behind, stays}
-use Rattle.a68_heights.specs.Heights.{height, Below, Fits}
+use Rattle.a68_heights.specs.Heights.{Below, Fits}
+use Rattle.a68_stack.specs.Values.{height}
 use Rattle.a68_instructions.specs.Machine.{State, controls}
 
 -- where an instruction begins units is among the entrances of all units

@@ -3,8 +3,8 @@ use Rattle.std.proofs.Common.{◌≡◌, ◌+◌, ℕ, zero, suc, arith, List, [
 use Rattle.std.specs.declared.option.Option.{Option}
 use Rattle.a68_code.specs.declared.code.Code.{Code}
 use Rattle.a68_code.specs.declared.owner.Owner.{Owner}
-use Rattle.a68_heights.specs.Heights.{height, Below}
-use Rattle.a68_stack.specs.Values.{pop_values}
+use Rattle.a68_heights.specs.Heights.{Below}
+use Rattle.a68_stack.specs.Values.{height, pop_values}
 use Rattle.a68_stack.specs.declared.stack.Item.{Item}
 use Rattle.a68_stack.specs.declared.stack.Item.TheVariants as item
 use Rattle.a68_values.specs.Content.{Content}

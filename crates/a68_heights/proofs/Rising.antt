@@ -6,7 +6,7 @@ use Rattle.std.specs.List.{AllByRecursion, IsDistinct, list_any}
 use Rattle.std.proofs.lemmas.Bool.{cases_Bool, cases_lt, eqb-true}
 use Rattle.std.proofs.lemmas.Map.Steps.{length-le_from_distinct_below}
 use Rattle.a68_code.specs.Flow.{Reaches, last_place, leaves_to, takes}
-use Rattle.a68_code.specs.Flow.Reaches.{begins, goes_on}
+use Rattle.a68_code.specs.Flow.Reaches.{begins, goes_on, lands}
 use Rattle.a68_code.specs.Valid.{IsValid}
 use Rattle.a68_code.specs.declared.code.Code.{Code}
 use Rattle.a68_code.specs.declared.does.Does.{Does}
@@ -25,6 +25,8 @@ leaves_few modes (does.Skip mode) to = none_or_one (is_void (shape_at modes mode
 leaves_few modes (does.Apply row) to = let few = none_or_one (nat_eq row 35 || nat_eq row 36) in omega (arith, few)
 leaves_few modes (does.Call count true) to = omega arith
 leaves_few modes (does.Call count false) to = omega arith
+leaves_few modes (does.Goto place frames height true) to = omega arith
+leaves_few modes (does.Goto place frames height false) to = omega arith
 leaves_few modes (does.Member mode places whole) to = let few = none_or_one (nat_eq to (last_place places)) in omega (arith, few)
 leaves_few modes _ to = omega arith
 
@@ -35,6 +37,7 @@ lower {code = code} {whose = whose} (goes_on {to = to} {does = d} below r is i) 
     (λ new. let one = leaves_few code.modes d to in (to, subst (λ (n : ℕ). Reaches code whose to n) (omega (arith, one, few, new)) (goes_on below r is i)))
     (λ old. lower r k old)
     (cases_lt (below + takes d) k)
+lower (lands below r is) k few = lower r k (omega (arith, few))
 
 module _ (code : Code) (whose : Owner) (valid : IsValid code) where
   -- places of all heights below the length, the highest one first

@@ -15,12 +15,12 @@ use Rattle.a68_heights.proofs.Counting.{advances-fits, counts-fits, forgets-fits
 use Rattle.a68_heights.proofs.Forking.{forks-fits}
 use Rattle.a68_heights.proofs.Leading.{behind, stays}
 use Rattle.a68_heights.proofs.Operating.{operates-fits}
-use Rattle.a68_heights.proofs.Steering.{cases-fits, enters-fits, jump-fits, leaves-fits, members-fits, unless-fits}
-use Rattle.a68_heights.specs.Heights.{height, Below, Fits, FitsBy, MayStand}
-use Rattle.a68_instructions.specs.Machine.{State, at_end, controls, does_one, exec, fails, next_state, operates, operation_of, settle, settle_in, silently}
+use Rattle.a68_heights.proofs.Steering.{cases-fits, enters-fits, goto-fits, jump-fits, leaves-fits, members-fits, unless-fits}
+use Rattle.a68_heights.specs.Heights.{Below, Fits, FitsBy, MayStand}
+use Rattle.a68_instructions.specs.Machine.{State, at_end, back, controls, does_one, exec, fails, next_state, operates, operation_of, settle, settle_in, silently}
 use Rattle.a68_instructions.specs.declared.ask.Stance.{Stance}
 use Rattle.a68_instructions.specs.declared.ask.Stance.TheVariants.{Idle, Asking, Failed, Waits, Closed}
-use Rattle.a68_stack.specs.Values.{callers}
+use Rattle.a68_stack.specs.Values.{callers, height}
 use Rattle.a68_values.specs.declared.act.FaultKind.TheVariants as fault
 
 module _ (code : Code) (valid : IsValid code) where
@@ -30,6 +30,7 @@ module _ (code : Code) (valid : IsValid code) where
     controls-fits (does.Enter slots) is f = enters-fits code whose st slots is r l st.chain
     controls-fits (does.Leave kept) is f = leaves-fits code whose st valid kept is r l st.chain
     controls-fits (does.Jump to) is f = jump-fits code whose st to is r l
+    controls-fits (does.Goto to frames kept gives) is f = goto-fits code whose st to frames kept gives is r l (back frames st.chain)
     controls-fits (does.Unless to) is f = unless-fits code whose st to is st.stack.items r l
     controls-fits (does.Case places) is f = cases-fits code whose st valid places is st.stack.items r l
     controls-fits (does.Member mode places whole) is f = members-fits code whose st valid mode places whole is st.stack.items r l

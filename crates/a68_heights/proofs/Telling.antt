@@ -31,6 +31,7 @@ module _ (code : Code) (st : State) where
   told_by-fits (waiting.Operation next) r a = follows-fits code st (leaves_at code st.at) st.stack.items (resumed code.modes next r) (resumed_forkless code.modes next r) refl a
   told_by-fits waiting.Frame (reply.Frame told) a = into_frame-fits a told
   told_by-fits waiting.Turn reply.Go a = a
+  told_by-fits (waiting.Jump to) reply.Go a = a
   told_by-fits (waiting.Called r ps) reply.Go a = enters_body-fits code st r ps a st.chain
   told_by-fits (waiting.Entered text ps) (reply.Frame told) a = into_routine-fits code st text ps a told
   told_by-fits (waiting.Bound text ps) reply.Go a = binds-fits code st text ps.slot a (reverse ps.left) st.chain

@@ -17,11 +17,11 @@ use Rattle.a68_heights.proofs.Bounding.{innermost, whole}
 use Rattle.a68_heights.proofs.Leading.{first}
 use Rattle.a68_heights.proofs.Stepping.{settle-fits}
 use Rattle.a68_heights.proofs.Telling.{beginning-fits, replied-fits}
-use Rattle.a68_heights.specs.Heights.{height, BeginsUnits, Fits, FitsBy}
+use Rattle.a68_heights.specs.Heights.{BeginsUnits, Fits, FitsBy}
 use Rattle.a68_instructions.specs.Machine.{State, beginning, replied, settle}
 use Rattle.a68_instructions.specs.declared.ask.Stance.{Stance}
 use Rattle.a68_instructions.specs.declared.ask.Stance.TheVariants.{Idle, Asking, Failed, Waits, Closed}
-use Rattle.a68_stack.specs.Values.{callers}
+use Rattle.a68_stack.specs.Values.{callers, height}
 use Rattle.a68_values.specs.declared.act.Act.{Act}
 use Rattle.a68_values.specs.declared.act.Entry.{Entry}
 use Rattle.a68_values.specs.declared.chain.Environ.{Environ}

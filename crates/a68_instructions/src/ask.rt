@@ -32,6 +32,8 @@ pub enum Waiting {
     Frame,
     /// It goes on with the next instruction.
     Turn,
+    /// It goes on with the instruction at this place.
+    Jump(u32),
     /// It enters a frame for the routine that it calls.
     Called(Routine, Parameters),
     /// It stands in the frame of the routine text of this number, and binds the next parameter.

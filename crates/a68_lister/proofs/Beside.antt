@@ -6,7 +6,7 @@ use Rattle.a68_symbols.specs.declared.sym.Token.TheVariants as t
 use Rattle.a68_symbols.specs.declared.sym.Sym.{Sym}
 use Rattle.a68_symbols.specs.declared.sym.Sym.TheVariants.{Is}
 use Rattle.a68_tree.specs.Forest.{Forest, mark, forget, joined, spells}
-use Rattle.a68_tree.specs.Grammar.{IsAt, IsBound, IsBounds, IsBy, IsChoices, IsDeclaration, IsDeclared, IsDeclarer, IsDeclarers, IsDefinitions, IsElse, IsElseBrief, IsEnclosed, IsEnquiry, IsFor, IsFrom, IsIdentities, IsIndex, IsIndexes, IsModes, IsMonadic, IsOperands, IsOps, IsOut, IsOutBrief, IsOutC, IsOutCBrief, IsParams, IsPlain, IsPlan, IsPlanned, IsPrimary, IsPriorities, IsProcs, IsResult, IsRoutine, IsSecondary, IsSerial, IsSign, IsSpec, IsTags, IsTertiary, IsTo, IsTrimmer, IsUnit, IsUnits, IsUnits2, IsVariable, IsVariables, IsWhile, IsYield, and_then, assignation, at_, bound_both, bound_colon, bound_more, bound_none, bound_one, bound_upper, by_, call, case_, case_brief, cast, cast_void, choice_more, choice_one, closed, collateral, conditional, conditional_brief, conformity, conformity_brief, declared, declarer_more, declarer_one, denotation, dyadic, elif, elif_b, else_, else_b, enclosed, enquiry_declaration, enquiry_one, enquiry_unit, flex, for_, from_, generator_heap, generator_loc, heap_variables, identities, identity_is, identity_isnt, identity_more, identity_one, index_at, index_colon, index_from, index_more, index_one, index_unit, joined_, loc_variables, long_denotation, long_int, loop, mode_, mode_more, mode_one, mode_word, monadic, monadic_minus, monadic_other, monadic_plus, nil, no_at, no_by, no_else, no_else_b, no_for, no_from, no_out, no_outbrief, no_outc, no_outcbrief, no_to, no_while, op_, op_more, op_one, op_plan, operand_last, operand_next, operand_sign, out_again, out_serial, outbrief_again, outbrief_serial, outc_again, outc_serial, outcbrief_again, outcbrief_serial, parallel, params, plain, plain_int, plain_other, plan_one, plan_two, planned_more, planned_one, primary, prio_, prio_more, prio_one, proc, proc_params, proc_variables, procs, procs_more, procs_one, ref, result, result_void, routine, routine_params, routine_plain, rows, secondary, selection, serial_declaration, serial_one, serial_unit, sign_at_least, sign_at_most, sign_differs, sign_equals, sign_greater, sign_less, sign_monadic, sign_other, sign_times, single, skip, slice, spec, spec_tag, struct_, tag, tags_end, tags_more, tags_next, tertiary, to_, trimmer_open, trimmer_upper, two, union_, unit_more, unit_one, vacuum, variable, variable_more, variable_one, variable_set, variables, while_, yield_, yield_void}
+use Rattle.a68_tree.specs.Grammar.{IsAt, IsBound, IsBounds, IsBy, IsChoices, IsDeclaration, IsDeclared, IsDeclarer, IsDeclarers, IsDefinitions, IsElse, IsElseBrief, IsEnclosed, IsEnquiry, IsFor, IsFrom, IsIdentities, IsIndex, IsIndexes, IsLabelled, IsModes, IsMonadic, IsOperands, IsOps, IsOut, IsOutBrief, IsOutC, IsOutCBrief, IsParams, IsPlain, IsPlan, IsPlanned, IsPrimary, IsPriorities, IsProcs, IsResult, IsRoutine, IsSecondary, IsSerial, IsSign, IsSpec, IsSteps, IsTags, IsTertiary, IsTo, IsTrimmer, IsUnit, IsUnits, IsUnits2, IsVariable, IsVariables, IsWhile, IsYield, and_then, assignation, at_, bound_both, bound_colon, bound_more, bound_none, bound_one, bound_upper, by_, call, case_, case_brief, cast, cast_void, choice_more, choice_one, closed, collateral, conditional, conditional_brief, conformity, conformity_brief, declared, declarer_more, declarer_one, denotation, dyadic, elif, elif_b, else_, else_b, enclosed, enquiry_declaration, enquiry_one, enquiry_unit, flex, for_, from_, generator_heap, generator_loc, go_to, goto_, heap_variables, identities, identity_is, identity_isnt, identity_more, identity_one, index_at, index_colon, index_from, index_more, index_one, index_unit, joined_, label, loc_variables, long_denotation, long_int, loop, mode_, mode_more, mode_one, mode_word, monadic, monadic_minus, monadic_other, monadic_plus, nil, no_at, no_by, no_else, no_else_b, no_for, no_from, no_out, no_outbrief, no_outc, no_outcbrief, no_to, no_while, op_, op_more, op_one, op_plan, operand_last, operand_next, operand_sign, out_again, out_serial, outbrief_again, outbrief_serial, outc_again, outc_serial, outcbrief_again, outcbrief_serial, parallel, params, plain, plain_int, plain_other, plan_one, plan_two, planned_more, planned_one, primary, prio_, prio_more, prio_one, proc, proc_params, proc_variables, procs, procs_more, procs_one, ref, result, result_void, routine, routine_params, routine_plain, rows, secondary, selection, serial_declaration, serial_exit, serial_labelled, serial_one, serial_unit, sign_at_least, sign_at_most, sign_differs, sign_equals, sign_greater, sign_less, sign_monadic, sign_other, sign_times, single, skip, slice, spec, spec_tag, steps_exit, steps_labelled, steps_last, steps_unit, struct_, tag, tags_end, tags_more, tags_next, tertiary, to_, trimmer_open, trimmer_upper, two, union_, unit_more, unit_one, vacuum, variable, variable_more, variable_one, variable_set, variables, while_, yield_, yield_void}
 use Rattle.a68_tree.proofs.Joining.{spells_joined}
 
 -- a tag or a number
@@ -136,6 +136,17 @@ mutual
   serial_fine (serial_one u) r x = unit_fine u r x
   serial_fine (serial_unit u f) r x = unit_fine u _ (refl, serial_fine f r x)
   serial_fine (serial_declaration {d = d} {f = g} c f) r x = both d (mark t.Semicolon g) r (declaration_fine c _ (refl, serial_fine f r x))
+  serial_fine (serial_exit u f) r x = unit_fine u _ (refl, labelled_fine f r x)
+  serial_fine (serial_labelled f) r x = labelled_fine f r x
+
+  labelled_fine : {f : Forest} → IsLabelled f → (r : List Sym) → Fine true r → Fine false (spells f r)
+  labelled_fine (label f) r x = (refl, (refl, steps_fine f r x))
+
+  steps_fine : {f : Forest} → IsSteps f → (r : List Sym) → Fine true r → Fine false (spells f r)
+  steps_fine (steps_labelled f) r x = labelled_fine f r x
+  steps_fine (steps_last u) r x = unit_fine u r x
+  steps_fine (steps_unit u f) r x = unit_fine u _ (refl, steps_fine f r x)
+  steps_fine (steps_exit u f) r x = unit_fine u _ (refl, labelled_fine f r x)
 
   enquiry_fine : {f : Forest} → IsEnquiry f → (r : List Sym) → Fine true r → Fine false (spells f r)
   enquiry_fine (enquiry_one u) r x = unit_fine u r x
@@ -155,6 +166,8 @@ mutual
   unit_fine (identity_isnt a u) r x = tertiary_fine a _ (refl, tertiary_fine u r x)
   unit_fine (routine f) r x = routine_fine f r x
   unit_fine skip r x = (refl, any false r x)
+  unit_fine go_to r x = (refl, (refl, (refl, x)))
+  unit_fine goto_ r x = (refl, (refl, x))
   unit_fine (tertiary u) r x = tertiary_fine u r x
 
   routine_fine : {f : Forest} → IsRoutine f → (r : List Sym) → Fine true r → Fine false (spells f r)

@@ -161,6 +161,8 @@ first_unit (g.identity_isnt p q) r = widen set.begins_tertiary set.begins_unit u
 first_unit (g.routine (g.routine_params l p)) r = here _ (Opens b.Round) refl
 first_unit (g.routine (g.routine_plain p)) r = widen set.begins_base set.begins_unit base_unit (widen set.begins_result set.begins_base result_base (first_result p r))
 first_unit g.skip r = here _ (Is t.Skip) refl
+first_unit g.go_to r = here _ (Is t.Go) refl
+first_unit g.goto_ r = here _ (Is t.Goto) refl
 first_unit (g.tertiary p) r = widen set.begins_tertiary set.begins_unit up_unit (first_tertiary p r)
 
 -- ---- tests on the first symbol

@@ -8,7 +8,7 @@ use Rattle.a68_symbols.specs.declared.sym.Sym.TheVariants.{Opens, Closes, Is}
 use Rattle.a68_tree.specs.declared.kind.NodeKind.{NodeKind}
 use Rattle.a68_tree.specs.Forest.{Forest, end, mark, group, part, sign, aside, shared, forget, spells, joined}
 use Rattle.a68_tree.specs.Grammar as g
-use Rattle.a68_tree.specs.Grammar.{IsSign, IsClosing, IsEnclosed, IsFor, IsFrom, IsBy, IsTo, IsWhile, IsSerial, IsEnquiry, IsUnits2, IsUnit, IsRoutine, IsResult, IsParams, IsTags, IsTertiary, IsSecondary, IsPrimary, IsDeclarer, IsYield, IsDeclaration, IsDefinitions, IsDeclared, IsIdentities, IsVariables}
+use Rattle.a68_tree.specs.Grammar.{IsSign, IsClosing, IsEnclosed, IsFor, IsFrom, IsBy, IsTo, IsWhile, IsSerial, IsLabelled, IsEnquiry, IsUnits2, IsUnit, IsRoutine, IsResult, IsParams, IsTags, IsTertiary, IsSecondary, IsPrimary, IsDeclarer, IsYield, IsDeclaration, IsDefinitions, IsDeclared, IsIdentities, IsVariables}
 use Rattle.a68_tree.proofs.Joining.{spells_joined}
 use Rattle.a68_lookahead.specs.declared.look.Due.TheVariants as due
 use Rattle.a68_lookahead.specs.declared.look.Due.{Due}
@@ -267,6 +267,8 @@ unit_unlisted lists_parameters (g.routine (g.routine_plain (g.result {u = u} d i
 unit_unlisted lists_spec (g.routine (g.routine_plain (g.result {u = u} d i))) r = behind_declarer m.Spec d (Is t.Colon ∷ spells u r)
 unit_unlisted l (g.routine (g.routine_plain (g.result_void i))) r = refl
 unit_unlisted l g.skip r = refl
+unit_unlisted l g.go_to r = refl
+unit_unlisted l g.goto_ r = refl
 unit_unlisted l (g.tertiary p) r = tertiary_unlisted l p r
 
 -- nor does a declaration, with neither a comma nor that bracket behind it
@@ -342,9 +344,14 @@ declaration_unlisted l (g.single p s) y = definitions_unlisted l leads_first p (
 declaration_unlisted l (g.joined_ p s) y = definitions_unlisted l leads_first p (Is t.Semicolon ∷ y) (semicolon l y)
 
 -- so no closed or collateral clause and no choice does, behind its bracket
+labelled_unlisted : {sought : Landmark} → Lists sought → {f : Forest} → IsLabelled f → (r : List Sym) → behind sought zero due.Declarer (spells f r) ≡ false
+labelled_unlisted l (g.label p) r = refl
+
 serial_unlisted : {sought : Landmark} → Lists sought → {f : Forest} → IsSerial f → (r : List Sym) → behind sought zero due.Declarer (spells f r) ≡ false
 serial_unlisted l (g.serial_one p) r = unit_unlisted l p r
 serial_unlisted l (g.serial_unit p q) r = unit_unlisted l p _
+serial_unlisted l (g.serial_exit p q) r = unit_unlisted l p _
+serial_unlisted l (g.serial_labelled p) r = labelled_unlisted l p r
 serial_unlisted {sought = sought} l (g.serial_declaration {d = d} {f = f} p q) r =
     ap (behind sought zero due.Declarer) (spells_joined d (mark t.Semicolon f) r) ∙ declaration_unlisted l p (spells f r)
 
@@ -430,6 +437,8 @@ unit_decided (g.identity_is p q) r = inr (tertiary_unseen p _)
 unit_decided (g.identity_isnt p q) r = inr (tertiary_unseen p _)
 unit_decided (g.routine p) r = inl (p, routine_seen p r)
 unit_decided g.skip r = inr refl
+unit_decided g.go_to r = inr refl
+unit_decided g.goto_ r = inr refl
 unit_decided (g.tertiary p) r = inr (tertiary_unseen p r)
 
 -- ---- declarations
@@ -572,6 +581,8 @@ unit_undeclared (g.routine (g.routine_params p q)) r h = refl
 unit_undeclared (g.routine (g.routine_plain (g.result {u = u} d i))) r h = plain_ahead d (Is t.Colon ∷ spells u r) ∙ behind_declarer m.Tag d (Is t.Colon ∷ spells u r)
 unit_undeclared (g.routine (g.routine_plain (g.result_void i))) r h = refl
 unit_undeclared g.skip r h = refl
+unit_undeclared g.go_to r h = refl
+unit_undeclared g.goto_ r h = refl
 unit_undeclared (g.tertiary p) r h = tertiary_undeclared p r h
 
 -- ---- specs
@@ -688,6 +699,8 @@ unit_unspecced (g.routine (g.routine_params {f = f} p q)) r = params_unspecced p
 unit_unspecced (g.routine (g.routine_plain (g.result d i))) r = declarer_unspecced d _
 unit_unspecced (g.routine (g.routine_plain (g.result_void i))) r = refl
 unit_unspecced g.skip r = refl
+unit_unspecced g.go_to r = refl
+unit_unspecced g.goto_ r = refl
 unit_unspecced (g.tertiary p) r = tertiary_unspecced p r
 
 -- ---- what may stand behind a unit
@@ -720,6 +733,9 @@ untagged_next (Is t.Greater) x e = absurd (false≢true e)
 untagged_next (Is t.AtLeast) x e = absurd (false≢true e)
 untagged_next (Is t.Monad) x e = absurd (false≢true e)
 untagged_next (Is t.Nomad) x e = absurd (false≢true e)
+untagged_next (Is t.Exit) x e = refl
+untagged_next (Is t.Go) x e = absurd (false≢true e)
+untagged_next (Is t.Goto) x e = absurd (false≢true e)
 untagged_next (Is t.Then) x e = refl
 untagged_next (Is t.Elif) x e = refl
 untagged_next (Is t.Else) x e = refl

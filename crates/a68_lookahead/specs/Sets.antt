@@ -59,7 +59,7 @@ abbrev pub begins_tertiary : Sym → Bool
 begins_tertiary s = begins_secondary s || (same s (Is t.Nil) || is_monadic s)
 
 abbrev pub begins_unit : Sym → Bool
-begins_unit s = begins_tertiary s || same s (Is t.Skip)
+begins_unit s = begins_tertiary s || (same s (Is t.Skip) || (same s (Is t.Go) || same s (Is t.Goto)))
 
 -- ---- what may stand behind, from the outside in
 
@@ -82,7 +82,7 @@ ends_definition s = ends_declaration s || same s (Is t.Comma)
 
 abbrev pub ends_unit : Sym → Bool
 ends_unit s =
-    ends_clause s || (ends_definition s || (same s (Is t.Colon) || (same s (Is t.At) || (same s (Is t.By) || (same s (Is t.To) || same s (Is t.While))))))
+    ends_clause s || (ends_definition s || (same s (Is t.Exit) || (same s (Is t.Colon) || (same s (Is t.At) || (same s (Is t.By) || (same s (Is t.To) || same s (Is t.While)))))))
 
 abbrev pub ends_tertiary : Sym → Bool
 ends_tertiary s = ends_unit s || (same s (Is t.Becomes) || (same s (Is t.Is) || same s (Is t.Isnt)))

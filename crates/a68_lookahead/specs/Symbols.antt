@@ -22,6 +22,10 @@ abbrev pub starts_pair : Sym → Sym → List Sym → Bool
 starts_pair wanted second [] = false
 starts_pair wanted second (s ∷ text) = same s wanted && starts second text
 
+-- a label: a tag and a colon
+abbrev pub label_ahead : List Sym → Bool
+label_ahead text = starts_pair (Is t.Tag) (Is t.Colon) text
+
 abbrev pub starts_is : Token → List Sym → Bool
 starts_is wanted text = starts (Is wanted) text
 

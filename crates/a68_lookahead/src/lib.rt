@@ -9,5 +9,5 @@ pub use laws::{choices_are_told, routines_are_told, units_are_no_declarations, u
 pub use look::{phrase_ahead, routine_ahead, spec_ahead};
 pub use symbols::{
     ends_bound, ends_trimmer, is_declarer, is_denotation, is_monadic, is_operator, is_plain,
-    starts, starts_pair,
+    label_ahead, starts, starts_pair,
 };

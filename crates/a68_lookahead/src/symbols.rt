@@ -24,6 +24,13 @@ pub fn starts_pair(text: &[Sym], wanted: Sym, second: Sym) -> bool
     }
 }
 
+/// Whether the text begins with a label: a tag and a colon.
+pub fn label_ahead(text: &[Sym]) -> bool
+    ensures { result ≡ spec.label_ahead text.now }
+{
+    starts_pair(text, Sym::Is(Token::Tag), Sym::Is(Token::Colon))
+}
+
 fn starts_is(text: &[Sym], wanted: Token) -> bool
     ensures { result ≡ spec.starts_is wanted text.now }
 {

@@ -239,6 +239,42 @@ fn meets_the_fault_of_an_update(rt: HostRuntime) {
     );
 }
 
+/// A jump out of a frame and of an operand. Behind the label a slot of the frame about that is looked at in which the strand then stands.
+const JUMPING: &str =
+    "Enter 1, Push 4, Bind 0, Enter 1, Push 7, Goto 8 1 0, Drop, Leave 0, Tag 1 0, Drop, Leave 0, End";
+
+const JUMPED: &str = "\
+Enter 0 1 1 = Frame
+Bind 1 0 Int(4) = Go
+Enter 1 2 1 = Frame
+Turn = Go
+Look 0 0 = Name
+";
+
+// The inner frame is told as frame 1 again.
+#[test]
+fn jumps_out_of_a_frame(rt: HostRuntime) {
+    let alloc = rt.alloc();
+    run(&rt, alloc, JUMPING, JUMPED, "End");
+}
+
+// A jump waits for its turn where it stands, with what it leaves; another reply meets Kind, as do too few frames before the turn.
+#[test]
+fn jumps_by_a_turn(rt: HostRuntime) {
+    let alloc = rt.alloc();
+    run(&rt, alloc, "Goto 1, End", "Turn = Done", "End");
+    run(
+        &rt,
+        alloc,
+        "Skip 0, Goto 1, End",
+        "Turn = Go\nTurn = Done\nTurn = Base",
+        "Kind at 1",
+    );
+    run(&rt, alloc, "Goto 1 1, End", "Turn = Go", "End");
+    run(&rt, alloc, "Goto 1 2, End", "", "Kind at 0");
+    run(&rt, alloc, "Goto 1 0 1, End", "", "Kind at 0");
+}
+
 /// A call with two parameters: its frame within frame 0, of scope 1, with a slot for each; the second parameter is the
 /// yield.
 const CALLING: &str =

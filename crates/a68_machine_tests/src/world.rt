@@ -76,6 +76,12 @@ const UNSET_AT_1: End = End::Fault {
     strand: 0,
 };
 
+const KIND_AT_0: End = End::Fault {
+    kind: FaultKind::Kind,
+    place: 0,
+    strand: 0,
+};
+
 const KIND_AT_1: End = End::Fault {
     kind: FaultKind::Kind,
     place: 1,
@@ -91,6 +97,18 @@ const KIND_AT_3: End = End::Fault {
 /// ( SEMA s = LEVEL 0; UP s; DOWN s; DOWN s )
 const RAISED_ONCE: &str =
     "Enter 1, Push 0, Apply 34, Bind 0, Tag 0 0, Apply 35, Tag 0 0, Apply 36, Tag 0 0, Apply 36, Leave 0, End";
+
+/// ( INT i := 0; l: i := i + 1; IF i < 3 THEN GO TO l FI; print(i) )
+const BACKWARD: &str =
+    "Enter 1, Make 1 0, Push 0, Store 1, Bind 0, Tag 0 0, Tag 0 0, Deref 1, Push 1, Apply 15, Store 1, Drop, Tag 0 0, Deref 1, Push 3, Apply 11, Unless 18, Goto 5, Tag 0 0, Deref 1, Print 1, Leave 0, End";
+
+/// A jump out of a frame: behind the label the slot of the outer one is looked at.
+const OUTWARD: &str =
+    "Enter 1, Push 5, Bind 0, Enter 0, Push 6, Goto 8 1 0, Drop, Leave 0, Tag 0 0, Print 1, Leave 0, End";
+
+/// A routine that jumps from above two values, and keeps one, which it yields to a caller that has put two itself.
+const WITHIN_A_CALL: &str =
+    "Text 6 1, Push 7, Routine 0 -, Call 0 1, Print 2, Skip 0, End, Push 1, Push 2, Goto 10 0 1 0, Drop, Return";
 
 /// UP LEVEL (2 ** 62 - 1 + 2 ** 62)
 const RAISED_BEYOND: &str =
@@ -216,6 +234,13 @@ const RUNS: &[(&str, u32, u64, End)] = &[
         2,
         End::Done,
     ),
+    ("Goto 0, End", 5, 5, End::Spent),
+    ("Goto 1 1, End", 9, 1, End::Done),
+    ("Goto 1 2, End", 9, 0, KIND_AT_0),
+    (BACKWARD, 99, 27, End::Done),
+    (BACKWARD, 14, 14, End::Spent),
+    (OUTWARD, 9, 6, End::Done),
+    (WITHIN_A_CALL, 9, 5, End::Done),
     ("Push 5, Apply 34, Apply 34, Print 1, End", 9, 4, End::Done),
     ("Push 1, Apply 34, Apply 36, End", 3, 3, End::Done),
     ("Push 1, Apply 34, Apply 36, End", 2, 2, End::Spent),
@@ -265,7 +290,7 @@ fn over(turned: Turned) -> Option<End> {
 
 // Turns strand 0 until the run has ended.
 fn turn_on(alloc: Global, world: &mut World) -> Option<End> {
-    for _ in 0..20 {
+    for _ in 0..40 {
         let end = over(world.turn(alloc, 0));
         if end.is_some() {
             return end;

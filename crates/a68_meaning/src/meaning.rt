@@ -105,7 +105,7 @@ fn meaning_by(
 
 /// Finds what each node of a tree means, whose formulas are shaped and whose ranges declare no word twice. The tree is refused by N2, L4, M1, M2
 /// or C4, the first of these that its declarers break (4.6 to 4.8 and 7.4); else by O2 where a range defines two operators of one sign with
-/// related parameters (7.1.1); else by the first of N1, N4, O1, C1, C2, C3, P1 and P2 that a node breaks, where parts come before their node.
+/// related parameters (7.1.1); else by the first of N1, N4, O1, C1, C2, C3, P1, P2, J1 and J2 that a node breaks, where parts come before their node.
 pub fn find_meaning(alloc: Global, tree: &Tree, ranges: &Ranges) -> Result<Meaning, Stop>
     requires ranges { AreRanges tree.now ranges.now }
     requires once { (id : ℕ) → IsTwice tree.now id → ⊥ }

@@ -77,6 +77,22 @@ const TAGS: &[(&str, u32, Told)] = &[
     ("( INT x = max int; SKIP )", 10, Standard(0)),
     ("( whole(1, 2) )", 2, Standard(8)),
     ("( a )", 2, Nowhere),
+    ("( l: l )", 5, At(2)),
+];
+
+/// A text, the byte of a jump in it, and where its tag is defined.
+const JUMPS: &[(&str, u32, Told)] = &[
+    ("( l: GOTO l )", 5, At(2)),
+    ("( GO TO l; l: SKIP )", 2, At(11)),
+    ("( GOTO b; 1 EXIT b: 2 )", 2, At(17)),
+    ("( l: ( l: GOTO l ) )", 10, At(7)),
+    ("( l: ( GOTO l ); SKIP )", 7, At(2)),
+    ("( l: IF TRUE THEN GOTO l FI )", 18, At(2)),
+    ("( INT l = 1; GOTO l )", 13, At(6)),
+    ("( l: ( INT l = 1; GOTO l ) )", 18, At(11)),
+    ("( ( l: SKIP ); GOTO l )", 15, Nowhere),
+    ("IF TRUE THEN l: SKIP ELSE GOTO l FI", 26, Nowhere),
+    ("( GOTO print )", 2, Standard(6)),
 ];
 
 /// A text, the byte of a mode word that is used in it, and where that is defined.
@@ -122,6 +138,11 @@ const TWICE: &[(&str, u32)] = &[
         "( PRIO + = 2; PRIO + = 2; MODE A = INT, A = INT; SKIP )",
         19,
     ),
+    ("( l: l: SKIP )", 5),
+    ("( l: SKIP; l: SKIP )", 11),
+    ("( l: 1 EXIT l: 2 )", 12),
+    ("( INT l; l: SKIP )", 9),
+    ("( PROC l = VOID: SKIP; l: SKIP )", 23),
 ];
 
 /// Texts that declare nothing twice in one range.
@@ -136,6 +157,12 @@ const ONCE: &[&str] = &[
     "( STRUCT (STRUCT (INT a) a) s; SKIP )",
     "( INT a; STRUCT (INT a) s; SKIP )",
     "( PRIO MAX = 3; OP MAX = (INT a, b) INT: a; SKIP )",
+    "( l: ( l: SKIP ) )",
+    "( INT l; ( l: SKIP ); SKIP )",
+    "( MODE L = INT; l: SKIP )",
+    "( STRUCT (INT l) s; l: SKIP )",
+    "( FOR l TO 2 DO l: SKIP OD )",
+    "IF TRUE THEN l: SKIP ELSE l: SKIP FI",
 ];
 
 fn tree_of(rt: &impl Abort, alloc: Global, text: &str) -> Result<Tree, Stop> {
@@ -170,10 +197,10 @@ fn is_told(tree: &Tree, found: Option<NodeId>, told: Told) -> bool {
     }
 }
 
-fn tag_is_told(rt: &impl Abort, alloc: Global, row: &(&str, u32, Told)) {
+fn tag_is_told(rt: &impl Abort, alloc: Global, kind: NodeKind, row: &(&str, u32, Told)) {
     let tree = tree_of(rt, alloc, row.0).expect(rt, row.0);
     let ranges = ranges(alloc, &tree).expect(rt, row.0);
-    let at = node_at(rt, &tree, NodeKind::Tag, row.1);
+    let at = node_at(rt, &tree, kind, row.1);
     let found = ranges.tag(at, tree.node(at).name);
     holds(rt, is_told(&tree, found, row.2), row.0);
     drop(ranges);
@@ -183,7 +210,10 @@ fn tag_is_told(rt: &impl Abort, alloc: Global, row: &(&str, u32, Told)) {
 #[test]
 fn tags(rt: HostRuntime) {
     for row in TAGS {
-        tag_is_told(&rt, rt.alloc(), row);
+        tag_is_told(&rt, rt.alloc(), NodeKind::Tag, row);
+    }
+    for row in JUMPS {
+        tag_is_told(&rt, rt.alloc(), NodeKind::GoTo, row);
     }
 }
 

@@ -22,6 +22,7 @@ use Rattle.a68_nodes.proofs.Numbering.{signed_is, numbers_are}
 pub named_first : (kind : NodeKind) (f : Forest) (r : List Sym) → names_first kind ≡ true → named_at kind f r ≡ length (spells f r)
 named_first k.Identity f r h = absurd (false≢true h)
 named_first k.LongDenotation f r h = absurd (false≢true h)
+named_first k.GoTo f r h = absurd (false≢true h)
 named_first _ f r h = refl
 
 module _ (old : List Entry) (kept : List ℕ) (f : Forest) (r : List Sym) where

@@ -1,5 +1,5 @@
 -- Layers that become nodes.
-use Rattle.std.proofs.Common.{◌≡◌, ℕ, ◌-◌, true, List, [], ◌∷◌, ◌++◌, length, take, drop, refl, sym, ap, ◌∙◌, arith}
+use Rattle.std.proofs.Common.{◌≡◌, ℕ, ◌+◌, ◌-◌, true, List, [], ◌∷◌, ◌++◌, length, take, drop, refl, sym, ap, ◌∙◌, arith}
 use Rattle.std.proofs.lemmas.List.{append-nil, take_at, drop_at}
 use Rattle.a68_tree.specs.declared.kind.NodeKind.{NodeKind}
 use Rattle.a68_tree.specs.declared.kind.NodeKind.TheVariants as k
@@ -125,6 +125,18 @@ long_built whole ls s f r old new x xs g e drafts pieces id c i p a n z b =
     let before = before_is v old (mark s f) r x xs b.stands g in
     let named : e.named ≡ length (spells f r) = omega (arith, n, before) in record {
       stands = wrapped v old (mark s f) r x xs b.stands g k.LongDenotation e drafts pieces id c new i p a named z;
+      spelled = b.spelled;
+    }
+
+pub jump_built : (whole : List Sym) (ls : List Layer) (f : Forest) (r : List Sym) (old new : DraftState) (x : Opened) (xs : List Opened) → old.frames ≡ x ∷ xs
+    → (e : Entry) (drafts : List Entry) (pieces : List Piece) (id : ℕ) → Closes old x e drafts pieces id
+    → e.kind ≡ k.GoTo → e.before ≡ x.before → e.after ≡ length r → e.named ≡ length r + 1
+    → new ≡ record { drafts = drafts; frames = record x { kept = inherited xs } ∷ xs; pieces = pieces ++ Part id ∷ [] }
+    → IsDraftOf whole (node f ∷ ls) r old → IsDraftOf whole (node (part k.GoTo f end) ∷ ls) r new
+unfolding state_of
+jump_built whole ls f r old new x xs g e drafts pieces id c i p a n z b =
+    let v : DraftState = state_of ls (spells f r) in record {
+      stands = wrapped v old f r x xs b.stands g k.GoTo e drafts pieces id c new i p a n z;
       spelled = b.spelled;
     }
 

@@ -107,6 +107,12 @@ module _ (ds : List Draft) (fs : List OpenLayer) (ps : List Piece) (asides : Lis
             m.long_built whole ls s f r _ _ (opened asides fr) (all_opened asides front) frames_are (view d) (views ds') ps' id closes
             (ap (λ (x : Entry). x.kind) i) (ap (λ (x : Entry). x.before) i) (ap (λ (x : Entry). x.after) i) (ap (λ (x : Entry). x.named) i) wrapped b
 
+        pub jump_seen : (whole : List Sym) (ls : List Layer) (f : Forest) (r : List Sym) → view d ≡ unfinished fr k.GoTo (length r + 1) (length r)
+            → IsDraftOf whole (node f ∷ ls) r (seen ds fs ps asides) → IsDraftOf whole (node (part k.GoTo f end) ∷ ls) r (seen ds' new grown asides)
+        jump_seen whole ls f r i b =
+            m.jump_built whole ls f r _ _ (opened asides fr) (all_opened asides front) frames_are (view d) (views ds') ps' id closes
+            (ap (λ (x : Entry). x.kind) i) (ap (λ (x : Entry). x.before) i) (ap (λ (x : Entry). x.after) i) (ap (λ (x : Entry). x.named) i) wrapped b
+
       -- the list of what is set aside grows
       module _ (more : List ℕ) (same : all_opened more front ≡ all_opened asides front) (kept : Section) (is : (p : Opened) (os : List Opened) → all_opened asides front ≡ p ∷ os → stretch more kept ≡ p.kept ++ id ∷ [])
           (new : List OpenLayer) (h : Keeps front new kept) where

@@ -13,6 +13,7 @@ use Rattle.a68_nodes.specs.Pieces.{signs_added, parts_from}
 abbrev pub names_first : NodeKind → Bool
 names_first k.Identity = false
 names_first k.LongDenotation = false
+names_first k.GoTo = false
 names_first kind = true
 
 -- a node of what was read in a layer, whose parts are to come

@@ -186,6 +186,27 @@ impl Drafting {
         Ok(())
     }
 
+    /// What was read in the innermost layer becomes a jump, which is named by its last symbol, the tag of its label (5.4.4).
+    pub fn wrap_jump(&mut self, alloc: Global, rest: &[Sym]) -> Result<(), NoMemory>
+        ensures built { OnOk result ((whole : List Sym) (ls : List Layer) (f : Forest)
+            → IsDraftOf whole (node f ∷ ls) rest.now self.old → IsDraftOf whole (node (part k.GoTo f end) ∷ ls) rest.now self.new) }
+    {
+        let Some(frame) = self.frames.pop() else {
+            return Ok(());
+        };
+        let named = rest.len() + 1;
+        let draft = unfinished(alloc, &frame, NodeKind::GoTo, named, rest);
+        close_within(
+            alloc,
+            &mut self.drafts,
+            &mut self.pieces,
+            &mut self.frames,
+            frame,
+            draft,
+        )?;
+        Ok(())
+    }
+
     /// What was read in the innermost layer becomes a node that is set aside for the layer around. It is named by its first
     /// symbol.
     pub fn set_aside(&mut self, alloc: Global, kind: NodeKind, rest: &[Sym]) -> Result<(), NoMemory>

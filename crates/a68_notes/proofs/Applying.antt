@@ -11,7 +11,6 @@ use Rattle.a68_frames.specs.Tables.{AreFrames, FrameTables}
 use Rattle.a68_notes.specs.Notes.{definition_of, target_of, HasFrames, IsDefinitionOf, IsDistance, IsStep, IsStepOf, IsWordOf}
 use Rattle.a68_ranges.proofs.Looking.{lies_one}
 use Rattle.a68_ranges.proofs.Taking.{read}
-use Rattle.a68_ranges.specs.Definitions.{defines}
 use Rattle.a68_ranges.specs.Links.{IsBelow}
 use Rattle.a68_ranges.specs.Nodes.{name_at}
 use Rattle.a68_ranges.specs.Standard.{IsModeWordOf}
@@ -45,7 +44,7 @@ is_value tree tags n found kind.Declarer d other is = absurd (other refl)
 is_value tree tags n found _ d other is = is
 
 pub is_way : (tree : Built) (n : ℕ) (form : NodeKind) (d : Option ℕ) (step : FrameStep) → (form ≡ kind.Declarer → ⊥)
-    → IsStep tree n (target_of n d (has_slot (defines form))) step → IsStepOf tree n form d step
+    → IsStep tree n (target_of n d (has_slot form)) step → IsStepOf tree n form d step
 is_way tree n kind.Declarer d step other is = absurd (other refl)
 is_way tree n _ d step other is = is
 

@@ -7,7 +7,8 @@ use Rattle.std.proofs.lemmas.List.{append-nil, append_assoc}
 use Rattle.a68_modes.specs.Nodes.{shape_at}
 use Rattle.a68_modes.specs.declared.coercion.Coercion.{Coercion}
 use Rattle.a68_modes.specs.declared.shape.Shape.{Shape}
-use Rattle.a68_notes.specs.Voiding.{dropping, is_proc_behind, name_in, next_of, takes_none, voiding}
+use Rattle.a68_notes.specs.Voiding.{dropping, is_proc_behind, name_in, next_of, voiding}
+use Rattle.a68_refusals.specs.Jumps.{takes_none}
 
 less_one : (n : ℕ) → 0 < n → n ≡ suc (n - 1)
 less_one n some = omega (arith, some)

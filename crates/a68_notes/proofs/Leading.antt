@@ -27,7 +27,7 @@ use Rattle.a68_refusals.specs.declared.rule.NodeRule.TheVariants.{C1}
 use Rattle.a68_tree.specs.declared.kind.NodeKind.{NodeKind}
 use Rattle.a68_tree.specs.declared.kind.NodeKind.TheVariants as kind
 use Rattle.a68_yields.proofs.Tabling.{set_entry}
-use Rattle.a68_yields.specs.Leaves.{chosen, yield_at}
+use Rattle.a68_yields.specs.Leaves.{choices, endings, has_exit, yield_at}
 use Rattle.a68_yields.specs.Yields.{any_unknown, choice, handed, is_unknown, none_yet, one_more, told, unknown, AreYieldsFrom, IsToldYield, Known}
 use Rattle.a68_yields.specs.declared.told.Told.{Told}
 use Rattle.a68_yields.specs.declared.told.Told.TheVariants as tell
@@ -55,11 +55,13 @@ choice_none ys parts = either (any_unknown ys parts) unknown (tell.Yields yields
 
 told_none : (k : Known) (nodes : List Shape) (ys : List Yielding) (n : ℕ) (found : Finding) (form : NodeKind) → hands_on form ≡ true → IsNoUnit (told k nodes ys n found form)
 told_none k nodes ys n found kind.Closed h = handed_none ys (parts_at k.tree n)
-told_none k nodes ys n found kind.Serial h = handed_none ys (parts_at k.tree n)
+told_none k nodes ys n found kind.Serial h =
+    either (has_exit k.tree (parts_at k.tree n)) (choice ys (endings k.tree (parts_at k.tree n))) (handed ys (parts_at k.tree n))
+    (choice_none ys (endings k.tree (parts_at k.tree n))) (handed_none ys (parts_at k.tree n))
 told_none k nodes ys n found kind.Out h = handed_none ys (parts_at k.tree n)
-told_none k nodes ys n found kind.Conditional h = choice_none ys (chosen k.tree n)
-told_none k nodes ys n found kind.Case h = choice_none ys (chosen k.tree n)
-told_none k nodes ys n found kind.Conformity h = choice_none ys (chosen k.tree n)
+told_none k nodes ys n found kind.Conditional h = choice_none ys (choices k.tree (parts_at k.tree n))
+told_none k nodes ys n found kind.Case h = choice_none ys (choices k.tree (parts_at k.tree n))
+told_none k nodes ys n found kind.Conformity h = choice_none ys (choices k.tree (parts_at k.tree n))
 told_none k nodes ys n found _ h = absurd (false≢true h)
 
 no_unit : (nodes : List Shape) (t : Told) (after : List Shape) (y : Yielding) (l : Leaf) → IsNoUnit t → IsToldYield nodes t after y → y ≡ yields.Unit l → ⊥

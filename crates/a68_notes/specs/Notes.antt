@@ -25,7 +25,6 @@ use Rattle.a68_notes.specs.Voiding.{is_voided, voiding}
 use Rattle.a68_positions.specs.Given.{finding_at, position_at}
 use Rattle.a68_positions.specs.declared.position.Position.{Position}
 use Rattle.a68_positions.specs.declared.position.Position.TheVariants as position
-use Rattle.a68_ranges.specs.Definitions.{defines}
 use Rattle.a68_ranges.specs.Nodes.{kind_at, name_at}
 use Rattle.a68_ranges.specs.Standard.{IsModeWordOf}
 use Rattle.a68_ranges.specs.Surroundings.{Lies}
@@ -96,9 +95,10 @@ applied_operator found kind.Monadic = operator_of found
 applied_operator found kind.Dyadic = operator_of found
 applied_operator found _ = None
 
--- where the value is defined that a node applies: a tag, or the operator of a formula; none in the standard environ
+-- where the value is defined that a node applies: a tag, or the operator of a formula; none in the standard environ. Of a jump its label.
 abbrev pub definition_of : Built → (tags : List (Option ℕ)) → (n : ℕ) → Finding → NodeKind → Option ℕ
 definition_of tree tags n found kind.Tag = in_text (length tree.nodes) (slice_index_or tags n None)
+definition_of tree tags n found kind.GoTo = in_text (length tree.nodes) (slice_index_or tags n None)
 definition_of tree tags n found form = applied_operator found form
 
 -- a mode word stands for its definition in a surrounding range (Report, 4.8); no other declarer stands for one
@@ -121,7 +121,7 @@ target_of n None false = None
 abbrev pub step_or_none : Option FrameStep → FrameStep
 step_or_none found = option_map_or (λ (s : FrameStep). s) found (record { hops = 0; slot = 0 })
 
--- the way there; nothing leads nowhere
+-- the way there; nothing leads nowhere, nor does a label, which has no slot
 abbrev pub IsStep : Built → (n : ℕ) → Option ℕ → FrameStep → Type 0
 IsStep tree n None step = step ≡ step_or_none None
 IsStep tree n (Some d) step = (found : Option FrameStep) × IsFirstWay tree n d found × (step ≡ step_or_none found)
@@ -139,7 +139,7 @@ IsDistance tree n (Some d) step =
 -- the distance of a mode word, or the way to the value that a node applies or defines
 abbrev pub IsStepOf : Built → (n : ℕ) → NodeKind → (definition : Option ℕ) → FrameStep → Type 0
 IsStepOf tree n kind.Declarer definition step = IsDistance tree n definition step
-IsStepOf tree n form definition step = IsStep tree n (target_of n definition (has_slot (defines form))) step
+IsStepOf tree n form definition step = IsStep tree n (target_of n definition (has_slot form)) step
 
 -- the coercions from a mode to another by that sort; none where nothing leads
 abbrev pub AreCoercions : List Shape → Sort → (from to : ℕ) → List Coercion → Type 0

@@ -6,6 +6,7 @@ use Rattle.a68_modes.specs.declared.coercion.Coercion.{Coercion}
 use Rattle.a68_modes.specs.declared.coercion.Coercion.TheVariants.{Deproc, Deref, Drop}
 use Rattle.a68_modes.specs.declared.shape.Shape.{Shape}
 use Rattle.a68_modes.specs.declared.shape.Shape.TheVariants.{Ref, Proc}
+use Rattle.a68_refusals.specs.Jumps.{takes_none}
 use Rattle.a68_tree.specs.declared.kind.NodeKind.{NodeKind}
 use Rattle.a68_tree.specs.declared.kind.NodeKind.TheVariants as kind
 
@@ -28,11 +29,6 @@ is_voided nodes form goal = may_be_called form && is_void (shape_at nodes goal)
 abbrev pub name_in : Shape → Option ℕ
 name_in (Ref m) = Some m
 name_in _ = None
-
--- whether it is a procedure without parameters
-abbrev pub takes_none : Shape → Bool
-takes_none (Proc [] m) = true
-takes_none _ = false
 
 -- a procedure without parameters stands behind names, at most so many
 abbrev pub is_proc_behind : (most : ℕ) → List Shape → (mode : ℕ) → Bool

@@ -5,7 +5,6 @@ ghost use Rattle.a68_frames.specs.Frames.{has_slot as has_slot_lem};
 ghost use Rattle.a68_frames.specs.Tables.{AreFrames};
 ghost use Rattle.a68_notes.specs.Notes as specs;
 ghost use Rattle.a68_notes.specs.Notes.{IsDefinitionOf, IsDistance, IsStep, IsStepOf, IsWordOf};
-ghost use Rattle.a68_ranges.specs.Definitions.{defines};
 ghost use Rattle.a68_ranges.specs.Links.{IsBelow};
 ghost use Rattle.a68_ranges.specs.Nodes.{name_at};
 ghost use Rattle.a68_ranges.specs.Tables.{AreRanges};
@@ -97,7 +96,7 @@ fn applied_value(
     requires there { node < length tree.now.nodes }
     requires frames { AreFrames tree.now map.now }
     ensures definition { result.definition ≡ specs.definition_of tree.now tags.now node found kind }
-    ensures step { IsStep tree.now node (specs.target_of node result.definition (has_slot_lem (defines kind))) result.step }
+    ensures step { IsStep tree.now node (specs.target_of node result.definition (has_slot_lem kind)) result.step }
 {
     let definition = definition_of(tree, tags, node, found, kind);
     let step = step_of(map, node, target_of(node, definition, has_slot(kind)));

@@ -134,7 +134,7 @@ pub fn definition_of(
     ensures { result ≡ specs.definition_of tree.now tags.now node found kind }
 {
     match kind {
-        NodeKind::Tag => in_text(tree.len(), tags.at(node)),
+        NodeKind::Tag | NodeKind::GoTo => in_text(tree.len(), tags.at(node)),
         _ => applied_operator(found, kind),
     }
 }

@@ -3,6 +3,7 @@ ghost use Rattle.std.specs.Prelude.{◌≡◌, ◌++◌, [], length, IfOk, OnOk}
 ghost use Rattle.a68_modes.specs.Nodes as modes_of;
 ghost use Rattle.a68_modes.specs.Nodes.{shape_at};
 ghost use Rattle.a68_notes.specs.Voiding as voiding;
+ghost use Rattle.a68_refusals.specs.Jumps.{takes_none};
 
 use a68_base::NoMemory;
 use a68_modes::{Coercion, ModeId, Modes, Path, Shape};
@@ -42,7 +43,7 @@ fn name_in(modes: &Modes, mode: ModeId) -> Option<ModeId>
 
 // Tells whether the mode is that of a procedure without parameters.
 fn takes_none(modes: &Modes, mode: ModeId) -> bool
-    ensures { result ≡ voiding.takes_none (shape_at modes.now mode) }
+    ensures { result ≡ takes_none (shape_at modes.now mode) }
 {
     if mode >= modes.len() {
         return false;

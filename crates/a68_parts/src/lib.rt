@@ -12,6 +12,7 @@ pub use fields::{fields_at, first_goal, selected_fields};
 pub use loops::{LoopParts, loop_parts, only_id};
 pub use nodes::{
     before_out, begins_in_heap, begins_with_declarer, behind_heap, behind_proc, behind_ref, called,
-    is_one_of, items_at, kind_at, last_id, mode_at, out_of, parts_at, printers, wholes,
+    is_exit, is_label, is_labelled, is_one_of, items_at, kind_at, last_id, mode_at, out_of,
+    parts_at, printers, wholes,
 };
 pub use rowing::{Rowings, last_rowings, rowed_by, rowed_to};

@@ -1,6 +1,6 @@
 //! What is asked of nodes and of their modes.
 ghost use Rattle.std.specs.Option.{option_map};
-ghost use Rattle.std.specs.Prelude.{◌≡◌, ◌<◌, length, map, ℕ, IfSome};
+ghost use Rattle.std.specs.Prelude.{◌≡◌, ◌<◌, ◌||◌, length, map, ℕ, IfSome};
 ghost use Rattle.a68_elab.specs.Made as made;
 ghost use Rattle.a68_modes.specs.Nodes.{shape_at};
 ghost use Rattle.a68_tree.specs.Trees.{AllBetween};
@@ -28,6 +28,34 @@ pub fn kind_at(program: &Annotated, id: NodeId) -> NodeKind
         return NodeKind::VoidWord;
     }
     program.tree.node(id).kind
+}
+
+/// Is a node a label?
+pub fn is_label(program: &Annotated, id: NodeId) -> bool
+    ensures { result ≡ made.is_label (made.kind_at program.now id) }
+{
+    matches!(kind_at(program, id), NodeKind::Label)
+}
+
+/// Does a node stand for EXIT?
+pub fn is_exit(program: &Annotated, id: NodeId) -> bool
+    ensures { result ≡ made.is_exit (made.kind_at program.now id) }
+{
+    matches!(kind_at(program, id), NodeKind::Exit)
+}
+
+// Is a node a label, or does it stand for EXIT?
+fn is_label_or_exit(program: &Annotated, id: NodeId) -> bool
+    ensures { result ≡ (made.is_label (made.kind_at program.now id) || made.is_exit (made.kind_at program.now id)) }
+{
+    matches!(kind_at(program, id), NodeKind::Label | NodeKind::Exit)
+}
+
+/// Is a serial clause of these nodes one with labels? One of them is a label or EXIT, behind which one stands.
+pub fn is_labelled(program: &Annotated, ids: &[NodeId]) -> bool
+    ensures { result ≡ made.is_labelled program.now ids.now }
+{
+    ids.iter().any(|id| is_label_or_exit(program, *id))
 }
 
 /// The parts of a node; none where there is no such node.

@@ -31,7 +31,6 @@ use Rattle.a68_positions.specs.declared.aside.Aside.TheVariants as aside
 use Rattle.a68_positions.specs.declared.position.Position.{Position}
 use Rattle.a68_positions.specs.declared.position.Position.TheVariants as position
 use Rattle.a68_ranges.specs.Nodes.{kind_at, parts_at}
-use Rattle.a68_tree.specs.Trees.{Built}
 use Rattle.a68_tree.specs.declared.kind.NodeKind.{NodeKind}
 use Rattle.a68_tree.specs.declared.kind.NodeKind.TheVariants as kind
 use Rattle.a68_yields.proofs.Alike.{found_one}

@@ -1,5 +1,5 @@
 -- What is asked for is among the modes that are there.
-use Rattle.std.proofs.Common.{◌≡◌, ◌<◌, ◌-◌, ◌+◌, ◌++◌, ◌∷◌, [], ℕ, zero, suc, List, Bool, true, false, Option, None, Some, length, map, nat_eq, replicate, refl, arith, if◌then◌else◌}
+use Rattle.std.proofs.Common.{◌≡◌, ◌<◌, ◌-◌, ◌+◌, ◌++◌, ◌∷◌, [], ℕ, zero, suc, List, drop, Bool, true, false, Option, None, Some, length, map, nat_eq, replicate, refl, arith, if◌then◌else◌}
 use Rattle.std.proofs.lemmas.Bool.{ltb-true}
 use Rattle.std.specs.List.{All}
 use Rattle.std.specs.Prelude.{◌&&◌, nat_lt, slice_index_or, slice_set}
@@ -28,7 +28,7 @@ use Rattle.a68_tree.specs.Trees.{Built}
 use Rattle.a68_tree.specs.declared.kind.NodeKind.{NodeKind}
 use Rattle.a68_tree.specs.declared.kind.NodeKind.TheVariants as kind
 use Rattle.a68_yields.specs.Below.{IsFindingBelow, IsOperatorBelow}
-use Rattle.a68_yields.specs.Leaves.{is_spec}
+use Rattle.a68_yields.specs.Leaves.{has_exit, is_exit, is_serial, is_spec}
 use Rattle.a68_yields.specs.Parts.{parameters_of}
 use Rattle.a68_yields.specs.Sought.{is_subscript}
 use Rattle.a68_yields.specs.Yields.{Known}
@@ -101,8 +101,20 @@ module _ (n : ℕ) (some : 8 < n) where
   chosen_within : (node : ℕ) (own : Position) (k : NodeKind) → IsPositionBelow n own → IsPositionBelow n (specs.chosen_part node own k)
   chosen_within node own k within = either (is_spec k) position.Nowhere (specs.of_choice node own) tt (choice_within node own within)
 
+  last_within : (tree : Built) (node : ℕ) (own : Position) → IsPositionBelow n own → IsPositionBelow n (specs.last_unit tree node own)
+  last_within tree node own within = either (has_exit tree (parts_at tree node)) (specs.of_choice node own) own (choice_within node own within) within
+
+  phrase_within : (tree : Built) (node : ℕ) (own : Position) (behind : List ℕ) → IsPositionBelow n own → IsPositionBelow n (specs.phrase tree node own behind)
+  phrase_within tree node own [] within = last_within tree node own within
+  phrase_within tree node own (p ∷ ps) within = either (is_exit (kind_at tree p)) (specs.of_choice node own) (specs.goal node 0) (choice_within node own within) (omega arith)
+
+  serial_within : (tree : Built) (node place p : ℕ) (own : Position) → IsPositionBelow n own → IsPositionBelow n (specs.serial_part tree node place p own)
+  serial_within tree node place p own within =
+      either (specs.is_marker (kind_at tree p)) position.Nowhere (specs.phrase tree node own (drop (place + 1) (parts_at tree node))) tt
+      (phrase_within tree node own (drop (place + 1) (parts_at tree node)) within)
+
   looped_within : (node : ℕ) (k : NodeKind) → IsPositionBelow n (specs.looped node k)
-  looped_within node k = either (specs.is_serial k) (specs.goal node 0) position.Nowhere (omega arith) tt
+  looped_within node k = either (is_serial k) (specs.goal node 0) position.Nowhere (omega arith) tt
 
   variable_mode_within : (of : ByNode) (defined : List ℕ) (p : ℕ) (d : Option ℕ) → AreFixedBelow n of → AllBelow n defined → specs.variable_mode of defined p d < n
   variable_mode_within of defined p (Some d) below all = below d
@@ -205,7 +217,7 @@ module _ (nodes : List Shape) (holds : HoldsNodes nodes) (some : 8 < length node
       → IsPositionBelow (length nodes) a.own → IsFindingBelow (length nodes) a.found → a.aside < length nodes → IsPositionBelow (length nodes) (given k nodes a place p of_kind)
   given_within k a place p kind.Closed below all own found h = own
   given_within k a place p kind.Out below all own found h = own
-  given_within k a place p kind.Serial below all own found h = last_given (length nodes) some (length (parts_at k.tree a.node)) place a.own (specs.goal a.node 0) own (omega arith)
+  given_within k a place p kind.Serial below all own found h = serial_within (length nodes) some k.tree a.node place p a.own own
   given_within k a place p kind.Conditional below all own found h = first_asked (length nodes) some place by.Meek a.found _ found (chosen_within (length nodes) some a.node a.own (kind_at k.tree p) own)
   given_within k a place p kind.Case below all own found h = first_asked (length nodes) some place by.Meek a.found _ found (chosen_within (length nodes) some a.node a.own (kind_at k.tree p) own)
   given_within k a place p kind.Conformity below all own found h = first_asked (length nodes) some place by.Meek a.found _ found (chosen_within (length nodes) some a.node a.own (kind_at k.tree p) own)

@@ -1,10 +1,10 @@
 -- What a node asks of each of its parts, by what is asked of itself (Report, 6.1.1, and the clauses of chapters 3 to 5).
-use Rattle.std.specs.Prelude.{◌-◌, ◌+◌, ℕ, List, length, nat_eq, nat_lt, slice_index_or, Option, Some, None, Bool, true, false, if◌then◌else◌}
+use Rattle.std.specs.Prelude.{◌-◌, ◌+◌, ◌||◌, ℕ, List, [], ◌∷◌, drop, length, nat_eq, nat_lt, slice_index_or, Option, Some, None, Bool, true, false, if◌then◌else◌}
 use Rattle.a68_modes.specs.declared.standard.TheConstants as standard
 use Rattle.a68_ranges.specs.declared.tags.TheConstants as tags
 use Rattle.a68_declare.specs.Outcome.{ByNode}
 use Rattle.a68_definitions.specs.Defined.{first_declarer, fixed_mode_at, is_declarer, part_from_end, part_number}
-use Rattle.a68_definitions.specs.Tags.{called_by}
+use Rattle.a68_definitions.specs.Tags.{called_by, is_label}
 use Rattle.a68_identify.specs.declared.identified.Identified.{Identified}
 use Rattle.a68_identify.specs.declared.identified.Identified.TheVariants.{Declared, Standard}
 use Rattle.a68_modes.specs.Nodes.{shape_at}
@@ -20,7 +20,7 @@ use Rattle.a68_ranges.specs.Nodes.{kind_at, parts_at}
 use Rattle.a68_tree.specs.Trees.{Built}
 use Rattle.a68_tree.specs.declared.kind.NodeKind.{NodeKind}
 use Rattle.a68_tree.specs.declared.kind.NodeKind.TheVariants as kind
-use Rattle.a68_yields.specs.Leaves.{is_spec}
+use Rattle.a68_yields.specs.Leaves.{has_exit, is_exit, is_serial, is_spec}
 use Rattle.a68_yields.specs.Parts.{parameters_of}
 use Rattle.a68_yields.specs.Sought.{is_subscript}
 use Rattle.a68_yields.specs.Yields.{Known}
@@ -65,9 +65,24 @@ of_choice n _ = position.Nowhere
 abbrev pub chosen_part : (n : ℕ) → (own : Position) → NodeKind → Position
 chosen_part n own k = if is_spec k then position.Nowhere else of_choice n own
 
-abbrev pub is_serial : NodeKind → Bool
-is_serial kind.Serial = true
-is_serial _ = false
+-- ---- serial clauses (3.2.1): what is asked of one is asked of its last unit, and with EXIT of all that it chooses among; the other phrases
+-- yield nothing, and of a label and EXIT nothing is asked
+
+abbrev pub is_marker : NodeKind → Bool
+is_marker k = is_label k || is_exit k
+
+abbrev pub last_unit : Built → (n : ℕ) → (own : Position) → Position
+last_unit tree n own = if has_exit tree (parts_at tree n) then of_choice n own else own
+
+-- a phrase with these parts behind it
+abbrev pub phrase : Built → (n : ℕ) → (own : Position) → (behind : List ℕ) → Position
+phrase tree n own [] = last_unit tree n own
+phrase tree n own (p ∷ ps) = if is_exit (kind_at tree p) then of_choice n own else goal n 0
+
+abbrev pub serial_part : Built → (n place p : ℕ) → (own : Position) → Position
+serial_part tree n place p own = if is_marker (kind_at tree p) then position.Nowhere else phrase tree n own (drop (place + 1) (parts_at tree n))
+
+-- ---- loops
 
 -- what a loop does yields nothing (3.5.1)
 abbrev pub looped : (n : ℕ) → NodeKind → Position
@@ -168,7 +183,7 @@ body tree of n count place = at_last count place (goal n (fixed_mode_at of (part
 abbrev pub given : Known → List Shape → Asker → (place p : ℕ) → NodeKind → Position
 given k nodes a place p kind.Closed = a.own
 given k nodes a place p kind.Out = a.own
-given k nodes a place p kind.Serial = at_last (length (parts_at k.tree a.node)) place a.own (goal a.node 0)
+given k nodes a place p kind.Serial = serial_part k.tree a.node place p a.own
 given k nodes a place p kind.Conditional = at_first place (asked by.Meek a.found) (chosen_part a.node a.own (kind_at k.tree p))
 given k nodes a place p kind.Case = at_first place (asked by.Meek a.found) (chosen_part a.node a.own (kind_at k.tree p))
 given k nodes a place p kind.Conformity = at_first place (asked by.Meek a.found) (chosen_part a.node a.own (kind_at k.tree p))

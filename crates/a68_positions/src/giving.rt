@@ -11,11 +11,11 @@ use crate::parts::{argument, display_unit, operand, primary};
 use crate::position::{Position, asked, at_first, at_last, goal};
 use a68_declare::NodeModes;
 use a68_definitions::{
-    Tags, called_by, first_declarer, kind_of, part_from_end, part_number, parts_of,
+    Tags, called_by, first_declarer, kind_of, part_from_end, part_number, parts_from, parts_of,
 };
 use a68_modes::{ModeId, Modes, Sort};
 use a68_tree::{NodeId, NodeKind, Tree};
-use a68_yields::{Finding, is_subscript};
+use a68_yields::{Finding, has_exit, is_subscript};
 
 // Hands what is asked of a choice on to the parts that it chooses among.
 fn of_choice(node: NodeId, own: Position) -> Position
@@ -36,6 +36,56 @@ fn chosen_part(node: NodeId, own: Position, part: NodeKind) -> Position
     match part {
         NodeKind::Spec => Position::Nowhere,
         _ => of_choice(node, own),
+    }
+}
+
+// Does a node of that kind stand between the units of a serial clause, and is none?
+fn is_marker(kind: NodeKind) -> bool
+    ensures { result ≡ specs.is_marker kind }
+{
+    match kind {
+        NodeKind::Label | NodeKind::Exit => true,
+        _ => false,
+    }
+}
+
+// Tells what is asked of the last unit of a serial clause.
+fn last_unit(tree: &Tree, node: NodeId, own: Position) -> Position
+    ensures { result ≡ specs.last_unit tree.now node own }
+{
+    if has_exit(tree, parts_of(tree, node)) {
+        of_choice(node, own)
+    } else {
+        own
+    }
+}
+
+// Tells what is asked of a phrase of a serial clause that has these parts behind it.
+fn phrase(tree: &Tree, node: NodeId, own: Position, behind: &[NodeId]) -> Position
+    ensures { result ≡ specs.phrase tree.now node own behind.now }
+{
+    match behind.first() {
+        None => last_unit(tree, node, own),
+        Some(next) => {
+            if kind_of(tree, *next) == NodeKind::Exit {
+                of_choice(node, own)
+            } else {
+                goal(node, 0)
+            }
+        }
+    }
+}
+
+// Tells what is asked of a part of a serial clause.
+fn serial_part(tree: &Tree, node: NodeId, place: usize, part: NodeId, own: Position) -> Position
+    requires { place < length (parts_at tree.now node) }
+    ensures { result ≡ specs.serial_part tree.now node place part own }
+{
+    if is_marker(kind_of(tree, part)) {
+        Position::Nowhere
+    } else {
+        let behind = parts_from(parts_of(tree, node), place + 1);
+        phrase(tree, node, own, behind)
     }
 }
 
@@ -149,7 +199,7 @@ pub fn given_to(
     let count = parts_of(tree, node).len();
     match kind_of(tree, node) {
         NodeKind::Closed | NodeKind::Out => own,
-        NodeKind::Serial => at_last(count, place, own, goal(node, 0)),
+        NodeKind::Serial => serial_part(tree, node, place, part, own),
         NodeKind::Conditional | NodeKind::Case | NodeKind::Conformity => {
             let chosen = chosen_part(node, own, kind_of(tree, part));
             at_first(place, asked(Sort::Meek, found), chosen)

@@ -346,6 +346,95 @@ const DEFINITIONS: &[(&str, NodeKind, u32, Question)] = &[
     ),
 ];
 
+/// Of jumps and of serial clauses with labels and EXIT: a text, the kind of a node in it and the byte where that begins, and what is asked of it.
+const LABELLED: &[(&str, NodeKind, u32, Question)] = &[
+    ("( l: SKIP )", NodeKind::Label, 2, Question::Nowhere),
+    (
+        "( l: SKIP )",
+        NodeKind::Skip,
+        5,
+        Question::Goal(Named::Is(0), None),
+    ),
+    ("( 1 EXIT l: SKIP )", NodeKind::Exit, 4, Question::Nowhere),
+    (
+        "( 1 EXIT l: SKIP )",
+        NodeKind::Denotation,
+        2,
+        Question::Goal(Named::Is(0), None),
+    ),
+    (
+        "( INT ( 1 EXIT l: 2 ); SKIP )",
+        NodeKind::Denotation,
+        8,
+        Question::Goal(Named::Is(1), Some(NodeKind::Cast)),
+    ),
+    (
+        "( INT ( 1 EXIT l: 2 ); SKIP )",
+        NodeKind::Denotation,
+        18,
+        Question::Goal(Named::Is(1), Some(NodeKind::Cast)),
+    ),
+    (
+        "( INT ( 1; 2 EXIT l: 3 ); SKIP )",
+        NodeKind::Denotation,
+        8,
+        Question::Goal(Named::Is(0), Some(NodeKind::Serial)),
+    ),
+    (
+        "( INT ( 1; 2 EXIT l: 3 ); SKIP )",
+        NodeKind::Denotation,
+        11,
+        Question::Goal(Named::Is(1), Some(NodeKind::Cast)),
+    ),
+    (
+        "( INT a, b; ( a EXIT l: b ) := 1; SKIP )",
+        NodeKind::Serial,
+        14,
+        Question::Asks(Sort::Soft, Some(Named::Is(9))),
+    ),
+    (
+        "( INT a, b; ( a EXIT l: b ) := 1; SKIP )",
+        NodeKind::Tag,
+        14,
+        Question::Goal(Named::Is(9), Some(NodeKind::Serial)),
+    ),
+    (
+        "( INT a, b; ( a EXIT l: b ) := 1; SKIP )",
+        NodeKind::Tag,
+        24,
+        Question::Goal(Named::Is(9), Some(NodeKind::Serial)),
+    ),
+    (
+        "( ( 1 EXIT l: 2 ) := 3; SKIP )",
+        NodeKind::Denotation,
+        4,
+        Question::Unlooked,
+    ),
+    (
+        "( l: GOTO l )",
+        NodeKind::GoTo,
+        5,
+        Question::Goal(Named::Is(0), None),
+    ),
+    (
+        "( l: INT ( GOTO l ); SKIP )",
+        NodeKind::GoTo,
+        11,
+        Question::Goal(Named::Is(1), Some(NodeKind::Cast)),
+    ),
+    (
+        "( BOOL b; INT x; ( b | x | GOTO l ) := 1; l: SKIP )",
+        NodeKind::GoTo,
+        27,
+        Question::Goal(Named::Is(9), Some(NodeKind::Conditional)),
+    ),
+];
+
+#[test]
+fn jumps_labels_and_exits(rt: HostRuntime) {
+    all_are_asked(&rt, rt.alloc(), LABELLED);
+}
+
 #[test]
 fn closed_serial_and_parallel_clauses_casts_and_loops(rt: HostRuntime) {
     all_are_asked(&rt, rt.alloc(), CLAUSES);

@@ -10,49 +10,49 @@ use Rattle.a68_lookahead.specs.Symbols.{starts}
 use Rattle.a68_unit_productions.specs.declared.goal.Goal.{Goal}
 use Rattle.a68_unit_productions.specs.declared.goal.Goal.TheVariants as g
 
--- {ELIF serial THEN serial} [ELSE serial]
+-- {ELIF enquiry THEN serial} [ELSE serial]
 abbrev pub else_part : List Sym → List Goal
 else_part text =
-    if starts (Is t.Elif) text then g.Begin ∷ g.Take t.Elif ∷ g.SerialNode ∷ g.Take t.Then ∷ g.SerialNode ∷ g.ElsePart ∷ g.Close k.Conditional ∷ [] else (
+    if starts (Is t.Elif) text then g.Begin ∷ g.Take t.Elif ∷ g.EnquiryNode ∷ g.Take t.Then ∷ g.SerialNode ∷ g.ElsePart ∷ g.Close k.Conditional ∷ [] else (
     if starts (Is t.Else) text then g.Take t.Else ∷ g.SerialNode ∷ [] else
     [])
 
--- {'|:' serial '|' serial} ['|' serial]
+-- {'|:' enquiry '|' serial} ['|' serial]
 abbrev pub else_brief : List Sym → List Goal
 else_brief text =
-    if starts (Is t.BarColon) text then g.Begin ∷ g.Take t.BarColon ∷ g.SerialNode ∷ g.Take t.Bar ∷ g.SerialNode ∷ g.ElseBrief ∷ g.Close k.Conditional ∷ [] else (
+    if starts (Is t.BarColon) text then g.Begin ∷ g.Take t.BarColon ∷ g.EnquiryNode ∷ g.Take t.Bar ∷ g.SerialNode ∷ g.ElseBrief ∷ g.Close k.Conditional ∷ [] else (
     if starts (Is t.Bar) text then g.Take t.Bar ∷ g.SerialNode ∷ [] else
     [])
 
--- {OUSE serial IN unit ',' units} [OUT serial]
+-- {OUSE enquiry IN unit ',' units} [OUT serial]
 abbrev pub out_case : List Sym → List Goal
 out_case text =
-    if starts (Is t.Ouse) text then g.Begin ∷ g.Begin ∷ g.Take t.Ouse ∷ g.SerialNode ∷ g.Take t.In ∷ g.Unit ∷ g.Take t.Comma ∷ g.Units ∷ g.OutCase ∷ g.Close k.Case ∷ g.Close k.Out ∷ [] else (
+    if starts (Is t.Ouse) text then g.Begin ∷ g.Begin ∷ g.Take t.Ouse ∷ g.EnquiryNode ∷ g.Take t.In ∷ g.Unit ∷ g.Take t.Comma ∷ g.Units ∷ g.OutCase ∷ g.Close k.Case ∷ g.Close k.Out ∷ [] else (
     if starts (Is t.Out) text then g.Take t.Out ∷ g.Begin ∷ g.SerialNode ∷ g.Close k.Out ∷ [] else
     [])
 
--- {'|:' serial '|' unit ',' units} ['|' serial]
+-- {'|:' enquiry '|' unit ',' units} ['|' serial]
 abbrev pub out_case_brief : List Sym → List Goal
 out_case_brief text =
-    if starts (Is t.BarColon) text then g.Begin ∷ g.Begin ∷ g.Take t.BarColon ∷ g.SerialNode ∷ g.Take t.Bar ∷ g.Unit ∷ g.Take t.Comma ∷ g.Units ∷ g.OutCaseBrief ∷ g.Close k.Case ∷ g.Close k.Out ∷ [] else (
+    if starts (Is t.BarColon) text then g.Begin ∷ g.Begin ∷ g.Take t.BarColon ∷ g.EnquiryNode ∷ g.Take t.Bar ∷ g.Unit ∷ g.Take t.Comma ∷ g.Units ∷ g.OutCaseBrief ∷ g.Close k.Case ∷ g.Close k.Out ∷ [] else (
     if starts (Is t.Bar) text then g.Take t.Bar ∷ g.Begin ∷ g.SerialNode ∷ g.Close k.Out ∷ [] else
     [])
 
--- {OUSE serial IN choices} [OUT serial]
+-- {OUSE enquiry IN choices} [OUT serial]
 abbrev pub out_conformity : List Sym → List Goal
 out_conformity text =
-    if starts (Is t.Ouse) text then g.Begin ∷ g.Begin ∷ g.Take t.Ouse ∷ g.SerialNode ∷ g.Take t.In ∷ g.Choices ∷ g.OutConformity ∷ g.Close k.Conformity ∷ g.Close k.Out ∷ [] else (
+    if starts (Is t.Ouse) text then g.Begin ∷ g.Begin ∷ g.Take t.Ouse ∷ g.EnquiryNode ∷ g.Take t.In ∷ g.Choices ∷ g.OutConformity ∷ g.Close k.Conformity ∷ g.Close k.Out ∷ [] else (
     if starts (Is t.Out) text then g.Take t.Out ∷ g.Begin ∷ g.SerialNode ∷ g.Close k.Out ∷ [] else
     [])
 
--- {'|:' serial '|' choices} ['|' serial]
+-- {'|:' enquiry '|' choices} ['|' serial]
 abbrev pub out_conformity_brief : List Sym → List Goal
 out_conformity_brief text =
-    if starts (Is t.BarColon) text then g.Begin ∷ g.Begin ∷ g.Take t.BarColon ∷ g.SerialNode ∷ g.Take t.Bar ∷ g.Choices ∷ g.OutConformityBrief ∷ g.Close k.Conformity ∷ g.Close k.Out ∷ [] else (
+    if starts (Is t.BarColon) text then g.Begin ∷ g.Begin ∷ g.Take t.BarColon ∷ g.EnquiryNode ∷ g.Take t.Bar ∷ g.Choices ∷ g.OutConformityBrief ∷ g.Close k.Conformity ∷ g.Close k.Out ∷ [] else (
     if starts (Is t.Bar) text then g.Take t.Bar ∷ g.Begin ∷ g.SerialNode ∷ g.Close k.Out ∷ [] else
     [])
 
--- [FROM unit] [BY unit] [TO unit] [WHILE serial] DO serial OD
+-- [FROM unit] [BY unit] [TO unit] [WHILE enquiry] DO serial OD
 abbrev pub loop_from : List Sym → List Goal
 loop_from text =
     if starts (Is t.From) text then g.Take t.From ∷ g.Begin ∷ g.Unit ∷ g.Close k.From ∷ g.LoopBy ∷ [] else
@@ -73,7 +73,7 @@ loop_to text =
 -- the same from WHILE on
 abbrev pub loop_while : List Sym → List Goal
 loop_while text =
-    if starts (Is t.While) text then g.Take t.While ∷ g.Begin ∷ g.SerialNode ∷ g.Close k.While ∷ g.Opens b.Do ∷ g.SerialNode ∷ g.Closes b.Do ∷ [] else
+    if starts (Is t.While) text then g.Take t.While ∷ g.Begin ∷ g.EnquiryNode ∷ g.Close k.While ∷ g.Opens b.Do ∷ g.SerialNode ∷ g.Closes b.Do ∷ [] else
     g.Opens b.Do ∷ g.SerialNode ∷ g.Closes b.Do ∷ []
 
 -- spec unit {',' spec unit}

@@ -7,7 +7,7 @@ use a68_symbols::{Bracket, Sym, Token};
 use a68_tree::NodeKind;
 use a68_unit_productions::Goal;
 
-/// `{ELIF serial THEN serial} [ELSE serial]`
+/// `{ELIF enquiry THEN serial} [ELSE serial]`
 pub fn else_part(text: &[Sym]) -> &'static [Goal]
     ensures { result.now ≡ spec.else_part text.now }
 {
@@ -15,7 +15,7 @@ pub fn else_part(text: &[Sym]) -> &'static [Goal]
         &[
             Goal::Begin,
             Goal::Take(Token::Elif),
-            Goal::SerialNode,
+            Goal::EnquiryNode,
             Goal::Take(Token::Then),
             Goal::SerialNode,
             Goal::ElsePart,
@@ -28,7 +28,7 @@ pub fn else_part(text: &[Sym]) -> &'static [Goal]
     }
 }
 
-/// `{'|:' serial '|' serial} ['|' serial]`
+/// `{'|:' enquiry '|' serial} ['|' serial]`
 pub fn else_brief(text: &[Sym]) -> &'static [Goal]
     ensures { result.now ≡ spec.else_brief text.now }
 {
@@ -36,7 +36,7 @@ pub fn else_brief(text: &[Sym]) -> &'static [Goal]
         &[
             Goal::Begin,
             Goal::Take(Token::BarColon),
-            Goal::SerialNode,
+            Goal::EnquiryNode,
             Goal::Take(Token::Bar),
             Goal::SerialNode,
             Goal::ElseBrief,
@@ -49,7 +49,7 @@ pub fn else_brief(text: &[Sym]) -> &'static [Goal]
     }
 }
 
-/// `{OUSE serial IN unit ',' units} [OUT serial]`
+/// `{OUSE enquiry IN unit ',' units} [OUT serial]`
 pub fn out_case(text: &[Sym]) -> &'static [Goal]
     ensures { result.now ≡ spec.out_case text.now }
 {
@@ -58,7 +58,7 @@ pub fn out_case(text: &[Sym]) -> &'static [Goal]
             Goal::Begin,
             Goal::Begin,
             Goal::Take(Token::Ouse),
-            Goal::SerialNode,
+            Goal::EnquiryNode,
             Goal::Take(Token::In),
             Goal::Unit,
             Goal::Take(Token::Comma),
@@ -79,7 +79,7 @@ pub fn out_case(text: &[Sym]) -> &'static [Goal]
     }
 }
 
-/// `{'|:' serial '|' unit ',' units} ['|' serial]`
+/// `{'|:' enquiry '|' unit ',' units} ['|' serial]`
 pub fn out_case_brief(text: &[Sym]) -> &'static [Goal]
     ensures { result.now ≡ spec.out_case_brief text.now }
 {
@@ -88,7 +88,7 @@ pub fn out_case_brief(text: &[Sym]) -> &'static [Goal]
             Goal::Begin,
             Goal::Begin,
             Goal::Take(Token::BarColon),
-            Goal::SerialNode,
+            Goal::EnquiryNode,
             Goal::Take(Token::Bar),
             Goal::Unit,
             Goal::Take(Token::Comma),
@@ -109,7 +109,7 @@ pub fn out_case_brief(text: &[Sym]) -> &'static [Goal]
     }
 }
 
-/// `{OUSE serial IN choices} [OUT serial]`
+/// `{OUSE enquiry IN choices} [OUT serial]`
 pub fn out_conformity(text: &[Sym]) -> &'static [Goal]
     ensures { result.now ≡ spec.out_conformity text.now }
 {
@@ -118,7 +118,7 @@ pub fn out_conformity(text: &[Sym]) -> &'static [Goal]
             Goal::Begin,
             Goal::Begin,
             Goal::Take(Token::Ouse),
-            Goal::SerialNode,
+            Goal::EnquiryNode,
             Goal::Take(Token::In),
             Goal::Choices,
             Goal::OutConformity,
@@ -137,7 +137,7 @@ pub fn out_conformity(text: &[Sym]) -> &'static [Goal]
     }
 }
 
-/// `{'|:' serial '|' choices} ['|' serial]`
+/// `{'|:' enquiry '|' choices} ['|' serial]`
 pub fn out_conformity_brief(text: &[Sym]) -> &'static [Goal]
     ensures { result.now ≡ spec.out_conformity_brief text.now }
 {
@@ -146,7 +146,7 @@ pub fn out_conformity_brief(text: &[Sym]) -> &'static [Goal]
             Goal::Begin,
             Goal::Begin,
             Goal::Take(Token::BarColon),
-            Goal::SerialNode,
+            Goal::EnquiryNode,
             Goal::Take(Token::Bar),
             Goal::Choices,
             Goal::OutConformityBrief,
@@ -165,7 +165,7 @@ pub fn out_conformity_brief(text: &[Sym]) -> &'static [Goal]
     }
 }
 
-/// `[FROM unit] [BY unit] [TO unit] [WHILE serial] DO serial OD`
+/// `[FROM unit] [BY unit] [TO unit] [WHILE enquiry] DO serial OD`
 pub fn loop_from(text: &[Sym]) -> &'static [Goal]
     ensures { result.now ≡ spec.loop_from text.now }
 {
@@ -182,7 +182,7 @@ pub fn loop_from(text: &[Sym]) -> &'static [Goal]
     }
 }
 
-/// `[BY unit] [TO unit] [WHILE serial] DO serial OD`
+/// `[BY unit] [TO unit] [WHILE enquiry] DO serial OD`
 pub fn loop_by(text: &[Sym]) -> &'static [Goal]
     ensures { result.now ≡ spec.loop_by text.now }
 {
@@ -199,7 +199,7 @@ pub fn loop_by(text: &[Sym]) -> &'static [Goal]
     }
 }
 
-/// `[TO unit] [WHILE serial] DO serial OD`
+/// `[TO unit] [WHILE enquiry] DO serial OD`
 pub fn loop_to(text: &[Sym]) -> &'static [Goal]
     ensures { result.now ≡ spec.loop_to text.now }
 {
@@ -216,7 +216,7 @@ pub fn loop_to(text: &[Sym]) -> &'static [Goal]
     }
 }
 
-/// `[WHILE serial] DO serial OD`
+/// `[WHILE enquiry] DO serial OD`
 pub fn loop_while(text: &[Sym]) -> &'static [Goal]
     ensures { result.now ≡ spec.loop_while text.now }
 {
@@ -224,7 +224,7 @@ pub fn loop_while(text: &[Sym]) -> &'static [Goal]
         &[
             Goal::Take(Token::While),
             Goal::Begin,
-            Goal::SerialNode,
+            Goal::EnquiryNode,
             Goal::Close(NodeKind::While),
             Goal::Opens(Bracket::Do),
             Goal::SerialNode,

@@ -2,12 +2,12 @@
 ghost use Rattle.std.specs.Prelude.{◌≡◌};
 ghost use Rattle.a68_productions.specs.Clauses as spec;
 
-use a68_lookahead::{phrase_ahead, spec_ahead, starts};
+use a68_lookahead::{label_ahead, phrase_ahead, spec_ahead, starts};
 use a68_symbols::{Bracket, Sym, Token};
 use a68_tree::NodeKind;
 use a68_unit_productions::Goal;
 
-/// `'(' .. | BEGIN .. | PAR .. | IF serial THEN serial [else] FI | CASE serial IN .. | [FOR tag] loop`, by the first symbol.
+/// `'(' .. | BEGIN .. | PAR .. | IF enquiry THEN serial [else] FI | CASE enquiry IN .. | [FOR tag] loop`, by the first symbol.
 pub fn enclosed(text: &[Sym]) -> &'static [Goal]
     ensures { result.now ≡ spec.enclosed text.now }
 {
@@ -20,7 +20,7 @@ pub fn enclosed(text: &[Sym]) -> &'static [Goal]
     } else if starts(text, Sym::Opens(Bracket::If)) {
         &[
             Goal::Opens(Bracket::If),
-            Goal::SerialNode,
+            Goal::EnquiryNode,
             Goal::Take(Token::Then),
             Goal::SerialNode,
             Goal::ElsePart,
@@ -30,7 +30,7 @@ pub fn enclosed(text: &[Sym]) -> &'static [Goal]
     } else if starts(text, Sym::Opens(Bracket::Case)) {
         &[
             Goal::Opens(Bracket::Case),
-            Goal::SerialNode,
+            Goal::EnquiryNode,
             Goal::Take(Token::In),
             Goal::CaseChoice,
         ]
@@ -48,27 +48,27 @@ pub fn enclosed(text: &[Sym]) -> &'static [Goal]
     }
 }
 
-/// `')' | unit ',' units ')' | serial ')' | serial '|' ..`, behind `(`.
+/// `')' | unit ',' units ')' | serial ')' | enquiry '|' ..`, behind `(`.
 pub fn brief(text: &[Sym]) -> &'static [Goal]
     ensures { result.now ≡ spec.brief text.now }
 {
     if starts(text, Sym::Closes(Bracket::Round)) {
         &[Goal::Closes(Bracket::Round), Goal::Wrap(NodeKind::Vacuum)]
+    } else if label_ahead(text) {
+        &[Goal::Begin, Goal::Labelled, Goal::BriefLabelled]
     } else if phrase_ahead(text) {
         &[
             Goal::Begin,
             Goal::Declaration,
             Goal::Take(Token::Semicolon),
-            Goal::Serial,
-            Goal::Close(NodeKind::Serial),
-            Goal::BriefEnd,
+            Goal::BriefSteps,
         ]
     } else {
         &[Goal::Begin, Goal::Unit, Goal::BriefUnit]
     }
 }
 
-/// `',' units ')' | [';' serial] ..`, behind `(` and a unit: one more unit, or the rest of a serial clause.
+/// `',' units ')' | ..`, behind `(` and a unit: one more unit, or the rest of a serial clause.
 pub fn brief_unit(text: &[Sym]) -> &'static [Goal]
     ensures { result.now ≡ spec.brief_unit text.now }
 {
@@ -81,15 +81,59 @@ pub fn brief_unit(text: &[Sym]) -> &'static [Goal]
             Goal::Wrap(NodeKind::Collateral),
         ]
     } else {
-        &[
-            Goal::SerialTail,
-            Goal::Close(NodeKind::Serial),
-            Goal::BriefEnd,
-        ]
+        &[Goal::BriefTail]
     }
 }
 
-/// `'|' .. | ')'`, behind `(` and a serial clause.
+/// `';' steps .. | EXIT labelled ')' | ..`, behind `(` and a unit of a serial clause in which no label stands yet: a bar may
+/// follow such a clause alone, which is then an enquiry.
+pub fn brief_tail(text: &[Sym]) -> &'static [Goal]
+    ensures { result.now ≡ spec.brief_tail text.now }
+{
+    if starts(text, Sym::Is(Token::Semicolon)) {
+        &[Goal::Take(Token::Semicolon), Goal::BriefSteps]
+    } else if starts(text, Sym::Is(Token::Exit)) {
+        &[
+            Goal::Begin,
+            Goal::Take(Token::Exit),
+            Goal::Close(NodeKind::Exit),
+            Goal::Labelled,
+            Goal::BriefLabelled,
+        ]
+    } else {
+        &[Goal::Close(NodeKind::Serial), Goal::BriefEnd]
+    }
+}
+
+/// `labelled ')' | phrase ..`, behind `(` and one phrase or several.
+pub fn brief_steps(text: &[Sym]) -> &'static [Goal]
+    ensures { result.now ≡ spec.brief_steps text.now }
+{
+    if label_ahead(text) {
+        &[Goal::Labelled, Goal::BriefLabelled]
+    } else if phrase_ahead(text) {
+        &[
+            Goal::Declaration,
+            Goal::Take(Token::Semicolon),
+            Goal::BriefSteps,
+        ]
+    } else {
+        &[Goal::Unit, Goal::BriefTail]
+    }
+}
+
+/// `')'`, behind `(` and a serial clause with labels.
+pub fn brief_labelled() -> &'static [Goal]
+    ensures { result.now ≡ spec.brief_labelled }
+{
+    &[
+        Goal::Close(NodeKind::Serial),
+        Goal::Closes(Bracket::Round),
+        Goal::Wrap(NodeKind::Closed),
+    ]
+}
+
+/// `'|' .. | ')'`, behind `(` and a serial clause without labels.
 pub fn brief_end(text: &[Sym]) -> &'static [Goal]
     ensures { result.now ≡ spec.brief_end text.now }
 {
@@ -111,6 +155,15 @@ pub fn brief_choice(text: &[Sym]) -> &'static [Goal]
             Goal::Closes(Bracket::Round),
             Goal::Wrap(NodeKind::Conformity),
         ]
+    } else if label_ahead(text) {
+        &[
+            Goal::Begin,
+            Goal::Labelled,
+            Goal::Close(NodeKind::Serial),
+            Goal::ElseBrief,
+            Goal::Closes(Bracket::Round),
+            Goal::Wrap(NodeKind::Conditional),
+        ]
     } else if phrase_ahead(text) {
         &[
             Goal::Begin,
@@ -127,7 +180,7 @@ pub fn brief_choice(text: &[Sym]) -> &'static [Goal]
     }
 }
 
-/// `',' units [out] ')' | [';' serial] [else] ')'`, behind the first bar and a unit.
+/// `',' units [out] ')' | [';' serial | EXIT labelled] [else] ')'`, behind the first bar and a unit.
 pub fn brief_chosen(text: &[Sym]) -> &'static [Goal]
     ensures { result.now ≡ spec.brief_chosen text.now }
 {
@@ -157,6 +210,14 @@ pub fn block(text: &[Sym]) -> &'static [Goal]
 {
     if starts(text, Sym::Closes(Bracket::Begin)) {
         &[Goal::Closes(Bracket::Begin), Goal::Wrap(NodeKind::Vacuum)]
+    } else if label_ahead(text) {
+        &[
+            Goal::Begin,
+            Goal::Labelled,
+            Goal::Close(NodeKind::Serial),
+            Goal::Closes(Bracket::Begin),
+            Goal::Wrap(NodeKind::Closed),
+        ]
     } else if phrase_ahead(text) {
         &[
             Goal::Begin,
@@ -172,7 +233,7 @@ pub fn block(text: &[Sym]) -> &'static [Goal]
     }
 }
 
-/// `',' units END | [';' serial] END`, behind BEGIN and a unit.
+/// `',' units END | [';' serial | EXIT labelled] END`, behind BEGIN and a unit.
 pub fn block_unit(text: &[Sym]) -> &'static [Goal]
     ensures { result.now ≡ spec.block_unit text.now }
 {

@@ -15,6 +15,7 @@ defines kind.Variable = Some sorts.Tag
 defines kind.IdentityDefinition = Some sorts.Tag
 defines kind.Parameter = Some sorts.Tag
 defines kind.For = Some sorts.Tag
+defines kind.Label = Some sorts.Tag
 defines kind.ModeDefinition = Some sorts.ModeWord
 defines kind.Priority = Some sorts.Priority
 defines kind.OpDefinition = Some sorts.Operator

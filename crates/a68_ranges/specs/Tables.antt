@@ -8,6 +8,7 @@ use Rattle.a68_ranges.specs.Standard.{standard_of, AreWritten}
 use Rattle.a68_ranges.specs.declared.nests.Layer.{Layer}
 use Rattle.a68_ranges.specs.declared.nests.Parent.{Parent}
 use Rattle.a68_ranges.specs.Links.{LayersAreLinked, AreEntered, layered}
+use Rattle.a68_ranges.specs.Twice.{IsTwice}
 use Rattle.a68_ranges.specs.declared.sort.IndicatorKind.{IndicatorKind}
 use Rattle.a68_ranges.specs.declared.sort.IndicatorKind.TheVariants as sorts
 use Rattle.a68_ranges.specs.declared.standard.Standard.{Standard}
@@ -116,7 +117,7 @@ pub record RangeTables : Type 0 where
   pub standard : List Standard
   pub written : List ℕ
 
--- the tables are those of the tree
+-- the tables are those of the tree, which declares nothing twice in a range
 pub record AreRanges (tree : Built) (tables : RangeTables) : Type 0 where
   pub count : tables.count ≡ length tree.nodes
   pub few : length tree.nodes + 11 < 2 ^ 32
@@ -128,3 +129,4 @@ pub record AreRanges (tree : Built) (tables : RangeTables) : Type 0 where
   pub priorities : AreFirst tree sorts.Priority tables.priorities
   pub standard : tables.standard ≡ map standard_of tree.spellings
   pub written : AreWritten tree (length tree.nodes) tables.written
+  pub once : (id : ℕ) → IsTwice tree id → ⊥

@@ -65,6 +65,7 @@ fn tables_of(
     requires tags { AreFirst tree.now sorts.Tag indices.tags.entries }
     requires mode_words { AreFirst tree.now sorts.ModeWord indices.mode_words.entries }
     requires priorities { AreFirst tree.now sorts.Priority indices.priorities.entries }
+    requires once { (id : ℕ) → IsTwice tree.now id → ⊥ }
     ensures { IfOk result (λ ranges. AreRanges tree.now ranges) }
 {
     let nests = nests_of(alloc, tree, &declared)?;

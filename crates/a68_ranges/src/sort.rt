@@ -21,8 +21,11 @@ pub fn defines(kind: NodeKind) -> Option<IndicatorKind>
     ensures { result ≡ definitions.defines kind }
 {
     match kind {
-        NodeKind::Variable | NodeKind::IdentityDefinition | NodeKind::Parameter | NodeKind::For =>
-            Some(IndicatorKind::Tag),
+        NodeKind::Variable
+        | NodeKind::IdentityDefinition
+        | NodeKind::Parameter
+        | NodeKind::For
+        | NodeKind::Label => Some(IndicatorKind::Tag),
         NodeKind::ModeDefinition => Some(IndicatorKind::ModeWord),
         NodeKind::Priority => Some(IndicatorKind::Priority),
         NodeKind::OpDefinition => Some(IndicatorKind::Operator),

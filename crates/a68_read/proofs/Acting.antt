@@ -101,6 +101,9 @@ module _ (rest : List Sym) (old new : DraftState) where
   pub long_does : Lengthens → IsDone g.WrapLong rest rest old new
   long_does built whole goals r = long_at built whole goals r.stack r.built r.fits r.awaits
 
+  abbrev pub Leaps : Type 0
+  Leaps = (whole : List Sym) (ls : List Layer) (f : Forest) → IsDraftOf whole (node f ∷ ls) rest old → IsDraftOf whole (node (part k.GoTo f end) ∷ ls) rest new
+
   abbrev pub Asides : NodeKind → Type 0
   Asides j = (whole : List Sym) (l : Layer) (ls : List Layer) (f : Forest) → names_first j ≡ true → IsDraftOf whole (node f ∷ l ∷ ls) rest old → IsDraftOf whole (put l (aside j f end) ∷ ls) rest new
 
@@ -130,7 +133,7 @@ module _ (rest : List Sym) (old new : DraftState) where
   pub forget_does : ((whole rest : List Sym) (l : Layer) (ls : List Layer) → IsDraftOf whole (l ∷ ls) rest old → IsDraftOf whole (put l (forget end) ∷ ls) rest new) → IsDone g.Forget rest rest old new
   forget_does built whole goals r = put_at (forget end) built whole goals r.stack r.built r.fits r.awaits
 
--- a node is closed by two calls
+-- a node, or a jump, is closed by two calls
 module _ (rest : List Sym) (old middle new : DraftState) where
   close_at : (j : NodeKind) → Wraps rest old middle j → Leaves rest middle new → (whole : List Sym) (goals : List Goal) (S : List Layer) → IsDraftOf whole S rest old
       → f.fits_close j (all_fit goals IsWhole) S → Goes (λ i u. a.awaits_close j (all_await goals (IsEnd i u))) whole S rest → Reading whole goals rest new
@@ -145,3 +148,17 @@ module _ (rest : List Sym) (old middle new : DraftState) where
 
   pub close_does : (j : NodeKind) → Wraps rest old middle j → Leaves rest middle new → IsDone (g.Close j) rest rest old new
   close_does j wraps leaves whole goals r = close_at j wraps leaves whole goals r.stack r.built r.fits r.awaits
+
+  leap_at : Leaps rest old middle → Leaves rest middle new → (whole : List Sym) (goals : List Goal) (S : List Layer) → IsDraftOf whole S rest old
+      → f.fits_leap (all_fit goals IsWhole) S → Goes (λ i u. a.awaits_close k.GoTo (all_await goals (IsEnd i u))) whole S rest → Reading whole goals rest new
+  leap_at leaps leaves whole goals [] b h w = absurd h
+  leap_at leaps leaves whole goals (x ∷ []) b h w = absurd h
+  leap_at leaps leaves whole goals (x ∷ l ∷ S) b (i, h) w = record {
+    stack = put l (part k.GoTo x.forest end) ∷ S;
+    built = leaves whole rest l S (part k.GoTo x.forest end) (leaps whole (l ∷ S) x.forest (subst (λ (y : Layer). IsDraftOf whole (y ∷ l ∷ S) rest old) (as_node x i) b));
+    fits = h;
+    awaits = w;
+  }
+
+  pub leap_does : Leaps rest old middle → Leaves rest middle new → IsDone g.Leap rest rest old new
+  leap_does leaps leaves whole goals r = leap_at leaps leaves whole goals r.stack r.built r.fits r.awaits

@@ -17,7 +17,6 @@ use Rattle.a68_read.specs.Awaits.{Awaited, awaits, all_await}
 use Rattle.a68_productions.specs.Choices as choices
 use Rattle.a68_read.proofs.Joins as joins
 use Rattle.a68_tree.proofs.Joining.{spells_joined}
-use Rattle.a68_read.proofs.Forms as forms
 use Rattle.a68_read.proofs.Behind as behind
 
 -- what is put in pieces, where a text is left
@@ -36,32 +35,32 @@ stay K r l S h = joins.stay (λ (T : List Layer). K T r) l S h
 pub else_part_awaits : (K : Awaited) (S : List Layer) (x : List Sym) → awaits g.ElsePart K S x → all_await (choices.else_part x) K S x
 else_part_awaits K S x (a.reads {l = l} {S = T} {r = r} gr.no_else o h) = rw (no_next set.closes (Is t.Elif) refl o, no_next set.closes (Is t.Else) refl o) (stay K r l T h)
 else_part_awaits K S x (a.reads {l = l} {S = T} {r = r} (gr.else_ p) o h) = a.takes (a.reads_part p (closes_clause o) (back K r l T _ _ h))
-else_part_awaits K S x (a.reads {l = l} {S = T} {r = r} (gr.elif p q e) o h) = a.takes (a.reads_part (forms.as_serial p) (next refl) (a.takes (a.reads_part q (behind.else_follows e o) (a.reads e o h))))
+else_part_awaits K S x (a.reads {l = l} {S = T} {r = r} (gr.elif p q e) o h) = a.takes (a.reads_part p (next refl) (a.takes (a.reads_part q (behind.else_follows e o) (a.reads e o h))))
 
 pub else_brief_awaits : (K : Awaited) (S : List Layer) (x : List Sym) → awaits g.ElseBrief K S x → all_await (choices.else_brief x) K S x
 else_brief_awaits K S x (a.reads {l = l} {S = T} {r = r} gr.no_else_b o h) = rw (no_next set.closes (Is t.BarColon) refl o, no_next set.closes (Is t.Bar) refl o) (stay K r l T h)
 else_brief_awaits K S x (a.reads {l = l} {S = T} {r = r} (gr.else_b p) o h) = a.takes (a.reads_part p (closes_clause o) (back K r l T _ _ h))
-else_brief_awaits K S x (a.reads {l = l} {S = T} {r = r} (gr.elif_b p q e) o h) = a.takes (a.reads_part (forms.as_serial p) (next refl) (a.takes (a.reads_part q (behind.else_brief_follows e o) (a.reads e o h))))
+else_brief_awaits K S x (a.reads {l = l} {S = T} {r = r} (gr.elif_b p q e) o h) = a.takes (a.reads_part p (next refl) (a.takes (a.reads_part q (behind.else_brief_follows e o) (a.reads e o h))))
 
 pub out_case_awaits : (K : Awaited) (S : List Layer) (x : List Sym) → awaits g.OutCase K S x → all_await (choices.out_case x) K S x
 out_case_awaits K S x (a.reads {l = l} {S = T} {r = r} gr.no_out o h) = rw (no_next set.closes (Is t.Ouse) refl o, no_next set.closes (Is t.Out) refl o) (stay K r l T h)
 out_case_awaits K S x (a.reads {l = l} {S = T} {r = r} (gr.out_serial p) o h) = a.takes (a.reads_part p (closes_clause o) (back K r l T _ _ h))
-out_case_awaits K S x (a.reads {l = l} {S = T} {r = r} (gr.out_again {e = y} p (gr.two {f = z} q s) e) o h) = rw (spells_joined z y r) (a.takes (a.reads_part (forms.as_serial p) (next refl) (a.takes (a.reads_node q (next refl) (a.takes (a.reads s (behind.out_follows e o) (a.reads e o h)))))))
+out_case_awaits K S x (a.reads {l = l} {S = T} {r = r} (gr.out_again {e = y} p (gr.two {f = z} q s) e) o h) = rw (spells_joined z y r) (a.takes (a.reads_part p (next refl) (a.takes (a.reads_node q (next refl) (a.takes (a.reads s (behind.out_follows e o) (a.reads e o h)))))))
 
 pub out_case_brief_awaits : (K : Awaited) (S : List Layer) (x : List Sym) → awaits g.OutCaseBrief K S x → all_await (choices.out_case_brief x) K S x
 out_case_brief_awaits K S x (a.reads {l = l} {S = T} {r = r} gr.no_outbrief o h) = rw (no_next set.closes (Is t.BarColon) refl o, no_next set.closes (Is t.Bar) refl o) (stay K r l T h)
 out_case_brief_awaits K S x (a.reads {l = l} {S = T} {r = r} (gr.outbrief_serial p) o h) = a.takes (a.reads_part p (closes_clause o) (back K r l T _ _ h))
-out_case_brief_awaits K S x (a.reads {l = l} {S = T} {r = r} (gr.outbrief_again {e = y} p (gr.two {f = z} q s) e) o h) = rw (spells_joined z y r) (a.takes (a.reads_part (forms.as_serial p) (next refl) (a.takes (a.reads_node q (next refl) (a.takes (a.reads s (behind.out_brief_follows e o) (a.reads e o h)))))))
+out_case_brief_awaits K S x (a.reads {l = l} {S = T} {r = r} (gr.outbrief_again {e = y} p (gr.two {f = z} q s) e) o h) = rw (spells_joined z y r) (a.takes (a.reads_part p (next refl) (a.takes (a.reads_node q (next refl) (a.takes (a.reads s (behind.out_brief_follows e o) (a.reads e o h)))))))
 
 pub out_conformity_awaits : (K : Awaited) (S : List Layer) (x : List Sym) → awaits g.OutConformity K S x → all_await (choices.out_conformity x) K S x
 out_conformity_awaits K S x (a.reads {l = l} {S = T} {r = r} gr.no_outc o h) = rw (no_next set.closes (Is t.Ouse) refl o, no_next set.closes (Is t.Out) refl o) (stay K r l T h)
 out_conformity_awaits K S x (a.reads {l = l} {S = T} {r = r} (gr.outc_serial p) o h) = a.takes (a.reads_part p (closes_clause o) (back K r l T _ _ h))
-out_conformity_awaits K S x (a.reads {l = l} {S = T} {r = r} (gr.outc_again {f = z} {e = y} p q e) o h) = rw (spells_joined z y r) (a.takes (a.reads_part (forms.as_serial p) (next refl) (a.takes (a.reads q (behind.outc_follows e o) (a.reads e o h)))))
+out_conformity_awaits K S x (a.reads {l = l} {S = T} {r = r} (gr.outc_again {f = z} {e = y} p q e) o h) = rw (spells_joined z y r) (a.takes (a.reads_part p (next refl) (a.takes (a.reads q (behind.outc_follows e o) (a.reads e o h)))))
 
 pub out_conformity_brief_awaits : (K : Awaited) (S : List Layer) (x : List Sym) → awaits g.OutConformityBrief K S x → all_await (choices.out_conformity_brief x) K S x
 out_conformity_brief_awaits K S x (a.reads {l = l} {S = T} {r = r} gr.no_outcbrief o h) = rw (no_next set.closes (Is t.BarColon) refl o, no_next set.closes (Is t.Bar) refl o) (stay K r l T h)
 out_conformity_brief_awaits K S x (a.reads {l = l} {S = T} {r = r} (gr.outcbrief_serial p) o h) = a.takes (a.reads_part p (closes_clause o) (back K r l T _ _ h))
-out_conformity_brief_awaits K S x (a.reads {l = l} {S = T} {r = r} (gr.outcbrief_again {f = z} {e = y} p q e) o h) = rw (spells_joined z y r) (a.takes (a.reads_part (forms.as_serial p) (next refl) (a.takes (a.reads q (behind.outc_brief_follows e o) (a.reads e o h)))))
+out_conformity_brief_awaits K S x (a.reads {l = l} {S = T} {r = r} (gr.outcbrief_again {f = z} {e = y} p q e) o h) = rw (spells_joined z y r) (a.takes (a.reads_part p (next refl) (a.takes (a.reads q (behind.outc_brief_follows e o) (a.reads e o h)))))
 
 while_follows : {f : Forest} → gr.IsWhile f → (r : List Sym) → Follows set.ends_unit (spells f r)
 while_follows (gr.while_ p q) r = next refl
@@ -88,7 +87,7 @@ loop_to_awaits K S x (a.reads_free {l = l} {S = T} {r = r} (gr.to_ p q) h) = a.t
 loop_to_awaits K S x (a.reads_free {l = l} {S = T} {r = r} (gr.no_to p) h) = rw (no_first set.begins_while (Is t.To) refl (first.first_while p r)) (a.reads_free p h)
 
 pub loop_while_awaits : (K : Awaited) (S : List Layer) (x : List Sym) → awaits g.LoopWhile K S x → all_await (choices.loop_while x) K S x
-loop_while_awaits K S x (a.reads_free {l = l} {S = T} {r = r} (gr.while_ p q) h) = a.takes (a.reads_part (forms.as_serial p) (next refl) (a.opened (a.reads_part q (next refl) (a.closed (back3 K r l T _ _ _ h)))))
+loop_while_awaits K S x (a.reads_free {l = l} {S = T} {r = r} (gr.while_ p q) h) = a.takes (a.reads_part p (next refl) (a.opened (a.reads_part q (next refl) (a.closed (back3 K r l T _ _ _ h)))))
 loop_while_awaits K S x (a.reads_free {l = l} {S = T} {r = r} (gr.no_while q) h) = a.opened (a.reads_part q (next refl) (a.closed h))
 
 pub choices_awaits : (K : Awaited) (S : List Layer) (x : List Sym) → awaits g.Choices K S x → all_await choices.choices K S x

@@ -28,13 +28,42 @@ pub serial_node_awaits : (K : Awaited) (S : List Layer) (x : List Sym) → await
 serial_node_awaits K S x (a.reads_part {l = l} {S = T} {r = r} p o h) = a.reads p o h
 
 pub serial_awaits : (K : Awaited) (S : List Layer) (x : List Sym) → awaits g.Serial K S x → all_await (units.serial x) K S x
-serial_awaits K S x (a.reads {l = l} {S = T} {r = r} (gr.serial_one p) o h) = rw (told.unit_undeclared p r (told.untagged (clause_unit o))) (a.reads_node p (clause_unit o) (a.reads m.serial_end o (back K r l T _ _ h)))
-serial_awaits K S x (a.reads {l = l} {S = T} {r = r} (gr.serial_unit {f = z} p q) o h) = rw (told.unit_undeclared p (Is t.Semicolon ∷ spells z r) refl) (a.reads_node p (next refl) (a.reads (m.serial_on q) o (back K r l T _ _ h)))
-serial_awaits K S x (a.reads {l = l} {S = T} {r = r} (gr.serial_declaration {d = v} {f = z} p q) o h) = rw (spells_joined v (mark t.Semicolon z) r, behind.declaration_ahead p (Is t.Semicolon ∷ spells z r)) (a.reads p (next refl) (a.takes (a.reads q o (back3 K r l T _ _ _ h))))
+serial_awaits K S x (a.reads {l = l} {S = T} {r = r} (gr.serial_one p) o h) = rw (test.unit_unlabelled p r (no_next set.ends_clause (Is t.Colon) refl o), told.unit_undeclared p r (told.untagged (clause_unit o))) (a.reads_node p (clause_unit o) (a.reads m.serial_end o (back K r l T _ _ h)))
+serial_awaits K S x (a.reads {l = l} {S = T} {r = r} (gr.serial_unit {f = z} p q) o h) = rw (test.unit_unlabelled p (Is t.Semicolon ∷ spells z r) refl, told.unit_undeclared p (Is t.Semicolon ∷ spells z r) refl) (a.reads_node p (next refl) (a.reads (m.serial_on q) o (back K r l T _ _ h)))
+serial_awaits K S x (a.reads {l = l} {S = T} {r = r} (gr.serial_declaration {d = v} {f = z} p q) o h) = rw (spells_joined v (mark t.Semicolon z) r, behind.declaration_unlabelled p (Is t.Semicolon ∷ spells z r), behind.declaration_ahead p (Is t.Semicolon ∷ spells z r)) (a.reads p (next refl) (a.takes (a.reads q o (back3 K r l T _ _ _ h))))
+serial_awaits K S x (a.reads {l = l} {S = T} {r = r} (gr.serial_exit {f = z} p q) o h) = rw (test.unit_unlabelled p (Is t.Exit ∷ spells z r) refl, told.unit_undeclared p (Is t.Exit ∷ spells z r) refl) (a.reads_node p (next refl) (a.reads (m.serial_out q) o (back K r l T _ _ h)))
+serial_awaits K S x (a.reads {l = l} {S = T} {r = r} (gr.serial_labelled (gr.label q)) o h) = a.reads (gr.label q) o h
 
 pub serial_tail_awaits : (K : Awaited) (S : List Layer) (x : List Sym) → awaits g.SerialTail K S x → all_await (units.serial_tail x) K S x
-serial_tail_awaits K S x (a.reads {l = l} {S = T} {r = r} m.serial_end o h) = rw (no_next set.ends_clause (Is t.Semicolon) refl o) (stay K r l T h)
+serial_tail_awaits K S x (a.reads {l = l} {S = T} {r = r} m.serial_end o h) = rw (no_next set.ends_clause (Is t.Semicolon) refl o, no_next set.ends_clause (Is t.Exit) refl o) (stay K r l T h)
 serial_tail_awaits K S x (a.reads {l = l} {S = T} {r = r} (m.serial_on p) o h) = a.takes (a.reads p o (back K r l T _ _ h))
+serial_tail_awaits K S x (a.reads {l = l} {S = T} {r = r} (m.serial_out p) o h) = a.takes (a.reads p o (back K r l T _ _ h))
+
+pub labelled_awaits : (K : Awaited) (S : List Layer) (x : List Sym) → awaits g.Labelled K S x → all_await units.labelled K S x
+labelled_awaits K S x (a.reads {l = l} {S = T} {r = r} (gr.label p) o h) = a.takes (a.takes (a.reads p o (back K r l T _ _ h)))
+
+pub steps_awaits : (K : Awaited) (S : List Layer) (x : List Sym) → awaits g.Steps K S x → all_await (units.steps x) K S x
+steps_awaits K S x (a.reads {l = l} {S = T} {r = r} (gr.steps_labelled (gr.label q)) o h) = a.reads (gr.label q) o h
+steps_awaits K S x (a.reads {l = l} {S = T} {r = r} (gr.steps_last p) o h) = rw (test.unit_unlabelled p r (no_next set.ends_clause (Is t.Colon) refl o)) (a.reads_node p (clause_unit o) (a.reads m.steps_end o (back K r l T _ _ h)))
+steps_awaits K S x (a.reads {l = l} {S = T} {r = r} (gr.steps_unit {f = z} p q) o h) = rw (test.unit_unlabelled p (Is t.Semicolon ∷ spells z r) refl) (a.reads_node p (next refl) (a.reads (m.steps_on q) o (back K r l T _ _ h)))
+steps_awaits K S x (a.reads {l = l} {S = T} {r = r} (gr.steps_exit {f = z} p q) o h) = rw (test.unit_unlabelled p (Is t.Exit ∷ spells z r) refl) (a.reads_node p (next refl) (a.reads (m.steps_out q) o (back K r l T _ _ h)))
+
+pub steps_tail_awaits : (K : Awaited) (S : List Layer) (x : List Sym) → awaits g.StepsTail K S x → all_await (units.steps_tail x) K S x
+steps_tail_awaits K S x (a.reads {l = l} {S = T} {r = r} m.steps_end o h) = rw (no_next set.ends_clause (Is t.Semicolon) refl o, no_next set.ends_clause (Is t.Exit) refl o) (stay K r l T h)
+steps_tail_awaits K S x (a.reads {l = l} {S = T} {r = r} (m.steps_on p) o h) = a.takes (a.reads p o (back K r l T _ _ h))
+steps_tail_awaits K S x (a.reads {l = l} {S = T} {r = r} (m.steps_out p) o h) = a.takes (a.reads p o (back K r l T _ _ h))
+
+pub enquiry_node_awaits : (K : Awaited) (S : List Layer) (x : List Sym) → awaits g.EnquiryNode K S x → all_await units.enquiry_node K S x
+enquiry_node_awaits K S x (a.reads_part {l = l} {S = T} {r = r} p o h) = a.reads p o h
+
+pub enquiry_awaits : (K : Awaited) (S : List Layer) (x : List Sym) → awaits g.Enquiry K S x → all_await (units.enquiry x) K S x
+enquiry_awaits K S x (a.reads {l = l} {S = T} {r = r} (gr.enquiry_one p) o h) = rw (told.unit_undeclared p r (told.untagged (clause_unit o))) (a.reads_node p (clause_unit o) (a.reads m.enquiry_end o (back K r l T _ _ h)))
+enquiry_awaits K S x (a.reads {l = l} {S = T} {r = r} (gr.enquiry_unit {f = z} p q) o h) = rw (told.unit_undeclared p (Is t.Semicolon ∷ spells z r) refl) (a.reads_node p (next refl) (a.reads (m.enquiry_on q) o (back K r l T _ _ h)))
+enquiry_awaits K S x (a.reads {l = l} {S = T} {r = r} (gr.enquiry_declaration {d = v} {f = z} p q) o h) = rw (spells_joined v (mark t.Semicolon z) r, behind.declaration_ahead p (Is t.Semicolon ∷ spells z r)) (a.reads p (next refl) (a.takes (a.reads q o (back3 K r l T _ _ _ h))))
+
+pub enquiry_tail_awaits : (K : Awaited) (S : List Layer) (x : List Sym) → awaits g.EnquiryTail K S x → all_await (units.enquiry_tail x) K S x
+enquiry_tail_awaits K S x (a.reads {l = l} {S = T} {r = r} m.enquiry_end o h) = rw (no_next set.ends_clause (Is t.Semicolon) refl o) (stay K r l T h)
+enquiry_tail_awaits K S x (a.reads {l = l} {S = T} {r = r} (m.enquiry_on p) o h) = a.takes (a.reads p o (back K r l T _ _ h))
 
 pub units_awaits : (K : Awaited) (S : List Layer) (x : List Sym) → awaits g.Units K S x → all_await units.units K S x
 units_awaits K S x (a.reads {l = l} {S = T} {r = r} (gr.unit_one p) o h) = a.reads_node p (clause_unit o) (a.reads m.comma_end o (back K r l T _ _ h))
@@ -45,12 +74,14 @@ units_tail_awaits K S x (a.reads {l = l} {S = T} {r = r} m.comma_end o h) = rw (
 units_tail_awaits K S x (a.reads {l = l} {S = T} {r = r} (m.comma_on p) o h) = a.takes (a.reads p o (back K r l T _ _ h))
 
 pub unit_awaits : (K : Awaited) (S : List Layer) (x : List Sym) → awaits g.Unit K S x → all_await (units.unit x) K S x
-unit_awaits K S x (a.reads_node {l = l} {S = T} {r = r} (gr.assignation {u = z} p q) o h) = rw (no_first set.begins_tertiary (Is t.Skip) refl (first.first_tertiary p (Is t.Becomes ∷ spells z r)), told.tertiary_unseen p (Is t.Becomes ∷ spells z r)) (a.turns p (next refl) (a.unit_rests (m.rest_becomes q) o h))
-unit_awaits K S x (a.reads_node {l = l} {S = T} {r = r} (gr.identity_is {u = z} p q) o h) = rw (no_first set.begins_tertiary (Is t.Skip) refl (first.first_tertiary p (Is t.Is ∷ spells z r)), told.tertiary_unseen p (Is t.Is ∷ spells z r)) (a.turns p (next refl) (a.unit_rests (m.rest_is q) o h))
-unit_awaits K S x (a.reads_node {l = l} {S = T} {r = r} (gr.identity_isnt {u = z} p q) o h) = rw (no_first set.begins_tertiary (Is t.Skip) refl (first.first_tertiary p (Is t.Isnt ∷ spells z r)), told.tertiary_unseen p (Is t.Isnt ∷ spells z r)) (a.turns p (next refl) (a.unit_rests (m.rest_isnt q) o h))
-unit_awaits K S x (a.reads_node {l = l} {S = T} {r = r} (gr.routine p) o h) = rw (test.routine_no_skip p r, told.routine_seen p r) (a.reads p o h)
+unit_awaits K S x (a.reads_node {l = l} {S = T} {r = r} (gr.assignation {u = z} p q) o h) = rw (no_first set.begins_tertiary (Is t.Skip) refl (first.first_tertiary p (Is t.Becomes ∷ spells z r)), no_first set.begins_tertiary (Is t.Go) refl (first.first_tertiary p (Is t.Becomes ∷ spells z r)), no_first set.begins_tertiary (Is t.Goto) refl (first.first_tertiary p (Is t.Becomes ∷ spells z r)), told.tertiary_unseen p (Is t.Becomes ∷ spells z r)) (a.turns p (next refl) (a.unit_rests (m.rest_becomes q) o h))
+unit_awaits K S x (a.reads_node {l = l} {S = T} {r = r} (gr.identity_is {u = z} p q) o h) = rw (no_first set.begins_tertiary (Is t.Skip) refl (first.first_tertiary p (Is t.Is ∷ spells z r)), no_first set.begins_tertiary (Is t.Go) refl (first.first_tertiary p (Is t.Is ∷ spells z r)), no_first set.begins_tertiary (Is t.Goto) refl (first.first_tertiary p (Is t.Is ∷ spells z r)), told.tertiary_unseen p (Is t.Is ∷ spells z r)) (a.turns p (next refl) (a.unit_rests (m.rest_is q) o h))
+unit_awaits K S x (a.reads_node {l = l} {S = T} {r = r} (gr.identity_isnt {u = z} p q) o h) = rw (no_first set.begins_tertiary (Is t.Skip) refl (first.first_tertiary p (Is t.Isnt ∷ spells z r)), no_first set.begins_tertiary (Is t.Go) refl (first.first_tertiary p (Is t.Isnt ∷ spells z r)), no_first set.begins_tertiary (Is t.Goto) refl (first.first_tertiary p (Is t.Isnt ∷ spells z r)), told.tertiary_unseen p (Is t.Isnt ∷ spells z r)) (a.turns p (next refl) (a.unit_rests (m.rest_isnt q) o h))
+unit_awaits K S x (a.reads_node {l = l} {S = T} {r = r} (gr.routine p) o h) = rw (test.routine_no_skip p r, test.routine_no_go p r, test.routine_no_goto p r, told.routine_seen p r) (a.reads p o h)
 unit_awaits K S x (a.reads_node {l = l} {S = T} {r = r} gr.skip o h) = a.takes h
-unit_awaits K S x (a.reads_node {l = l} {S = T} {r = r} (gr.tertiary p) o h) = rw (no_first set.begins_tertiary (Is t.Skip) refl (first.first_tertiary p (r)), told.tertiary_unseen p r) (a.turns p (unit_tertiary o) (a.unit_stays o h))
+unit_awaits K S x (a.reads_node {l = l} {S = T} {r = r} gr.go_to o h) = a.takes (a.takes (a.takes h))
+unit_awaits K S x (a.reads_node {l = l} {S = T} {r = r} gr.goto_ o h) = a.takes (a.takes h)
+unit_awaits K S x (a.reads_node {l = l} {S = T} {r = r} (gr.tertiary p) o h) = rw (no_first set.begins_tertiary (Is t.Skip) refl (first.first_tertiary p r), no_first set.begins_tertiary (Is t.Go) refl (first.first_tertiary p r), no_first set.begins_tertiary (Is t.Goto) refl (first.first_tertiary p r), told.tertiary_unseen p r) (a.turns p (unit_tertiary o) (a.unit_stays o h))
 
 pub unit_tail_awaits : (K0 : Shape) (K : Awaited) (S : List Layer) (x : List Sym) → fits g.UnitTail K0 S → awaits g.UnitTail K S x → all_await (units.unit_tail x) K S x
 unit_tail_awaits K0 K S x (f.tails p ends) (a.unit_stays o h) = rw (no_next set.ends_unit (Is t.Becomes) refl o, no_next set.ends_unit (Is t.Is) refl o, no_next set.ends_unit (Is t.Isnt) refl o) h

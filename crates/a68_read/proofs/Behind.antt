@@ -9,12 +9,12 @@ use Rattle.a68_symbols.specs.declared.sym.Sym.TheVariants.{Closes, Is}
 use Rattle.a68_tree.specs.Forest.{Forest, end, mark, part, shared, joined, spells}
 use Rattle.a68_tree.specs.Grammar as gr
 use Rattle.a68_tree.specs.Grammar.{IsElse, IsElseBrief, IsOut, IsOutBrief, IsOutC, IsOutCBrief, IsUnit, IsDeclarer, IsDefinitions, IsDeclared, IsDeclaration, IsModes, IsPriorities, IsOps, IsPlanned, IsIdentities, IsProcs, IsVariables, IsVariable}
-use Rattle.a68_lookahead.specs.Symbols.{starts, Follows, next}
+use Rattle.a68_lookahead.specs.Symbols.{starts, label_ahead, Follows, next}
 use Rattle.a68_lookahead.specs.Sets as set
 use Rattle.a68_lookahead.specs.Ahead.{behind, phrase_ahead, spec_ahead}
 use Rattle.a68_lookahead.specs.declared.look.Due.TheVariants as due
 use Rattle.a68_lookahead.specs.declared.look.Landmark.TheVariants as lm
-use Rattle.a68_lookahead.proofs.Firsts.{here, first_unit, first_declarer, no_first, closes_clause, closes_unit, clause_unit}
+use Rattle.a68_lookahead.proofs.Firsts.{here, first_unit, first_declarer, no_first, no_first_pair, closes_clause, closes_unit, clause_unit}
 use Rattle.a68_lookahead.proofs.Told.{behind_declarer, plain_ahead, declarer_unspecced}
 use Rattle.a68_unit_productions.specs.declared.goal.Defining.{Defining}
 use Rattle.a68_unit_productions.specs.declared.goal.Defining.TheVariants as d
@@ -61,6 +61,7 @@ after_serial_follows (m.serial_bar p) f = next refl
 pub serial_tail_unit : {x : Forest} {r : List Sym} → IsSerialTail x → Follows set.ends_clause r → Follows set.ends_unit (spells x r)
 serial_tail_unit m.serial_end f = clause_unit f
 serial_tail_unit (m.serial_on p) f = next refl
+serial_tail_unit (m.serial_out p) f = next refl
 
 pub comma_tail_unit : {P : Forest → Type 0} {x : Forest} {r : List Sym} → IsCommaTail P x → Follows set.ends_clause r → Follows set.ends_unit (spells x r)
 comma_tail_unit m.comma_end f = clause_unit f
@@ -180,6 +181,19 @@ not_closing c (a.declares_named {f = f} p q) r = no_first set.begins_declarer (C
 pub declaration_opens : (c : Bracket) {f : Forest} → IsDeclaration f → (r : List Sym) → starts (Closes c) (spells f r) ≡ false
 declaration_opens c (gr.single p q) r = not_closing c (declaring p) r
 declaration_opens c (gr.joined_ p q) r = not_closing c (declaring p) r
+
+declaring_unlabelled : {f : Forest} → IsDeclaring f → (r : List Sym) → label_ahead (spells f r) ≡ false
+declaring_unlabelled (a.declares_modes p) r = refl
+declaring_unlabelled (a.declares_priorities p) r = refl
+declaring_unlabelled (a.declares_operators p) r = refl
+declaring_unlabelled (a.declares_procedures p) r = refl
+declaring_unlabelled (a.declares_local p q) r = refl
+declaring_unlabelled (a.declares_heap p q) r = refl
+declaring_unlabelled (a.declares_named {f = f} p q) r = no_first_pair set.begins_declarer (Is t.Tag) (Is t.Colon) refl (first_declarer p (spells f r))
+
+pub declaration_unlabelled : {f : Forest} → IsDeclaration f → (r : List Sym) → label_ahead (spells f r) ≡ false
+declaration_unlabelled (gr.single p q) r = declaring_unlabelled (declaring p) r
+declaration_unlabelled (gr.joined_ p q) r = declaring_unlabelled (declaring p) r
 
 pub unit_opens : (c : Bracket) {j : NodeKind} {u : Forest} → IsUnit j u → (r : List Sym) → starts (Closes c) (spells u r) ≡ false
 unit_opens c p r = no_first set.begins_unit (Closes c) refl (first_unit p r)

@@ -9,19 +9,20 @@ use Rattle.a68_unit_productions.specs.declared.goal.Goal.TheVariants as g
 use Rattle.a68_read.specs.Weights.{is_taking}
 use Rattle.a68_read.specs.Acts.{is_acting}
 
-pub only_leave : (goal : Goal) → is_acting goal ≡ true → (goal ≡ g.Begin → ⊥) → ((j : NodeKind) → goal ≡ g.Wrap j → ⊥) → (goal ≡ g.Relate → ⊥) → (goal ≡ g.WrapLong → ⊥) → ((j : NodeKind) → goal ≡ g.Close j → ⊥)
+pub only_leave : (goal : Goal) → is_acting goal ≡ true → (goal ≡ g.Begin → ⊥) → ((j : NodeKind) → goal ≡ g.Wrap j → ⊥) → (goal ≡ g.Relate → ⊥) → (goal ≡ g.WrapLong → ⊥) → (goal ≡ g.Leap → ⊥) → ((j : NodeKind) → goal ≡ g.Close j → ⊥)
     → ((j : NodeKind) → goal ≡ g.SetAside j → ⊥) → (goal ≡ g.Share → ⊥) → (goal ≡ g.Forget → ⊥) → (goal ≡ g.Join → ⊥) → goal ≡ g.Leave
-only_leave g.Begin e a b c o d f h i j = absurd (a refl)
-only_leave g.Leave e a b c o d f h i j = refl
-only_leave (g.Wrap x) e a b c o d f h i j = absurd (b x refl)
-only_leave g.Relate e a b c o d f h i j = absurd (c refl)
-only_leave g.WrapLong e a b c o d f h i j = absurd (o refl)
-only_leave (g.Close x) e a b c o d f h i j = absurd (d x refl)
-only_leave (g.SetAside x) e a b c o d f h i j = absurd (f x refl)
-only_leave g.Share e a b c o d f h i j = absurd (h refl)
-only_leave g.Forget e a b c o d f h i j = absurd (i refl)
-only_leave g.Join e a b c o d f h i j = absurd (j refl)
-only_leave goal e a b c o d f h i j = absurd (false≢true e)
+only_leave g.Begin e a b c o p d f h i j = absurd (a refl)
+only_leave g.Leave e a b c o p d f h i j = refl
+only_leave (g.Wrap x) e a b c o p d f h i j = absurd (b x refl)
+only_leave g.Relate e a b c o p d f h i j = absurd (c refl)
+only_leave g.WrapLong e a b c o p d f h i j = absurd (o refl)
+only_leave g.Leap e a b c o p d f h i j = absurd (p refl)
+only_leave (g.Close x) e a b c o p d f h i j = absurd (d x refl)
+only_leave (g.SetAside x) e a b c o p d f h i j = absurd (f x refl)
+only_leave g.Share e a b c o p d f h i j = absurd (h refl)
+only_leave g.Forget e a b c o p d f h i j = absurd (i refl)
+only_leave g.Join e a b c o p d f h i j = absurd (j refl)
+only_leave goal e a b c o p d f h i j = absurd (false≢true e)
 
 pub only_plain : (goal : Goal) → is_taking goal ≡ true → ((x : Bracket) → goal ≡ g.Opens x → ⊥) → ((x : Bracket) → goal ≡ g.Closes x → ⊥) → (goal ≡ g.Monadic → ⊥) → (goal ≡ g.Dyadic → ⊥)
     → ((x : Token) → goal ≡ g.Take x → ⊥) → (goal ≡ g.Operator → ⊥) → (goal ≡ g.Denotation → ⊥) → goal ≡ g.Plain

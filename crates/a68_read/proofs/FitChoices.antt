@@ -15,48 +15,48 @@ use Rattle.a68_productions.specs.Choices as choices
 use Rattle.a68_symbols.specs.declared.sym.Sym.TheVariants.{Is}
 use Rattle.a68_lookahead.specs.Symbols.{starts}
 
-else_part_by : (K : Shape) (l : Layer) (S : List Layer) (c1 c2 : Bool) → fits g.ElsePart K (l ∷ S) → all_fit (if c1 then (g.Begin ∷ g.Take t.Elif ∷ g.SerialNode ∷ g.Take t.Then ∷ g.SerialNode ∷ g.ElsePart ∷ g.Close k.Conditional ∷ []) else (if c2 then (g.Take t.Else ∷ g.SerialNode ∷ []) else (([])))) K (l ∷ S)
-else_part_by K l S true c2 h = λ a p e q x r. (refl, refl, h _ (gr.elif (forms.as_enquiry p) q r))
+else_part_by : (K : Shape) (l : Layer) (S : List Layer) (c1 c2 : Bool) → fits g.ElsePart K (l ∷ S) → all_fit (if c1 then (g.Begin ∷ g.Take t.Elif ∷ g.EnquiryNode ∷ g.Take t.Then ∷ g.SerialNode ∷ g.ElsePart ∷ g.Close k.Conditional ∷ []) else (if c2 then (g.Take t.Else ∷ g.SerialNode ∷ []) else (([])))) K (l ∷ S)
+else_part_by K l S true c2 h = λ a p e q x r. (refl, refl, h _ (gr.elif p q r))
 else_part_by K l S false true h = λ a p. back K l S _ _ (h _ (gr.else_ p))
 else_part_by K l S false false h = stay K l S (h _ gr.no_else)
 
 pub else_part_fits : (K : Shape) (l : Layer) (S : List Layer) (text : List Sym) → fits g.ElsePart K (l ∷ S) → all_fit (choices.else_part text) K (l ∷ S)
 else_part_fits K l S text h = else_part_by K l S (starts (Is t.Elif) text) (starts (Is t.Else) text) h
 
-else_brief_by : (K : Shape) (l : Layer) (S : List Layer) (c1 c2 : Bool) → fits g.ElseBrief K (l ∷ S) → all_fit (if c1 then (g.Begin ∷ g.Take t.BarColon ∷ g.SerialNode ∷ g.Take t.Bar ∷ g.SerialNode ∷ g.ElseBrief ∷ g.Close k.Conditional ∷ []) else (if c2 then (g.Take t.Bar ∷ g.SerialNode ∷ []) else (([])))) K (l ∷ S)
-else_brief_by K l S true c2 h = λ a p e q x r. (refl, refl, h _ (gr.elif_b (forms.as_enquiry p) q r))
+else_brief_by : (K : Shape) (l : Layer) (S : List Layer) (c1 c2 : Bool) → fits g.ElseBrief K (l ∷ S) → all_fit (if c1 then (g.Begin ∷ g.Take t.BarColon ∷ g.EnquiryNode ∷ g.Take t.Bar ∷ g.SerialNode ∷ g.ElseBrief ∷ g.Close k.Conditional ∷ []) else (if c2 then (g.Take t.Bar ∷ g.SerialNode ∷ []) else (([])))) K (l ∷ S)
+else_brief_by K l S true c2 h = λ a p e q x r. (refl, refl, h _ (gr.elif_b p q r))
 else_brief_by K l S false true h = λ a p. back K l S _ _ (h _ (gr.else_b p))
 else_brief_by K l S false false h = stay K l S (h _ gr.no_else_b)
 
 pub else_brief_fits : (K : Shape) (l : Layer) (S : List Layer) (text : List Sym) → fits g.ElseBrief K (l ∷ S) → all_fit (choices.else_brief text) K (l ∷ S)
 else_brief_fits K l S text h = else_brief_by K l S (starts (Is t.BarColon) text) (starts (Is t.Bar) text) h
 
-out_case_by : (K : Shape) (l : Layer) (S : List Layer) (c1 c2 : Bool) → fits g.OutCase K (l ∷ S) → all_fit (if c1 then (g.Begin ∷ g.Begin ∷ g.Take t.Ouse ∷ g.SerialNode ∷ g.Take t.In ∷ g.Unit ∷ g.Take t.Comma ∷ g.Units ∷ g.OutCase ∷ g.Close k.Case ∷ g.Close k.Out ∷ []) else (if c2 then (g.Take t.Out ∷ g.Begin ∷ g.SerialNode ∷ g.Close k.Out ∷ []) else (([])))) K (l ∷ S)
-out_case_by K l S true c2 h = λ a p j u q x r y s. (refl, refl, (refl, refl, h _ (gr.out_again (forms.as_enquiry p) (gr.two q r) s)))
+out_case_by : (K : Shape) (l : Layer) (S : List Layer) (c1 c2 : Bool) → fits g.OutCase K (l ∷ S) → all_fit (if c1 then (g.Begin ∷ g.Begin ∷ g.Take t.Ouse ∷ g.EnquiryNode ∷ g.Take t.In ∷ g.Unit ∷ g.Take t.Comma ∷ g.Units ∷ g.OutCase ∷ g.Close k.Case ∷ g.Close k.Out ∷ []) else (if c2 then (g.Take t.Out ∷ g.Begin ∷ g.SerialNode ∷ g.Close k.Out ∷ []) else (([])))) K (l ∷ S)
+out_case_by K l S true c2 h = λ a p j u q x r y s. (refl, refl, (refl, refl, h _ (gr.out_again p (gr.two q r) s)))
 out_case_by K l S false true h = λ a p. (refl, refl, back K l S _ _ (h _ (gr.out_serial p)))
 out_case_by K l S false false h = stay K l S (h _ gr.no_out)
 
 pub out_case_fits : (K : Shape) (l : Layer) (S : List Layer) (text : List Sym) → fits g.OutCase K (l ∷ S) → all_fit (choices.out_case text) K (l ∷ S)
 out_case_fits K l S text h = out_case_by K l S (starts (Is t.Ouse) text) (starts (Is t.Out) text) h
 
-out_case_brief_by : (K : Shape) (l : Layer) (S : List Layer) (c1 c2 : Bool) → fits g.OutCaseBrief K (l ∷ S) → all_fit (if c1 then (g.Begin ∷ g.Begin ∷ g.Take t.BarColon ∷ g.SerialNode ∷ g.Take t.Bar ∷ g.Unit ∷ g.Take t.Comma ∷ g.Units ∷ g.OutCaseBrief ∷ g.Close k.Case ∷ g.Close k.Out ∷ []) else (if c2 then (g.Take t.Bar ∷ g.Begin ∷ g.SerialNode ∷ g.Close k.Out ∷ []) else (([])))) K (l ∷ S)
-out_case_brief_by K l S true c2 h = λ a p j u q x r y s. (refl, refl, (refl, refl, h _ (gr.outbrief_again (forms.as_enquiry p) (gr.two q r) s)))
+out_case_brief_by : (K : Shape) (l : Layer) (S : List Layer) (c1 c2 : Bool) → fits g.OutCaseBrief K (l ∷ S) → all_fit (if c1 then (g.Begin ∷ g.Begin ∷ g.Take t.BarColon ∷ g.EnquiryNode ∷ g.Take t.Bar ∷ g.Unit ∷ g.Take t.Comma ∷ g.Units ∷ g.OutCaseBrief ∷ g.Close k.Case ∷ g.Close k.Out ∷ []) else (if c2 then (g.Take t.Bar ∷ g.Begin ∷ g.SerialNode ∷ g.Close k.Out ∷ []) else (([])))) K (l ∷ S)
+out_case_brief_by K l S true c2 h = λ a p j u q x r y s. (refl, refl, (refl, refl, h _ (gr.outbrief_again p (gr.two q r) s)))
 out_case_brief_by K l S false true h = λ a p. (refl, refl, back K l S _ _ (h _ (gr.outbrief_serial p)))
 out_case_brief_by K l S false false h = stay K l S (h _ gr.no_outbrief)
 
 pub out_case_brief_fits : (K : Shape) (l : Layer) (S : List Layer) (text : List Sym) → fits g.OutCaseBrief K (l ∷ S) → all_fit (choices.out_case_brief text) K (l ∷ S)
 out_case_brief_fits K l S text h = out_case_brief_by K l S (starts (Is t.BarColon) text) (starts (Is t.Bar) text) h
 
-out_conformity_by : (K : Shape) (l : Layer) (S : List Layer) (c1 c2 : Bool) → fits g.OutConformity K (l ∷ S) → all_fit (if c1 then (g.Begin ∷ g.Begin ∷ g.Take t.Ouse ∷ g.SerialNode ∷ g.Take t.In ∷ g.Choices ∷ g.OutConformity ∷ g.Close k.Conformity ∷ g.Close k.Out ∷ []) else (if c2 then (g.Take t.Out ∷ g.Begin ∷ g.SerialNode ∷ g.Close k.Out ∷ []) else (([])))) K (l ∷ S)
-out_conformity_by K l S true c2 h = λ a p x q y r. (refl, refl, (refl, refl, h _ (gr.outc_again (forms.as_enquiry p) q r)))
+out_conformity_by : (K : Shape) (l : Layer) (S : List Layer) (c1 c2 : Bool) → fits g.OutConformity K (l ∷ S) → all_fit (if c1 then (g.Begin ∷ g.Begin ∷ g.Take t.Ouse ∷ g.EnquiryNode ∷ g.Take t.In ∷ g.Choices ∷ g.OutConformity ∷ g.Close k.Conformity ∷ g.Close k.Out ∷ []) else (if c2 then (g.Take t.Out ∷ g.Begin ∷ g.SerialNode ∷ g.Close k.Out ∷ []) else (([])))) K (l ∷ S)
+out_conformity_by K l S true c2 h = λ a p x q y r. (refl, refl, (refl, refl, h _ (gr.outc_again p q r)))
 out_conformity_by K l S false true h = λ a p. (refl, refl, back K l S _ _ (h _ (gr.outc_serial p)))
 out_conformity_by K l S false false h = stay K l S (h _ gr.no_outc)
 
 pub out_conformity_fits : (K : Shape) (l : Layer) (S : List Layer) (text : List Sym) → fits g.OutConformity K (l ∷ S) → all_fit (choices.out_conformity text) K (l ∷ S)
 out_conformity_fits K l S text h = out_conformity_by K l S (starts (Is t.Ouse) text) (starts (Is t.Out) text) h
 
-out_conformity_brief_by : (K : Shape) (l : Layer) (S : List Layer) (c1 c2 : Bool) → fits g.OutConformityBrief K (l ∷ S) → all_fit (if c1 then (g.Begin ∷ g.Begin ∷ g.Take t.BarColon ∷ g.SerialNode ∷ g.Take t.Bar ∷ g.Choices ∷ g.OutConformityBrief ∷ g.Close k.Conformity ∷ g.Close k.Out ∷ []) else (if c2 then (g.Take t.Bar ∷ g.Begin ∷ g.SerialNode ∷ g.Close k.Out ∷ []) else (([])))) K (l ∷ S)
-out_conformity_brief_by K l S true c2 h = λ a p x q y r. (refl, refl, (refl, refl, h _ (gr.outcbrief_again (forms.as_enquiry p) q r)))
+out_conformity_brief_by : (K : Shape) (l : Layer) (S : List Layer) (c1 c2 : Bool) → fits g.OutConformityBrief K (l ∷ S) → all_fit (if c1 then (g.Begin ∷ g.Begin ∷ g.Take t.BarColon ∷ g.EnquiryNode ∷ g.Take t.Bar ∷ g.Choices ∷ g.OutConformityBrief ∷ g.Close k.Conformity ∷ g.Close k.Out ∷ []) else (if c2 then (g.Take t.Bar ∷ g.Begin ∷ g.SerialNode ∷ g.Close k.Out ∷ []) else (([])))) K (l ∷ S)
+out_conformity_brief_by K l S true c2 h = λ a p x q y r. (refl, refl, (refl, refl, h _ (gr.outcbrief_again p q r)))
 out_conformity_brief_by K l S false true h = λ a p. (refl, refl, back K l S _ _ (h _ (gr.outcbrief_serial p)))
 out_conformity_brief_by K l S false false h = stay K l S (h _ gr.no_outcbrief)
 
@@ -84,8 +84,8 @@ loop_to_by K l S false h = λ x p. h _ (gr.no_to p)
 pub loop_to_fits : (K : Shape) (l : Layer) (S : List Layer) (text : List Sym) → fits g.LoopTo K (l ∷ S) → all_fit (choices.loop_to text) K (l ∷ S)
 loop_to_fits K l S text h = loop_to_by K l S (starts (Is t.To) text) h
 
-loop_while_by : (K : Shape) (l : Layer) (S : List Layer) (c1 : Bool) → fits g.LoopWhile K (l ∷ S) → all_fit (if c1 then (g.Take t.While ∷ g.Begin ∷ g.SerialNode ∷ g.Close k.While ∷ g.Opens b.Do ∷ g.SerialNode ∷ g.Closes b.Do ∷ []) else ((g.Opens b.Do ∷ g.SerialNode ∷ g.Closes b.Do ∷ []))) K (l ∷ S)
-loop_while_by K l S true h = λ a p. (refl, refl, λ e q. (refl, back3 K l S _ _ _ (h _ (gr.while_ (forms.as_enquiry p) q))))
+loop_while_by : (K : Shape) (l : Layer) (S : List Layer) (c1 : Bool) → fits g.LoopWhile K (l ∷ S) → all_fit (if c1 then (g.Take t.While ∷ g.Begin ∷ g.EnquiryNode ∷ g.Close k.While ∷ g.Opens b.Do ∷ g.SerialNode ∷ g.Closes b.Do ∷ []) else ((g.Opens b.Do ∷ g.SerialNode ∷ g.Closes b.Do ∷ []))) K (l ∷ S)
+loop_while_by K l S true h = λ a p. (refl, refl, λ e q. (refl, back3 K l S _ _ _ (h _ (gr.while_ p q))))
 loop_while_by K l S false h = λ e q. (refl, h _ (gr.no_while q))
 
 pub loop_while_fits : (K : Shape) (l : Layer) (S : List Layer) (text : List Sym) → fits g.LoopWhile K (l ∷ S) → all_fit (choices.loop_while text) K (l ∷ S)

@@ -15,24 +15,61 @@ use Rattle.a68_read.proofs.Forms as forms
 use Rattle.a68_unit_productions.specs.Units as units
 use Rattle.a68_symbols.specs.declared.sym.Sym.TheVariants.{Opens, Is}
 use Rattle.a68_lookahead.specs.Ahead.{routine_ahead, phrase_ahead}
-use Rattle.a68_lookahead.specs.Symbols.{starts, is_monadic, is_operator}
+use Rattle.a68_lookahead.specs.Symbols.{starts, is_monadic, is_operator, label_ahead}
 
 pub serial_node_fits : (K : Shape) (l : Layer) (S : List Layer) → fits g.SerialNode K (l ∷ S) → all_fit units.serial_node K (l ∷ S)
 serial_node_fits K l S h = λ x p. (refl, refl, h x p)
 
-serial_by : (K : Shape) (l : Layer) (S : List Layer) (c1 : Bool) → fits g.Serial K (l ∷ S) → all_fit (if c1 then (g.Declaration ∷ g.Take t.Semicolon ∷ g.Serial ∷ []) else ((g.Unit ∷ g.SerialTail ∷ []))) K (l ∷ S)
-serial_by K l S true h = λ e p x q. back3 K l S _ _ _ (h _ (gr.serial_declaration p q))
-serial_by K l S false h = λ j u p x q. back K l S _ _ (h _ (forms.unit_serial p q))
+serial_by : (K : Shape) (l : Layer) (S : List Layer) (c1 c2 : Bool) → fits g.Serial K (l ∷ S) → all_fit (if c1 then (g.Labelled ∷ []) else (if c2 then (g.Declaration ∷ g.Take t.Semicolon ∷ g.Serial ∷ []) else ((g.Unit ∷ g.SerialTail ∷ [])))) K (l ∷ S)
+serial_by K l S true c2 h = λ x p. h _ (gr.serial_labelled p)
+serial_by K l S false true h = λ e p x q. back3 K l S _ _ _ (h _ (gr.serial_declaration p q))
+serial_by K l S false false h = λ j u p x q. back K l S _ _ (h _ (forms.unit_serial p q))
 
 pub serial_fits : (K : Shape) (l : Layer) (S : List Layer) (text : List Sym) → fits g.Serial K (l ∷ S) → all_fit (units.serial text) K (l ∷ S)
-serial_fits K l S text h = serial_by K l S (phrase_ahead text) h
+serial_fits K l S text h = serial_by K l S (label_ahead text) (phrase_ahead text) h
 
-serial_tail_by : (K : Shape) (l : Layer) (S : List Layer) (c1 : Bool) → fits g.SerialTail K (l ∷ S) → all_fit (if c1 then (g.Take t.Semicolon ∷ g.Serial ∷ []) else (([]))) K (l ∷ S)
-serial_tail_by K l S true h = λ x p. back K l S _ _ (h _ (m.serial_on p))
-serial_tail_by K l S false h = stay K l S (h _ m.serial_end)
+serial_tail_by : (K : Shape) (l : Layer) (S : List Layer) (c1 c2 : Bool) → fits g.SerialTail K (l ∷ S) → all_fit (if c1 then (g.Take t.Semicolon ∷ g.Serial ∷ []) else (if c2 then (g.Begin ∷ g.Take t.Exit ∷ g.Close k.Exit ∷ g.Labelled ∷ []) else (([])))) K (l ∷ S)
+serial_tail_by K l S true c2 h = λ x p. back K l S _ _ (h _ (m.serial_on p))
+serial_tail_by K l S false true h = (refl, refl, λ x p. back K l S _ _ (h _ (m.serial_out p)))
+serial_tail_by K l S false false h = stay K l S (h _ m.serial_end)
 
 pub serial_tail_fits : (K : Shape) (l : Layer) (S : List Layer) (text : List Sym) → fits g.SerialTail K (l ∷ S) → all_fit (units.serial_tail text) K (l ∷ S)
-serial_tail_fits K l S text h = serial_tail_by K l S (starts (Is t.Semicolon) text) h
+serial_tail_fits K l S text h = serial_tail_by K l S (starts (Is t.Semicolon) text) (starts (Is t.Exit) text) h
+
+pub labelled_fits : (K : Shape) (l : Layer) (S : List Layer) → fits g.Labelled K (l ∷ S) → all_fit units.labelled K (l ∷ S)
+labelled_fits K l S h = (refl, refl, λ x p. back K l S _ _ (h _ (gr.label p)))
+
+steps_by : (K : Shape) (l : Layer) (S : List Layer) (c1 : Bool) → fits g.Steps K (l ∷ S) → all_fit (if c1 then (g.Labelled ∷ []) else ((g.Unit ∷ g.StepsTail ∷ []))) K (l ∷ S)
+steps_by K l S true h = λ x p. h _ (gr.steps_labelled p)
+steps_by K l S false h = λ j u p x q. back K l S _ _ (h _ (forms.unit_steps p q))
+
+pub steps_fits : (K : Shape) (l : Layer) (S : List Layer) (text : List Sym) → fits g.Steps K (l ∷ S) → all_fit (units.steps text) K (l ∷ S)
+steps_fits K l S text h = steps_by K l S (label_ahead text) h
+
+steps_tail_by : (K : Shape) (l : Layer) (S : List Layer) (c1 c2 : Bool) → fits g.StepsTail K (l ∷ S) → all_fit (if c1 then (g.Take t.Semicolon ∷ g.Steps ∷ []) else (if c2 then (g.Begin ∷ g.Take t.Exit ∷ g.Close k.Exit ∷ g.Labelled ∷ []) else (([])))) K (l ∷ S)
+steps_tail_by K l S true c2 h = λ x p. back K l S _ _ (h _ (m.steps_on p))
+steps_tail_by K l S false true h = (refl, refl, λ x p. back K l S _ _ (h _ (m.steps_out p)))
+steps_tail_by K l S false false h = stay K l S (h _ m.steps_end)
+
+pub steps_tail_fits : (K : Shape) (l : Layer) (S : List Layer) (text : List Sym) → fits g.StepsTail K (l ∷ S) → all_fit (units.steps_tail text) K (l ∷ S)
+steps_tail_fits K l S text h = steps_tail_by K l S (starts (Is t.Semicolon) text) (starts (Is t.Exit) text) h
+
+pub enquiry_node_fits : (K : Shape) (l : Layer) (S : List Layer) → fits g.EnquiryNode K (l ∷ S) → all_fit units.enquiry_node K (l ∷ S)
+enquiry_node_fits K l S h = λ x p. (refl, refl, h x p)
+
+enquiry_by : (K : Shape) (l : Layer) (S : List Layer) (c1 : Bool) → fits g.Enquiry K (l ∷ S) → all_fit (if c1 then (g.Declaration ∷ g.Take t.Semicolon ∷ g.Enquiry ∷ []) else ((g.Unit ∷ g.EnquiryTail ∷ []))) K (l ∷ S)
+enquiry_by K l S true h = λ e p x q. back3 K l S _ _ _ (h _ (gr.enquiry_declaration p q))
+enquiry_by K l S false h = λ j u p x q. back K l S _ _ (h _ (forms.unit_enquiry p q))
+
+pub enquiry_fits : (K : Shape) (l : Layer) (S : List Layer) (text : List Sym) → fits g.Enquiry K (l ∷ S) → all_fit (units.enquiry text) K (l ∷ S)
+enquiry_fits K l S text h = enquiry_by K l S (phrase_ahead text) h
+
+enquiry_tail_by : (K : Shape) (l : Layer) (S : List Layer) (c1 : Bool) → fits g.EnquiryTail K (l ∷ S) → all_fit (if c1 then (g.Take t.Semicolon ∷ g.Enquiry ∷ []) else (([]))) K (l ∷ S)
+enquiry_tail_by K l S true h = λ x p. back K l S _ _ (h _ (m.enquiry_on p))
+enquiry_tail_by K l S false h = stay K l S (h _ m.enquiry_end)
+
+pub enquiry_tail_fits : (K : Shape) (l : Layer) (S : List Layer) (text : List Sym) → fits g.EnquiryTail K (l ∷ S) → all_fit (units.enquiry_tail text) K (l ∷ S)
+enquiry_tail_fits K l S text h = enquiry_tail_by K l S (starts (Is t.Semicolon) text) h
 
 pub units_fits : (K : Shape) (l : Layer) (S : List Layer) → fits g.Units K (l ∷ S) → all_fit units.units K (l ∷ S)
 units_fits K l S h = λ j u p x q. back K l S _ _ (h _ (forms.units_from p q))
@@ -44,13 +81,15 @@ units_tail_by K l S false h = stay K l S (h _ m.comma_end)
 pub units_tail_fits : (K : Shape) (l : Layer) (S : List Layer) (text : List Sym) → fits g.UnitsTail K (l ∷ S) → all_fit (units.units_tail text) K (l ∷ S)
 units_tail_fits K l S text h = units_tail_by K l S (starts (Is t.Comma) text) h
 
-unit_by : (K : Shape) (l : Layer) (S : List Layer) (c1 c2 : Bool) → fits g.Unit K (l ∷ S) → all_fit (if c1 then (g.Begin ∷ g.Take t.Skip ∷ g.Close k.Skip ∷ []) else (if c2 then (g.Begin ∷ g.Routine ∷ g.Close k.RoutineText ∷ []) else ((g.Begin ∷ g.Tertiary ∷ g.UnitTail ∷ g.Leave ∷ [])))) K (l ∷ S)
-unit_by K l S true c2 h = (refl, refl, h _ _ gr.skip)
-unit_by K l S false true h = λ x p. (refl, refl, h _ _ (gr.routine p))
-unit_by K l S false false h = f.fresh (λ j u p. f.tails p (λ i v q. (refl, h i v q)))
+unit_by : (K : Shape) (l : Layer) (S : List Layer) (c1 c2 c3 c4 : Bool) → fits g.Unit K (l ∷ S) → all_fit (if c1 then (g.Begin ∷ g.Take t.Skip ∷ g.Close k.Skip ∷ []) else (if c2 then (g.Begin ∷ g.Take t.Go ∷ g.Take t.To ∷ g.Take t.Tag ∷ g.Leap ∷ []) else (if c3 then (g.Begin ∷ g.Take t.Goto ∷ g.Take t.Tag ∷ g.Leap ∷ []) else (if c4 then (g.Begin ∷ g.Routine ∷ g.Close k.RoutineText ∷ []) else ((g.Begin ∷ g.Tertiary ∷ g.UnitTail ∷ g.Leave ∷ [])))))) K (l ∷ S)
+unit_by K l S true c2 c3 c4 h = (refl, refl, h _ _ gr.skip)
+unit_by K l S false true c3 c4 h = (refl, h _ _ gr.go_to)
+unit_by K l S false false true c4 h = (refl, h _ _ gr.goto_)
+unit_by K l S false false false true h = λ x p. (refl, refl, h _ _ (gr.routine p))
+unit_by K l S false false false false h = f.fresh (λ j u p. f.tails p (λ i v q. (refl, h i v q)))
 
 pub unit_fits : (K : Shape) (l : Layer) (S : List Layer) (text : List Sym) → fits g.Unit K (l ∷ S) → all_fit (units.unit text) K (l ∷ S)
-unit_fits K l S text h = unit_by K l S (starts (Is t.Skip) text) (routine_ahead text) h
+unit_fits K l S text h = unit_by K l S (starts (Is t.Skip) text) (starts (Is t.Go) text) (starts (Is t.Goto) text) (routine_ahead text) h
 
 unit_tail_by : (K : Shape) (S : List Layer) (c1 c2 c3 : Bool) → fits g.UnitTail K S → all_fit (if c1 then (g.Take t.Becomes ∷ g.Unit ∷ g.Wrap k.Assignation ∷ []) else (if c2 then (g.Take t.Is ∷ g.Begin ∷ g.Tertiary ∷ g.Leave ∷ g.Relate ∷ []) else (if c3 then (g.Take t.Isnt ∷ g.Begin ∷ g.Tertiary ∷ g.Leave ∷ g.Relate ∷ []) else (([]))))) K S
 unit_tail_by K _ true c2 c3 (f.tails p ends) = λ j u q. (refl, refl, ends _ _ (gr.assignation p q))

@@ -6,16 +6,11 @@ use Rattle.a68_symbols.specs.declared.sym.Token.TheVariants as t
 use Rattle.a68_symbols.specs.declared.sym.Bracket.TheVariants as b
 use Rattle.a68_tree.specs.Forest.{Forest, end, mark, group, part, joined}
 use Rattle.a68_tree.specs.Grammar as gr
-use Rattle.a68_tree.specs.Grammar.{IsSign, IsEnquiry, IsSerial, IsUnit, IsUnits, IsSpec, IsChoices, IsDeclaration, IsTags, IsSecondary, IsOperands, IsPrimary, IsIndex, IsIndexes, IsDeclarer, IsDeclarers, IsBound, IsBounds, IsYield, IsPlan}
-use Rattle.a68_read.specs.Middles.{IsCommaTail, comma_end, comma_on, IsSerialTail, serial_end, serial_on, IsOperandsTail, operands_end, operands_on, IsSpecTag, no_spec_tag, a_spec_tag, IsPlanTail, plan_end, plan_on, IsTagsMore, tags_again, params_again, IsProcedurePlan, plan_none, plan_some, IsBase, base_cast, base_cast_void, base_tag, base_denotation, base_long_denotation, base_enclosed}
+use Rattle.a68_tree.specs.Grammar.{IsSign, IsEnquiry, IsSerial, IsSteps, IsUnit, IsUnits, IsSpec, IsChoices, IsDeclaration, IsTags, IsSecondary, IsOperands, IsPrimary, IsIndex, IsIndexes, IsDeclarer, IsDeclarers, IsBound, IsBounds, IsYield, IsPlan}
+use Rattle.a68_read.specs.Middles.{IsCommaTail, comma_end, comma_on, IsSerialTail, serial_end, serial_on, serial_out, IsStepsTail, steps_end, steps_on, steps_out, IsEnquiryTail, enquiry_end, enquiry_on, IsOperandsTail, operands_end, operands_on, IsSpecTag, no_spec_tag, a_spec_tag, IsPlanTail, plan_end, plan_on, IsTagsMore, tags_again, params_again, IsProcedurePlan, plan_none, plan_some, IsBase, base_cast, base_cast_void, base_tag, base_denotation, base_long_denotation, base_enclosed}
 use Rattle.a68_tree.proofs.Joining.{joined_assoc}
 
 -- an enquiry is a serial clause
-pub as_enquiry : {f : Forest} → IsSerial f → IsEnquiry f
-as_enquiry (gr.serial_one p) = gr.enquiry_one p
-as_enquiry (gr.serial_unit p q) = gr.enquiry_unit p (as_enquiry q)
-as_enquiry (gr.serial_declaration p q) = gr.enquiry_declaration p (as_enquiry q)
-
 pub as_serial : {f : Forest} → IsEnquiry f → IsSerial f
 as_serial (gr.enquiry_one p) = gr.serial_one p
 as_serial (gr.enquiry_unit p q) = gr.serial_unit p (as_serial q)
@@ -24,9 +19,29 @@ as_serial (gr.enquiry_declaration p q) = gr.serial_declaration p (as_serial q)
 pub declared_serial : {d a : Forest} → IsDeclaration d → IsSerial a → IsSerial (joined (joined d (mark t.Semicolon end)) a)
 declared_serial {d = d} {a = a} p q = subst IsSerial (sym (joined_assoc d (mark t.Semicolon end) a)) (gr.serial_declaration p q)
 
+pub declared_enquiry : {d a : Forest} → IsDeclaration d → IsEnquiry a → IsEnquiry (joined (joined d (mark t.Semicolon end)) a)
+declared_enquiry {d = d} {a = a} p q = subst IsEnquiry (sym (joined_assoc d (mark t.Semicolon end) a)) (gr.enquiry_declaration p q)
+
 pub unit_serial : {j : NodeKind} {u x : Forest} → IsUnit j u → IsSerialTail x → IsSerial (part j u x)
 unit_serial p serial_end = gr.serial_one p
 unit_serial p (serial_on q) = gr.serial_unit p q
+unit_serial p (serial_out q) = gr.serial_exit p q
+
+pub unit_steps : {j : NodeKind} {u x : Forest} → IsUnit j u → IsStepsTail x → IsSteps (part j u x)
+unit_steps p steps_end = gr.steps_last p
+unit_steps p (steps_on q) = gr.steps_unit p q
+unit_steps p (steps_out q) = gr.steps_exit p q
+
+pub unit_enquiry : {j : NodeKind} {u x : Forest} → IsUnit j u → IsEnquiryTail x → IsEnquiry (part j u x)
+unit_enquiry p enquiry_end = gr.enquiry_one p
+unit_enquiry p (enquiry_on q) = gr.enquiry_unit p q
+
+-- what holds of a list in one piece holds where it is put together from its beginning on
+pub behind_one : (P : Forest → Type 0) (x y a : Forest) → P (joined x (joined y a)) → P (joined (joined x y) a)
+behind_one P x y a h = subst P (sym (joined_assoc x y a)) h
+
+pub behind_two : (P : Forest → Type 0) (x y z a : Forest) → P (joined x (joined y (joined z a))) → P (joined (joined (joined x y) z) a)
+behind_two P x y z a h = behind_one P (joined x y) z a (behind_one P x y (joined z a) h)
 
 pub units_from : {j : NodeKind} {u x : Forest} → IsUnit j u → IsCommaTail IsUnits x → IsUnits (part j u x)
 units_from p comma_end = gr.unit_one p

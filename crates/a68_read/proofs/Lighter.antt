@@ -6,7 +6,7 @@ use Rattle.a68_symbols.specs.declared.sym.Token.TheVariants as t
 use Rattle.a68_symbols.specs.declared.sym.Sym.{Sym}
 use Rattle.a68_symbols.specs.declared.sym.Sym.TheVariants.{Opens, Closes, Is}
 use Rattle.a68_lookahead.specs.Ahead.{routine_ahead, phrase_ahead, spec_ahead}
-use Rattle.a68_lookahead.specs.Symbols.{starts, starts_pair, is_monadic, is_operator, is_denotation, is_declarer, ends_trimmer, ends_bound}
+use Rattle.a68_lookahead.specs.Symbols.{starts, starts_pair, label_ahead, is_monadic, is_operator, is_denotation, is_declarer, ends_trimmer, ends_bound}
 use Rattle.a68_unit_productions.specs.declared.goal.Goal.{Goal}
 use Rattle.a68_unit_productions.specs.declared.goal.Goal.TheVariants as g
 use Rattle.a68_unit_productions.specs.declared.goal.Defining.{Defining}
@@ -16,7 +16,7 @@ use Rattle.a68_productions.specs.Expand.{expand}
 use Rattle.a68_read.specs.Weights.{is_lighter}
 use Rattle.a68_read.proofs.Steps.{OnGoals}
 
-enclosed_light : (c1 c2 c3 c4 c5 c6 : Bool) → is_lighter g.Enclosed (if c1 then (g.Opens b.Round ∷ g.Brief ∷ []) else (if c2 then (g.Opens b.Begin ∷ g.Block ∷ []) else (if c3 then (g.Take t.Par ∷ g.Parallel ∷ []) else (if c4 then (g.Opens b.If ∷ g.SerialNode ∷ g.Take t.Then ∷ g.SerialNode ∷ g.ElsePart ∷ g.Closes b.If ∷ g.Wrap k.Conditional ∷ []) else (if c5 then (g.Opens b.Case ∷ g.SerialNode ∷ g.Take t.In ∷ g.CaseChoice ∷ []) else (if c6 then (g.Take t.For ∷ g.Begin ∷ g.Take t.Tag ∷ g.Close k.For ∷ g.LoopFrom ∷ g.Wrap k.Loop ∷ []) else ((g.LoopFrom ∷ g.Wrap k.Loop ∷ [])))))))) ≡ true
+enclosed_light : (c1 c2 c3 c4 c5 c6 : Bool) → is_lighter g.Enclosed (if c1 then (g.Opens b.Round ∷ g.Brief ∷ []) else (if c2 then (g.Opens b.Begin ∷ g.Block ∷ []) else (if c3 then (g.Take t.Par ∷ g.Parallel ∷ []) else (if c4 then (g.Opens b.If ∷ g.EnquiryNode ∷ g.Take t.Then ∷ g.SerialNode ∷ g.ElsePart ∷ g.Closes b.If ∷ g.Wrap k.Conditional ∷ []) else (if c5 then (g.Opens b.Case ∷ g.EnquiryNode ∷ g.Take t.In ∷ g.CaseChoice ∷ []) else (if c6 then (g.Take t.For ∷ g.Begin ∷ g.Take t.Tag ∷ g.Close k.For ∷ g.LoopFrom ∷ g.Wrap k.Loop ∷ []) else ((g.LoopFrom ∷ g.Wrap k.Loop ∷ [])))))))) ≡ true
 enclosed_light true c2 c3 c4 c5 c6 = refl
 enclosed_light false true c3 c4 c5 c6 = refl
 enclosed_light false false true c4 c5 c6 = refl
@@ -25,32 +25,45 @@ enclosed_light false false false false true c6 = refl
 enclosed_light false false false false false true = refl
 enclosed_light false false false false false false = refl
 
-brief_light : (c1 c2 : Bool) → is_lighter g.Brief (if c1 then (g.Closes b.Round ∷ g.Wrap k.Vacuum ∷ []) else (if c2 then (g.Begin ∷ g.Declaration ∷ g.Take t.Semicolon ∷ g.Serial ∷ g.Close k.Serial ∷ g.BriefEnd ∷ []) else ((g.Begin ∷ g.Unit ∷ g.BriefUnit ∷ [])))) ≡ true
-brief_light true c2 = refl
-brief_light false true = refl
-brief_light false false = refl
+brief_light : (c1 c2 c3 : Bool) → is_lighter g.Brief (if c1 then (g.Closes b.Round ∷ g.Wrap k.Vacuum ∷ []) else (if c2 then (g.Begin ∷ g.Labelled ∷ g.BriefLabelled ∷ []) else (if c3 then (g.Begin ∷ g.Declaration ∷ g.Take t.Semicolon ∷ g.BriefSteps ∷ []) else ((g.Begin ∷ g.Unit ∷ g.BriefUnit ∷ []))))) ≡ true
+brief_light true c2 c3 = refl
+brief_light false true c3 = refl
+brief_light false false true = refl
+brief_light false false false = refl
 
-brief_unit_light : (c1 : Bool) → is_lighter g.BriefUnit (if c1 then (g.Leave ∷ g.Take t.Comma ∷ g.Units ∷ g.Closes b.Round ∷ g.Wrap k.Collateral ∷ []) else ((g.SerialTail ∷ g.Close k.Serial ∷ g.BriefEnd ∷ []))) ≡ true
+brief_unit_light : (c1 : Bool) → is_lighter g.BriefUnit (if c1 then (g.Leave ∷ g.Take t.Comma ∷ g.Units ∷ g.Closes b.Round ∷ g.Wrap k.Collateral ∷ []) else ((g.BriefTail ∷ []))) ≡ true
 brief_unit_light true = refl
 brief_unit_light false = refl
+
+brief_tail_light : (c1 c2 : Bool) → is_lighter g.BriefTail (if c1 then (g.Take t.Semicolon ∷ g.BriefSteps ∷ []) else (if c2 then (g.Begin ∷ g.Take t.Exit ∷ g.Close k.Exit ∷ g.Labelled ∷ g.BriefLabelled ∷ []) else ((g.Close k.Serial ∷ g.BriefEnd ∷ [])))) ≡ true
+brief_tail_light true c2 = refl
+brief_tail_light false true = refl
+brief_tail_light false false = refl
+
+brief_steps_light : (c1 c2 : Bool) → is_lighter g.BriefSteps (if c1 then (g.Labelled ∷ g.BriefLabelled ∷ []) else (if c2 then (g.Declaration ∷ g.Take t.Semicolon ∷ g.BriefSteps ∷ []) else ((g.Unit ∷ g.BriefTail ∷ [])))) ≡ true
+brief_steps_light true c2 = refl
+brief_steps_light false true = refl
+brief_steps_light false false = refl
 
 brief_end_light : (c1 : Bool) → is_lighter g.BriefEnd (if c1 then (g.Take t.Bar ∷ g.BriefChoice ∷ []) else ((g.Closes b.Round ∷ g.Wrap k.Closed ∷ []))) ≡ true
 brief_end_light true = refl
 brief_end_light false = refl
 
-brief_choice_light : (c1 c2 : Bool) → is_lighter g.BriefChoice (if c1 then (g.Choices ∷ g.OutConformityBrief ∷ g.Closes b.Round ∷ g.Wrap k.Conformity ∷ []) else (if c2 then (g.Begin ∷ g.Declaration ∷ g.Take t.Semicolon ∷ g.Serial ∷ g.Close k.Serial ∷ g.ElseBrief ∷ g.Closes b.Round ∷ g.Wrap k.Conditional ∷ []) else ((g.Begin ∷ g.Unit ∷ g.BriefChosen ∷ [])))) ≡ true
-brief_choice_light true c2 = refl
-brief_choice_light false true = refl
-brief_choice_light false false = refl
+brief_choice_light : (c1 c2 c3 : Bool) → is_lighter g.BriefChoice (if c1 then (g.Choices ∷ g.OutConformityBrief ∷ g.Closes b.Round ∷ g.Wrap k.Conformity ∷ []) else (if c2 then (g.Begin ∷ g.Labelled ∷ g.Close k.Serial ∷ g.ElseBrief ∷ g.Closes b.Round ∷ g.Wrap k.Conditional ∷ []) else (if c3 then (g.Begin ∷ g.Declaration ∷ g.Take t.Semicolon ∷ g.Serial ∷ g.Close k.Serial ∷ g.ElseBrief ∷ g.Closes b.Round ∷ g.Wrap k.Conditional ∷ []) else ((g.Begin ∷ g.Unit ∷ g.BriefChosen ∷ []))))) ≡ true
+brief_choice_light true c2 c3 = refl
+brief_choice_light false true c3 = refl
+brief_choice_light false false true = refl
+brief_choice_light false false false = refl
 
 brief_chosen_light : (c1 : Bool) → is_lighter g.BriefChosen (if c1 then (g.Leave ∷ g.Take t.Comma ∷ g.Units ∷ g.OutCaseBrief ∷ g.Closes b.Round ∷ g.Wrap k.Case ∷ []) else ((g.SerialTail ∷ g.Close k.Serial ∷ g.ElseBrief ∷ g.Closes b.Round ∷ g.Wrap k.Conditional ∷ []))) ≡ true
 brief_chosen_light true = refl
 brief_chosen_light false = refl
 
-block_light : (c1 c2 : Bool) → is_lighter g.Block (if c1 then (g.Closes b.Begin ∷ g.Wrap k.Vacuum ∷ []) else (if c2 then (g.Begin ∷ g.Declaration ∷ g.Take t.Semicolon ∷ g.Serial ∷ g.Close k.Serial ∷ g.Closes b.Begin ∷ g.Wrap k.Closed ∷ []) else ((g.Begin ∷ g.Unit ∷ g.BlockUnit ∷ [])))) ≡ true
-block_light true c2 = refl
-block_light false true = refl
-block_light false false = refl
+block_light : (c1 c2 c3 : Bool) → is_lighter g.Block (if c1 then (g.Closes b.Begin ∷ g.Wrap k.Vacuum ∷ []) else (if c2 then (g.Begin ∷ g.Labelled ∷ g.Close k.Serial ∷ g.Closes b.Begin ∷ g.Wrap k.Closed ∷ []) else (if c3 then (g.Begin ∷ g.Declaration ∷ g.Take t.Semicolon ∷ g.Serial ∷ g.Close k.Serial ∷ g.Closes b.Begin ∷ g.Wrap k.Closed ∷ []) else ((g.Begin ∷ g.Unit ∷ g.BlockUnit ∷ []))))) ≡ true
+block_light true c2 c3 = refl
+block_light false true c3 = refl
+block_light false false true = refl
+block_light false false false = refl
 
 block_unit_light : (c1 : Bool) → is_lighter g.BlockUnit (if c1 then (g.Leave ∷ g.Take t.Comma ∷ g.Units ∷ g.Closes b.Begin ∷ g.Wrap k.Collateral ∷ []) else ((g.SerialTail ∷ g.Close k.Serial ∷ g.Closes b.Begin ∷ g.Wrap k.Closed ∷ []))) ≡ true
 block_unit_light true = refl
@@ -64,32 +77,32 @@ case_choice_light : (c1 : Bool) → is_lighter g.CaseChoice (if c1 then (g.Choic
 case_choice_light true = refl
 case_choice_light false = refl
 
-else_part_light : (c1 c2 : Bool) → is_lighter g.ElsePart (if c1 then (g.Begin ∷ g.Take t.Elif ∷ g.SerialNode ∷ g.Take t.Then ∷ g.SerialNode ∷ g.ElsePart ∷ g.Close k.Conditional ∷ []) else (if c2 then (g.Take t.Else ∷ g.SerialNode ∷ []) else (([])))) ≡ true
+else_part_light : (c1 c2 : Bool) → is_lighter g.ElsePart (if c1 then (g.Begin ∷ g.Take t.Elif ∷ g.EnquiryNode ∷ g.Take t.Then ∷ g.SerialNode ∷ g.ElsePart ∷ g.Close k.Conditional ∷ []) else (if c2 then (g.Take t.Else ∷ g.SerialNode ∷ []) else (([])))) ≡ true
 else_part_light true c2 = refl
 else_part_light false true = refl
 else_part_light false false = refl
 
-else_brief_light : (c1 c2 : Bool) → is_lighter g.ElseBrief (if c1 then (g.Begin ∷ g.Take t.BarColon ∷ g.SerialNode ∷ g.Take t.Bar ∷ g.SerialNode ∷ g.ElseBrief ∷ g.Close k.Conditional ∷ []) else (if c2 then (g.Take t.Bar ∷ g.SerialNode ∷ []) else (([])))) ≡ true
+else_brief_light : (c1 c2 : Bool) → is_lighter g.ElseBrief (if c1 then (g.Begin ∷ g.Take t.BarColon ∷ g.EnquiryNode ∷ g.Take t.Bar ∷ g.SerialNode ∷ g.ElseBrief ∷ g.Close k.Conditional ∷ []) else (if c2 then (g.Take t.Bar ∷ g.SerialNode ∷ []) else (([])))) ≡ true
 else_brief_light true c2 = refl
 else_brief_light false true = refl
 else_brief_light false false = refl
 
-out_case_light : (c1 c2 : Bool) → is_lighter g.OutCase (if c1 then (g.Begin ∷ g.Begin ∷ g.Take t.Ouse ∷ g.SerialNode ∷ g.Take t.In ∷ g.Unit ∷ g.Take t.Comma ∷ g.Units ∷ g.OutCase ∷ g.Close k.Case ∷ g.Close k.Out ∷ []) else (if c2 then (g.Take t.Out ∷ g.Begin ∷ g.SerialNode ∷ g.Close k.Out ∷ []) else (([])))) ≡ true
+out_case_light : (c1 c2 : Bool) → is_lighter g.OutCase (if c1 then (g.Begin ∷ g.Begin ∷ g.Take t.Ouse ∷ g.EnquiryNode ∷ g.Take t.In ∷ g.Unit ∷ g.Take t.Comma ∷ g.Units ∷ g.OutCase ∷ g.Close k.Case ∷ g.Close k.Out ∷ []) else (if c2 then (g.Take t.Out ∷ g.Begin ∷ g.SerialNode ∷ g.Close k.Out ∷ []) else (([])))) ≡ true
 out_case_light true c2 = refl
 out_case_light false true = refl
 out_case_light false false = refl
 
-out_case_brief_light : (c1 c2 : Bool) → is_lighter g.OutCaseBrief (if c1 then (g.Begin ∷ g.Begin ∷ g.Take t.BarColon ∷ g.SerialNode ∷ g.Take t.Bar ∷ g.Unit ∷ g.Take t.Comma ∷ g.Units ∷ g.OutCaseBrief ∷ g.Close k.Case ∷ g.Close k.Out ∷ []) else (if c2 then (g.Take t.Bar ∷ g.Begin ∷ g.SerialNode ∷ g.Close k.Out ∷ []) else (([])))) ≡ true
+out_case_brief_light : (c1 c2 : Bool) → is_lighter g.OutCaseBrief (if c1 then (g.Begin ∷ g.Begin ∷ g.Take t.BarColon ∷ g.EnquiryNode ∷ g.Take t.Bar ∷ g.Unit ∷ g.Take t.Comma ∷ g.Units ∷ g.OutCaseBrief ∷ g.Close k.Case ∷ g.Close k.Out ∷ []) else (if c2 then (g.Take t.Bar ∷ g.Begin ∷ g.SerialNode ∷ g.Close k.Out ∷ []) else (([])))) ≡ true
 out_case_brief_light true c2 = refl
 out_case_brief_light false true = refl
 out_case_brief_light false false = refl
 
-out_conformity_light : (c1 c2 : Bool) → is_lighter g.OutConformity (if c1 then (g.Begin ∷ g.Begin ∷ g.Take t.Ouse ∷ g.SerialNode ∷ g.Take t.In ∷ g.Choices ∷ g.OutConformity ∷ g.Close k.Conformity ∷ g.Close k.Out ∷ []) else (if c2 then (g.Take t.Out ∷ g.Begin ∷ g.SerialNode ∷ g.Close k.Out ∷ []) else (([])))) ≡ true
+out_conformity_light : (c1 c2 : Bool) → is_lighter g.OutConformity (if c1 then (g.Begin ∷ g.Begin ∷ g.Take t.Ouse ∷ g.EnquiryNode ∷ g.Take t.In ∷ g.Choices ∷ g.OutConformity ∷ g.Close k.Conformity ∷ g.Close k.Out ∷ []) else (if c2 then (g.Take t.Out ∷ g.Begin ∷ g.SerialNode ∷ g.Close k.Out ∷ []) else (([])))) ≡ true
 out_conformity_light true c2 = refl
 out_conformity_light false true = refl
 out_conformity_light false false = refl
 
-out_conformity_brief_light : (c1 c2 : Bool) → is_lighter g.OutConformityBrief (if c1 then (g.Begin ∷ g.Begin ∷ g.Take t.BarColon ∷ g.SerialNode ∷ g.Take t.Bar ∷ g.Choices ∷ g.OutConformityBrief ∷ g.Close k.Conformity ∷ g.Close k.Out ∷ []) else (if c2 then (g.Take t.Bar ∷ g.Begin ∷ g.SerialNode ∷ g.Close k.Out ∷ []) else (([])))) ≡ true
+out_conformity_brief_light : (c1 c2 : Bool) → is_lighter g.OutConformityBrief (if c1 then (g.Begin ∷ g.Begin ∷ g.Take t.BarColon ∷ g.EnquiryNode ∷ g.Take t.Bar ∷ g.Choices ∷ g.OutConformityBrief ∷ g.Close k.Conformity ∷ g.Close k.Out ∷ []) else (if c2 then (g.Take t.Bar ∷ g.Begin ∷ g.SerialNode ∷ g.Close k.Out ∷ []) else (([])))) ≡ true
 out_conformity_brief_light true c2 = refl
 out_conformity_brief_light false true = refl
 out_conformity_brief_light false false = refl
@@ -106,7 +119,7 @@ loop_to_light : (c1 : Bool) → is_lighter g.LoopTo (if c1 then (g.Take t.To ∷
 loop_to_light true = refl
 loop_to_light false = refl
 
-loop_while_light : (c1 : Bool) → is_lighter g.LoopWhile (if c1 then (g.Take t.While ∷ g.Begin ∷ g.SerialNode ∷ g.Close k.While ∷ g.Opens b.Do ∷ g.SerialNode ∷ g.Closes b.Do ∷ []) else ((g.Opens b.Do ∷ g.SerialNode ∷ g.Closes b.Do ∷ []))) ≡ true
+loop_while_light : (c1 : Bool) → is_lighter g.LoopWhile (if c1 then (g.Take t.While ∷ g.Begin ∷ g.EnquiryNode ∷ g.Close k.While ∷ g.Opens b.Do ∷ g.SerialNode ∷ g.Closes b.Do ∷ []) else ((g.Opens b.Do ∷ g.SerialNode ∷ g.Closes b.Do ∷ []))) ≡ true
 loop_while_light true = refl
 loop_while_light false = refl
 
@@ -118,22 +131,43 @@ spec_tag_light : (c1 : Bool) → is_lighter g.SpecTag (if c1 then (g.Begin ∷ g
 spec_tag_light true = refl
 spec_tag_light false = refl
 
-serial_light : (c1 : Bool) → is_lighter g.Serial (if c1 then (g.Declaration ∷ g.Take t.Semicolon ∷ g.Serial ∷ []) else ((g.Unit ∷ g.SerialTail ∷ []))) ≡ true
-serial_light true = refl
-serial_light false = refl
+serial_light : (c1 c2 : Bool) → is_lighter g.Serial (if c1 then (g.Labelled ∷ []) else (if c2 then (g.Declaration ∷ g.Take t.Semicolon ∷ g.Serial ∷ []) else ((g.Unit ∷ g.SerialTail ∷ [])))) ≡ true
+serial_light true c2 = refl
+serial_light false true = refl
+serial_light false false = refl
 
-serial_tail_light : (c1 : Bool) → is_lighter g.SerialTail (if c1 then (g.Take t.Semicolon ∷ g.Serial ∷ []) else (([]))) ≡ true
-serial_tail_light true = refl
-serial_tail_light false = refl
+serial_tail_light : (c1 c2 : Bool) → is_lighter g.SerialTail (if c1 then (g.Take t.Semicolon ∷ g.Serial ∷ []) else (if c2 then (g.Begin ∷ g.Take t.Exit ∷ g.Close k.Exit ∷ g.Labelled ∷ []) else (([])))) ≡ true
+serial_tail_light true c2 = refl
+serial_tail_light false true = refl
+serial_tail_light false false = refl
+
+steps_light : (c1 : Bool) → is_lighter g.Steps (if c1 then (g.Labelled ∷ []) else ((g.Unit ∷ g.StepsTail ∷ []))) ≡ true
+steps_light true = refl
+steps_light false = refl
+
+steps_tail_light : (c1 c2 : Bool) → is_lighter g.StepsTail (if c1 then (g.Take t.Semicolon ∷ g.Steps ∷ []) else (if c2 then (g.Begin ∷ g.Take t.Exit ∷ g.Close k.Exit ∷ g.Labelled ∷ []) else (([])))) ≡ true
+steps_tail_light true c2 = refl
+steps_tail_light false true = refl
+steps_tail_light false false = refl
+
+enquiry_light : (c1 : Bool) → is_lighter g.Enquiry (if c1 then (g.Declaration ∷ g.Take t.Semicolon ∷ g.Enquiry ∷ []) else ((g.Unit ∷ g.EnquiryTail ∷ []))) ≡ true
+enquiry_light true = refl
+enquiry_light false = refl
+
+enquiry_tail_light : (c1 : Bool) → is_lighter g.EnquiryTail (if c1 then (g.Take t.Semicolon ∷ g.Enquiry ∷ []) else (([]))) ≡ true
+enquiry_tail_light true = refl
+enquiry_tail_light false = refl
 
 units_tail_light : (c1 : Bool) → is_lighter g.UnitsTail (if c1 then (g.Take t.Comma ∷ g.Units ∷ []) else (([]))) ≡ true
 units_tail_light true = refl
 units_tail_light false = refl
 
-unit_light : (c1 c2 : Bool) → is_lighter g.Unit (if c1 then (g.Begin ∷ g.Take t.Skip ∷ g.Close k.Skip ∷ []) else (if c2 then (g.Begin ∷ g.Routine ∷ g.Close k.RoutineText ∷ []) else ((g.Begin ∷ g.Tertiary ∷ g.UnitTail ∷ g.Leave ∷ [])))) ≡ true
-unit_light true c2 = refl
-unit_light false true = refl
-unit_light false false = refl
+unit_light : (c1 c2 c3 c4 : Bool) → is_lighter g.Unit (if c1 then (g.Begin ∷ g.Take t.Skip ∷ g.Close k.Skip ∷ []) else (if c2 then (g.Begin ∷ g.Take t.Go ∷ g.Take t.To ∷ g.Take t.Tag ∷ g.Leap ∷ []) else (if c3 then (g.Begin ∷ g.Take t.Goto ∷ g.Take t.Tag ∷ g.Leap ∷ []) else (if c4 then (g.Begin ∷ g.Routine ∷ g.Close k.RoutineText ∷ []) else ((g.Begin ∷ g.Tertiary ∷ g.UnitTail ∷ g.Leave ∷ [])))))) ≡ true
+unit_light true c2 c3 c4 = refl
+unit_light false true c3 c4 = refl
+unit_light false false true c4 = refl
+unit_light false false false true = refl
+unit_light false false false false = refl
 
 unit_tail_light : (c1 c2 c3 : Bool) → is_lighter g.UnitTail (if c1 then (g.Take t.Becomes ∷ g.Unit ∷ g.Wrap k.Assignation ∷ []) else (if c2 then (g.Take t.Is ∷ g.Begin ∷ g.Tertiary ∷ g.Leave ∷ g.Relate ∷ []) else (if c3 then (g.Take t.Isnt ∷ g.Begin ∷ g.Tertiary ∷ g.Leave ∷ g.Relate ∷ []) else (([]))))) ≡ true
 unit_tail_light true c2 c3 = refl
@@ -308,12 +342,15 @@ more_light x false = refl
 
 pub lighter_on : (goal : Goal) (text : List Sym) → OnGoals (expand goal text) (λ goals. is_lighter goal goals ≡ true)
 lighter_on g.Enclosed text = enclosed_light (starts (Opens b.Round) text) (starts (Opens b.Begin) text) (starts (Is t.Par) text) (starts (Opens b.If) text) (starts (Opens b.Case) text) (starts (Is t.For) text)
-lighter_on g.Brief text = brief_light (starts (Closes b.Round) text) (phrase_ahead text)
+lighter_on g.Brief text = brief_light (starts (Closes b.Round) text) (label_ahead text) (phrase_ahead text)
 lighter_on g.BriefUnit text = brief_unit_light (starts (Is t.Comma) text)
+lighter_on g.BriefTail text = brief_tail_light (starts (Is t.Semicolon) text) (starts (Is t.Exit) text)
+lighter_on g.BriefSteps text = brief_steps_light (label_ahead text) (phrase_ahead text)
+lighter_on g.BriefLabelled text = refl
 lighter_on g.BriefEnd text = brief_end_light (starts (Is t.Bar) text)
-lighter_on g.BriefChoice text = brief_choice_light (spec_ahead text) (phrase_ahead text)
+lighter_on g.BriefChoice text = brief_choice_light (spec_ahead text) (label_ahead text) (phrase_ahead text)
 lighter_on g.BriefChosen text = brief_chosen_light (starts (Is t.Comma) text)
-lighter_on g.Block text = block_light (starts (Closes b.Begin) text) (phrase_ahead text)
+lighter_on g.Block text = block_light (starts (Closes b.Begin) text) (label_ahead text) (phrase_ahead text)
 lighter_on g.BlockUnit text = block_unit_light (starts (Is t.Comma) text)
 lighter_on g.Parallel text = parallel_light (starts (Opens b.Round) text)
 lighter_on g.CaseChoice text = case_choice_light (spec_ahead text)
@@ -332,11 +369,17 @@ lighter_on g.ChoicesTail text = choices_tail_light (starts (Is t.Comma) text)
 lighter_on g.ChoiceSpec text = refl
 lighter_on g.SpecTag text = spec_tag_light (starts (Is t.Tag) text)
 lighter_on g.SerialNode text = refl
-lighter_on g.Serial text = serial_light (phrase_ahead text)
-lighter_on g.SerialTail text = serial_tail_light (starts (Is t.Semicolon) text)
+lighter_on g.Serial text = serial_light (label_ahead text) (phrase_ahead text)
+lighter_on g.SerialTail text = serial_tail_light (starts (Is t.Semicolon) text) (starts (Is t.Exit) text)
+lighter_on g.Labelled text = refl
+lighter_on g.Steps text = steps_light (label_ahead text)
+lighter_on g.StepsTail text = steps_tail_light (starts (Is t.Semicolon) text) (starts (Is t.Exit) text)
+lighter_on g.EnquiryNode text = refl
+lighter_on g.Enquiry text = enquiry_light (phrase_ahead text)
+lighter_on g.EnquiryTail text = enquiry_tail_light (starts (Is t.Semicolon) text)
 lighter_on g.Units text = refl
 lighter_on g.UnitsTail text = units_tail_light (starts (Is t.Comma) text)
-lighter_on g.Unit text = unit_light (starts (Is t.Skip) text) (routine_ahead text)
+lighter_on g.Unit text = unit_light (starts (Is t.Skip) text) (starts (Is t.Go) text) (starts (Is t.Goto) text) (routine_ahead text)
 lighter_on g.UnitTail text = unit_tail_light (starts (Is t.Becomes) text) (starts (Is t.Is) text) (starts (Is t.Isnt) text)
 lighter_on g.Routine text = routine_light (starts (Opens b.Round) text)
 lighter_on g.RoutineResult text = routine_result_light (starts (Is t.Void) text)

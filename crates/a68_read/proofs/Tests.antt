@@ -8,7 +8,7 @@ use Rattle.a68_symbols.specs.declared.sym.Sym.{Sym}
 use Rattle.a68_symbols.specs.declared.sym.Sym.TheVariants.{Opens, Closes, Is}
 use Rattle.a68_tree.specs.Forest.{Forest, spells}
 use Rattle.a68_tree.specs.Grammar as gr
-use Rattle.a68_lookahead.specs.Symbols.{Follows, next, starts, starts_pair, is_monadic, is_operator, is_denotation, is_declarer, ends_trimmer, ends_bound}
+use Rattle.a68_lookahead.specs.Symbols.{Follows, next, starts, starts_pair, label_ahead, is_monadic, is_operator, is_denotation, is_declarer, ends_trimmer, ends_bound}
 use Rattle.a68_lookahead.specs.Sets as set
 use Rattle.a68_lookahead.proofs.Firsts as first
 use Rattle.a68_lookahead.proofs.Firsts.{no_first, no_next, no_first_pair}
@@ -159,11 +159,75 @@ pub at_unit : {f : Forest} {r : List Sym} → gr.IsAt f → EndsPlace r → Foll
 at_unit (gr.at_ p) o = next refl
 at_unit gr.no_at o = place_unit o
 
+-- ---- labels
+
+-- a unit begins with a tag and a colon only where it is a tag before a colon
+primary_unlabelled : {j : NodeKind} {u : Forest} → gr.IsPrimary j u → (r : List Sym) → starts (Is t.Colon) r ≡ false → label_ahead (spells u r) ≡ false
+primary_unlabelled (gr.slice {i = i} p l) r o = primary_unlabelled p (Opens b.Square ∷ spells i (Closes b.Square ∷ r)) refl
+primary_unlabelled (gr.call {f = f} p l) r o = primary_unlabelled p (Opens b.Round ∷ spells f (Closes b.Round ∷ r)) refl
+primary_unlabelled (gr.cast {u = u} p q) r o = no_first_pair set.begins_declarer (Is t.Tag) (Is t.Colon) refl (first.first_declarer p (spells u r))
+primary_unlabelled (gr.cast_void p) r o = refl
+primary_unlabelled gr.tag r o = o
+primary_unlabelled (gr.denotation gr.denotation_digit) r o = refl
+primary_unlabelled (gr.denotation gr.denotation_number) r o = refl
+primary_unlabelled (gr.denotation gr.denotation_bits) r o = refl
+primary_unlabelled (gr.denotation gr.denotation_quoted) r o = refl
+primary_unlabelled (gr.denotation gr.denotation_true) r o = refl
+primary_unlabelled (gr.denotation gr.denotation_false) r o = refl
+primary_unlabelled (gr.long_denotation p) r o = refl
+primary_unlabelled (gr.enclosed p) r o = no_first_pair set.begins_enclosed (Is t.Tag) (Is t.Colon) refl (first.first_enclosed p r)
+
+secondary_unlabelled : {j : NodeKind} {u : Forest} → gr.IsSecondary j u → (r : List Sym) → starts (Is t.Colon) r ≡ false → label_ahead (spells u r) ≡ false
+secondary_unlabelled (gr.selection p) r o = refl
+secondary_unlabelled (gr.generator_loc p) r o = refl
+secondary_unlabelled (gr.generator_heap p) r o = refl
+secondary_unlabelled (gr.primary p) r o = primary_unlabelled p r o
+
+sign_no_colon : {s : Token} → gr.IsSign s → (r : List Sym) → starts (Is t.Colon) (Is s ∷ r) ≡ false
+sign_no_colon (gr.sign_monadic gr.monadic_plus) r = refl
+sign_no_colon (gr.sign_monadic gr.monadic_minus) r = refl
+sign_no_colon (gr.sign_monadic gr.monadic_other) r = refl
+sign_no_colon gr.sign_times r = refl
+sign_no_colon gr.sign_equals r = refl
+sign_no_colon gr.sign_differs r = refl
+sign_no_colon gr.sign_less r = refl
+sign_no_colon gr.sign_at_most r = refl
+sign_no_colon gr.sign_greater r = refl
+sign_no_colon gr.sign_at_least r = refl
+sign_no_colon gr.sign_other r = refl
+
+tertiary_unlabelled : {j : NodeKind} {u : Forest} → gr.IsTertiary j u → (r : List Sym) → starts (Is t.Colon) r ≡ false → label_ahead (spells u r) ≡ false
+tertiary_unlabelled gr.nil r o = refl
+tertiary_unlabelled (gr.monadic gr.monadic_plus q) r o = refl
+tertiary_unlabelled (gr.monadic gr.monadic_minus q) r o = refl
+tertiary_unlabelled (gr.monadic gr.monadic_other q) r o = refl
+tertiary_unlabelled (gr.dyadic {s = s} {f = f} p q l) r o = secondary_unlabelled p (Is s ∷ spells f r) (sign_no_colon q (spells f r))
+tertiary_unlabelled (gr.secondary p) r o = secondary_unlabelled p r o
+
+pub unit_unlabelled : {j : NodeKind} {u : Forest} → gr.IsUnit j u → (r : List Sym) → starts (Is t.Colon) r ≡ false → label_ahead (spells u r) ≡ false
+unit_unlabelled (gr.assignation {u = u} p q) r o = tertiary_unlabelled p (Is t.Becomes ∷ spells u r) refl
+unit_unlabelled (gr.identity_is {u = u} p q) r o = tertiary_unlabelled p (Is t.Is ∷ spells u r) refl
+unit_unlabelled (gr.identity_isnt {u = u} p q) r o = tertiary_unlabelled p (Is t.Isnt ∷ spells u r) refl
+unit_unlabelled (gr.routine (gr.routine_params p q)) r o = refl
+unit_unlabelled (gr.routine (gr.routine_plain p)) r o = no_first_pair set.begins_result (Is t.Tag) (Is t.Colon) refl (first.first_result p r)
+unit_unlabelled gr.skip r o = refl
+unit_unlabelled gr.go_to r o = refl
+unit_unlabelled gr.goto_ r o = refl
+unit_unlabelled (gr.tertiary p) r o = tertiary_unlabelled p r o
+
 -- ---- routine texts
 
 pub routine_no_skip : {f : Forest} → gr.IsRoutine f → (r : List Sym) → starts (Is t.Skip) (spells f r) ≡ false
 routine_no_skip (gr.routine_params p q) r = refl
 routine_no_skip (gr.routine_plain p) r = no_first set.begins_result (Is t.Skip) refl (first.first_result p r)
+
+pub routine_no_go : {f : Forest} → gr.IsRoutine f → (r : List Sym) → starts (Is t.Go) (spells f r) ≡ false
+routine_no_go (gr.routine_params p q) r = refl
+routine_no_go (gr.routine_plain p) r = no_first set.begins_result (Is t.Go) refl (first.first_result p r)
+
+pub routine_no_goto : {f : Forest} → gr.IsRoutine f → (r : List Sym) → starts (Is t.Goto) (spells f r) ≡ false
+routine_no_goto (gr.routine_params p q) r = refl
+routine_no_goto (gr.routine_plain p) r = no_first set.begins_result (Is t.Goto) refl (first.first_result p r)
 
 pub yield_no_bracket : {f : Forest} → gr.IsYield f → (r : List Sym) → starts (Opens b.Round) (spells f r) ≡ false
 yield_no_bracket (gr.yield_ p) r = no_first set.begins_declarer (Opens b.Round) refl (first.first_declarer p r)

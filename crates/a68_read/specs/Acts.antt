@@ -10,6 +10,7 @@ is_acting g.Leave = true
 is_acting (g.Wrap j) = true
 is_acting g.Relate = true
 is_acting g.WrapLong = true
+is_acting g.Leap = true
 is_acting (g.Close j) = true
 is_acting (g.SetAside j) = true
 is_acting g.Share = true

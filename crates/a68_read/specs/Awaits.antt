@@ -10,14 +10,14 @@ use Rattle.a68_symbols.specs.declared.sym.Token.TheVariants as t
 use Rattle.a68_symbols.specs.declared.sym.Sym.{Sym}
 use Rattle.a68_symbols.specs.declared.sym.Sym.TheVariants.{Opens, Closes, Is}
 use Rattle.a68_tree.specs.Forest.{Forest, end, mark, group, part, sign, aside, shared, forget, joined, spells, Single, Several}
-use Rattle.a68_tree.specs.Grammar.{IsMonadic, IsSign, IsDenotation, IsPlain, IsClosing, IsEnclosed, IsElse, IsElseBrief, IsOut, IsOutBrief, IsOutC, IsOutCBrief, IsFrom, IsBy, IsTo, IsWhile, IsChoices, IsSpec, IsSerial, IsUnits, IsUnit, IsRoutine, IsResult, IsParams, IsTags, IsTertiary, IsOperands, IsSecondary, IsIndexes, IsIndex, IsTrimmer, IsAt, IsDeclarer, IsYield, IsDeclarers, IsBounds, IsBound, IsDeclaration, IsPlan}
+use Rattle.a68_tree.specs.Grammar.{IsMonadic, IsSign, IsDenotation, IsPlain, IsClosing, IsEnclosed, IsElse, IsElseBrief, IsOut, IsOutBrief, IsOutC, IsOutCBrief, IsFrom, IsBy, IsTo, IsWhile, IsChoices, IsSpec, IsSerial, IsLabelled, IsSteps, IsEnquiry, IsUnits, IsUnit, IsRoutine, IsResult, IsParams, IsTags, IsTertiary, IsOperands, IsSecondary, IsIndexes, IsIndex, IsTrimmer, IsAt, IsDeclarer, IsYield, IsDeclarers, IsBounds, IsBound, IsDeclaration, IsPlan}
 use Rattle.a68_lookahead.specs.Symbols.{Follows}
 use Rattle.a68_lookahead.specs.Sets as set
 use Rattle.a68_nodes.specs.Stack.{Layer, node, inside, put}
 use Rattle.a68_unit_productions.specs.declared.goal.Goal.{Goal}
 use Rattle.a68_unit_productions.specs.declared.goal.Goal.TheVariants as g
 use Rattle.a68_unit_productions.specs.declared.goal.Defining.TheVariants as d
-use Rattle.a68_read.specs.Middles.{IsCommaTail, IsSerialTail, IsOperandsTail, IsSpecTag, IsInitial, IsPlanTail, IsTagsMore, IsProcedurePlan, IsBase, InChoice, AfterSerial, InBrief, InBlock, InCase, UnitRest, IsDefinition, AreJoinedDefinitions, IsTail, IsMore}
+use Rattle.a68_read.specs.Middles.{IsCommaTail, IsSerialTail, IsStepsTail, IsEnquiryTail, IsOperandsTail, IsSpecTag, IsInitial, IsPlanTail, IsTagsMore, IsProcedurePlan, IsBase, InChoice, AfterSerial, InBrief, InBlock, InCase, UnitRest, IsDefinition, AreJoinedDefinitions, IsTail, IsMore}
 
 -- what is said of a stack of layers and of the text that is left
 abbrev pub Awaited : Type 1
@@ -114,16 +114,28 @@ pub data AwaitsWithin (c : Bracket) (P : NodeKind → Forest → Type 0) (K : Aw
   rest_within : {i n : Layer} {S : List Layer} {j : NodeKind} {f : Forest} {r : List Sym} → P j f
       → K (node (part j (group c (joined i.forest f) end) end) ∷ S) r → AwaitsWithin c P K (i ∷ n ∷ S) (spells f (Closes c ∷ r))
 
--- behind a serial clause between BEGIN and END
-pub data BlockEnds : NodeKind → Forest → Type 0 where
-  block_ends : BlockEnds k.Closed end
+-- the rest of a serial clause between BEGIN and END
+pub data AwaitsBlock (K : Awaited) : List Layer → List Sym → Type 0 where
+  block_ends : {x i n : Layer} {S : List Layer} {y : Forest} {r : List Sym} → IsSerialTail y
+      → K (node (part k.Closed (group b.Begin (part k.Serial (joined x.forest y) end) end) end) ∷ S) r → AwaitsBlock K (x ∷ i ∷ n ∷ S) (spells y (Closes b.Begin ∷ r))
 
--- the rest behind a first unit: more units, or the rest of a serial clause
-pub data AwaitsUnit (c : Bracket) (P : NodeKind → Forest → Type 0) (K : Awaited) : List Layer → List Sym → Type 0 where
+-- the rest of a serial clause between `(` and `)` in which no label has come: of the form P up to `)`, or of the form Q up to
+-- a bar, where it is an enquiry
+pub data AwaitsBrief (P Q : Forest → Type 0) (K : Awaited) : List Layer → List Sym → Type 0 where
+  brief_ends : {x i n : Layer} {S : List Layer} {y : Forest} {r : List Sym} → P y
+      → K (node (part k.Closed (group b.Round (part k.Serial (joined x.forest y) end) end) end) ∷ S) r → AwaitsBrief P Q K (x ∷ i ∷ n ∷ S) (spells y (Closes b.Round ∷ r))
+  brief_goes : {x i n : Layer} {S : List Layer} {j : NodeKind} {y f : Forest} {r : List Sym} → Q y → InChoice j f
+      → K (node (part j (group b.Round (part k.Serial (joined x.forest y) (mark t.Bar f)) end) end) ∷ S) r → AwaitsBrief P Q K (x ∷ i ∷ n ∷ S) (spells y (Is t.Bar ∷ spells f (Closes b.Round ∷ r)))
+
+-- the bracket behind a serial clause with labels
+pub data AwaitsLabelled (K : Awaited) : List Layer → List Sym → Type 0 where
+  labelled_ends : {x i n : Layer} {S : List Layer} {r : List Sym} → K (node (part k.Closed (group b.Round (part k.Serial x.forest end) end) end) ∷ S) r → AwaitsLabelled K (x ∷ i ∷ n ∷ S) (Closes b.Round ∷ r)
+
+-- the rest behind a first unit: more units, or the rest R of a serial clause
+pub data AwaitsUnit (c : Bracket) (R K : Awaited) : List Layer → List Sym → Type 0 where
   unit_comma : {x i n : Layer} {S : List Layer} {f : Forest} {r : List Sym} → IsUnits f
-      → K (node (part k.Collateral (group c (joined x.forest (mark t.Comma f)) end) end) ∷ S) r → AwaitsUnit c P K (x ∷ i ∷ n ∷ S) (Is t.Comma ∷ spells f (Closes c ∷ r))
-  unit_serial : {x i n : Layer} {S : List Layer} {j : NodeKind} {y f : Forest} {r : List Sym} → IsSerialTail y → P j f
-      → K (node (part j (group c (part k.Serial (joined x.forest y) f) end) end) ∷ S) r → AwaitsUnit c P K (x ∷ i ∷ n ∷ S) (spells y (spells f (Closes c ∷ r)))
+      → K (node (part k.Collateral (group c (joined x.forest (mark t.Comma f)) end) end) ∷ S) r → AwaitsUnit c R K (x ∷ i ∷ n ∷ S) (Is t.Comma ∷ spells f (Closes c ∷ r))
+  unit_serial : {S : List Layer} {text : List Sym} → R S text → AwaitsUnit c R K S text
 
 pub data AwaitsChosen (K : Awaited) : List Layer → List Sym → Type 0 where
   chosen_comma : {x i n : Layer} {S : List Layer} {f e : Forest} {r : List Sym} → IsUnits f → IsOutBrief e
@@ -204,6 +216,7 @@ awaits g.Leave K S x = awaits_leave K S x
 awaits (g.Wrap j) K S x = awaits_wrap j K S x
 awaits g.Relate K S x = awaits_wrap k.Identity K S x
 awaits g.WrapLong K S x = awaits_wrap k.LongDenotation K S x
+awaits g.Leap K S x = awaits_close k.GoTo K S x
 awaits (g.Close j) K S x = awaits_close j K S x
 awaits (g.SetAside j) K S x = awaits_aside j K S x
 awaits g.Share K S x = awaits_put (shared end) K S x
@@ -211,12 +224,15 @@ awaits g.Forget K S x = awaits_put (forget end) K S x
 awaits g.Join K S x = AwaitsJoin K S x
 awaits g.Enclosed K S x = TurnsFree IsEnclosed K S x
 awaits g.Brief K S x = AwaitsWithin b.Round InBrief K S x
-awaits g.BriefUnit K S x = AwaitsUnit b.Round AfterSerial K S x
+awaits g.BriefUnit K S x = AwaitsUnit b.Round (AwaitsBrief IsSerialTail IsEnquiryTail K) K S x
+awaits g.BriefTail K S x = AwaitsBrief IsSerialTail IsEnquiryTail K S x
+awaits g.BriefSteps K S x = AwaitsBrief IsSerial IsEnquiry K S x
+awaits g.BriefLabelled K S x = AwaitsLabelled K S x
 awaits g.BriefEnd K S x = AwaitsWithin b.Round AfterSerial K S x
 awaits g.BriefChoice K S x = AwaitsWithin b.Round InChoice K S x
 awaits g.BriefChosen K S x = AwaitsChosen K S x
 awaits g.Block K S x = AwaitsWithin b.Begin InBlock K S x
-awaits g.BlockUnit K S x = AwaitsUnit b.Begin BlockEnds K S x
+awaits g.BlockUnit K S x = AwaitsUnit b.Begin (AwaitsBlock K) K S x
 awaits g.Parallel K S x = AwaitsParallel K S x
 awaits g.CaseChoice K S x = AwaitsWithin b.Case InCase K S x
 awaits g.ElsePart K S x = Reads IsElse set.closes K S x
@@ -236,6 +252,12 @@ awaits g.SpecTag K S x = Reads IsSpecTag set.closes K S x
 awaits g.SerialNode K S x = ReadsPart k.Serial IsSerial set.ends_clause K S x
 awaits g.Serial K S x = Reads IsSerial set.ends_clause K S x
 awaits g.SerialTail K S x = Reads IsSerialTail set.ends_clause K S x
+awaits g.Labelled K S x = Reads IsLabelled set.ends_clause K S x
+awaits g.Steps K S x = Reads IsSteps set.ends_clause K S x
+awaits g.StepsTail K S x = Reads IsStepsTail set.ends_clause K S x
+awaits g.EnquiryNode K S x = ReadsPart k.Serial IsEnquiry set.ends_clause K S x
+awaits g.Enquiry K S x = Reads IsEnquiry set.ends_clause K S x
+awaits g.EnquiryTail K S x = Reads IsEnquiryTail set.ends_clause K S x
 awaits g.Units K S x = Reads IsUnits set.ends_clause K S x
 awaits g.UnitsTail K S x = Reads (IsCommaTail IsUnits) set.ends_clause K S x
 awaits g.Unit K S x = ReadsNode IsUnit set.ends_unit K S x

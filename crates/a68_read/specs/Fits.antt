@@ -7,13 +7,13 @@ use Rattle.a68_symbols.specs.declared.sym.Bracket.{Bracket}
 use Rattle.a68_symbols.specs.declared.sym.Bracket.TheVariants as b
 use Rattle.a68_symbols.specs.declared.sym.Token.{Token}
 use Rattle.a68_symbols.specs.declared.sym.Token.TheVariants as t
-use Rattle.a68_tree.specs.Forest.{Forest, end, mark, group, part, sign, aside, shared, forget, Single, Several}
-use Rattle.a68_tree.specs.Grammar.{IsMonadic, IsSign, IsDenotation, IsPlain, IsEnclosed, IsElse, IsElseBrief, IsOut, IsOutBrief, IsOutC, IsOutCBrief, IsFrom, IsBy, IsTo, IsWhile, IsChoices, IsSpec, IsSerial, IsUnits, IsUnit, IsRoutine, IsResult, IsParams, IsTags, IsTertiary, IsOperands, IsSecondary, IsPrimary, IsIndexes, IsIndex, IsTrimmer, IsAt, IsDeclarer, IsYield, IsDeclarers, IsBounds, IsBound, IsDeclaration, IsDefinitions, IsPlan}
+use Rattle.a68_tree.specs.Forest.{Forest, end, mark, group, part, sign, aside, shared, forget, joined, Single, Several}
+use Rattle.a68_tree.specs.Grammar.{IsMonadic, IsSign, IsDenotation, IsPlain, IsEnclosed, IsElse, IsElseBrief, IsOut, IsOutBrief, IsOutC, IsOutCBrief, IsFrom, IsBy, IsTo, IsWhile, IsChoices, IsSpec, IsSerial, IsLabelled, IsSteps, IsEnquiry, IsUnits, IsUnit, IsRoutine, IsResult, IsParams, IsTags, IsTertiary, IsOperands, IsSecondary, IsPrimary, IsIndexes, IsIndex, IsTrimmer, IsAt, IsDeclarer, IsYield, IsDeclarers, IsBounds, IsBound, IsDeclaration, IsDefinitions, IsPlan}
 use Rattle.a68_nodes.specs.Closing.{names_first}
 use Rattle.a68_nodes.specs.Stack.{Layer, node, inside, put}
 use Rattle.a68_unit_productions.specs.declared.goal.Goal.{Goal}
 use Rattle.a68_unit_productions.specs.declared.goal.Goal.TheVariants as g
-use Rattle.a68_read.specs.Middles.{IsCommaTail, IsSerialTail, IsOperandsTail, IsSpecTag, IsInitial, IsPlanTail, IsTagsMore, IsProcedurePlan, IsBase, IsDefinition, IsTail, IsMore}
+use Rattle.a68_read.specs.Middles.{IsCommaTail, IsSerialTail, IsStepsTail, IsEnquiryTail, IsOperandsTail, IsSpecTag, IsInitial, IsPlanTail, IsTagsMore, IsProcedurePlan, IsBase, IsDefinition, IsTail, IsMore}
 
 -- what is said of a stack of layers
 abbrev pub Shape : Type 1
@@ -62,6 +62,11 @@ fits_relate K (x ∷ S) = (x.bracket ≡ None) × HasFirst x.forest × K (node (
 abbrev pub fits_long : Shape → Shape
 fits_long K [] = ⊥
 fits_long K (x ∷ S) = (x.bracket ≡ None) × HasMark x.forest × K (node (part k.LongDenotation x.forest end) ∷ S)
+
+abbrev pub fits_leap : Shape → Shape
+fits_leap K [] = ⊥
+fits_leap K (x ∷ []) = ⊥
+fits_leap K (x ∷ l ∷ S) = (x.bracket ≡ None) × K (put l (part k.GoTo x.forest end) ∷ S)
 
 abbrev pub fits_close : NodeKind → Shape → Shape
 fits_close j K [] = ⊥
@@ -125,13 +130,23 @@ pub data Within (c : Bracket) (K : Shape) : List Layer → Type 0 where
 pub data WithinUnit (c : Bracket) (K : Shape) : List Layer → Type 0 where
   within_unit : {j : NodeKind} {u : Forest} {S : List Layer} → IsUnit j u → Ends IsEnclosed K S → WithinUnit c K (node (part j u end) ∷ inside c end ∷ node end ∷ S)
 
--- behind a serial clause, and perhaps a symbol
-pub data WithinSerial (c : Bracket) (more : Forest) (K : Shape) : List Layer → Type 0 where
-  within_serial : {a : Forest} {S : List Layer} → IsSerial a → Ends IsEnclosed K S → WithinSerial c more K (inside c (part k.Serial a more) ∷ node end ∷ S)
+-- Behind `(`, where no label has come: behind phrases, each with its semicolon, or behind such phrases and a unit. What has
+-- been read goes on as a serial clause, and as an enquiry.
+pub data WithinSteps (P Q : Forest → Type 0) (K : Shape) : List Layer → Type 0 where
+  within_steps : {x : Forest} {S : List Layer} → ((a : Forest) → P a → IsSerial (joined x a)) → ((a : Forest) → Q a → IsEnquiry (joined x a)) → Ends IsEnclosed K S
+      → WithinSteps P Q K (node x ∷ inside b.Round end ∷ node end ∷ S)
 
--- behind a serial clause, a bar and a unit
+-- behind `(` and a serial clause with labels
+pub data WithinLabelled (K : Shape) : List Layer → Type 0 where
+  within_labelled : {x : Forest} {S : List Layer} → IsSerial x → Ends IsEnclosed K S → WithinLabelled K (node x ∷ inside b.Round end ∷ node end ∷ S)
+
+-- behind an enquiry, and perhaps a symbol
+pub data WithinEnquiry (c : Bracket) (more : Forest) (K : Shape) : List Layer → Type 0 where
+  within_enquiry : {a : Forest} {S : List Layer} → IsEnquiry a → Ends IsEnclosed K S → WithinEnquiry c more K (inside c (part k.Serial a more) ∷ node end ∷ S)
+
+-- behind an enquiry, a bar and a unit
 pub data WithinChosen (K : Shape) : List Layer → Type 0 where
-  within_chosen : {j : NodeKind} {a u : Forest} {S : List Layer} → IsSerial a → IsUnit j u → Ends IsEnclosed K S
+  within_chosen : {j : NodeKind} {a u : Forest} {S : List Layer} → IsEnquiry a → IsUnit j u → Ends IsEnclosed K S
       → WithinChosen K (node (part j u end) ∷ inside b.Round (part k.Serial a (mark t.Bar end)) ∷ node end ∷ S)
 
 -- behind PAR
@@ -160,6 +175,7 @@ fits g.Leave K S = fits_leave K S
 fits (g.Wrap j) K S = fits_wrap j K S
 fits g.Relate K S = fits_relate K S
 fits g.WrapLong K S = fits_long K S
+fits g.Leap K S = fits_leap K S
 fits (g.Close j) K S = fits_close j K S
 fits (g.SetAside j) K S = fits_aside j K S
 fits g.Share K S = fits_put (shared end) K S
@@ -168,13 +184,16 @@ fits g.Join K S = FitsJoin K S
 fits g.Enclosed K S = Fresh IsEnclosed K S
 fits g.Brief K S = Within b.Round K S
 fits g.BriefUnit K S = WithinUnit b.Round K S
-fits g.BriefEnd K S = WithinSerial b.Round end K S
-fits g.BriefChoice K S = WithinSerial b.Round (mark t.Bar end) K S
+fits g.BriefTail K S = WithinSteps IsSerialTail IsEnquiryTail K S
+fits g.BriefSteps K S = WithinSteps IsSerial IsEnquiry K S
+fits g.BriefLabelled K S = WithinLabelled K S
+fits g.BriefEnd K S = WithinEnquiry b.Round end K S
+fits g.BriefChoice K S = WithinEnquiry b.Round (mark t.Bar end) K S
 fits g.BriefChosen K S = WithinChosen K S
 fits g.Block K S = Within b.Begin K S
 fits g.BlockUnit K S = WithinUnit b.Begin K S
 fits g.Parallel K S = WithinParallel K S
-fits g.CaseChoice K S = WithinSerial b.Case (mark t.In end) K S
+fits g.CaseChoice K S = WithinEnquiry b.Case (mark t.In end) K S
 fits g.ElsePart K S = Puts IsElse K S
 fits g.ElseBrief K S = Puts IsElseBrief K S
 fits g.OutCase K S = Puts IsOut K S
@@ -192,6 +211,12 @@ fits g.SpecTag K S = Puts IsSpecTag K S
 fits g.SerialNode K S = PutsPart k.Serial IsSerial K S
 fits g.Serial K S = Puts IsSerial K S
 fits g.SerialTail K S = Puts IsSerialTail K S
+fits g.Labelled K S = Puts IsLabelled K S
+fits g.Steps K S = Puts IsSteps K S
+fits g.StepsTail K S = Puts IsStepsTail K S
+fits g.EnquiryNode K S = PutsPart k.Serial IsEnquiry K S
+fits g.Enquiry K S = Puts IsEnquiry K S
+fits g.EnquiryTail K S = Puts IsEnquiryTail K S
 fits g.Units K S = Puts IsUnits K S
 fits g.UnitsTail K S = Puts (IsCommaTail IsUnits) K S
 fits g.Unit K S = PutsNode IsUnit K S

@@ -6,7 +6,7 @@ use Rattle.a68_symbols.specs.declared.sym.Bracket.TheVariants as b
 use Rattle.a68_symbols.specs.declared.sym.Token.{Token}
 use Rattle.a68_symbols.specs.declared.sym.Token.TheVariants as t
 use Rattle.a68_tree.specs.Forest.{Forest, end, mark, group, part, sign, shared, forget, joined}
-use Rattle.a68_tree.specs.Grammar.{IsEnclosed, IsElseBrief, IsOut, IsOutBrief, IsOutC, IsOutCBrief, IsChoices, IsSerial, IsUnits2, IsUnit, IsRoutine, IsParams, IsTags, IsTertiary, IsOperands, IsDeclarer, IsDenotation, IsNumber, IsYield, IsDeclarers, IsDefinitions, IsSign}
+use Rattle.a68_tree.specs.Grammar.{IsEnclosed, IsElseBrief, IsOut, IsOutBrief, IsOutC, IsOutCBrief, IsChoices, IsSerial, IsLabelled, IsSteps, IsEnquiry, IsUnits2, IsUnit, IsRoutine, IsParams, IsTags, IsTertiary, IsOperands, IsDeclarer, IsDenotation, IsNumber, IsYield, IsDeclarers, IsDefinitions, IsSign}
 use Rattle.a68_unit_productions.specs.declared.goal.Defining.{Defining}
 use Rattle.a68_unit_productions.specs.declared.goal.Defining.TheVariants as d
 
@@ -17,10 +17,22 @@ pub data IsCommaTail (P : Forest → Type 0) : Forest → Type 0 where
   comma_end : IsCommaTail P end
   comma_on : {f : Forest} → P f → IsCommaTail P (mark t.Comma f)
 
--- [';' serial]
+-- [';' serial | EXIT labelled]
 pub data IsSerialTail : Forest → Type 0 where
   serial_end : IsSerialTail end
   serial_on : {f : Forest} → IsSerial f → IsSerialTail (mark t.Semicolon f)
+  serial_out : {f : Forest} → IsLabelled f → IsSerialTail (part k.Exit (mark t.Exit end) f)
+
+-- [';' steps | EXIT labelled]
+pub data IsStepsTail : Forest → Type 0 where
+  steps_end : IsStepsTail end
+  steps_on : {f : Forest} → IsSteps f → IsStepsTail (mark t.Semicolon f)
+  steps_out : {f : Forest} → IsLabelled f → IsStepsTail (part k.Exit (mark t.Exit end) f)
+
+-- [';' enquiry]
+pub data IsEnquiryTail : Forest → Type 0 where
+  enquiry_end : IsEnquiryTail end
+  enquiry_on : {f : Forest} → IsEnquiry f → IsEnquiryTail (mark t.Semicolon f)
 
 -- [sign operands]
 pub data IsOperandsTail : Forest → Type 0 where
@@ -60,7 +72,7 @@ pub data InChoice : NodeKind → Forest → Type 0 where
   choice_case : {f e : Forest} → IsUnits2 f → IsOutBrief e → InChoice k.Case (joined f e)
   choice_conformity : {f e : Forest} → IsChoices f → IsOutCBrief e → InChoice k.Conformity (joined f e)
 
--- behind `(` and a serial clause
+-- behind `(` and a serial clause that may be an enquiry
 pub data AfterSerial : NodeKind → Forest → Type 0 where
   serial_closes : AfterSerial k.Closed end
   serial_bar : {j : NodeKind} {g : Forest} → InChoice j g → AfterSerial j (mark t.Bar g)
@@ -69,7 +81,8 @@ pub data AfterSerial : NodeKind → Forest → Type 0 where
 pub data InBrief : NodeKind → Forest → Type 0 where
   brief_vacuum : InBrief k.Vacuum end
   brief_units : {f : Forest} → IsUnits2 f → InBrief k.Collateral f
-  brief_serial : {j : NodeKind} {a g : Forest} → IsSerial a → AfterSerial j g → InBrief j (part k.Serial a g)
+  brief_serial : {a : Forest} → IsSerial a → InBrief k.Closed (part k.Serial a end)
+  brief_enquiry : {j : NodeKind} {a g : Forest} → IsEnquiry a → InChoice j g → InBrief j (part k.Serial a (mark t.Bar g))
 
 -- between BEGIN and END
 pub data InBlock : NodeKind → Forest → Type 0 where

@@ -25,6 +25,15 @@ fn close(
     Ok(())
 }
 
+// A jump, and it is left.
+fn leap(alloc: Global, rest: &[Sym], drafting: &mut Drafting) -> Result<(), NoMemory>
+    ensures { OnOk result (IsDone g.Leap rest.now rest.now drafting.old drafting.new) }
+{
+    drafting.wrap_jump(alloc, rest)?;
+    drafting.leave();
+    Ok(())
+}
+
 // Several definitions become a node.
 fn join(alloc: Global, rest: &[Sym], drafting: &mut Drafting) -> Result<(), NoMemory>
     ensures { OnOk result (IsDone g.Join rest.now rest.now drafting.old drafting.new) }
@@ -48,6 +57,7 @@ pub fn act(alloc: Global, goal: Goal, rest: &[Sym], drafting: &mut Drafting) -> 
         Goal::Wrap(kind) => drafting.wrap(alloc, kind, rest),
         Goal::Relate => drafting.wrap_identity(alloc, rest),
         Goal::WrapLong => drafting.wrap_long(alloc, rest),
+        Goal::Leap => leap(alloc, rest, drafting),
         Goal::Close(kind) => close(alloc, kind, rest, drafting),
         Goal::SetAside(kind) => drafting.set_aside(alloc, kind, rest),
         Goal::Share => drafting.share(),

@@ -4,7 +4,7 @@ use Rattle.std.specs.Option.{option_map_or}
 use Rattle.a68_ranges.specs.Nodes.{parts_at, place_at}
 use Rattle.a68_refusals.specs.First.{Asked, Breaks, IsFirstRefused, coerced, itself, own_at, told_misfit, told_own}
 use Rattle.a68_refusals.specs.Order.{told_by}
-use Rattle.a68_refusals.specs.Rules.{is_operator_lacking, last_start, place_of, sign_of}
+use Rattle.a68_refusals.specs.Rules.{end_at, is_jump_astray, is_operator_lacking, last_start, place_behind, place_of, sign_of}
 use Rattle.a68_refusals.specs.declared.rule.NodeRule.{NodeRule}
 use Rattle.a68_refusals.specs.declared.turn.Broken.{Broken}
 use Rattle.a68_refusals.specs.declared.unit.Misfit.{Misfit}
@@ -34,8 +34,13 @@ module _ (tree : Built) (end : ℕ) (by : (id : ℕ) (n : Node) → slice_get tr
   sign_by n (l ∷ []) = place_by n
   sign_by n (l ∷ r ∷ q ∷ ps) = place_by n
 
+  behind_by : (n : ℕ) (rule : NodeRule) → place_behind tree n rule ≤ end
+  behind_by n rule =
+      one_of end (is_jump_astray rule) _ _
+      (start_by tree.starts starts (end_at tree n) 0 (omega arith)) (place_by n)
+
   own_by : (n : ℕ) (rule : NodeRule) → place_of tree n rule ≤ end
-  own_by n rule = one_of end (is_operator_lacking rule) _ _ (sign_by n (parts_at tree n)) (place_by n)
+  own_by n rule = one_of end (is_operator_lacking rule) _ _ (sign_by n (parts_at tree n)) (behind_by n rule)
 
   itself_by : (n : ℕ) (rule : Option NodeRule) (b : Broken) → told_own tree n rule ≡ Some b → b.place ≤ end
   itself_by n None b e = absurd (cc)

@@ -3,4 +3,5 @@ pub mod Descending
 pub mod Fitting
 pub mod Ones
 pub mod Ordering
+pub mod Preceding
 pub mod Walking

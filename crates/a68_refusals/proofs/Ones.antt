@@ -5,7 +5,7 @@ use Rattle.std.proofs.lemmas.Bool.Decides.{nat_tests}
 use Rattle.a68_refusals.proofs.Ordering.{less_below, less_equal, three}
 use Rattle.a68_refusals.specs.Order.{IsFirstOf, is_before, less, rank}
 use Rattle.a68_refusals.specs.declared.rule.NodeRule.{NodeRule}
-use Rattle.a68_refusals.specs.declared.rule.NodeRule.TheVariants.{N1, N4, O1, C1, C2, C3, P1, P2}
+use Rattle.a68_refusals.specs.declared.rule.NodeRule.TheVariants.{N1, N4, O1, C1, C2, C3, P1, P2, J1, J2}
 use Rattle.a68_refusals.specs.declared.turn.Broken.{Broken}
 
 -- neither of two numbers comes before the other
@@ -25,7 +25,7 @@ level_place : (a b : ℕ) → nat_lt a b ≡ false → nat_lt b a ≡ false → 
 level_place a b p q = grind (arith, nat_tests)
 
 abbrev of_rank : ℕ → NodeRule
-of_rank n = if nat_eq n 0 then N1 else (if nat_eq n 1 then N4 else (if nat_eq n 2 then O1 else (if nat_eq n 3 then C1 else (if nat_eq n 4 then C2 else (if nat_eq n 5 then C3 else (if nat_eq n 6 then P1 else P2))))))
+of_rank n = if nat_eq n 0 then N1 else (if nat_eq n 1 then N4 else (if nat_eq n 2 then O1 else (if nat_eq n 3 then C1 else (if nat_eq n 4 then C2 else (if nat_eq n 5 then C3 else (if nat_eq n 6 then P1 else (if nat_eq n 7 then P2 else (if nat_eq n 8 then J1 else J2))))))))
 
 ranked : (r : NodeRule) → of_rank (rank r) ≡ r
 ranked N1 = refl
@@ -36,6 +36,8 @@ ranked C2 = refl
 ranked C3 = refl
 ranked P1 = refl
 ranked P2 = refl
+ranked J1 = refl
+ranked J2 = refl
 
 same_rank : (r s : NodeRule) → rank r ≡ rank s → r ≡ s
 same_rank r s e = sym (ranked r) ∙ ap of_rank e ∙ ranked s

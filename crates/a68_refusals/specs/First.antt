@@ -1,5 +1,5 @@
 -- The rule that a tree breaks first, of those that its nodes break (own).
-use Rattle.std.specs.Prelude.{◌≡◌, ◌<◌, ℕ, List, length, Option, Some, None}
+use Rattle.std.specs.Prelude.{◌≡◌, ◌<◌, ◌≤◌, ℕ, List, length, Option, Some, None}
 use Rattle.a68_modes.specs.declared.shape.Shape.{Shape}
 use Rattle.a68_positions.specs.Given.{finding_at, position_at}
 use Rattle.a68_positions.specs.declared.position.Position.{Position}
@@ -49,6 +49,10 @@ pub data Breaks (a : Asked) (n : ℕ) (b : Broken) : Type 0 where
 -- what one of so many nodes breaks
 abbrev pub IsBroken : Asked → (count : ℕ) → Broken → Type 0
 IsBroken a count b = (n : ℕ) × (n < count) × Breaks a n b
+
+-- what one of the nodes from that one on breaks
+abbrev pub IsBrokenFrom : Asked → (from : ℕ) → Broken → Type 0
+IsBrokenFrom a from b = (n : ℕ) × (from ≤ n) × (n < length a.tree.nodes) × Breaks a n b
 
 -- the first of these, or none
 abbrev pub IsFirstRefused : Asked → Option Broken → Type 0

@@ -1,4 +1,5 @@
 pub mod Order
+pub mod Jumps
 pub mod Rules
 pub mod Units
 pub mod First

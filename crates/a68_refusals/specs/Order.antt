@@ -5,7 +5,7 @@ use Rattle.a68_base.specs.declared.refusal.Rule.TheVariants as rules
 use Rattle.a68_definitions.specs.Defined.{part_from_end}
 use Rattle.a68_ranges.specs.Nodes.{kind_at, parts_at}
 use Rattle.a68_refusals.specs.declared.rule.NodeRule.{NodeRule}
-use Rattle.a68_refusals.specs.declared.rule.NodeRule.TheVariants.{N1, N4, O1, C1, C2, C3, P1, P2}
+use Rattle.a68_refusals.specs.declared.rule.NodeRule.TheVariants.{N1, N4, O1, C1, C2, C3, P1, P2, J1, J2}
 use Rattle.a68_refusals.specs.declared.turn.Broken.{Broken}
 use Rattle.a68_tree.specs.Trees.{Built}
 use Rattle.a68_tree.specs.declared.kind.NodeKind.{NodeKind}
@@ -21,6 +21,8 @@ rank C2 = 4
 rank C3 = 5
 rank P1 = 6
 rank P2 = 7
+rank J1 = 8
+rank J2 = 9
 
 abbrev pub rule_of : NodeRule → Rule
 rule_of N1 = rules.N1
@@ -31,6 +33,8 @@ rule_of C2 = rules.C2
 rule_of C3 = rules.C3
 rule_of P1 = rules.P1
 rule_of P2 = rules.P2
+rule_of J1 = rules.J1
+rule_of J2 = rules.J2
 
 abbrev pub is_formula : NodeKind → Bool
 is_formula kind.Monadic = true
@@ -66,6 +70,11 @@ abbrev pub earlier : Option Broken → Option Broken → Option Broken
 earlier None other = other
 earlier (Some f) None = Some f
 earlier (Some f) (Some g) = if is_before g f then Some g else Some f
+
+-- whether it may come before the first so far
+abbrev pub may_precede : (found : Option Broken) → Broken → Bool
+may_precede None b = true
+may_precede (Some f) b = is_before b f
 
 -- the first of those for which something holds, or none
 abbrev pub IsFirstOf : (Broken → Type 0) → Option Broken → Type 0

@@ -1,7 +1,8 @@
--- The rules that a node breaks by itself (Report, 3.3.1, 4.5, 5.2.2, 5.3, 5.4.2, 5.4.3, 7.2; P1 and P2 are own).
-use Rattle.std.specs.Prelude.{◌+◌, ◌||◌, ℕ, List, [], ◌∷◌, length, nat_eq, nat_lt, slice_index_or, Option, Some, None, Bool, true, false, if◌then◌else◌}
+-- The rules that a node breaks by itself (Report, 3.3.1, 4.5, 5.2.2, 5.3, 5.4.2, 5.4.3, 5.4.4, 7.2; P1, P2 and J2 are own).
+use Rattle.std.specs.Prelude.{◌+◌, ◌||◌, ℕ, List, [], ◌∷◌, length, nat_eq, nat_lt, slice_get, slice_index_or, Option, Some, None, Bool, true, false, if◌then◌else◌}
 use Rattle.a68_ranges.specs.declared.tags.TheConstants as tags
-use Rattle.a68_definitions.specs.Tags.{called_by, called_tag}
+use Rattle.std.specs.Option.{option_map_or}
+use Rattle.a68_definitions.specs.Tags.{called_by, called_tag, is_label_at}
 use Rattle.a68_modes.specs.Nodes.{shape_at}
 use Rattle.a68_modes.specs.declared.shape.Shape.{Shape}
 use Rattle.a68_modes.specs.declared.shape.Shape.TheVariants.{Proc, Struct}
@@ -9,10 +10,12 @@ use Rattle.a68_positions.specs.declared.position.Position.{Position}
 use Rattle.a68_positions.specs.declared.position.Position.TheVariants as position
 use Rattle.a68_ranges.specs.Nodes.{name_at, parts_at, place_at}
 use Rattle.a68_refusals.specs.declared.rule.NodeRule.{NodeRule}
-use Rattle.a68_refusals.specs.declared.rule.NodeRule.TheVariants.{N1, N4, O1, C2, C3, P1, P2}
+use Rattle.a68_refusals.specs.Jumps.{jump_rule}
+use Rattle.a68_refusals.specs.declared.rule.NodeRule.TheVariants.{N1, N4, O1, C2, C3, P1, P2, J1, J2}
 use Rattle.a68_tree.specs.Trees.{Built}
 use Rattle.a68_tree.specs.declared.kind.NodeKind.{NodeKind}
 use Rattle.a68_tree.specs.declared.kind.NodeKind.TheVariants as kind
+use Rattle.a68_tree.specs.declared.node.Node.{Node}
 use Rattle.a68_yields.specs.Leaves.{yield_at}
 use Rattle.a68_yields.specs.Parts.{field_mode, fields_of, rowed, structured}
 use Rattle.a68_yields.specs.Yields.{is_unknown}
@@ -22,7 +25,7 @@ use Rattle.a68_yields.specs.declared.yielding.Finding.{Finding}
 use Rattle.a68_yields.specs.declared.yielding.Finding.TheVariants as finding
 use Rattle.a68_yields.specs.declared.yielding.Yielding.{Yielding}
 
--- a tag that no range about it declares; print, write or whole of the standard environ where it is not called
+-- a tag that no range about it declares; one of a label, which is no value; print, write or whole of the standard environ where it is not called
 abbrev pub is_called : Position → Bool
 is_called position.Called = true
 is_called _ = false
@@ -31,9 +34,9 @@ abbrev pub uncalled : Option ℕ → Position → Option NodeRule
 uncalled None own = None
 uncalled (Some place) own = if is_called own then None else Some P2
 
-abbrev pub tag_rule : (definition called : Option ℕ) → Position → Option NodeRule
-tag_rule None called own = Some N1
-tag_rule (Some d) called own = uncalled called own
+abbrev pub tag_rule : Built → (definition called : Option ℕ) → Position → Option NodeRule
+tag_rule tree None called own = Some N1
+tag_rule tree (Some d) called own = if is_label_at tree d then Some J2 else uncalled called own
 
 -- a field that the structure does not have
 abbrev pub no_field : Option ℕ → Option NodeRule
@@ -111,7 +114,8 @@ parallel_rule count = if nat_eq count 1 then Some P1 else None
 
 -- the rule that a node breaks by itself: a row for each kind
 abbrev pub own_rule : Built → (tags : List (Option ℕ)) → (defined : List ℕ) → List Shape → List Yielding → (n : ℕ) → Finding → Position → NodeKind → Option NodeRule
-own_rule tree tags defined nodes ys n found own kind.Tag = tag_rule (slice_index_or tags n None) (called_tag tree tags n) own
+own_rule tree tags defined nodes ys n found own kind.Tag = tag_rule tree (slice_index_or tags n None) (called_tag tree tags n) own
+own_rule tree tags defined nodes ys n found own kind.GoTo = jump_rule tree nodes n (slice_index_or tags n None) own
 own_rule tree tags defined nodes ys n found own kind.Selection = selection_rule nodes (name_at tree n) found
 own_rule tree tags defined nodes ys n found own kind.Monadic = formula_rule ys (parts_at tree n) found
 own_rule tree tags defined nodes ys n found own kind.Dyadic = formula_rule ys (parts_at tree n) found
@@ -123,7 +127,8 @@ own_rule tree tags defined nodes ys n found own kind.OpDefinition = operator_rul
 own_rule tree tags defined nodes ys n found own kind.Parallel = parallel_rule (length (parts_at tree n))
 own_rule tree tags defined nodes ys n found own _ = None
 
--- ---- where it is told: at the node, or at the sign of a formula of two operands, the last symbol before the right one
+-- ---- where it is told: at the node; or at the sign of a formula of two operands, the last symbol before the right one; or at the tag of a jump
+-- that may not be made, its last symbol
 
 abbrev pub last_start : (starts : List ℕ) → (byte found : ℕ) → ℕ
 last_start [] byte found = found
@@ -137,5 +142,19 @@ abbrev pub is_operator_lacking : NodeRule → Bool
 is_operator_lacking O1 = true
 is_operator_lacking _ = false
 
+-- the byte behind a node, and that of its last symbol
+abbrev pub end_at : Built → (n : ℕ) → ℕ
+end_at tree n = option_map_or (λ (node : Node). node.span.to) (slice_get tree.nodes n) 0
+
+abbrev pub last_symbol : Built → (n : ℕ) → ℕ
+last_symbol tree n = last_start tree.starts (end_at tree n) 0
+
+abbrev pub is_jump_astray : NodeRule → Bool
+is_jump_astray J1 = true
+is_jump_astray _ = false
+
+abbrev pub place_behind : Built → (n : ℕ) → NodeRule → ℕ
+place_behind tree n rule = if is_jump_astray rule then last_symbol tree n else place_at tree n
+
 abbrev pub place_of : Built → (n : ℕ) → NodeRule → ℕ
-place_of tree n rule = if is_operator_lacking rule then sign_of tree n (parts_at tree n) else place_at tree n
+place_of tree n rule = if is_operator_lacking rule then sign_of tree n (parts_at tree n) else place_behind tree n rule

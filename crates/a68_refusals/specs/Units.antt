@@ -18,11 +18,9 @@ use Rattle.a68_yields.specs.Yields.{is_unknown}
 use Rattle.a68_yields.specs.declared.yielding.Yielding.{Yielding}
 use Rattle.a68_yields.specs.declared.yielding.Yielding.TheVariants as yields
 
--- a choice; what is asked of it is asked of its parts
-abbrev pub is_choice : NodeKind → Bool
-is_choice kind.Conditional = true
-is_choice kind.Case = true
-is_choice kind.Conformity = true
+-- what chooses among its parts, as a choice does, and a serial clause with EXIT; what is asked of it is asked of these
+abbrev pub is_choice : Yielding → Bool
+is_choice yields.Choice = true
 is_choice _ = false
 
 -- clauses hand what is asked on to their parts; all other units are coerced themselves
@@ -35,10 +33,11 @@ hands_on kind.Case = true
 hands_on kind.Conformity = true
 hands_on _ = false
 
--- what may stand in strong positions only: a skip for every mode, NIL for a name, a vacuum for a row, a collateral clause for nothing, a row or a
+-- what may stand in strong positions only: a skip and a jump for every mode, NIL for a name, a vacuum for a row, a collateral clause for nothing, a row or a
 -- structure
 abbrev pub suits_strongly : NodeKind → Shape → Bool
 suits_strongly kind.Skip shape = true
+suits_strongly kind.GoTo shape = true
 suits_strongly kind.Nil (Ref m) = true
 suits_strongly kind.Vacuum (Rows dims flex of) = true
 suits_strongly kind.Collateral Void = true
@@ -62,13 +61,13 @@ pub data IsGoalMisfit (nodes : List Shape) (m : ℕ) (setter : Option ℕ) (k : 
   suits : {found : Option Misfit} → hands_on k ≡ false → (LeadsNot nodes m k y → ⊥) → found ≡ None → IsGoalMisfit nodes m setter k y found
   misfits : {found : Option Misfit} → hands_on k ≡ false → LeadsNot nodes m k y → found ≡ Some (record { by = setter; rule = C1 }) → IsGoalMisfit nodes m setter k y found
 
--- Where nothing is found for what is asked, the unit itself tells of it, or the choice.
-abbrev pub unasked : (n : ℕ) → NodeKind → Option Misfit
-unasked n k =
-    if is_choice k then Some (record { by = Some n; rule = C2 }) else (if hands_on k then None else Some (record { by = Some n; rule = C1 }))
+-- Where nothing is found for what is asked, the unit itself tells of it, or what chooses.
+abbrev pub unasked : (n : ℕ) → NodeKind → Yielding → Option Misfit
+unasked n k y =
+    if is_choice y then Some (record { by = Some n; rule = C2 }) else (if hands_on k then None else Some (record { by = Some n; rule = C1 }))
 
 abbrev pub unfound : (n : ℕ) → NodeKind → Yielding → Option Misfit
-unfound n k y = if is_unknown y then None else unasked n k
+unfound n k y = if is_unknown y then None else unasked n k y
 
 -- the rule of coercion that a node breaks, and which node tells of it
 abbrev pub IsMisfit : List Shape → (n : ℕ) → NodeKind → Yielding → Position → Option Misfit → Type 0

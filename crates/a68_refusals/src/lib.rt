@@ -3,6 +3,7 @@
 #![tactic(auto)]
 
 mod first;
+mod jump;
 mod laws;
 mod node;
 mod rule;

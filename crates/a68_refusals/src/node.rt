@@ -6,13 +6,15 @@ ghost use Rattle.a68_modes.specs.Nodes.{shape_at};
 ghost use Rattle.a68_modes.specs.declared.shape.Shape.{Shape};
 ghost use Rattle.a68_positions.specs.Below.{IsPositionBelow};
 ghost use Rattle.a68_ranges.specs.Nodes.{name_at, parts_at};
+ghost use Rattle.a68_refusals.specs.Jumps as jumps;
 ghost use Rattle.a68_refusals.specs.Rules as specs;
 ghost use Rattle.a68_yields.specs.Below.{IsFindingBelow};
 ghost use Rattle.a68_yields.specs.Parts as parts;
 
+use crate::jump::jump_rule;
 use crate::rule::NodeRule;
 use a68_declarers::place_of as start_of;
-use a68_definitions::{Tags, called_by, called_tag, part_number, parts_of};
+use a68_definitions::{Tags, called_by, called_tag, is_label, part_number, parts_of};
 use a68_fields::FieldTable;
 use a68_modes::{ModeId, Modes, Shape};
 use a68_positions::Position;
@@ -56,12 +58,23 @@ fn uncalled(called: Option<u32>, own: Position) -> Option<NodeRule>
     }
 }
 
-fn tag_rule(definition: Option<NodeId>, called: Option<u32>, own: Position) -> Option<NodeRule>
-    ensures { result ≡ specs.tag_rule definition called own }
+fn tag_rule(
+    tree: &Tree,
+    definition: Option<NodeId>,
+    called: Option<u32>,
+    own: Position,
+) -> Option<NodeRule>
+    ensures { result ≡ specs.tag_rule tree.now definition called own }
 {
     match definition {
         None => Some(NodeRule::N1),
-        Some(_) => uncalled(called, own),
+        Some(definition) => {
+            if is_label(tree, definition) {
+                Some(NodeRule::J2)
+            } else {
+                uncalled(called, own)
+            }
+        }
     }
 }
 
@@ -266,6 +279,7 @@ pub fn own_rule(
     defined: &[ModeId],
     modes: &Modes,
     fields: &FieldTable,
+    walls: &[u32],
     yields: &[Yielding],
     node: NodeId,
     found: Finding,
@@ -277,11 +291,13 @@ pub fn own_rule(
     requires found { IsFindingBelow (length modes.now) found }
     requires own { IsPositionBelow (length modes.now) own }
     requires fields { AreFieldsOf modes.now fields.now }
+    requires walls { walls.now ≡ jumps.walls tree.now }
     ensures { result ≡ specs.own_rule tree.now tags.now defined.now modes.now yields.now node found own kind }
 {
     let parts = parts_of(tree, node);
     match kind {
-        NodeKind::Tag => tag_rule(tags.at(node), called_tag(tree, tags, node), own),
+        NodeKind::Tag => tag_rule(tree, tags.at(node), called_tag(tree, tags, node), own),
+        NodeKind::GoTo => jump_rule(tree, modes, walls, node, tags.at(node), own),
         NodeKind::Selection => selection_rule(modes, fields, name_of(tree, node), found),
         NodeKind::Monadic | NodeKind::Dyadic => formula_rule(yields, parts, found),
         NodeKind::Identity => identity_rule(yields, parts, found),
@@ -329,13 +345,47 @@ fn is_operator_lacking(rule: NodeRule) -> bool
     rule == NodeRule::O1
 }
 
-/// Finds the byte at which a rule is told that a node breaks by itself: its first, or that of a sign.
+// The byte behind a node.
+fn end_of(tree: &Tree, node: NodeId) -> u32
+    ensures { result ≡ specs.end_at tree.now node }
+{
+    if node < tree.len() {
+        tree.node(node).span.to
+    } else {
+        0
+    }
+}
+
+// The first byte of the last symbol of a node.
+fn last_symbol(tree: &Tree, node: NodeId) -> u32
+    ensures { result ≡ specs.last_symbol tree.now node }
+{
+    last_start(tree.starts(), end_of(tree, node))
+}
+
+fn is_jump_astray(rule: NodeRule) -> bool
+    ensures { result ≡ specs.is_jump_astray rule }
+{
+    rule == NodeRule::J1
+}
+
+fn place_behind(tree: &Tree, node: NodeId, rule: NodeRule) -> u32
+    ensures { result ≡ specs.place_behind tree.now node rule }
+{
+    if is_jump_astray(rule) {
+        last_symbol(tree, node)
+    } else {
+        start_of(tree, node)
+    }
+}
+
+/// Finds the byte at which a rule is told that a node breaks by itself: its first, or that of a sign, or of a tag.
 pub fn place_of(tree: &Tree, node: NodeId, rule: NodeRule) -> u32
     ensures { result ≡ specs.place_of tree.now node rule }
 {
     if is_operator_lacking(rule) {
         sign_of(tree, node)
     } else {
-        start_of(tree, node)
+        place_behind(tree, node, rule)
     }
 }

@@ -15,6 +15,8 @@ pub enum NodeRule {
     C3,
     P1,
     P2,
+    J1,
+    J2,
 }
 
 /// Gives the place of a rule in the order.
@@ -30,6 +32,8 @@ pub fn rank(rule: NodeRule) -> u32
         NodeRule::C3 => 5,
         NodeRule::P1 => 6,
         NodeRule::P2 => 7,
+        NodeRule::J1 => 8,
+        NodeRule::J2 => 9,
     }
 }
 
@@ -46,5 +50,7 @@ pub fn rule_of(rule: NodeRule) -> Rule
         NodeRule::C3 => Rule::C3,
         NodeRule::P1 => Rule::P1,
         NodeRule::P2 => Rule::P2,
+        NodeRule::J1 => Rule::J1,
+        NodeRule::J2 => Rule::J2,
     }
 }

@@ -78,14 +78,24 @@ fn less(one: u64, other: u64, rest: bool) -> bool
     one < other || (one == other && rest)
 }
 
-/// Is the one told before the other?
-pub fn is_before(one: &Broken, other: &Broken) -> bool
+// Is the one told before the other?
+fn is_before(one: &Broken, other: &Broken) -> bool
     ensures { result ≡ specs.is_before one.now other.now }
 {
     let by_place = one.place < other.place;
     let by_rule = less(rank(one.rule) as u64, rank(other.rule) as u64, by_place);
     let by_node = less(other.node, one.node, by_rule);
     less(other.operand, one.operand, by_node)
+}
+
+/// May it be told before the first so far?
+pub fn may_precede(found: Option<Broken>, other: &Broken) -> bool
+    ensures { result ≡ specs.may_precede found other.now }
+{
+    match found {
+        None => true,
+        Some(first) => is_before(other, &first),
+    }
 }
 
 /// Keeps the one that is told first.

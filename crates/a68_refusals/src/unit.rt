@@ -28,13 +28,10 @@ pub struct Misfit {
     pub rule: NodeRule,
 }
 
-fn is_choice(kind: NodeKind) -> bool
-    ensures { result ≡ specs.is_choice kind }
+fn is_choice(yielding: Yielding) -> bool
+    ensures { result ≡ specs.is_choice yielding }
 {
-    match kind {
-        NodeKind::Conditional | NodeKind::Case | NodeKind::Conformity => true,
-        _ => false,
-    }
+    matches!(yielding, Yielding::Choice)
 }
 
 // Does a clause of that kind hand on to its parts what is asked of it?
@@ -57,7 +54,7 @@ fn suits_strongly(kind: NodeKind, shape: &Shape) -> bool
     ensures { result ≡ specs.suits_strongly kind shape.now }
 {
     match (kind, shape) {
-        (NodeKind::Skip, _) => true,
+        (NodeKind::Skip | NodeKind::GoTo, _) => true,
         (NodeKind::Nil, Shape::Ref(_)) => true,
         (NodeKind::Vacuum, Shape::Rows { .. }) => true,
         (NodeKind::Collateral, Shape::Void | Shape::Rows { .. } | Shape::Struct(_)) => true,
@@ -148,10 +145,10 @@ fn goal_misfit(
     }
 }
 
-fn unasked(node: NodeId, kind: NodeKind) -> Option<Misfit>
-    ensures { result ≡ specs.unasked node kind }
+fn unasked(node: NodeId, kind: NodeKind, yielding: Yielding) -> Option<Misfit>
+    ensures { result ≡ specs.unasked node kind yielding }
 {
-    if is_choice(kind) {
+    if is_choice(yielding) {
         Some(Misfit {
             by: Some(node),
             rule: NodeRule::C2,
@@ -172,7 +169,7 @@ fn unfound(node: NodeId, kind: NodeKind, yielding: Yielding) -> Option<Misfit>
     if is_unknown(yielding) {
         None
     } else {
-        unasked(node, kind)
+        unasked(node, kind, yielding)
     }
 }
 

@@ -5,7 +5,7 @@ use Rattle.a68_code.specs.Flow.{one_if}
 use Rattle.a68_code.specs.declared.code.Code.{Code}
 use Rattle.a68_code.specs.declared.code.Instr.{Instr}
 use Rattle.a68_code.specs.declared.does.Does.{Does}
-use Rattle.a68_code.specs.declared.does.Does.TheVariants.{Push, Skip, Nil, Routine, Tag, Enter, Leave, Bind, Make, Heap, Deref, Store, Apply, Same, Slice, Display, Vacuum, Compose, Select, Unite, RowUp, RowUpName, Widen, Drop, Print, Whole, Call, Return, Jump, Unless, Case, Member, Counter, Index, Step, Turn, Advance, Forget, Fork, Close, End}
+use Rattle.a68_code.specs.declared.does.Does.TheVariants.{Push, Skip, Nil, Routine, Tag, Enter, Leave, Bind, Make, Heap, Deref, Store, Apply, Same, Slice, Display, Vacuum, Compose, Select, Unite, RowUp, RowUpName, Widen, Drop, Print, Whole, Call, Return, Jump, Goto, Unless, Case, Member, Counter, Index, Step, Turn, Advance, Forget, Fork, Close, End}
 use Rattle.a68_layout.specs.declared.types.TrimForm.{TrimForm}
 use Rattle.a68_layout.specs.declared.types.TrimForm.TheVariants as form
 use Rattle.a68_report.specs.Constants.{constant}
@@ -57,6 +57,7 @@ operands (RowUpName mode) = number mode
 operands (Print count) = number count
 operands (Call count gives) = number count ++ number (one_if gives)
 operands (Jump to) = number to
+operands (Goto to frames height gives) = number to ++ number frames ++ number height ++ number (one_if gives)
 operands (Unless to) = number to
 operands (Case places) = listed places
 operands (Member mode places whole) = number mode ++ listed places ++ listed whole

@@ -1,7 +1,7 @@
 -- The names of the instructions (own).
 use Rattle.std.specs.Prelude.{ℕ, List, codes}
 use Rattle.a68_code.specs.declared.does.Does.{Does}
-use Rattle.a68_code.specs.declared.does.Does.TheVariants.{Push, Skip, Nil, Routine, Tag, Enter, Leave, Bind, Make, Heap, Deref, Store, Apply, Same, Slice, Display, Vacuum, Compose, Select, Unite, RowUp, RowUpName, Widen, Drop, Print, Whole, Call, Return, Jump, Unless, Case, Member, Counter, Index, Step, Turn, Advance, Forget, Fork, Close, End}
+use Rattle.a68_code.specs.declared.does.Does.TheVariants.{Push, Skip, Nil, Routine, Tag, Enter, Leave, Bind, Make, Heap, Deref, Store, Apply, Same, Slice, Display, Vacuum, Compose, Select, Unite, RowUp, RowUpName, Widen, Drop, Print, Whole, Call, Return, Jump, Goto, Unless, Case, Member, Counter, Index, Step, Turn, Advance, Forget, Fork, Close, End}
 
 abbrev pub name_of : Does → List ℕ
 name_of (Push value) = codes "Push"
@@ -33,6 +33,7 @@ name_of Whole = codes "Whole"
 name_of (Call count gives) = codes "Call"
 name_of Return = codes "Return"
 name_of (Jump to) = codes "Jump"
+name_of (Goto to frames height gives) = codes "Goto"
 name_of (Unless to) = codes "Unless"
 name_of (Case places) = codes "Case"
 name_of (Member mode places whole) = codes "Member"

@@ -1,6 +1,6 @@
 //! The listing of a code.
 ghost use Rattle.std.specs.Prelude.{◌≡◌, ◌++◌, IfOk, OnOk};
-ghost use Rattle.a68_code.specs.declared.does.Does.TheVariants.{Member, Routine, Slice};
+ghost use Rattle.a68_code.specs.declared.does.Does.TheVariants.{Goto, Member, Routine, Slice};
 ghost use Rattle.a68_layout.specs.declared.types.TrimForm.TheVariants as form;
 ghost use Rattle.a68_report.specs.Listing as spec;
 ghost use Rattle.a68_report.specs.Put.{behind, number};
@@ -89,6 +89,14 @@ fn put_member(text: &mut Text, mode: u32, places: &Places, whole: &Places) -> Re
     put_list(text, &whole.items)
 }
 
+// Puts the operands of a jump to a label.
+fn put_goto(text: &mut Text, to: u32, frames: u32, height: u32, gives: bool) -> Result<(), NoMemory>
+    ensures { OnOk result (text.new ≡ text.old ++ spec.operands (Goto to frames height gives)) }
+{
+    put_pair(text, to, frames)?;
+    put_pair(text, height, u32::from(gives))
+}
+
 // Puts the operands of an instruction.
 fn put_operands(text: &mut Text, does: &Does) -> Result<(), NoMemory>
     ensures { OnOk result (text.new ≡ text.old ++ spec.operands does.now) }
@@ -100,6 +108,12 @@ fn put_operands(text: &mut Text, does: &Does) -> Result<(), NoMemory>
             distance,
         } => put_routine(text, *number, *distance),
         Does::Call { count, gives } => put_pair(text, *count, u32::from(*gives)),
+        Does::Goto {
+            to,
+            frames,
+            height,
+            gives,
+        } => put_goto(text, *to, *frames, *height, *gives),
         Does::Tag {
             hops: one,
             slot: other,

@@ -38,6 +38,7 @@ pub fn name_of(does: &Does) -> &'static str
         Does::Call { .. } => "Call",
         Does::Return => "Return",
         Does::Jump(_) => "Jump",
+        Does::Goto { .. } => "Goto",
         Does::Unless(_) => "Unless",
         Does::Case(_) => "Case",
         Does::Member { .. } => "Member",

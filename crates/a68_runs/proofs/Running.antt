@@ -1,14 +1,14 @@
 -- Which nodes run.
-use Rattle.std.proofs.Common.{◌≡◌, ◌<◌, ◌⊎◌, ⊎_elim, inl, inr, ℕ, zero, suc, ◌+◌, ◌-◌, Bool, true, false, List, [], ◌∷◌, ◌++◌, length, length-append, drop, get_or, refl, sym, ◌∙◌, ap, subst, arith, add-one, drop-cons, None, Some}
+use Rattle.std.proofs.Common.{◌≡◌, ◌<◌, ◌≤◌, ◌⊎◌, ⊎_elim, inl, inr, ℕ, zero, suc, ◌+◌, ◌-◌, Bool, true, false, List, [], ◌∷◌, ◌++◌, length, length-append, drop, get_or, refl, sym, ◌∙◌, ap, subst, arith, add-one, drop-cons, None, Some}
 use Rattle.std.proofs.lemmas.Bool.{cases_lt}
 use Rattle.std.proofs.lemmas.Option.{same_Some}
-use Rattle.std.specs.Prelude.{not, ◌&&◌, if◌then◌else◌}
+use Rattle.std.specs.Prelude.{not, ◌&&◌, ◌||◌, if◌then◌else◌}
 use Rattle.std.specs.Option.{option_and_then}
 use Rattle.std.specs.declared.option.Option.{Option}
 use Rattle.a68_annot.specs.declared.annotated.Annotated.{Annotated}
-use Rattle.a68_elab.specs.Made.{behind_proc, behind_ref, rowed_to}
-use Rattle.a68_elab.specs.Runs.{are_phrases, is_outcome, is_there, last_outcome, outcome, path_leaves, runs}
-use Rattle.a68_runs.specs.Running.{AreThere, IsThere, behind, one_more, value_of}
+use Rattle.a68_elab.specs.Made.{behind_proc, behind_ref, is_exit, is_label, kind_at, rowed_to}
+use Rattle.a68_elab.specs.Runs.{are_phrases, are_steps, is_outcome, is_there, last_outcome, outcome, path_leaves, runs}
+use Rattle.a68_runs.specs.Running.{AreThere, IsThere, behind, one_more, passes, value_of, width}
 use Rattle.a68_runs.specs.declared.paths.Between.{Between}
 use Rattle.a68_modes.specs.Nodes.{shape_at, is_void}
 use Rattle.a68_modes.specs.declared.coercion.Coercion.{Coercion}
@@ -116,6 +116,57 @@ last-phrase a wanted (x ∷ []) zero e = refl
 last-phrase a wanted (x ∷ []) (suc i) e = absurd (omega arith)
 last-phrase a wanted (x ∷ (y ∷ ids)) zero e = absurd (omega arith)
 last-phrase a wanted (x ∷ (y ∷ ids)) (suc i) e = last-phrase a wanted (y ∷ ids) i (omega arith)
+
+-- a label, or a step before the last one
+step-here : (a : Annotated) (wanted : Bool) (ids : List ℕ) (i : ℕ) → suc i < length ids
+    → are_steps a wanted (drop i ids)
+    ≡ (passes a wanted (get_or ids i 0) (get_or ids (suc i) 0) && are_steps a wanted (drop (width a (get_or ids i 0) (get_or ids (suc i) 0) + i) ids))
+step-here a wanted [] i less = absurd (omega arith)
+step-here a wanted (x ∷ []) i less = absurd (omega arith)
+step-here a wanted (x ∷ (y ∷ ids)) zero less = go (is_label (kind_at a x)) (is_exit (kind_at a y))
+  where
+    go : (l e : Bool)
+        → (if l then are_steps a wanted (y ∷ ids)
+        else (if e then is_outcome wanted (outcome a x) && are_steps a wanted ids else is_outcome false (outcome a x) && are_steps a wanted (y ∷ ids)))
+        ≡ ((l || is_outcome (if e then wanted else false) (outcome a x)) && are_steps a wanted (drop ((if l then 1 else (if e then 2 else 1)) + 0) (x ∷ (y ∷ ids))))
+    go true e = refl
+    go false true = refl
+    go false false = refl
+step-here a wanted (x ∷ (y ∷ ids)) (suc i) less =
+    let w = width a (get_or (y ∷ ids) i 0) (get_or (y ∷ ids) (suc i) 0) in
+    let e : w + suc i ≡ suc (w + i) = omega arith in
+    rw e (step-here a wanted (y ∷ ids) i (omega arith))
+
+pub step-passes : (a : Annotated) (wanted : Bool) (ids : List ℕ) (i w : ℕ) → i + 1 < length ids → passes a wanted (get_or ids i 0) (get_or ids (i + 1) 0) ≡ true
+    → w ≡ width a (get_or ids i 0) (get_or ids (i + 1) 0) → are_steps a wanted (drop i ids) ≡ are_steps a wanted (drop (i + w) ids)
+step-passes a wanted ids i w less e is =
+    let one : i + 1 ≡ suc i = add-one i in
+    let p : passes a wanted (get_or ids i 0) (get_or ids (suc i) 0) ≡ true = rw one at e in
+    let v = width a (get_or ids i 0) (get_or ids (suc i) 0) in
+    let wide : w ≡ v = rw one at is in
+    let far : v + i ≡ i + w = omega (arith, wide) in
+    step-here a wanted ids i (omega arith) ∙ ap (λ b. b && are_steps a wanted (drop (v + i) ids)) p ∙ ap (λ n. are_steps a wanted (drop n ids)) far
+
+pub step-fails : (a : Annotated) (wanted : Bool) (ids : List ℕ) (i : ℕ) → i + 1 < length ids → passes a wanted (get_or ids i 0) (get_or ids (i + 1) 0) ≡ false
+    → are_steps a wanted (drop i ids) ≡ false
+step-fails a wanted ids i less e =
+    let one : i + 1 ≡ suc i = add-one i in
+    let p : passes a wanted (get_or ids i 0) (get_or ids (suc i) 0) ≡ false = rw one at e in
+    step-here a wanted ids i (omega arith)
+    ∙ ap (λ b. b && are_steps a wanted (drop (width a (get_or ids i 0) (get_or ids (suc i) 0) + i) ids)) p
+
+pub last-step : (a : Annotated) (wanted : Bool) (ids : List ℕ) (i : ℕ) → i + 1 ≡ length ids → are_steps a wanted (drop i ids) ≡ is_outcome wanted (outcome a (get_or ids i 0))
+last-step a wanted [] i e = absurd (omega arith)
+last-step a wanted (x ∷ []) zero e = refl
+last-step a wanted (x ∷ []) (suc i) e = absurd (omega arith)
+last-step a wanted (x ∷ (y ∷ ids)) zero e = absurd (omega arith)
+last-step a wanted (x ∷ (y ∷ ids)) (suc i) e = last-step a wanted (y ∷ ids) i (omega arith)
+
+pub no-step : (a : Annotated) (wanted : Bool) (ids : List ℕ) (i : ℕ) → length ids ≤ i → are_steps a wanted (drop i ids) ≡ false
+no-step a wanted [] zero e = refl
+no-step a wanted [] (suc i) e = refl
+no-step a wanted (x ∷ ids) zero e = absurd (omega arith)
+no-step a wanted (x ∷ ids) (suc i) e = no-step a wanted ids i (omega arith)
 
 -- ---- which nodes run
 

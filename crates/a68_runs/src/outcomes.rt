@@ -1,14 +1,15 @@
 //! What nodes leave as constructs: a value or none.
-ghost use Rattle.std.specs.Prelude.{◌≡◌, ◌<◌, length};
+ghost use Rattle.std.specs.Prelude.{◌≡◌, ◌<◌, ◌≤◌, length};
 ghost use Rattle.std.specs.List.{list_all};
 ghost use Rattle.a68_acts.specs.Operations as operations;
 ghost use Rattle.a68_elab.specs.Made as made;
 ghost use Rattle.a68_elab.specs.Runs as runs;
 ghost use Rattle.a68_modes.specs.Nodes.{shape_at};
+ghost use Rattle.a68_runs.specs.Running as running;
 
 use a68_annot::{Annotated, Note};
 use a68_modes::{ModeId, Modes, Shape};
-use a68_parts::{behind_proc, behind_ref, only_id, standard_of};
+use a68_parts::{behind_proc, behind_ref, is_exit, is_label, only_id, standard_of};
 use a68_tree::{Node, NodeId, NodeKind};
 
 /// Is a value asked of a node?
@@ -169,6 +170,42 @@ pub fn are_phrases(program: &Annotated, wanted: bool, ids: &[NodeId]) -> bool
         }
     }
     leaves(program, wanted, ids[last])
+}
+
+// Does a node of a serial clause leave what is wanted of it, where this one follows? A label is no step.
+fn passes(program: &Annotated, wanted: bool, id: NodeId, next: NodeId) -> bool
+    ensures { result ≡ running.passes program.now wanted id next }
+{
+    is_label(program, id) || leaves(program, is_exit(program, next) && wanted, id)
+}
+
+// How many nodes a step or a label takes: with EXIT behind it two.
+fn width(program: &Annotated, id: NodeId, next: NodeId) -> usize
+    ensures width { result ≡ running.width program.now id next }
+    ensures some { (1 ≤ result) × (result ≤ 2) }
+{
+    if !is_label(program, id) && is_exit(program, next) {
+        2
+    } else {
+        1
+    }
+}
+
+/// Do all steps of a serial clause leave none, but the last and those before EXIT, and these what is wanted?
+pub fn are_steps(program: &Annotated, wanted: bool, ids: &[NodeId]) -> bool
+    ensures { result ≡ runs.are_steps program.now wanted ids.now }
+{
+    let mut at = 0;
+    while at + 1 < ids.len() {
+        if !passes(program, wanted, ids[at], ids[at + 1]) {
+            return false;
+        }
+        at += width(program, ids[at], ids[at + 1]);
+    }
+    if at >= ids.len() {
+        return false;
+    }
+    leaves(program, wanted, ids[at])
 }
 
 /// Is a mode one of those that are there?

@@ -13,7 +13,7 @@ ghost use Rattle.a68_tree.specs.Trees.{AllBetween};
 use crate::bounds::new_runs;
 use crate::conformity::conformity_runs;
 use crate::outcomes::{
-    all_leave, are_phrases, are_values, asks_value, if_so, is_outcome, is_row, is_there,
+    all_leave, are_phrases, are_steps, are_values, asks_value, if_so, is_outcome, is_row, is_there,
     last_outcome, leaves, only_outcome, outcome, outcome_by, parallel_runs, proc_yields, refers,
     yields_value,
 };
@@ -347,7 +347,8 @@ fn leaves_as(
                 && is_outcome(true, last_outcome(program, parts)),
             true,
         ),
-        NodeKind::Serial => if_so(are_phrases(program, asked, parts), asked),
+        NodeKind::Serial => if_so(are_steps(program, asked, parts), asked),
+        NodeKind::GoTo => if_so(note.definition.is_some(), asked),
         NodeKind::Closed | NodeKind::Out | NodeKind::From | NodeKind::By | NodeKind::To => {
             only_outcome(program, parts)
         }

@@ -136,6 +136,8 @@ const WAYS: &[(&str, u32, u32, u32)] = &[
     ("( INT a = 1; ( ( INT b, a; ( a ) ) ) )", 29, 0, 1),
     ("( INT a = 1; PROC f = VOID: ( ( a ) ); SKIP )", 32, 1, 0),
     ("( STRUCT (INT x, y) s; s )", 23, 0, 0),
+    ("( INT a = 1; ( l: a ) )", 18, 0, 0),
+    ("( INT a = 1; ( INT b; l: a ) )", 25, 1, 0),
 ];
 
 /// A text, the byte of a routine text in it, and how many frames outwards the newest one stands that this uses by a tag.
@@ -234,6 +236,10 @@ const NEEDS: &[(&str, u32, Option<u32>)] = &[
         26,
         Some(0),
     ),
+    ("( l: ( VOID: GOTO l ) )", 7, None),
+    ("( l: ( VOID: l ) )", 7, None),
+    ("( INT l; ( l: ( VOID: l ) ) )", 16, None),
+    ("( INT x; l: ( VOID: ( GOTO l; x ) ) )", 14, Some(0)),
 ];
 
 /// A text, a range in it by its kind and byte, how many slots it has, and whether it makes a frame.
@@ -303,6 +309,15 @@ const SLOTS: &[(&str, NodeKind, u32, u32, bool)] = &[
         "IF TRUE THEN INT a = 1; a FI",
         NodeKind::Serial,
         13,
+        1,
+        true,
+    ),
+    ("( l: SKIP )", NodeKind::Serial, 2, 0, false),
+    ("( INT x; l: SKIP )", NodeKind::Serial, 2, 1, true),
+    (
+        "( INT x; l: m: SKIP EXIT n: SKIP )",
+        NodeKind::Serial,
+        2,
         1,
         true,
     ),

@@ -1,5 +1,5 @@
 -- What comes next for a strand, in the form in which the rules of the elaboration say what comes next for a term.
-use Rattle.std.proofs.Common.{◌≡◌, ◌<◌, ◌⊎◌, ℕ, suc, Bool, false, List, length, None, Some, ap, ◌∙◌, if◌then◌else◌}
+use Rattle.std.proofs.Common.{◌≡◌, ◌<◌, ◌⊎◌, ◌+◌, arith, ℕ, suc, Bool, false, List, length, None, Some, ap, ◌∙◌, if◌then◌else◌}
 use Rattle.std.proofs.lemmas.Option.{slice_get_within}
 use Rattle.std.specs.Option.{option_map, option_map_or}
 use Rattle.std.specs.Prelude.{⊤, slice_get}
@@ -50,6 +50,10 @@ pub at_instr : (code : Code) (k p : ℕ) (items : List Item) (ch : List Environ)
     → at_end (Some d) ≡ false → ask code (idle k items ch) ≡ Some (seen code (exec code d (idle k items ch)))
 at_instr code k p items ch d h e =
     ap (found code (idle k items ch)) h ∙ ap (λ (x : Bool). option_map (seen code) (if x then None else Some (exec code d (idle k items ch)))) e
+
+-- the place behind an instruction
+pub next_is : (k m : ℕ) → k + 1 ≡ m → suc k ≡ m
+next_is k m e = omega arith
 
 -- the strand is at the end
 pub at_end_asks : (code : Code) (k p : ℕ) (items : List Item) (ch : List Environ) → slice_get code.list k ≡ Some (record { place = p; does = does.End })

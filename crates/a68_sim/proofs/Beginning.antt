@@ -6,12 +6,13 @@ use Rattle.std.proofs.lemmas.Option.{same_Some}
 use Rattle.a68_code.specs.declared.code.Code.{Code}
 use Rattle.a68_elab.specs.Terms.{Term, todo, part, closing, only, unit_of, unit_term, unit_terms, Terms, no_terms, ◌and_term◌}
 use Rattle.a68_elab.specs.Trees.{ParallelUnit, Program, units_of}
-use Rattle.a68_emit.specs.Stretches.{AreEntrances}
+use Rattle.a68_emit.specs.Stretches.{outermost, AreEntrances}
 use Rattle.a68_sim.proofs.Family.{QuietAll, all_still, all_on, all_first, all_behind, quiet_at, single, Kins, no_kins, ◌and_kin◌, how_many, times_all, LiveAll}
 use Rattle.a68_sim.proofs.Finishing.{unit_end, works}
+use Rattle.a68_sim.proofs.Landings.{agrees_alone}
 use Rattle.a68_sim.proofs.Lists.{same}
 use Rattle.a68_sim.proofs.Routines.{TextsStand, FoundUnit, UnitAt}
-use Rattle.a68_sim.proofs.Settling.{Comes, settles}
+use Rattle.a68_sim.proofs.Settling.{Arrives, settles}
 use Rattle.a68_instructions.specs.Machine.{State, beginning, settle}
 use Rattle.a68_values.specs.declared.chain.Environ.{Environ}
 
@@ -40,8 +41,8 @@ module _ (program : Program) (code : Code) (same_modes : code.modes ≡ program.
   one_more sts first n e ns es ch unit is at there r =
       let how = unit_end unit.place at.end ch in
       let term : Term = part (closing unit.place) ch (only (todo unit.tree ch)) in
-      let later : Comes program code how term (settle code (beginning e ch)) =
-      settles program code same_modes texts how at.close term (beginning e ch) (works (todo unit.tree ch) refl (record { a = e; stands = at.stands; chain = refl; state = refl })) in
+      let later : Arrives program code how term (settle code (beginning e ch)) =
+      settles program code same_modes texts how at.close term (beginning e ch) (works (todo unit.tree ch) refl (record { a = e; lie = outermost; agrees = agrees_alone ch; stands = at.stands; chain = refl; state = refl })) in
       record {
         kins = single first and_kin r.kins;
         terms = unit_of first later.0 and_term r.terms;

@@ -11,7 +11,7 @@ use Rattle.a68_code.specs.declared.code.Code.{Code}
 use Rattle.a68_code.specs.declared.does.Does.TheVariants as does
 use Rattle.a68_elab.specs.Elaborations.{Elaborates, stays, silently, by_act}
 use Rattle.a68_elab.specs.Permitted.{Permitted}
-use Rattle.a68_elab.specs.Positions.{here, within, in_this, beside}
+use Rattle.a68_elab.specs.Positions.{here, within, in_this, beside, by_rule}
 use Rattle.a68_elab.specs.Terms.{todo, yielded}
 use Rattle.a68_elab.specs.Trees.{Tree, operation, phrases, range, choice, call, no_trees, ◌and_tree◌, collateral, serial, routine_text, Program}
 use Rattle.a68_emit.specs.Stretches.{Translates}
@@ -131,6 +131,7 @@ translates = record {
     refl,
   );
   no_more = refl;
+  short = omega arith;
   modes = refl;
 }
 
@@ -248,6 +249,7 @@ void_translates = record {
     refl,
   );
   no_more = refl;
+  short = omega arith;
   modes = refl;
 }
 
@@ -345,6 +347,7 @@ newer_translates = record {
   ends = (refl, refl);
   apart = (9, 10, refl, (8, refl, refl, refl, (refl, refl)), (refl, refl), refl);
   no_more = refl;
+  short = omega arith;
   modes = refl;
 }
 
@@ -414,14 +417,14 @@ unfolding does start resumed chain_of called
 parameter_first =
     silently here refl
     (silently (within (beside (in_this here))) refl
-    (by_act (within (beside (in_this here))) refl refl
+    (by_act (within (beside (in_this here))) (by_rule refl) refl
     (silently (within (beside (in_this here))) refl
     (silently (within (in_this here)) refl
-    (by_act (within (in_this here)) refl refl
+    (by_act (within (in_this here)) (by_rule refl) refl
     (silently (within (in_this here)) refl
-    (by_act here refl refl
-    (by_act here refl refl
-    (by_act here refl refl
+    (by_act here (by_rule refl) refl
+    (by_act here (by_rule refl) refl
+    (by_act here (by_rule refl) refl
     (silently here refl
     (silently (within (in_this here)) refl
     (silently (within (in_this here)) refl

@@ -69,6 +69,7 @@ translates = record {
   );
   ends = (refl, refl);
   no_more = refl;
+  short = omega arith;
   apart = refl;
   modes = refl;
 }
@@ -169,6 +170,7 @@ turning_translates = record {
   );
   ends = (refl, refl);
   no_more = refl;
+  short = omega arith;
   apart = refl;
   modes = refl;
 }
@@ -248,6 +250,7 @@ unlimited_translates = record {
   );
   ends = (refl, refl);
   no_more = refl;
+  short = omega arith;
   apart = refl;
   modes = refl;
 }

@@ -20,12 +20,13 @@ use Rattle.a68_elab.specs.Rows.{acts, meets, goes_with, conforms, specified, tak
 use Rattle.a68_elab.specs.Rows as rows
 use Rattle.a68_elab.specs.Terms.{conforming, specifying, tagging, passing, ranged, Term, todo, part, no_terms, only}
 use Rattle.a68_elab.specs.Trees.{Tree, Specs, no_specs, spec, Program}
-use Rattle.a68_gen.proofs.Forward.{next_is, forward, forward_specs}
+use Rattle.a68_gen.proofs.Forward.{forward, forward_specs}
 use Rattle.a68_gen.proofs.Members.{last_is}
-use Rattle.a68_emit.specs.Stretches.{Stands, StandSpecs, place_for, whole_for, member_places, wholes_of}
+use Rattle.a68_emit.specs.Stretches.{Lie, deeper_by, Stands, StandSpecs, place_for, whole_for, member_places, wholes_of}
 use Rattle.a68_modes.specs.Nodes.{shape_at}
 use Rattle.a68_modes.specs.declared.shape.Shape.{Shape}
-use Rattle.a68_sim.proofs.Asking.{idle, seen, ask, at_instr, place_is, does_is, is_inside}
+use Rattle.a68_sim.proofs.Asking.{idle, seen, ask, at_instr, place_is, does_is, is_inside, next_is}
+use Rattle.a68_sim.proofs.Landings.{Landing, Agrees, agrees_deeper}
 use Rattle.a68_sim.proofs.Jobs.{Done, row_done, two_or_more, misled_sim, on_bare, opens_frame}
 use Rattle.a68_sim.proofs.Quiet.{Progress, moves_on, moves_act, moves_fault}
 use Rattle.a68_sim.proofs.Relation.{members_in, Sim, yields}
@@ -78,7 +79,7 @@ member_is union v k e = absurd (cc)
 
 -- ---- jobs
 
-module _ (program : Program) (code : Code) (same : code.modes ≡ program.modes) (b : ℕ) (base : List Item) (home : List Environ) (g : Bool) where
+module _ (program : Program) (code : Code) (ls : List Landing) (same : code.modes ≡ program.modes) (b : ℕ) (base : List Item) (home : List Environ) (g : Bool) where
   -- the strand at a place, with what is kept of a value, or with nothing at the place for none
   abbrev at_place : (none place whole : ℕ) → Content → List Environ → State
   at_place none place whole v ch = idle place (if nat_eq place none then base else item.Value (kept_of whole v) ∷ base) ch
@@ -100,66 +101,75 @@ module _ (program : Program) (code : Code) (same : code.modes ≡ program.modes)
   -- the part of the first specification that takes the value stands at the place of its member; that for none stands at the
   -- place for none
   module _ (p : ℕ) (gives : Bool) (ch : List Environ) (ec : ch ≡ home) (eg : g ≡ gives) (u : ℕ) (w : Content) where
-    abbrev Lands : (specs : Specs) (out : Tree) (ps : List ℕ) (m x : ℕ) → Type 0
-    Lands specs out ps m x =
-        Sim code b base home g (conforms p gives ch specs out (united u w)) (at_place x (place_for u specs ps x) (whole_for u specs) (united u w) ch) × (m ≤ place_for u specs ps x)
+    abbrev StandsThere : (specs : Specs) (out : Tree) (ps : List ℕ) (m x : ℕ) → Type 0
+    StandsThere specs out ps m x =
+        Sim code ls b base home g (conforms p gives ch specs out (united u w)) (at_place x (place_for u specs ps x) (whole_for u specs) (united u w) ch) × (m ≤ place_for u specs ps x)
 
     -- a specification, or one behind it
     one_of : (specs behind : Specs) (out : Tree) (ps : List ℕ) (q m m' x : ℕ) (takes : Bool) (whole : Bool) (t : Term)
-        → q ≡ m → m < x → m ≤ m' → Sim code b base home g t (idle q (item.Value (taken whole (united u w)) ∷ base) ch) → Lands behind out ps m' x
-        → Sim code b base home g (if takes then t else conforms p gives ch behind out (united u w))
+        → q ≡ m → m < x → m ≤ m' → Sim code ls b base home g t (idle q (item.Value (taken whole (united u w)) ∷ base) ch) → StandsThere behind out ps m' x
+        → Sim code ls b base home g (if takes then t else conforms p gives ch behind out (united u w))
         (at_place x (if takes then q else place_for u behind ps x) (if takes then one_if whole else whole_for u behind) (united u w) ch)
         × (m ≤ (if takes then q else place_for u behind ps x))
     one_of specs behind out ps q m m' x true whole t eq less on here later =
-        (subst (Sim code b base home g t) (sym (kept_there x q whole u w ch (omega arith))) here, omega arith)
+        (subst (Sim code ls b base home g t) (sym (kept_there x q whole u w ch (omega arith))) here, omega arith)
     one_of specs behind out ps q m m' x false whole t eq less on here later = (later.0, (let l = later.1 in omega arith))
 
-    spec_sim : (specs : Specs) (out : Tree) (ps : List ℕ) (m x : ℕ) → StandSpecs code g p b specs ps m x → Stands code g out x b → Lands specs out ps m x
-    spec_sim no_specs out [] m x s last = (
+    spec_sim : (lie : Lie) → Agrees lie ls base ch → (specs : Specs) (out : Tree) (ps : List ℕ) (m x : ℕ) → StandSpecs code lie g p b specs ps m x → Stands code lie g out x b
+        → StandsThere specs out ps m x
+    spec_sim lie agrees no_specs out [] m x s last = (
       (
+        [],
         b,
-        (b, refl, refl, record { a = x; stands = last; chain = refl; state = ap (λ (t : Bool). idle x (if t then base else item.Value (kept_of 0 (united u w)) ∷ base) ch) (eq-eqb x x refl) }),
+        (
+          b,
+          refl,
+          (lie, agrees, refl),
+          record { a = x; lie = lie; agrees = agrees; stands = last; chain = refl; state = ap (λ (t : Bool). idle x (if t then base else item.Value (kept_of 0 (united u w)) ∷ base) ch) (eq-eqb x x refl) },
+        ),
         (ec, refl, inl refl),
       ),
       omega arith,
     )
-    spec_sim no_specs out (q ∷ ps) m x s last = absurd s
-    spec_sim (spec takes true whole t behind) out [] m x s last = absurd s
-    spec_sim (spec takes false whole t behind) out [] m x s last = absurd s
-    spec_sim (spec takes true whole t behind) out (q ∷ ps) m x s last =
-        let f1 = forward code g t s.1 s.2 s.8 in
-        let f2 = forward_specs code g p b behind ps s.4 x s.11 in
-        let f3 = forward code g out x b last in
+    spec_sim lie agrees no_specs out (q ∷ ps) m x s last = absurd s
+    spec_sim lie agrees (spec takes true whole t behind) out [] m x s last = absurd s
+    spec_sim lie agrees (spec takes false whole t behind) out [] m x s last = absurd s
+    spec_sim lie agrees (spec takes true whole t behind) out (q ∷ ps) m x s last =
+        let f1 = forward code (deeper_by 1 lie) g t s.1 s.2 s.8 in
+        let f2 = forward_specs code lie g p b behind ps s.4 x s.11 in
+        let f3 = forward code lie g out x b last in
         let i = s.6.1 in let j = s.7.1 in let v = s.9.1 in let n = s.10.1 in
         one_of (spec takes true whole t behind) behind out ps q m s.4 x (is_among u takes) whole _ s.5 (omega arith) (omega arith) (
+          [],
           s.3,
-          (s.3, refl, refl, m, ap (λ y. idle y (item.Value (taken whole (united u w)) ∷ base) ch) s.5, (refl, eg, s.0, s.1, s.2, s.6, s.7, s.8, s.9)),
+          (s.3, refl, (lie, agrees, refl), [], m, ap (λ y. idle y (item.Value (taken whole (united u w)) ∷ base) ch) s.5, (refl, eg, lie, agrees, s.0, s.1, s.2, s.6, s.7, s.8, s.9)),
           (ec, refl, inr (p, s.4, s.10, omega arith)),
         )
-        (spec_sim behind out ps s.4 x s.11 last)
-    spec_sim (spec takes false whole t behind) out (q ∷ ps) m x s last =
-        let f1 = forward code g t s.0 s.1 s.5 in
-        let f2 = forward_specs code g p b behind ps s.2 x s.7 in
-        let f3 = forward code g out x b last in
+        (spec_sim lie agrees behind out ps s.4 x s.11 last)
+    spec_sim lie agrees (spec takes false whole t behind) out (q ∷ ps) m x s last =
+        let f1 = forward code lie g t s.0 s.1 s.5 in
+        let f2 = forward_specs code lie g p b behind ps s.2 x s.7 in
+        let f3 = forward code lie g out x b last in
         let v = s.4.1 in let n = s.6.1 in
         one_of (spec takes false whole t behind) behind out ps q m s.2 x (is_among u takes) whole _ s.3 (omega arith) (omega arith) (
+          [],
           s.1,
-          (s.1, refl, refl, m, ap (λ y. idle y (item.Value (taken whole (united u w)) ∷ base) ch) s.3, (refl, p, s.0, s.4, s.5)),
+          (s.1, refl, (lie, agrees, refl), [], m, ap (λ y. idle y (item.Value (taken whole (united u w)) ∷ base) ch) s.3, (refl, p, s.0, s.4, (lie, agrees, s.5))),
           (ec, refl, inr (p, s.2, s.6, omega arith)),
         )
-        (spec_sim behind out ps s.2 x s.7 last)
+        (spec_sim lie agrees behind out ps s.2 x s.7 last)
 
-  pub conforming_done : (p union : ℕ) (gives : Bool) (specs : Specs) (out : Tree) (ch : List Environ) (k : ℕ) → Done program code (conforming p union gives specs out) ch k b base home g
+  pub conforming_done : (p union : ℕ) (gives : Bool) (specs : Specs) (out : Tree) (ch : List Environ) (k : ℕ) → Done program code ls (conforming p union gives specs out) ch k b base home g
   conforming_done p union gives specs out ch k [] tail = absurd (omega (arith, tail.1))
   conforming_done p union gives specs out ch k (v ∷ (w ∷ acc)) tail = absurd (two_or_more v w acc tail.1)
   conforming_done p union gives specs out ch k (v ∷ []) tail =
       by_result (member_of (shape_at code.modes union) v) refl
       (row_done program (conforming p union gives specs out) ch (v ∷ [])
       ∙ ap (λ (modes : List Shape). Some (goes_with p (λ n. conforms p gives ch specs out v) (member_of (shape_at modes union) v))) (sym same))
-      (at_instr code k p (item.Value v ∷ base) ch does_it tail.6.0 refl)
+      (at_instr code k p (item.Value v ∷ base) ch does_it tail.8.0 refl)
     where
       does_it : Does
-      does_it = does.Member union (member_places (members_in code union) specs tail.5 tail.4) (wholes_of (members_in code union) specs)
+      does_it = does.Member union (member_places (members_in code union) specs tail.7 tail.6) (wholes_of (members_in code union) specs)
 
       st : State
       st = idle k (item.Value v ∷ base) ch
@@ -171,53 +181,53 @@ module _ (program : Program) (code : Code) (same : code.modes ≡ program.modes)
       to_place place last whole c = if nat_eq place last then goes_to st place base else goes_to st place (item.Value (kept_of whole c) ∷ base)
 
       -- the strand goes to its place
-      lands : (place whole : ℕ) (u : ℕ) (w : Content) → k < place → row program t ≡ Some (rows.goes (conforms p gives ch specs out (united u w)))
-          → Sim code b base home g (conforms p gives ch specs out (united u w)) (at_place tail.4 place whole (united u w) ch)
-          → ask code st ≡ Some (seen code (to_place place tail.4 whole (united u w))) → Progress program code (Sim code b base home g) t st
-      lands place whole u w less e sim a = by_test (nat_eq place tail.4) sim a
+      goes_there : (place whole : ℕ) (u : ℕ) (w : Content) → k < place → row program t ≡ Some (rows.goes (conforms p gives ch specs out (united u w)))
+          → Sim code ls b base home g (conforms p gives ch specs out (united u w)) (at_place tail.6 place whole (united u w) ch)
+          → ask code st ≡ Some (seen code (to_place place tail.6 whole (united u w))) → Progress program code ls (Sim code ls b base home g) t st
+      goes_there place whole u w less e sim a = by_test (nat_eq place tail.6) sim a
         where
-          by_test : (y : Bool) → Sim code b base home g (conforms p gives ch specs out (united u w)) (idle place (if y then base else item.Value (kept_of whole (united u w)) ∷ base) ch)
+          by_test : (y : Bool) → Sim code ls b base home g (conforms p gives ch specs out (united u w)) (idle place (if y then base else item.Value (kept_of whole (united u w)) ∷ base) ch)
               → ask code st ≡ Some (seen code (if y then goes_to st place base else goes_to st place (item.Value (kept_of whole (united u w)) ∷ base)))
-              → Progress program code (Sim code b base home g) t st
-          by_test true sim a = moves_on program code _ t _ _ (idle place base ch) e a (is_inside code k p does_it tail.6.0) (inl (refl, inl less)) sim
+              → Progress program code ls (Sim code ls b base home g) t st
+          by_test true sim a = moves_on program code ls _ t _ _ (idle place base ch) e a (is_inside code k p does_it tail.8.0) (inl (refl, inl less)) sim
           by_test false sim a =
-              moves_on program code _ t _ _ (idle place (item.Value (kept_of whole (united u w)) ∷ base) ch) e a (is_inside code k p does_it tail.6.0) (inl (refl, inl less)) sim
+              moves_on program code ls _ t _ _ (idle place (item.Value (kept_of whole (united u w)) ∷ base) ch) e a (is_inside code k p does_it tail.8.0) (inl (refl, inl less)) sim
 
       by_result : (res : Result ℕ FaultKind) → member_of (shape_at code.modes union) v ≡ res → row program t ≡ Some (goes_with p (λ n. conforms p gives ch specs out v) res)
-          → ask code st ≡ Some (seen code (to_member st (member_places (members_in code union) specs tail.5 tail.4) (wholes_of (members_in code union) specs) base v res))
-          → Progress program code (Sim code b base home g) t st
+          → ask code st ≡ Some (seen code (to_member st (member_places (members_in code union) specs tail.7 tail.6) (wholes_of (members_in code union) specs) base v res))
+          → Progress program code ls (Sim code ls b base home g) t st
       by_result (Ok n) is e a =
           let x = member_is (shape_at code.modes union) v n is in
-          let at = member_at (members_in code union) specs tail.5 tail.4 x.0 n x.3 in
-          let pl = member_places (members_in code union) specs tail.5 tail.4 in
+          let at = member_at (members_in code union) specs tail.7 tail.6 x.0 n x.3 in
+          let pl = member_places (members_in code union) specs tail.7 tail.6 in
           let wholes = wholes_of (members_in code union) specs in
-          let y = spec_sim p gives ch tail.0 tail.2 x.0 x.1 specs out tail.5 tail.3 tail.4 tail.7 tail.8 in
-          lands (place_for x.0 specs tail.5 tail.4) (whole_for x.0 specs) x.0 x.1 (let z = y.1 in let i = tail.6.1 in omega arith)
+          let y = spec_sim p gives ch tail.0 tail.2 x.0 x.1 tail.3 tail.4 specs out tail.7 tail.5 tail.6 tail.9 tail.10 in
+          goes_there (place_for x.0 specs tail.7 tail.6) (whole_for x.0 specs) x.0 x.1 (let z = y.1 in let i = tail.8.1 in omega arith)
           (e ∙ ap (λ (c : Content). Some (rows.goes (conforms p gives ch specs out c))) x.2) y.0
           (a ∙ ap (λ (j : ℕ). Some (seen code (to_place j (last_place pl) (slice_index_or wholes n 0) v))) at.0
-          ∙ ap (λ (j : ℕ). Some (seen code (to_place (place_for x.0 specs tail.5 tail.4) j (slice_index_or wholes n 0) v))) (last_is (members_in code union) specs tail.5 tail.4)
-          ∙ ap (λ (j : ℕ). Some (seen code (to_place (place_for x.0 specs tail.5 tail.4) tail.4 j v))) at.1
-          ∙ ap (λ (c : Content). Some (seen code (to_place (place_for x.0 specs tail.5 tail.4) tail.4 (whole_for x.0 specs) c))) x.2)
+          ∙ ap (λ (j : ℕ). Some (seen code (to_place (place_for x.0 specs tail.7 tail.6) j (slice_index_or wholes n 0) v))) (last_is (members_in code union) specs tail.7 tail.6)
+          ∙ ap (λ (j : ℕ). Some (seen code (to_place (place_for x.0 specs tail.7 tail.6) tail.6 j v))) at.1
+          ∙ ap (λ (c : Content). Some (seen code (to_place (place_for x.0 specs tail.7 tail.6) tail.6 (whole_for x.0 specs) c))) x.2)
       by_result (Err why) is e a =
-          moves_fault program code _ t _ why p e (a ∙ ap (λ x. Some (meets why x)) (place_is code k p does_it tail.6.0)) (is_inside code k p does_it tail.6.0)
+          moves_fault program code ls _ t _ why p e (a ∙ ap (λ x. Some (meets why x)) (place_is code k p does_it tail.8.0)) (is_inside code k p does_it tail.8.0)
 
-  pub specifying_done : (p : ℕ) (gives : Bool) (v : Content) (t : Tree) (ch : List Environ) (k : ℕ) → Done program code (specifying p gives v t) ch k b base home g
+  pub specifying_done : (p : ℕ) (gives : Bool) (v : Content) (t : Tree) (ch : List Environ) (k : ℕ) → Done program code ls (specifying p gives v t) ch k b base home g
   specifying_done p gives v t ch k acc tail =
-      on_bare program code b base home g (specifying p gives v t) ch k acc (item.Value v ∷ base)
-      (opens_frame program code b base home g _ p 1 k (item.Value v ∷ base) (λ inner. part (tagging p gives v t) inner no_terms) ch tail.2 tail.5 (row_done program (specifying p gives v t) ch acc)
-      (λ e. (tail.2, refl, (tail.0, tail.1, tail.3, tail.4, tail.6, tail.7, tail.8)))
-      (λ q d h. misled_sim code b base home g q k d ch h))
+      on_bare program code ls b base home g (specifying p gives v t) ch k acc (item.Value v ∷ base)
+      (opens_frame program code ls b base home g _ p 1 k (item.Value v ∷ base) (λ inner. part (tagging p gives v t) inner no_terms) ch tail.4 tail.7 (row_done program (specifying p gives v t) ch acc)
+      (λ e. ([], tail.4, refl, (tail.0, tail.1, tail.5, tail.6, tail.8, (deeper_by 1 tail.2, agrees_deeper 1 tail.2 ls base ch (e ∷ ch) refl tail.3, tail.9), tail.10)))
+      (λ q d h. misled_sim code ls b base home g q k d ch h))
 
-  pub tagging_done : (p : ℕ) (gives : Bool) (v : Content) (t : Tree) (ch : List Environ) (k : ℕ) → Done program code (tagging p gives v t) ch k b base home g
+  pub tagging_done : (p : ℕ) (gives : Bool) (v : Content) (t : Tree) (ch : List Environ) (k : ℕ) → Done program code ls (tagging p gives v t) ch k b base home g
   unfolding start resumed
   tagging_done p gives v t [] k acc tail =
-      on_bare program code b base home g (tagging p gives v t) [] k acc (item.Value v ∷ base)
-      (moves_fault program code _ _ _ fault.Kind p (row_done program (tagging p gives v t) [] acc)
+      on_bare program code ls b base home g (tagging p gives v t) [] k acc (item.Value v ∷ base)
+      (moves_fault program code ls _ _ _ fault.Kind p (row_done program (tagging p gives v t) [] acc)
       (at_instr code k p (item.Value v ∷ base) [] (does.Bind 0) tail.4.0 refl ∙ ap (λ x. Some (meets fault.Kind x)) (place_is code k p (does.Bind 0) tail.4.0))
       (is_inside code k p (does.Bind 0) tail.4.0))
   tagging_done p gives v t (e ∷ outer) k acc tail =
-      on_bare program code b base home g (tagging p gives v t) (e ∷ outer) k acc (item.Value v ∷ base)
-      (moves_act program code _ _ _ p w _ (told_by code st (waiting.Operation next.Void)) (row_done program (tagging p gives v t) (e ∷ outer) acc)
+      on_bare program code ls b base home g (tagging p gives v t) (e ∷ outer) k acc (item.Value v ∷ base)
+      (moves_act program code ls _ _ _ p w _ (told_by code st (waiting.Operation next.Void)) (row_done program (tagging p gives v t) (e ∷ outer) acc)
       (at_instr code k p (item.Value v ∷ base) (e ∷ outer) (does.Bind 0) tail.4.0 refl ∙ ap (λ x. Some (acts x w (told_by code st (waiting.Operation next.Void)))) (place_is code k p (does.Bind 0) tail.4.0))
       (is_inside code k p (does.Bind 0) tail.4.0) told refl)
     where
@@ -230,15 +240,16 @@ module _ (program : Program) (code : Code) (same : code.modes ≡ program.modes)
       leaves_none : leaves_at code k ≡ false
       leaves_none = ap (λ (o : Option Does). option_map_or (does_leave code.modes) o false) (does_is code k p (does.Bind 0) tail.4.0)
 
-      misled_here : Sim code b base home g (rows.misled p (e ∷ outer)) (fails (idle k [] (e ∷ outer)) fault.Kind)
-      misled_here = misled_sim code b base home g p k (does.Bind 0) (e ∷ outer) tail.4.0
+      misled_here : Sim code ls b base home g (rows.misled p (e ∷ outer)) (fails (idle k [] (e ∷ outer)) fault.Kind)
+      misled_here = misled_sim code ls b base home g p k (does.Bind 0) (e ∷ outer) tail.4.0
 
       by_leaves : (y : Bool) → y ≡ false → (r : Reply)
-          → Sim code b base home g (turned p (e ∷ outer) (part (ranged p gives) (e ∷ outer) (only (todo t (e ∷ outer)))) r) (follows st y base (resumed code.modes next.Void r))
+          → Sim code ls b base home g (turned p (e ∷ outer) (part (ranged p gives) (e ∷ outer) (only (todo t (e ∷ outer)))) r) (follows st y base (resumed code.modes next.Void r))
       by_leaves true is r = absurd (cc)
       by_leaves false is reply.Go = (
+        [],
         tail.3,
-        (tail.3, refl, refl, record { a = tail.2; stands = tail.5; chain = refl; state = ap (λ n. idle n base (e ∷ outer)) (next_is k tail.2 tail.4.1) }),
+        (tail.3, refl, (tail.5.0, tail.5.1, refl), record { a = tail.2; lie = tail.5.0; agrees = tail.5.1; stands = tail.5.2; chain = refl; state = ap (λ n. idle n base (e ∷ outer)) (next_is k tail.2 tail.4.1) }),
         (refl, tail.1, tail.6, tail.0),
       )
       by_leaves false is (reply.Frame chain) = misled_here
@@ -248,13 +259,13 @@ module _ (program : Program) (code : Code) (same : code.modes ≡ program.modes)
       by_leaves false is (reply.Held (held.Rows d)) = misled_here
       by_leaves false is (reply.Held (held.Member m cell)) = misled_here
 
-      told : (r : Reply) → Sim code b base home g (turned p (e ∷ outer) (part (ranged p gives) (e ∷ outer) (only (todo t (e ∷ outer)))) r) (told_by code st (waiting.Operation next.Void) r)
+      told : (r : Reply) → Sim code ls b base home g (turned p (e ∷ outer) (part (ranged p gives) (e ∷ outer) (only (todo t (e ∷ outer)))) r) (told_by code st (waiting.Operation next.Void) r)
       told r = by_leaves (leaves_at code k) leaves_none r
 
-  pub passing_done : (v : Content) (t : Tree) (ch : List Environ) (k : ℕ) → Done program code (passing v t) ch k b base home g
+  pub passing_done : (v : Content) (t : Tree) (ch : List Environ) (k : ℕ) → Done program code ls (passing v t) ch k b base home g
   unfolding start
   passing_done v t ch k acc tail =
-      on_bare program code b base home g (passing v t) ch k acc (item.Value v ∷ base)
-      (moves_on program code _ _ _ _ (idle (suc k) base ch) (row_done program (passing v t) ch acc) (at_instr code k tail.1 (item.Value v ∷ base) ch does.Drop tail.3.0 refl)
+      on_bare program code ls b base home g (passing v t) ch k acc (item.Value v ∷ base)
+      (moves_on program code ls _ _ _ _ (idle (suc k) base ch) (row_done program (passing v t) ch acc) (at_instr code k tail.1 (item.Value v ∷ base) ch does.Drop tail.3.0 refl)
       (is_inside code k tail.1 does.Drop tail.3.0) (inl (refl, inl (omega arith)))
-      (record { a = tail.2; stands = tail.4; chain = tail.0; state = ap (λ n. idle n base ch) (next_is k tail.2 tail.3.1) ∙ ap (λ c. idle tail.2 base c) tail.0 }))
+      (record { a = tail.2; lie = tail.4.0; agrees = subst (λ (c : List Environ). Agrees tail.4.0 ls base c) tail.0 tail.4.1; stands = tail.4.2; chain = tail.0; state = ap (λ n. idle n base ch) (next_is k tail.2 tail.3.1) ∙ ap (λ c. idle tail.2 base c) tail.0 }))

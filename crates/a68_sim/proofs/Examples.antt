@@ -3,6 +3,7 @@ use Rattle.std.proofs.Common.{◌≡◌, ◌≢◌, ◌<◌, ◌+◌, ℕ, pos, 
 use Rattle.std.proofs.lemmas.Fmt.{decimal_digit}
 use Rattle.std.proofs.lemmas.Option.{same_Some}
 use Rattle.std.specs.Prelude.{◌++◌, replicate, slice_get, int_lt}
+use Rattle.std.specs.declared.option.Option.{Option}
 use Rattle.a68_acts.specs.Does.{did, does}
 use Rattle.a68_acts.specs.Operations.{tag, apply, start, resumed}
 use Rattle.a68_layout.specs.Rooms.{bounds_needed, planned}
@@ -22,7 +23,8 @@ use Rattle.a68_elab.specs.Programs.{program_of, tree_in}
 use Rattle.a68_elab.specs.Runs.{outcome}
 use Rattle.a68_elab.specs.Elaborations.{Elaborates, stays, silently, by_act}
 use Rattle.a68_elab.specs.Permitted.{Permitted}
-use Rattle.a68_elab.specs.Positions.{here, within, in_this, beside}
+use Rattle.a68_elab.specs.Positions.{here, within, in_this, beside, by_rule}
+use Rattle.a68_elab.specs.Rows.{Then, acts}
 use Rattle.a68_elab.specs.Terms.{Term, todo, yielded}
 use Rattle.a68_elab.specs.Trees.{Tree, operation, no_trees, ◌and_tree◌, collateral, Program}
 use Rattle.a68_emit.specs.Stretches.{Translates}
@@ -106,6 +108,7 @@ translates = record {
   );
   ends = (refl, refl);
   no_more = refl;
+  short = omega arith;
   apart = refl;
   modes = refl;
 }
@@ -230,6 +233,7 @@ unset_translates = record {
   );
   ends = (refl, refl);
   no_more = refl;
+  short = omega arith;
   apart = refl;
   modes = refl;
 }
@@ -310,6 +314,7 @@ newer_translates = record {
   );
   ends = (refl, refl);
   no_more = refl;
+  short = omega arith;
   apart = refl;
   modes = refl;
 }
@@ -371,21 +376,26 @@ unfolding does start resumed applied
 right_first =
     silently here refl
     (silently (within (beside (in_this here))) refl
-    (by_act (within (beside (in_this here))) refl refl
+    (by_act (within (beside (in_this here))) (by_rule refl) refl
     (silently (within (beside (in_this here))) refl
     (silently (within (in_this here)) refl
-    (by_act (within (in_this here)) refl refl
+    (by_act (within (in_this here)) (by_rule refl) refl
     (silently (within (in_this here)) refl
     (silently here refl stays)))))))
 
 -- ---- what is not permitted
 
+-- the act that comes next
+abbrev want_of : Option (Then Term) → Want
+want_of (Some (acts place w next)) = w
+want_of _ = want.Turn
+
 -- no elaboration of the first program has another first act than that which makes its frame
 frame_first : (t : Term) (s : Store) (e : Entry) (es : List Entry) → Elaborates program (todo program.tree standard) opening_store (e ∷ es) t s → e ≡ entry (act.Enter 1)
 unfolding does chain_of tree_in outcome bounds_needed most_bounds
 frame_first t s e es (silently here goes rest) = absurd (cc)
-frame_first t s e es (by_act {w = w} {act = a} {r = r} {s' = s'} here asks done rest) =
-    let same : want.Enter 0 1 1 ≡ w = cc in
+frame_first t s e es (by_act {w = w} {act = a} {r = r} {s' = s'} here (by_rule asks) done rest) =
+    let same : want.Enter 0 1 1 ≡ w = ap want_of asks in
     let is : does (want.Enter 0 1 1) opening_store ≡ did a r s' = ap (λ (x : Want). does x opening_store) same ∙ done in
     let act_is : act.Enter 1 ≡ a = cc in
     ap entry (sym act_is)

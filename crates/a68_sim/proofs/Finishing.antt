@@ -11,15 +11,16 @@ use Rattle.a68_acts.specs.declared.want.Want.TheVariants as want
 use Rattle.a68_code.specs.declared.code.Code.{Code}
 use Rattle.a68_code.specs.declared.code.RoutineEntrance.{RoutineEntrance}
 use Rattle.a68_code.specs.declared.does.Does.TheVariants as does
-use Rattle.a68_elab.specs.Positions.{within, in_this}
+use Rattle.a68_elab.specs.Positions.{within, in_this, by_rule}
 use Rattle.a68_elab.specs.Rows.{acts, turned}
 use Rattle.a68_elab.specs.Terms.{closing, Term, todo, part, yielded, unit_of, only, Terms, no_terms, ◌and_term◌}
 use Rattle.a68_elab.specs.Trees.{Program}
 use Rattle.a68_sim.proofs.Asking.{idle, at_instr, at_end_asks, place_is, is_inside}
 use Rattle.a68_sim.proofs.Follow.{term_progress}
 use Rattle.a68_sim.proofs.Forks.{close_tells}
-use Rattle.a68_sim.proofs.Quiet.{Quiet, still, quiet_in, Hole, moves_in, open_here, Kept, simply, Progress, moves, finishes, progress_after}
-use Rattle.a68_sim.proofs.Relation.{Pose, ready, midst, enters, binds_from, posed, pose_of, parts_give, inner, DoesParts, Sim, push}
+use Rattle.a68_sim.proofs.Landings.{Landing}
+use Rattle.a68_sim.proofs.Quiet.{Quiet, still, quiet_in, Hole, moves_in, open_here, Kept, simply, Progress, moves, finishes, leaps, progress_after}
+use Rattle.a68_sim.proofs.Relation.{Pose, ready, midst, enters, binds_from, posed, pose_of, parts_give, inner, landings, DoesParts, Sim, push}
 use Rattle.a68_sim.proofs.Routines.{TextsStand}
 use Rattle.a68_exec.specs.Runs.{is_passive}
 use Rattle.a68_instructions.specs.Machine.{State, asks_for, told_by, follows, enters_body, begins_body, binds, next_state, silently}
@@ -45,11 +46,11 @@ EndsAt code (unit_end p k ch) = slice_get code.list k ≡ Some (record { place =
 
 -- the strand does the unit, or has closed
 pub data UnitWorks (code : Code) (p k : ℕ) (ch : List Environ) (t : Term) (st : State) : Type 0 where
-  works : (u : Term) → t ≡ part (closing p) ch (only u) → Sim code k [] ch false u st → UnitWorks code p k ch t st
+  works : (u : Term) → t ≡ part (closing p) ch (only u) → Sim code [] k [] ch false u st → UnitWorks code p k ch t st
   closed : (v : Content) → t ≡ yielded v → st.stance ≡ Closed → UnitWorks code p k ch t st
 
 abbrev pub Works : Code → Finish → Term → State → Type 0
-Works code (program_end b home) t st = Sim code b [] home false t st
+Works code (program_end b home) t st = Sim code [] b [] home false t st
 Works code (unit_end p k ch) t st = UnitWorks code p k ch t st
 
 -- ---- a strand that works does not wait
@@ -87,22 +88,23 @@ posed_live code (binds_from text slot vs) k base ch g = binds_live code.texts (i
 moved_live : (st st' : State) → st ≡ st' → Live st' → Live st
 moved_live st st' e live = ap (λ (x : State). is_passive x.stance) e ∙ live
 
-parts_live : (code : Code) (ts : Terms) (k : ℕ) (base : List Item) (ch : List Environ) (g : Bool) (d : Pose) (st : State) → DoesParts code ts k base ch g d st → Live st
-parts_live code no_terms k base ch g d st x = moved_live st _ x (posed_live code d k base ch g)
-parts_live code (yielded v and_term ts) k base ch g d st x = parts_live code ts k (push g v base) ch g d st x
-parts_live code (todo tree c and_term ts) k base ch g d st x = moved_live st _ x.3.state refl
-parts_live code (part job c ps and_term ts) k base ch g d st x = parts_live code ps x.3 (inner job x.0 ch base) c (parts_give job g) (pose_of job) st x.4
-parts_live code (unit_of s t and_term ts) k base ch g d st x = absurd x
+parts_live : (code : Code) (ls : List Landing) (ts : Terms) (k : ℕ) (base : List Item) (ch : List Environ) (g : Bool) (d : Pose) (st : State) → DoesParts code ls ts k base ch g d st → Live st
+parts_live code ls no_terms k base ch g d st x = moved_live st _ x (posed_live code d k base ch g)
+parts_live code ls (yielded v and_term ts) k base ch g d st x = parts_live code ls ts k (push g v base) ch g d st x
+parts_live code ls (todo tree c and_term ts) k base ch g d st x = moved_live st _ x.3.state refl
+parts_live code ls (part job c ps and_term ts) k base ch g d st x =
+    parts_live code (landings job x.3 ls (inner job x.0 ch base) c) ps x.4 (inner job x.0 ch base) c (parts_give job g) (pose_of job) st x.5
+parts_live code ls (unit_of s t and_term ts) k base ch g d st x = absurd x
 
-sim_live : (code : Code) (b : ℕ) (base : List Item) (home : List Environ) (g : Bool) (t : Term) (st : State) → Sim code b base home g t st → Live st
-sim_live code b base home g (todo tree c) st s = moved_live st _ s.state refl
-sim_live code b base home g (yielded v) st s = moved_live st _ s refl
-sim_live code b base home g (part job c ps) st s = parts_live code ps s.0 (inner job b home base) c (parts_give job g) (pose_of job) st s.1
-sim_live code b base home g (unit_of x t) st s = absurd s
+sim_live : (code : Code) (ls : List Landing) (b : ℕ) (base : List Item) (home : List Environ) (g : Bool) (t : Term) (st : State) → Sim code ls b base home g t st → Live st
+sim_live code ls b base home g (todo tree c) st s = moved_live st _ s.state refl
+sim_live code ls b base home g (yielded v) st s = moved_live st _ s refl
+sim_live code ls b base home g (part job c ps) st s = parts_live code (landings job s.0 ls (inner job b home base) c) ps s.1 (inner job b home base) c (parts_give job g) (pose_of job) st s.2
+sim_live code ls b base home g (unit_of x t) st s = absurd s
 
 pub never_waits : (code : Code) (how : Finish) (t : Term) (st : State) (first count : ℕ) → Works code how t st → st.stance ≡ Waits first count → ⊥
-never_waits code (program_end b home) t st first count s e = absurd (true≢false (ap is_passive (sym e) ∙ sim_live code b [] home false t st s))
-never_waits code (unit_end p k ch) t st first count (works u is s) e = absurd (true≢false (ap is_passive (sym e) ∙ sim_live code k [] ch false u st s))
+never_waits code (program_end b home) t st first count s e = absurd (true≢false (ap is_passive (sym e) ∙ sim_live code [] b [] home false t st s))
+never_waits code (unit_end p k ch) t st first count (works u is s) e = absurd (true≢false (ap is_passive (sym e) ∙ sim_live code [] k [] ch false u st s))
 never_waits code (unit_end p k ch) t st first count (closed v is c) e = let x : Closed ≡ Waits first count = sym c ∙ e in absurd (cc)
 
 -- a unit alone closes, and has then yielded
@@ -111,8 +113,8 @@ Closes (program_end b home) t = ⊥
 Closes (unit_end p k ch) t = (v : Content) × (t ≡ yielded v)
 
 pub closes : (code : Code) (how : Finish) (t : Term) (st : State) → Works code how t st → st.stance ≡ Closed → Closes how t
-closes code (program_end b home) t st s e = absurd (true≢false (ap is_passive (sym e) ∙ sim_live code b [] home false t st s))
-closes code (unit_end p k ch) t st (works u is s) e = absurd (true≢false (ap is_passive (sym e) ∙ sim_live code k [] ch false u st s))
+closes code (program_end b home) t st s e = absurd (true≢false (ap is_passive (sym e) ∙ sim_live code [] b [] home false t st s))
+closes code (unit_end p k ch) t st (works u is s) e = absurd (true≢false (ap is_passive (sym e) ∙ sim_live code [] k [] ch false u st s))
 closes code (unit_end p k ch) t st (closed v is c) e = (v, is)
 
 -- ---- what comes next
@@ -123,7 +125,7 @@ unit_hole p ch = record { opens = λ own x u u' t t' o. within (in_this o) }
 module _ (program : Program) (code : Code) (same : code.modes ≡ program.modes) (texts : TextsStand program code) where
   -- a unit has done its work, and stands at its Close
   at_close : (p k : ℕ) (ch : List Environ) (v : Content) → EndsAt code (unit_end p k ch)
-      → Progress program code (UnitWorks code p k ch) (part (closing p) ch (only (yielded v))) (idle k [] ch)
+      → Progress program code [] (UnitWorks code p k ch) (part (closing p) ch (only (yielded v))) (idle k [] ch)
   at_close p k ch v end = moves (record {
     what = acts p want.Close told;
     asks = at_instr code k p [] ch does.Close end refl ∙ ap (λ x. Some (acts x want.Close told)) (place_is code k p does.Close end);
@@ -133,7 +135,7 @@ module _ (program : Program) (code : Code) (same : code.modes ≡ program.modes)
       wants = want.Close;
       alike = λ s. refl;
       next = turned p ch (yielded void);
-      open_at = open_here program _ _ refl;
+      open_at = open_here program _ _ (by_rule refl);
       keeps = λ s s2 act r done. by_reply s r (close_tells s s2 act r done);
     };
     inside = is_inside code k p does.Close end;
@@ -150,19 +152,21 @@ module _ (program : Program) (code : Code) (same : code.modes ≡ program.modes)
           simply refl (closed void (ap (turned p ch (yielded void)) is)
           (ap (λ (x : Reply). (told_by code (asks_for (idle k [] ch) [] (Asking want.Close waiting.Close)) waiting.Close x).stance) is))
 
-  unit_progress : (p k : ℕ) (ch : List Environ) (u : Term) (st : State) → EndsAt code (unit_end p k ch) → Progress program code (Sim code k [] ch false) u st
-      → Progress program code (UnitWorks code p k ch) (part (closing p) ch (only u)) st
+  unit_progress : (p k : ℕ) (ch : List Environ) (u : Term) (st : State) → EndsAt code (unit_end p k ch) → Progress program code [] (Sim code [] k [] ch false) u st
+      → Progress program code [] (UnitWorks code p k ch) (part (closing p) ch (only u)) st
   unit_progress p k ch u st end (moves m) =
-      moves (moves_in program code (λ x. part (closing p) ch (only x)) (unit_hole p ch) (Sim code k [] ch false) (UnitWorks code p k ch) (λ x s y. works x refl y) u st m)
+      moves (moves_in program code (λ x. part (closing p) ch (only x)) (unit_hole p ch) (Sim code [] k [] ch false) (UnitWorks code p k ch) (λ x s y. works x refl y) u st m)
   unit_progress p k ch u st end (finishes v q s) =
-      progress_after program code (UnitWorks code p k ch) _ _ st (quiet_in (λ x. part (closing p) ch (only x)) (unit_hole p ch) q)
-      (subst (Progress program code (UnitWorks code p k ch) (part (closing p) ch (only (yielded v)))) (sym s) (at_close p k ch v end))
+      progress_after program code [] (UnitWorks code p k ch) _ _ st (quiet_in (λ x. part (closing p) ch (only x)) (unit_hole p ch) q)
+      (subst (Progress program code [] (UnitWorks code p k ch) (part (closing p) ch (only (yielded v)))) (sym s) (at_close p k ch v end))
+  -- no clause is about the unit to which it could jump
+  unit_progress p k ch u st end (leaps x) = let e = x.found in absurd (cc)
 
-  pub work_progress : (how : Finish) (t : Term) (st : State) → EndsAt code how → Works code how t st → Progress program code (Works code how) t st
-  work_progress (program_end b home) t st end s = term_progress program code same texts t b [] home false st s
+  pub work_progress : (how : Finish) (t : Term) (st : State) → EndsAt code how → Works code how t st → Progress program code [] (Works code how) t st
+  work_progress (program_end b home) t st end s = term_progress program code same texts t [] b [] home false st s
   work_progress (unit_end p k ch) t st end (works u is s) =
-      subst (λ (x : Term). Progress program code (UnitWorks code p k ch) x st) (sym is)
-      (unit_progress p k ch u st end (term_progress program code same texts u k [] ch false st s))
+      subst (λ (x : Term). Progress program code [] (UnitWorks code p k ch) x st) (sym is)
+      (unit_progress p k ch u st end (term_progress program code same texts u [] k [] ch false st s))
   work_progress (unit_end p k ch) t st end (closed v is c) = finishes v (subst (λ (x : Term). Quiet program x (yielded v)) (sym is) still) (closed v refl c)
 
 -- a strand whose work is done takes no further step

@@ -1,5 +1,5 @@
 -- No act but a Fork makes strands.
-use Rattle.std.proofs.Common.{◌≡◌, ◌+◌, ap, subst, true≢false, ℕ, ℤ, Bool, true, false, List, refl}
+use Rattle.std.proofs.Common.{◌≡◌, ◌+◌, ap, subst, true≢false, ℕ, Bool, true, false, List, refl}
 use Rattle.std.specs.Option.{option_map_or}
 use Rattle.std.specs.Prelude.{None, Some, pos, length, int_lt, ◌+ℤ◌, nat_lt, slice_get, if◌then◌else◌}
 use Rattle.std.specs.declared.option.Option.{Option}

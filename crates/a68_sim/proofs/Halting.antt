@@ -8,7 +8,7 @@ use Rattle.a68_acts.specs.Store.{Store}
 use Rattle.a68_acts.specs.declared.want.Want.{Want}
 use Rattle.a68_code.specs.declared.code.Code.{Code}
 use Rattle.a68_elab.specs.Permitted.{Halted, at_down, waits_for, AllHalted, no_units, ended, halted, IsUnended}
-use Rattle.a68_elab.specs.Positions.{Opens, here, within, in_unit, HasOpen}
+use Rattle.a68_elab.specs.Positions.{Opens, here, within, in_unit, HasOpen, Comes, by_rule, by_jump}
 use Rattle.a68_elab.specs.Rows.{Then, acts, row}
 use Rattle.a68_elab.specs.Terms.{Term, todo, part, yielded, unit_of, joining, Terms, ◌and_term◌, values}
 use Rattle.a68_elab.specs.Trees.{Program}
@@ -33,11 +33,14 @@ opens_yielded here v e = e
 opens_yielded (within o) v e = absurd (cc)
 opens_yielded (in_unit o) v e = absurd (cc)
 
+-- nothing comes next for a yield
+comes_unended : (program : Program) (t : Term) (what : Then Term) → Comes program t what → IsUnended t
+comes_unended program t what (by_rule is) v e = let none : row program t ≡ None = ap (row program) e in absurd (cc)
+comes_unended program t what (by_jump is path) v e = absurd (cc)
+
 pub is_unended : (program : Program) (own : ℕ) (t : Term) (x : ℕ) (what : Then Term) → HasOpen program own t x what → IsUnended t
 is_unended program own t x what o v e =
-    let spot : o.spot ≡ yielded v = opens_yielded (o.opens o.spot) v e in
-    let none : row program o.spot ≡ None = ap (row program) spot in
-    let is = o.is in absurd (cc)
+    comes_unended program o.spot what o.is v (opens_yielded (o.opens o.spot) v e)
 
 halted_unended : (program : Program) (store : Store) (own : ℕ) (t : Term) → Halted program store own t → IsUnended t
 halted_unended program store own t (at_down what o b) v e = is_unended program own t own what o v e

@@ -1,4 +1,5 @@
 -- How the law is proved, from below. Relation: a strand's state stands for a term, whose translation is what the strand has left to do.
+-- Landings: the clauses with labels about the strand's place, each with the stack and the frames to which a jump to it comes back.
 -- Asking, Operating, Jobs, Calling, Conforming, Forking: what the machine asks for next is what the rules say comes next, construct by construct.
 -- Quiet, Follow, Settling: so silent instructions are followed by silent steps, up to the next act, fault or end.
 -- Routines, Finishing: the work of one strand, from where it is entered to its end.
@@ -6,7 +7,7 @@
 -- Forks, Worlds: an entry of any strand is an act of the elaboration, and both go on.
 -- Halting, Ending: where the run ends the elaboration has that end. Faulting: a fault lies where a construct of the program begins.
 -- Whole: by induction on the journal, the law.
--- Texts, Examples, Counting, Declared, Looped, Called, Casing, Turning, Paralleled: journals that were computed by hand.
+-- Texts, Examples, Counting, Declared, Looped, Called, Casing, Jumping, Turning, Paralleled: journals that were computed by hand.
 pub mod Asking
 pub mod Beginning
 pub mod Called
@@ -25,6 +26,8 @@ pub mod Forking
 pub mod Forks
 pub mod Halting
 pub mod Jobs
+pub mod Jumping
+pub mod Landings
 pub mod Lists
 pub mod Locating
 pub mod Looped

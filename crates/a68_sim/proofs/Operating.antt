@@ -19,8 +19,8 @@ use Rattle.a68_elab.specs.Terms.{Term, resuming, part, no_terms}
 use Rattle.a68_elab.specs.Trees.{Program}
 use Rattle.a68_emit.specs.Stretches.{does_of}
 use Rattle.a68_modes.specs.declared.shape.Shape.{Shape}
-use Rattle.a68_sim.proofs.Asking.{idle, seen, ask, place_is, does_is, is_inside}
-use Rattle.a68_gen.proofs.Forward.{next_is}
+use Rattle.a68_sim.proofs.Asking.{idle, seen, ask, place_is, does_is, is_inside, next_is}
+use Rattle.a68_sim.proofs.Landings.{Landing}
 use Rattle.a68_heights.proofs.Forks.{resumed_forkless}
 use Rattle.a68_heights.proofs.ForksOfSteps.{Forkless}
 use Rattle.a68_sim.proofs.Quiet.{still, quietly, Progress, finishes, moves_on, moves_act, moves_fault}
@@ -88,7 +88,7 @@ yields_is : (st : State) (g : Bool) (items : List Item) (v : Content) → follow
 yields_is st true items v = refl
 yields_is st false items v = refl
 
-module _ (program : Program) (code : Code) (same : code.modes ≡ program.modes) (b : ℕ) (base : List Item) (home : List Environ) (g : Bool) where
+module _ (program : Program) (code : Code) (ls : List Landing) (same : code.modes ≡ program.modes) (b : ℕ) (base : List Item) (home : List Environ) (g : Bool) where
   continues : (p : ℕ) (op : Operation) (n k : ℕ) (ch : List Environ) → OperationAt code p op n k b g → ch ≡ home → (d : Doing) → Forkless d → Continues code p d ch k b home g
   continues p op n k ch at ec (doing.Yields v) plain = (next_is k b at.has.1, ec)
   continues p op n k ch at ec (doing.Asks w next) plain = (op, n, at, ec, plain)
@@ -101,10 +101,11 @@ module _ (program : Program) (code : Code) (same : code.modes ≡ program.modes)
 
   -- an operation goes on with the reply to its act
   told_continues : (p : ℕ) (op : Operation) (n k : ℕ) (ch : List Environ) (items : List Item) (w : Want) (next : Next) → OperationAt code p op n k b g → ch ≡ home
-      → (r : Reply) → Sim code b base home g (part (resuming p (resumed program.modes next r)) ch no_terms)
+      → (r : Reply) → Sim code ls b base home g (part (resuming p (resumed program.modes next r)) ch no_terms)
       (told_by code (asks_for (idle k items ch) base (Asking w (waiting.Operation next))) (waiting.Operation next) r)
   told_continues p op n k ch items w next at ec r =
       let st = asks_for (idle k items ch) base (Asking w (waiting.Operation next)) in (
+        [],
         k,
         ap (λ (x : Bool). follows st x base (resumed code.modes next r)) (leaves_is p op n k at) ∙ follows_any st g base (resumed code.modes next r)
             ∙ ap (λ (modes : List Shape). follows (idle k [] ch) g base (resumed modes next r)) same,
@@ -115,31 +116,31 @@ module _ (program : Program) (code : Code) (same : code.modes ≡ program.modes)
   pub operation_begins : (p : ℕ) (op : Operation) (n k : ℕ) (ch : List Environ) (items : List Item) (t : Term) (d : Doing) → OperationAt code p op n k b g → ch ≡ home
       → callers base ≡ callers items → row program t ≡ Some (rows.operates program.modes p ch d) → ask code (idle k items ch) ≡ Some (seen code (follows (idle k items ch) g base d))
       → Forkless d
-      → Progress program code (Sim code b base home g) t (idle k items ch)
+      → Progress program code ls (Sim code ls b base home g) t (idle k items ch)
   operation_begins p op n k ch items t (doing.Yields v) at ec calls e a plain =
-      moves_on program code _ t _ _ (idle (suc k) (push g v base) ch) e (a ∙ ap (λ s. Some (seen code s)) (yields_is (idle k items ch) g base v))
+      moves_on program code ls _ t _ _ (idle (suc k) (push g v base) ch) e (a ∙ ap (λ s. Some (seen code s)) (yields_is (idle k items ch) g base v))
       (is_inside code k p (does_of op n) at.has.0) (inl (callers_push g v base ∙ calls, inl (omega arith)))
       (ap (λ x. idle x (push g v base) ch) (next_is k b at.has.1) ∙ ap (λ c. idle b (push g v base) c) ec)
   operation_begins p op n k ch items t (doing.Asks w next) at ec calls e a plain =
       let st = asks_for (idle k items ch) base (Asking w (waiting.Operation next)) in
-      moves_act program code _ t _ p w _ (told_by code st (waiting.Operation next)) e
+      moves_act program code ls _ t _ p w _ (told_by code st (waiting.Operation next)) e
       (a ∙ ap (λ x. Some (acts x w (told_by code st (waiting.Operation next)))) (place_is code k p (does_of op n) at.has.0))
       (is_inside code k p (does_of op n) at.has.0) (λ r. told_continues p op n k ch items w next at ec r) plain
   operation_begins p op n k ch items t (doing.Meets why) at ec calls e a plain =
-      moves_fault program code _ t _ why p e (a ∙ ap (λ x. Some (meets why x)) (place_is code k p (does_of op n) at.has.0))
+      moves_fault program code ls _ t _ why p e (a ∙ ap (λ x. Some (meets why x)) (place_is code k p (does_of op n) at.has.0))
       (is_inside code k p (does_of op n) at.has.0)
 
   -- an operation that is between two acts
   pub operation_goes_on : (p k : ℕ) (ch : List Environ) (d : Doing) → Continues code p d ch k b home g
-      → Progress program code (Sim code b base home g) (part (resuming p d) ch no_terms) (follows (idle k [] ch) g base d)
+      → Progress program code ls (Sim code ls b base home g) (part (resuming p d) ch no_terms) (follows (idle k [] ch) g base d)
   operation_goes_on p k ch (doing.Yields v) c =
       finishes v (quietly (λ own. here) refl still)
       (yields_is (idle k [] ch) g base v ∙ ap (λ x. idle x (push g v base) ch) c.0 ∙ ap (λ x. idle b (push g v base) x) c.1)
   operation_goes_on p k ch (doing.Asks w next) c =
       let st = asks_for (idle k [] ch) base (Asking w (waiting.Operation next)) in
       let has = c.2.has.0 in
-      moves_act program code _ _ st p w _ (told_by code st (waiting.Operation next)) refl
+      moves_act program code ls _ _ st p w _ (told_by code st (waiting.Operation next)) refl
       (ap (λ x. Some (acts x w (told_by code st (waiting.Operation next)))) (place_is code k p (does_of c.0 c.1) has))
       (is_inside code k p (does_of c.0 c.1) has) (λ r. told_continues p c.0 c.1 k ch [] w next c.2 c.3 r) c.4
   operation_goes_on p k ch (doing.Meets why) c =
-      moves_fault program code _ _ _ why p refl (ap (λ x. Some (meets why x)) (place_is code k p c.0 c.1)) (is_inside code k p c.0 c.1)
+      moves_fault program code ls _ _ _ why p refl (ap (λ x. Some (meets why x)) (place_is code k p c.0 c.1)) (is_inside code k p c.0 c.1)

@@ -87,6 +87,7 @@ translates_up = record {
     (12, 13, refl, (11, refl, refl, (11, (10, refl, refl, refl, (refl, refl)), refl), (refl, refl)), (refl, refl), refl),
   );
   no_more = refl;
+  short = omega arith;
   modes = refl;
 }
 
@@ -116,6 +117,7 @@ translates_down = record {
     (12, 13, refl, (11, refl, refl, (11, (10, refl, refl, refl, (refl, refl)), refl), (refl, refl)), (refl, refl), refl),
   );
   no_more = refl;
+  short = omega arith;
   modes = refl;
 }
 
@@ -262,6 +264,7 @@ nested_translates = record {
     ),
   );
   no_more = refl;
+  short = omega arith;
   modes = refl;
 }
 

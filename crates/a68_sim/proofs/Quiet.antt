@@ -1,20 +1,24 @@
 -- Silent steps, and what a term does next, lifted from a part to the whole.
 use Rattle.std.proofs.Common.{◌≡◌, ◌<◌, ℕ, suc, false, List, [], ◌∷◌, length, Some, refl, sym, ap, subst}
+use Rattle.std.specs.Prelude.{slice_get}
 use Rattle.a68_acts.specs.Does.{did, does}
 use Rattle.a68_acts.specs.Store.{Store}
 use Rattle.a68_acts.specs.declared.want.Reply.{Reply}
 use Rattle.a68_acts.specs.declared.want.Want.{Want}
 use Rattle.a68_acts.specs.declared.want.Want.TheVariants as want
 use Rattle.a68_code.specs.declared.code.Code.{Code}
-use Rattle.a68_elab.specs.Positions.{Opens, here, HasOpen}
+use Rattle.a68_code.specs.declared.does.Does.{Does}
+use Rattle.a68_elab.specs.Positions.{Opens, here, Jumps, Comes, by_rule, HasOpen}
 use Rattle.a68_elab.specs.Rows.{Then, goes, acts, meets, row}
 use Rattle.a68_elab.specs.Terms.{Term, part, yielded, joining, unit_terms}
 use Rattle.a68_elab.specs.Trees.{Program, units_of}
-use Rattle.a68_emit.specs.Stretches.{AreEntrances}
+use Rattle.a68_emit.specs.Stretches.{AreEntrances, place_of}
 use Rattle.a68_sim.proofs.Asking.{ask, Forth}
+use Rattle.a68_sim.proofs.Landings.{Landing, landing_of}
 use Rattle.a68_heights.proofs.ForksOfSteps.{is_fork}
-use Rattle.a68_instructions.specs.Machine.{State, stack_of}
-use Rattle.a68_instructions.specs.declared.ask.Stance.TheVariants.{Idle, Waits}
+use Rattle.a68_instructions.specs.Machine.{State, stack_of, told_by}
+use Rattle.a68_instructions.specs.declared.ask.Stance.TheVariants.{Idle, Asking, Waits}
+use Rattle.a68_instructions.specs.declared.ask.Waiting.TheVariants as waiting
 use Rattle.a68_stack.specs.declared.stack.Item.{Item}
 use Rattle.a68_values.specs.Content.{Content, void}
 use Rattle.a68_values.specs.declared.act.Act.{Act}
@@ -44,7 +48,7 @@ pub record IsOpen (program : Program) (t : Term) (what : Then Term) : Type 0 whe
   pub put : Term → Term
   pub hole : Hole put
   pub whole : t ≡ put spot
-  pub is : row program spot ≡ Some what
+  pub is : Comes program spot what
 
 -- a term may be put there
 pub opens_at : {program : Program} {t : Term} {what : Then Term} (o : IsOpen program t what) (own : ℕ) (u' : Term) → Opens o.spot u' own own t (o.put u')
@@ -53,7 +57,7 @@ opens_at o own u' = subst (λ (y : Term). Opens o.spot u' own own y (o.put u')) 
 pub has_open : {program : Program} {t : Term} {what : Then Term} → IsOpen program t what → (own : ℕ) → HasOpen program own t own what
 has_open o own = record { spot = o.spot; put = o.put; opens = λ u'. opens_at o own u'; is = o.is }
 
-abbrev pub open_here : (program : Program) (t : Term) (what : Then Term) → row program t ≡ Some what → IsOpen program t what
+abbrev pub open_here : (program : Program) (t : Term) (what : Then Term) → Comes program t what → IsOpen program t what
 open_here program t what e = record { spot = t; put = λ u. u; hole = record { opens = λ own x u u' t1 t2 o. o }; whole = refl; is = e }
 
 abbrev pub open_in : (program : Program) (f : Term → Term) → Hole f → (t : Term) (what : Then Term) → IsOpen program t what → IsOpen program (f t) what
@@ -118,6 +122,26 @@ pub record Moves (program : Program) (code : Code) (K : Term → State → Type 
   pub inside : st.at < length code.list
   pub forth : Forth code st what
 
+-- where a strand stands that has asked for the turn of a jump: with the stack and the frames with which the clause began
+abbrev pub jumping : (at to : ℕ) → Landing → State
+jumping at to l = record { at = at; stack = stack_of l.base; chain = l.chain; stance = Asking want.Turn (waiting.Jump to) }
+
+-- What t does next, possibly after silent steps, is a jump to a label of a clause about it; and the strand asks for the turn of
+-- that jump, to go on at that step.
+pub record Leaps (program : Program) (code : Code) (ls : List Landing) (t : Term) (st : State) : Type 0 where
+  pub now : Term
+  pub quiet : Quiet program t now
+  pub place : ℕ
+  pub label : ℕ
+  pub path : Jumps place label now
+  pub l : Landing
+  pub found : landing_of label ls ≡ Some l
+  pub to : ℕ
+  pub leads_to : place_of label l.steps l.places ≡ Some to
+  pub does : Does
+  pub has : slice_get code.list st.at ≡ Some (record { place = place; does = does })
+  pub asks : ask code st ≡ Some (acts place want.Turn (told_by code (jumping st.at to l) (waiting.Jump to)))
+
 kept_in : (program : Program) (code : Code) (f : Term → Term) → (K L : Term → State → Type 0) → ((t : Term) (st : State) → K t st → L (f t) st)
     → (s : Store) (w : Want) (put : Term → Term) (u : Term) (st : State) → Kept program code K s w put u st → Kept program code L s w (λ x. f (put x)) u st
 kept_in program code f K L to s w put u st (simply e k) = simply e (to (put u) st k)
@@ -160,36 +184,52 @@ follows_after program code K t t' q (acts place want k) w =
     record { now = w.now; quiet = quiet_on q w.quiet; wants = w.wants; alike = w.alike; next = w.next; open_at = w.open_at; keeps = w.keeps }
 follows_after program code K t t' q (meets why place) w = (w.0, quiet_on q w.1, w.2)
 
--- what comes next: the strand moves and t follows, or t yields silently, where the strand stands
-pub data Progress (program : Program) (code : Code) (K : Term → State → Type 0) (t : Term) (st : State) : Type 0 where
-  moves : Moves program code K t st → Progress program code K t st
-  finishes : (v : Content) → Quiet program t (yielded v) → K (yielded v) st → Progress program code K t st
+-- what comes next within these clauses: the strand moves and t follows; or t yields silently, where the strand stands; or one of
+-- the clauses jumps
+pub data Progress (program : Program) (code : Code) (ls : List Landing) (K : Term → State → Type 0) (t : Term) (st : State) : Type 0 where
+  moves : Moves program code K t st → Progress program code ls K t st
+  finishes : (v : Content) → Quiet program t (yielded v) → K (yielded v) st → Progress program code ls K t st
+  leaps : Leaps program code ls t st → Progress program code ls K t st
 
-pub progress_after : (program : Program) (code : Code) (K : Term → State → Type 0) (t t' : Term) (st : State) → Quiet program t t'
-    → Progress program code K t' st → Progress program code K t st
-progress_after program code K t t' st q (moves m) =
+pub progress_after : (program : Program) (code : Code) (ls : List Landing) (K : Term → State → Type 0) (t t' : Term) (st : State) → Quiet program t t'
+    → Progress program code ls K t' st → Progress program code ls K t st
+progress_after program code ls K t t' st q (moves m) =
     moves (record { what = m.what; asks = m.asks; follows = follows_after program code K t t' q m.what m.follows; inside = m.inside; forth = m.forth })
-progress_after program code K t t' st q (finishes v p s) = finishes v (quiet_on q p) s
+progress_after program code ls K t t' st q (finishes v p s) = finishes v (quiet_on q p) s
+progress_after program code ls K t t' st q (leaps x) = leaps (record {
+  now = x.now;
+  quiet = quiet_on q x.quiet;
+  place = x.place;
+  label = x.label;
+  path = x.path;
+  l = x.l;
+  found = x.found;
+  to = x.to;
+  leads_to = x.leads_to;
+  does = x.does;
+  has = x.has;
+  asks = x.asks;
+})
 
-pub progress_row : (program : Program) (code : Code) (K : Term → State → Type 0) (t t' : Term) (st : State) → row program t ≡ Some (goes t')
-    → Progress program code K t' st → Progress program code K t st
-progress_row program code K t t' st e = progress_after program code K t t' st (quietly (λ own. here) e still)
+pub progress_row : (program : Program) (code : Code) (ls : List Landing) (K : Term → State → Type 0) (t t' : Term) (st : State) → row program t ≡ Some (goes t')
+    → Progress program code ls K t' st → Progress program code ls K t st
+progress_row program code ls K t t' st e = progress_after program code ls K t t' st (quietly (λ own. here) e still)
 
 -- the strand goes on, and t does by its rule
-pub moves_on : (program : Program) (code : Code) (K : Term → State → Type 0) (t t' : Term) (st st' : State) → row program t ≡ Some (goes t')
-    → ask code st ≡ Some (goes st') → st.at < length code.list → Forth code st (goes st') → K t' st' → Progress program code K t st
-moves_on program code K t t' st st' e asks inside forth keeps =
+pub moves_on : (program : Program) (code : Code) (ls : List Landing) (K : Term → State → Type 0) (t t' : Term) (st st' : State) → row program t ≡ Some (goes t')
+    → ask code st ≡ Some (goes st') → st.at < length code.list → Forth code st (goes st') → K t' st' → Progress program code ls K t st
+moves_on program code ls K t t' st st' e asks inside forth keeps =
     moves (record { what = goes st'; asks = asks; follows = (t', quietly (λ own. here) e still, keeps); inside = inside; forth = forth })
 
-pub moves_fault : (program : Program) (code : Code) (K : Term → State → Type 0) (t : Term) (st : State) (why : FaultKind) (place : ℕ) → row program t ≡ Some (meets why place)
-    → ask code st ≡ Some (meets why place) → st.at < length code.list → Progress program code K t st
-moves_fault program code K t st why place e asks inside =
-    moves (record { what = meets why place; asks = asks; follows = (t, still, open_here program t _ e); inside = inside; forth = tt })
+pub moves_fault : (program : Program) (code : Code) (ls : List Landing) (K : Term → State → Type 0) (t : Term) (st : State) (why : FaultKind) (place : ℕ)
+    → row program t ≡ Some (meets why place) → ask code st ≡ Some (meets why place) → st.at < length code.list → Progress program code ls K t st
+moves_fault program code ls K t st why place e asks inside =
+    moves (record { what = meets why place; asks = asks; follows = (t, still, open_here program t _ (by_rule e)); inside = inside; forth = tt })
 
-pub moves_act : (program : Program) (code : Code) (K : Term → State → Type 0) (t : Term) (st : State) (place : ℕ) (w : Want) (next : Reply → Term) (k : Reply → State)
+pub moves_act : (program : Program) (code : Code) (ls : List Landing) (K : Term → State → Type 0) (t : Term) (st : State) (place : ℕ) (w : Want) (next : Reply → Term) (k : Reply → State)
     → row program t ≡ Some (acts place w next) → ask code st ≡ Some (acts place w k) → st.at < length code.list
-    → ((r : Reply) → K (next r) (k r)) → is_fork w ≡ false → Progress program code K t st
-moves_act program code K t st place w next k e asks inside keeps plain = moves (record {
+    → ((r : Reply) → K (next r) (k r)) → is_fork w ≡ false → Progress program code ls K t st
+moves_act program code ls K t st place w next k e asks inside keeps plain = moves (record {
   what = acts place w k;
   asks = asks;
   follows = record {
@@ -198,7 +238,7 @@ moves_act program code K t st place w next k e asks inside keeps plain = moves (
     wants = w;
     alike = λ s. refl;
     next = next;
-    open_at = open_here program t _ e;
+    open_at = open_here program t _ (by_rule e);
     keeps = λ s s2 act r d. simply plain (keeps r);
   };
   inside = inside;

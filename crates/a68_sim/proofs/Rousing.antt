@@ -13,7 +13,7 @@ use Rattle.a68_sim.proofs.Family.{QuietIn, in_still, in_step, in_on, in_hole, ow
 use Rattle.a68_sim.proofs.Finishing.{Finish, unit_end, EndsAt}
 use Rattle.a68_sim.proofs.Lists.{same_is, get_map}
 use Rattle.a68_sim.proofs.Routines.{TextsStand}
-use Rattle.a68_sim.proofs.Settling.{SettledIn, Settled, Comes, settles}
+use Rattle.a68_sim.proofs.Settling.{SettledIn, Settled, Arrives, settles}
 use Rattle.a68_strand.proofs.Waking.{woken_still}
 use Rattle.a68_instructions.specs.Machine.{State, next_state, settle}
 use Rattle.a68_exec.specs.Runs.{has_closed, is_closed, all_closed, woken, woken_in}
@@ -122,7 +122,7 @@ module _ (program : Program) (code : Code) (same_modes : code.modes ≡ program.
       let j = l.3 in
       let closed = closed_units program code all units l.0 l.1 l.2 c l.4 in
       let next : State = record j.st { at = suc j.st.at; stance = Idle } in
-      let later : Comes program code how (j.put (yielded void)) (settle code next) = settles program code same_modes texts how ends (j.put (yielded void)) next j.goes_on in
+      let later : Arrives program code how (j.put (yielded void)) (settle code next) = settles program code same_modes texts how ends (j.put (yielded void)) next j.goes_on in
       let first : QuietIn program own (j.put (part joining l.1 l.2)) (j.put (yielded void)) =
       in_step (j.hole.opens own own (part joining l.1 l.2) (yielded void) (part joining l.1 l.2) (yielded void) here) (ap (option_map (finish program joining l.1)) closed.0.1) in_still in
       record {

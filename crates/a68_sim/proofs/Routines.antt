@@ -9,7 +9,7 @@ use Rattle.a68_code.specs.declared.code.Code.{Code}
 use Rattle.a68_code.specs.declared.code.RoutineEntrance.{RoutineEntrance}
 use Rattle.a68_code.specs.declared.does.Does.TheVariants as does
 use Rattle.a68_elab.specs.Trees.{Apart, routine_text, parallel_unit, Body, bodies, ParallelUnit, Program, texts_of, units, units_of}
-use Rattle.a68_emit.specs.Stretches.{Stands, StandApart, Translates}
+use Rattle.a68_emit.specs.Stretches.{outermost, Stands, StandApart, Translates}
 use Rattle.a68_values.specs.Content.{Content, plain}
 use Rattle.a68_values.specs.declared.plain.Plain.TheVariants as value
 use Rattle.a68_values.specs.declared.plain.Routine.{Routine}
@@ -18,7 +18,7 @@ use Rattle.a68_values.specs.declared.plain.Routine.{Routine}
 pub record IsAt (code : Code) (body : Body) (e : RoutineEntrance) : Type 0 where
   pub yields : e.yields ≡ body.yields
   pub end : ℕ
-  pub stands : Stands code body.yields body.tree e.at end
+  pub stands : Stands code outermost body.yields body.tree e.at end
   pub return : slice_get code.list end ≡ Some (record { place = body.place; does = does.Return })
 
 -- what is found of a routine text in the program and in the code
@@ -36,7 +36,7 @@ yields_of bodies = map (λ (body : Body). body.yields) bodies
 -- a unit of a parallel clause stands at its entrance, and Close behind it
 pub record UnitAt (code : Code) (unit : ParallelUnit) (entrance : ℕ) : Type 0 where
   pub end : ℕ
-  pub stands : Stands code false unit.tree entrance end
+  pub stands : Stands code outermost false unit.tree entrance end
   pub close : slice_get code.list end ≡ Some (record { place = unit.place; does = does.Close })
 
 -- what is found of a unit in the program and in the code
@@ -70,7 +70,7 @@ all_found code (routine_text body ∷ more) [] us a b s text = absurd s
 all_found code (routine_text body ∷ more) (e ∷ es) us a b s zero = record {
   yields = ap (λ (x : RoutineEntrance). x.yields) s.2;
   end = s.0;
-  stands = subst (λ (x : RoutineEntrance). Stands code body.yields body.tree x.at s.0) (sym s.2) s.3;
+  stands = subst (λ (x : RoutineEntrance). Stands code outermost body.yields body.tree x.at s.0) (sym s.2) s.3;
   return = s.4.0;
 }
 all_found code (routine_text body ∷ more) (e ∷ es) us a b s (suc text) = all_found code more es us s.1 b s.5 text
@@ -86,7 +86,7 @@ units_found code (routine_text body ∷ more) [] us a b s number = absurd s
 units_found code (routine_text body ∷ more) (e ∷ es) us a b s number = units_found code more es us s.1 b s.5 number
 units_found code (parallel_unit unit ∷ more) es [] a b s number = absurd s
 units_found code (parallel_unit unit ∷ more) es (u ∷ us) a b s zero =
-    record { end = s.0; stands = subst (λ (x : ℕ). Stands code false unit.tree x s.0) (sym s.2) s.3; close = s.4.0 }
+    record { end = s.0; stands = subst (λ (x : ℕ). Stands code outermost false unit.tree x s.0) (sym s.2) s.3; close = s.4.0 }
 units_found code (parallel_unit unit ∷ more) es (u ∷ us) a b s (suc number) = units_found code more es us s.1 b s.5 number
 
 pub texts_stand : (program : Program) (code : Code) → Translates program code → TextsStand program code

@@ -1,5 +1,5 @@
 -- A strand runs its silent instructions, and the term follows.
-use Rattle.std.proofs.Common.{◌≡◌, ◌<◌, ◌≤◌, ◌⊎◌, ◌+◌, ◌*◌, ℕ, zero, suc, arith, Bool, true, false, List, length, None, Some, refl, sym, ap, ◌∙◌, subst, inl, inr}
+use Rattle.std.proofs.Common.{◌≡◌, ◌<◌, ◌≤◌, ◌⊎◌, ◌+◌, ◌*◌, ℕ, zero, suc, arith, Bool, true, false, List, [], length, None, Some, refl, sym, ap, ◌∙◌, subst, inl, inr}
 use Rattle.std.proofs.Math.Nat.{mul-suc}
 use Rattle.std.proofs.lemmas.Option.{same_Some}
 use Rattle.std.specs.Option.{option_map, option_map_or}
@@ -16,7 +16,7 @@ use Rattle.a68_elab.specs.Terms.{Term, yielded}
 use Rattle.a68_elab.specs.Trees.{Program}
 use Rattle.a68_sim.proofs.Asking.{seen_in, seen, Forth}
 use Rattle.a68_sim.proofs.Finishing.{Finish, program_end, unit_end, EndsAt, Works, Closes, never_waits, closes, works, closed, work_progress, no_step}
-use Rattle.a68_sim.proofs.Quiet.{Quiet, still, quiet_on, IsOpen, Follows, Progress, moves, finishes, Moves}
+use Rattle.a68_sim.proofs.Quiet.{Quiet, still, quiet_on, IsOpen, Follows, Progress, moves, finishes, leaps, Moves}
 use Rattle.a68_sim.proofs.Routines.{TextsStand}
 use Rattle.a68_exec.proofs.Settled as rest
 use Rattle.a68_instructions.specs.Machine.{settle, State, Stack, at_end, does_one, silently, settle_in, steps, goes_on, goes_to, told_by, place_at}
@@ -124,9 +124,9 @@ SettledIn program code how Closed t st = Closes how t
 abbrev pub Settled : Program → Code → Finish → Term → State → Type 0
 Settled program code how t st = SettledIn program code how st.stance t st
 
--- possibly after silent steps the term is where the strand has settled
-abbrev pub Comes : Program → Code → Finish → Term → State → Type 0
-Comes program code how t st = (t' : Term) × Quiet program t t' × Settled program code how t' st
+-- possibly after silent steps the term arrives where the strand has settled
+abbrev pub Arrives : Program → Code → Finish → Term → State → Type 0
+Arrives program code how t st = (t' : Term) × Quiet program t t' × Settled program code how t' st
 
 -- a strand whose work is done has settled
 done_settled : (program : Program) (code : Code) (how : Finish) (v : Content) (st : State) → Works code how (yielded v) st → Settled program code how (yielded v) st
@@ -139,7 +139,7 @@ module _ (program : Program) (code : Code) (same : code.modes ≡ program.modes)
   K = Works code how
 
   abbrev Here : Term → State → Type 0
-  Here t st = Comes program code how t st
+  Here t st = Arrives program code how t st
 
   -- a step on which the strand asks, fails or goes on
   by_next : (n : ℕ) (t : Term) (at : ℕ) (stack : Stack) (ch : List Environ) (stance : Stance)
@@ -181,12 +181,13 @@ module _ (program : Program) (code : Code) (same : code.modes ≡ program.modes)
           (λ t' idles kt. more k t' next refl kt
           (enough_left code k at stack ch next m.inside enough e idles (subst (Forth code st) (sym w ∙ ap (λ (md : Stance). seen_in code md next) idles) m.forth))))
 
-  by_progress : (n : ℕ) (t : Term) (st : State) → Enough code n st → Progress program code K t st
+  by_progress : (n : ℕ) (t : Term) (st : State) → Enough code n st → Progress program code [] K t st
       → ((k : ℕ) (t' : Term) (next : State) → n ≡ suc k → K t' next → Enough code k next → Here t' (settle_in k code next))
       → Here t (settle_in n code st)
   by_progress n t st enough (moves m) more = by_stance n t st.at st.stack st.chain st.stance enough m more
   by_progress n t st enough (finishes v q k) more =
       subst (Here t) (sym (rest.still n code st (no_step code how v st end k))) (yielded v, q, done_settled program code how v st k)
+  by_progress n t st enough (leaps x) more = let e = x.found in absurd (cc)
 
   -- a strand settles, and the term follows it
   settle_follows : (n : ℕ) (t : Term) (st : State) → K t st → Enough code n st → Here t (settle_in n code st)
@@ -197,6 +198,6 @@ module _ (program : Program) (code : Code) (same : code.modes ≡ program.modes)
       (λ j t' next e kt left. let same_n : n ≡ j = omega (arith, e) in
       subst (λ (x : ℕ). Enough code x next → Here t' (settle_in x code next)) same_n (settle_follows n t' next kt) left)
 
-  pub settles : (t : Term) (st : State) → Works code how t st → Comes program code how t (settle code st)
+  pub settles : (t : Term) (st : State) → Works code how t st → Arrives program code how t (settle code st)
   unfolding settle
   settles t st k = settle_follows (rooms (length code.list) (callers st.stack.items)) t st k (inl (omega arith))

@@ -88,6 +88,7 @@ translates = record {
   );
   ends = (refl, refl);
   no_more = refl;
+  short = omega arith;
   apart = refl;
   modes = refl;
 }

@@ -8,13 +8,14 @@ use Rattle.a68_elab.specs.Elaborations.{Elaborates, stays, silently, by_act}
 use Rattle.a68_elab.specs.Permitted.{Permitted}
 use Rattle.a68_elab.specs.Terms.{Term, todo}
 use Rattle.a68_elab.specs.Trees.{Program}
-use Rattle.a68_emit.specs.Stretches.{Translates}
+use Rattle.a68_emit.specs.Stretches.{outermost, Translates}
 use Rattle.a68_sim.proofs.Ending.{ends_too}
 use Rattle.a68_sim.proofs.Family.{QuietIn, in_elaborates, quiet_at, single, times}
 use Rattle.a68_sim.proofs.Finishing.{Finish, program_end, EndsAt}
+use Rattle.a68_sim.proofs.Landings.{agrees_alone}
 use Rattle.a68_sim.proofs.Lists.{same_most, same_self}
 use Rattle.a68_sim.proofs.Routines.{TextsStand, texts_stand}
-use Rattle.a68_sim.proofs.Settling.{Comes, settles}
+use Rattle.a68_sim.proofs.Settling.{Arrives, settles}
 use Rattle.a68_sim.proofs.Worlds.{next_acts, Joint, steps}
 use Rattle.a68_exec.proofs.Alive.{active}
 use Rattle.a68_exec.proofs.Settled.{settle_rests}
@@ -80,8 +81,8 @@ module _ (program : Program) (code : Code) (tr : Translates program code) where
   end_is : EndsAt code how_ends
   end_is = (program.place, tr.ends.0)
 
-  begins_so : Comes program code how_ends (todo program.tree home) (settle code (beginning 0 home))
-  begins_so = settles program code tr.modes texts_of_code how_ends end_is (todo program.tree home) (beginning 0 home) (record { a = 0; stands = tr.stands; chain = refl; state = refl })
+  begins_so : Arrives program code how_ends (todo program.tree home) (settle code (beginning 0 home))
+  begins_so = settles program code tr.modes texts_of_code how_ends end_is (todo program.tree home) (beginning 0 home) (record { a = 0; lie = outermost; agrees = agrees_alone home; stands = tr.stands; chain = refl; state = refl })
 
   -- the elaboration is as far as the world in which the program begins
   begun : Joint program code tr.modes texts_of_code how_ends end_is begins_so.0 (opening code)

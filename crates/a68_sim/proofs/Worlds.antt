@@ -30,7 +30,7 @@ use Rattle.a68_sim.proofs.Locating.{Spot, locate}
 use Rattle.a68_sim.proofs.Quiet.{ActsNext, Kept, simply, joins, Joins, opens_at, waiting_at}
 use Rattle.a68_sim.proofs.Rousing.{Woke, wake}
 use Rattle.a68_sim.proofs.Routines.{TextsStand}
-use Rattle.a68_sim.proofs.Settling.{SettledIn, Comes, settles}
+use Rattle.a68_sim.proofs.Settling.{SettledIn, Arrives, settles}
 use Rattle.a68_exec.proofs.Settled.{settle_rests, settle_still}
 use Rattle.a68_strand.proofs.Waking.{IsCalm, calm_after, begun_goes, woken_still}
 use Rattle.a68_instructions.specs.Machine.{State, beginning, settle, next_state, follows, leaves_at, told_by, replied, replied_in, place_at}
@@ -111,6 +111,7 @@ base_chain : (code : Code) (st : State) (wait : Waiting) (n : ℕ) → (told_by 
 base_chain code st (waiting.Operation next) n = follows_chain st (leaves_at code st.at) st.stack.items (resumed code.modes next (reply.Base n))
 base_chain code st waiting.Frame n = refl
 base_chain code st waiting.Turn n = refl
+base_chain code st (waiting.Jump to) n = refl
 base_chain code st (waiting.Called r ps) n = refl
 base_chain code st (waiting.Entered text ps) n = refl
 base_chain code st (waiting.Bound text ps) n = refl
@@ -361,7 +362,7 @@ module _ (program : Program) (code : Code) (same_modes : code.modes ≡ program.
 
     -- the strand goes on alone
     module _ (plain : is_fork a.want ≡ false) (k : Works code spot.finish (f.open_at.put (f.next a.told)) (replied code a.st a.told)) where
-      later : Comes program code spot.finish (f.open_at.put (f.next a.told)) next
+      later : Arrives program code spot.finish (f.open_at.put (f.next a.told)) next
       later = settles program code same_modes texts spot.finish spot.ends (f.open_at.put (f.next a.told)) (replied code a.st a.told) k
 
       none_new : length new ≡ 0

@@ -1,4 +1,5 @@
 pub mod Callers
+pub mod Cutting
 pub mod Popping
 pub mod Returning
 pub mod Topmost

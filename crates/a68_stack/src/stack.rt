@@ -1,5 +1,5 @@
 //! The stack of a strand.
-ghost use Rattle.std.specs.Prelude.{◌≡◌, ◌⊎◌, ◌+◌, ◌≤◌, [], ◌∷◌, true, false, None, Some, List, length, reverse, OnOk, OnErr, IfOk, IfSome, MatchOption, MatchBool};
+ghost use Rattle.std.specs.Prelude.{◌≡◌, ◌⊎◌, ◌+◌, ◌≤◌, [], ◌∷◌, true, false, None, Some, List, drop, length, reverse, OnOk, OnErr, IfOk, IfSome, MatchOption, MatchBool};
 ghost use Rattle.std.specs.Option.{is_some, option_copied, option_map};
 ghost use Rattle.a68_acts.specs.declared.operation.Counter.{Counter};
 ghost use Rattle.a68_values.specs.Content.{Content, plain, scope_of};
@@ -7,7 +7,7 @@ ghost use Rattle.a68_values.specs.declared.plain.Plain.{Plain};
 ghost use Rattle.a68_stack.specs.declared.stack.Item.{Item};
 ghost use Rattle.a68_stack.specs.Below.{may_yield, plain_below, top_caller};
 ghost use Rattle.a68_stack.specs.Inside.{wants_memory};
-ghost use Rattle.a68_stack.specs.Values.{callers, is_caller, pop_values, top_counter, top_plain, top_three, top_two, top_value};
+ghost use Rattle.a68_stack.specs.Values.{callers, cut, height, is_caller, pop_values, top_counter, top_plain, top_three, top_two, top_value};
 
 use crate::Caller;
 use crate::packed::Packed;
@@ -66,6 +66,20 @@ fn is_caller(item: &Item) -> bool
     ensures { result ≡ is_caller item.now }
 {
     matches!(item, Item::Caller(_))
+}
+
+// How many items stand above the topmost caller, where the topmost item is the last; all where there is no caller.
+fn height_of(items: &[Packed]) -> usize
+    ensures { result ≡ height (reverse items.now) }
+{
+    let count = items.len();
+    for above in 0..count {
+        let kept = &items[count - 1 - above];
+        if kept.is_caller() {
+            return above;
+        }
+    }
+    count
 }
 
 impl Stack {
@@ -545,6 +559,42 @@ impl Stack {
             }
         }
         Ok(Some(Values { items }))
+    }
+
+    /// How many items stand above the topmost caller; all where there is none. With calls open it looks at each of them.
+    #[inline(always)]
+    pub fn height(&self) -> usize
+        ensures { result ≡ height self.now.items }
+    {
+        if self.open_calls == 0 {
+            return self.items.len();
+        }
+        height_of(&self.items)
+    }
+
+    /// Takes the topmost item off, if there is one, and lets it go.
+    fn drop_top(&mut self)
+        ensures items { self.new.items ≡ drop 1 self.old.items }
+        ensures room { self.new.room ≡ self.old.room }
+    {
+        drop(self.pop());
+    }
+
+    /// Takes items off until only so many stand above the topmost caller. Tells whether there were as many: where there are fewer the
+    /// stack stays.
+    #[inline(always)]
+    pub fn cut(&mut self, kept: usize) -> bool
+        ensures left { MatchBool result (cut kept self.old.items ≡ Some self.new.items) ((cut kept self.old.items ≡ None) × (self.new ≡ self.old)) }
+        ensures room { self.new.room ≡ self.old.room }
+    {
+        let there = self.height();
+        if there < kept {
+            return false;
+        }
+        for _ in 0..there - kept {
+            self.drop_top();
+        }
+        true
     }
 
     /// The counter on top; none where there is none.

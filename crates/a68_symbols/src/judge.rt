@@ -12,9 +12,7 @@ use a68_denote::{bits_of, int_of, long_of};
 use std::alloc::Global;
 
 /// The words of the parts of the language that are left out (own).
-pub const LEFT_OUT: [&str; 9] = [
-    "REAL", "COMPL", "BYTES", "FORMAT", "SHORT", "EMPTY", "GO", "GOTO", "EXIT",
-];
+pub const LEFT_OUT: [&str; 6] = ["REAL", "COMPL", "BYTES", "FORMAT", "SHORT", "EMPTY"];
 
 // What a word gives. An opener that is a word by itself has no end.
 fn judge_word(word: &[u8]) -> Given

@@ -10,8 +10,8 @@ use std::alloc::Global;
 
 /// The symbols that the grammar tells apart by their spellings (Report, 9.4; which there are is own): the brackets; the
 /// words within choices and loops; those that begin declarations and parallel clauses, LOC, HEAP and OF; those of
-/// declarers; those within units; the brackets that are marks; the marks that are no operators; the operators.
-pub const SYMBOLS: [(&str, Sym); 68] = [
+/// declarers; those within units, those of jumps and EXIT; the brackets that are marks; the marks that are no operators; the operators.
+pub const SYMBOLS: [(&str, Sym); 71] = [
     ("BEGIN", Sym::Opens(Bracket::Begin)),
     ("END", Sym::Closes(Bracket::Begin)),
     ("IF", Sym::Opens(Bracket::If)),
@@ -55,6 +55,9 @@ pub const SYMBOLS: [(&str, Sym); 68] = [
     ("ISNT", Sym::Is(Token::Isnt)),
     ("AT", Sym::Is(Token::At)),
     ("SKIP", Sym::Is(Token::Skip)),
+    ("GO", Sym::Is(Token::Go)),
+    ("GOTO", Sym::Is(Token::Goto)),
+    ("EXIT", Sym::Is(Token::Exit)),
     ("NIL", Sym::Is(Token::Nil)),
     ("TRUE", Sym::Is(Token::True)),
     ("FALSE", Sym::Is(Token::False)),

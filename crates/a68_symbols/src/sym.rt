@@ -78,6 +78,11 @@ pub enum Token {
     Heap,
     Of,
     Skip,
+    /// GO, before TO and the tag of a label.
+    Go,
+    /// GOTO, before the tag of a label.
+    Goto,
+    Exit,
     Nil,
     True,
     False,

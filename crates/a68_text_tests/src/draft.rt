@@ -62,6 +62,14 @@ Formula [4, 0, 4] [0]
 ",
     ),
     (
+        5,
+        ". open . . . GOTO leave . Formula",
+        "\
+GoTo [4, 1, 2] []
+Formula [5, 0, 5] [0]
+",
+    ),
+    (
         6,
         "+ ( + open . Tag leave ) + Formula",
         "\
@@ -130,6 +138,7 @@ enum Call {
     Forget,
     Identity,
     Long,
+    Jump,
 }
 
 const WORDS: &[(&str, Call)] = &[
@@ -143,6 +152,7 @@ const WORDS: &[(&str, Call)] = &[
     ("forget", Call::Forget),
     ("IS", Call::Identity),
     ("LONG", Call::Long),
+    ("GOTO", Call::Jump),
 ];
 
 fn make_call(
@@ -162,6 +172,7 @@ fn make_call(
         Call::Forget => drafting.forget(),
         Call::Identity => return drafting.wrap_identity(alloc, rest),
         Call::Long => return drafting.wrap_long(alloc, rest),
+        Call::Jump => return drafting.wrap_jump(alloc, rest),
     }
     Ok(())
 }

@@ -94,6 +94,76 @@ const TEXTS: &[(&str, &str)] = &[
     ),
 ];
 
+/// Texts with labels, jumps and EXIT, and the kinds of their trees' nodes.
+const LABELLED: &[(&str, &str)] = &[
+    ("( l: SKIP )", "Closed Serial Skip Label"),
+    (
+        "( l: m: n: 1 )",
+        "Closed Serial Denotation Label Label Label",
+    ),
+    (
+        "( 1 EXIT l: 2 )",
+        "Closed Serial Denotation Label Exit Denotation",
+    ),
+    (
+        "( 1; 2 EXIT l: 3 EXIT m: n: 4; 5 )",
+        "Closed Serial Denotation Denotation Label Label Exit Denotation Label Exit Denotation Denotation",
+    ),
+    (
+        "( INT i; l: i := 1; m: n: GO TO l )",
+        "Closed Serial GoTo Label Label Assignation Denotation Tag Label Variable Declarer",
+    ),
+    (
+        "BEGIN a; l: b EXIT m: GOTO m END",
+        "Closed Serial GoTo Label Exit Tag Label Tag",
+    ),
+    ("BEGIN l: BEGIN END END", "Closed Serial Vacuum Label"),
+    (
+        "( a | l: 1 | m: 2 )",
+        "Conditional Serial Denotation Label Serial Denotation Label Serial Tag",
+    ),
+    (
+        "( a | b |: c | d EXIT l: e | f )",
+        "Conditional Conditional Serial Tag Serial Tag Label Exit Tag Serial Tag Serial Tag Serial Tag",
+    ),
+    (
+        "( INT a; b | 1 | 2 )",
+        "Conditional Serial Denotation Serial Denotation Serial Tag Variable Declarer",
+    ),
+    (
+        "IF a THEN l: 1 EXIT m: 2 ELSE n: 3 FI",
+        "Conditional Serial Denotation Label Serial Denotation Label Exit Denotation Label Serial Tag",
+    ),
+    (
+        "( 1; GOTO l | 2, 3 | m: 4 )",
+        "Case Out Serial Denotation Label Denotation Denotation Serial GoTo Denotation",
+    ),
+    (
+        "CASE 1 IN 2, 3 OUT l: 4 ESAC",
+        "Case Out Serial Denotation Label Denotation Denotation Serial Denotation",
+    ),
+    (
+        "WHILE a; b DO l: c; m: GO TO l OD",
+        "Loop Serial GoTo Label Tag Label While Serial Tag Tag",
+    ),
+    (
+        "( a[l:3] )",
+        "Closed Serial Slice Index Upper Denotation Lower Tag Tag",
+    ),
+    (
+        "( l: INT: 3 )",
+        "Closed Serial RoutineText Denotation Declarer Label",
+    ),
+    (
+        "( x := GOTO l; 1 + (GO TO l) )",
+        "Closed Serial Formula Sign Closed Serial GoTo Denotation Assignation GoTo Tag",
+    ),
+    (
+        "( (GOTO l, 1), 2 )",
+        "Collateral Denotation Collateral Denotation GoTo",
+    ),
+];
+
 /// Texts that have no tree, and the byte at which they are refused.
 const BROKEN: &[(&str, u32)] = &[
     ("", 0),
@@ -198,6 +268,45 @@ const BROKEN: &[(&str, u32)] = &[
     ("CASE 1 IN (INT a) 2 ESAC ", 18),
 ];
 
+/// The same of texts with labels, jumps and EXIT.
+const MISPLACED: &[(&str, u32)] = &[
+    ("( l: SKIP | SKIP | SKIP )", 10),
+    ("( l: 1 | 2 | 3 ) ", 7),
+    ("( IF l: TRUE THEN SKIP FI )", 6),
+    ("( TRUE EXIT l: FALSE | 1 | 2 )", 21),
+    ("( 1; 2 EXIT l: 3 |: 4 | 5 )", 17),
+    ("( SKIP EXIT SKIP )", 12),
+    ("( 1 EXIT ) ", 9),
+    ("( EXIT l: 1 ) ", 2),
+    ("( INT a EXIT l: 1 ) ", 8),
+    ("BEGIN a EXIT b END ", 15),
+    ("DO l: 1 EXIT 2 OD ", 13),
+    ("( l: ) ", 5),
+    ("( TRUE b: 1 ) ", 7),
+    ("( l: INT x; SKIP )", 9),
+    ("( 1; l: 2; INT b; 3 ) ", 15),
+    ("IF a THEN l: 1; INT b; 2 FI ", 20),
+    ("( PAR (l: SKIP, SKIP) )", 8),
+    ("( CASE 1 IN l: SKIP, SKIP ESAC )", 13),
+    ("CASE l: 1 IN 2, 3 ESAC ", 6),
+    ("WHILE l: TRUE DO 1 OD ", 7),
+    ("IF TRUE EXIT l: FALSE THEN 1 FI ", 8),
+    ("IF 1 THEN 2 ELIF l: 3 THEN 4 FI ", 18),
+    ("( 1 | l: 2 |: m: 3 | 4 ) ", 15),
+    ("( TRUE | l: 1, 2 )", 13),
+    ("( TRUE | 1, l: 2 )", 13),
+    ("( (l: 1, 2) ) ", 7),
+    ("( 1, l: 2 ) ", 6),
+    ("( f(l: 1) ) ", 5),
+    ("( GO l ) ", 5),
+    ("( GOTO 1 ) ", 7),
+    ("( GOTO TO l ) ", 7),
+    ("( GO TO l; ) ", 11),
+    ("( GO TO l TO 3 DO SKIP OD; l: SKIP )", 10),
+    ("( GOTO l := 1 ) ", 9),
+    ("( 1 + GOTO l ) ", 6),
+];
+
 /// Long and deep texts: their pieces, each behind how often it stands there; and of how many nodes the tree is.
 const LARGE: &[(&str, u32)] = &[
     ("1|(|199| (|1| 1|199| )|1| )", 401),
@@ -205,6 +314,7 @@ const LARGE: &[(&str, u32)] = &[
     ("1|IF 1 THEN 2|60000| ELIF 1 THEN 2|1| FI|60001| ", 300005),
     ("1|( INT a|87000| , a|1| ; 1 )|87001| ", 87006),
     ("1|( 1,|130000| 1,|1| 1 )|130001| ", 130003),
+    ("1|( 1|50000| EXIT l: GOTO l|1| )", 150003),
 ];
 
 fn tree_of(rt: &impl Abort, alloc: Global, text: &str) -> Result<Tree, Stop> {
@@ -254,6 +364,13 @@ fn texts_and_their_kinds(rt: HostRuntime) {
     }
 }
 
+#[test]
+fn texts_with_labels(rt: HostRuntime) {
+    for (text, wanted) in LABELLED {
+        has_kinds(&rt, rt.alloc(), text, wanted);
+    }
+}
+
 // A text is refused at this place.
 fn has_no_tree(rt: &impl Abort, alloc: Global, text: &str, place: u32) {
     let refusal = Refusal {
@@ -273,4 +390,9 @@ fn have_no_tree(rt: &impl Abort, alloc: Global, rows: &[(&str, u32)]) {
 #[test]
 fn texts_without_a_tree(rt: HostRuntime) {
     have_no_tree(&rt, rt.alloc(), BROKEN);
+}
+
+#[test]
+fn texts_with_labels_that_have_no_tree(rt: HostRuntime) {
+    have_no_tree(&rt, rt.alloc(), MISPLACED);
 }

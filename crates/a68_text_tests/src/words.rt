@@ -29,6 +29,8 @@ const CASES: &[(&str, &str)] = &[
     ("ROMRM", "PRIO M = 1 ; N ; ( MODE N"),
     ("RMM", ") ) ; MODE A ] ) A"),
     ("RRR", ") END OD ) ] FI"),
+    ("RRRR", "GO TO l ; GOTO m EXIT l : 1"),
+    ("ROOR", "PRIO M = 9, N = 1; EXIT"),
     ("(S4, 20)", "MODE M = INT ; PRIO M = 1"),
     ("(S4, 18)", "PRIO M = 1 ; MODE M = INT"),
     ("(S4, 5)", "MODE ABS = INT"),
@@ -50,6 +52,11 @@ const LONG: &[(&str, &str)] = &[
     ("ok", "1 ( 500 + 1 ; 990 + 1 )"),
     ("(L3, 999)", "900 + 1 ( 900 +"),
     ("ok", "900 + 1 DO 900 + 1 OD 900 +"),
+    ("ok", "900 + 1 EXIT 900 +"),
+    ("ok", "1 ( 500 + 1 EXIT 990 + 1 )"),
+    ("(L3, 1001)", "900 + 1 GO 900 +"),
+    ("(L3, 1003)", "900 + 1 GOTO 900 +"),
+    ("ok", "900 + 1 GO 1 ## 1 TO 900 +"),
     ("ok", "1 IF 1 a 1 THEN 1 b 60000 ELIFcTHENd 1 FI"),
 ];
 

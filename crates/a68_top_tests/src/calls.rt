@@ -1,7 +1,7 @@
 //! Calls of the whole over shelves and sinks in memory, and what they left.
 use crate::table::{holds, strings};
 use a68_outside::{FreeGate, MemoryShelf, MemorySink};
-use a68_top::{Finish, a68};
+use a68_top::a68;
 use std::alloc::Global;
 use std::marker::Sync;
 use std::panic::Expect;
@@ -32,6 +32,14 @@ pub fn run_f(text: &str) -> Words<'_> {
     }
 }
 
+/// A call of `run f` with room for ten numbers.
+pub fn wide(text: &str) -> Words<'_> {
+    Words {
+        room: 200,
+        ..run_f(text)
+    }
+}
+
 /// A call with these words where nothing fails.
 pub fn of_words<'a>(words: &'a [&'a str], text: &'a str) -> Words<'a> {
     Words {
@@ -44,8 +52,10 @@ pub fn of_words<'a>(words: &'a [&'a str], text: &'a str) -> Words<'a> {
 #[derive(Drop)]
 pub struct Remainder {
     pub status: u8,
-    /// How many entries the kept journal has.
-    pub events: usize,
+    /// The place of the kept refusal.
+    pub refused_at: Option<u32>,
+    /// How many entries the kept journal has; none where no run is kept.
+    pub ran: Option<usize>,
     pub out: MemorySink,
     pub notes: MemorySink,
 }
@@ -55,14 +65,6 @@ fn shelf(rt: &impl Abort, alloc: Global, given: Words<'_>) -> MemoryShelf {
     let mut shelf = MemoryShelf::new(alloc, "f", text, 4, fails).expect(rt, "memory");
     shelf.put("g", b"BEGIN print(1) END").expect(rt, "memory");
     shelf
-}
-
-// The number of the status, and how many entries the kept journal has.
-fn status_and_events(finish: &Finish) -> (u8, usize) {
-    match &finish.ran {
-        Some(kept) => (finish.status.number(), kept.journal.entries.len()),
-        None => (finish.status.number(), 0),
-    }
 }
 
 /// A call whose sinks have the room that is handed in.
@@ -80,21 +82,38 @@ pub fn call_over<R: Threads + Wait + Sync + Abort>(
     rt: &R,
     alloc: Global,
     given: Words<'_>,
+    out: MemorySink,
+) -> Remainder {
+    let notes = MemorySink::new(alloc, given.notes_room, 5, &[]).expect(rt, "memory");
+    call_to(rt, alloc, given, out, notes)
+}
+
+/// A call that writes to these sinks.
+pub fn call_to<R: Threads + Wait + Sync + Abort>(
+    rt: &R,
+    alloc: Global,
+    given: Words<'_>,
     mut out: MemorySink,
+    mut notes: MemorySink,
 ) -> Remainder {
     let words = strings(rt, alloc, given.words);
     let mut shelf = shelf(rt, alloc, given);
-    let mut notes = MemorySink::new(alloc, given.notes_room, 5, &[]).expect(rt, "memory");
     let finish = a68(
         rt, alloc, &words, &mut shelf, &mut out, &mut notes, &FreeGate,
     );
-    let (status, events) = status_and_events(&finish);
+    let status = finish.status.number();
+    let refused_at = finish.refusal.map(|refusal| refusal.place);
+    let ran = match &finish.ran {
+        Some(kept) => Some(kept.journal.entries.len()),
+        None => None,
+    };
     drop(finish);
     drop(shelf);
     drop(words);
     Remainder {
         status,
-        events,
+        refused_at,
+        ran,
         out,
         notes,
     }
@@ -106,7 +125,7 @@ pub fn prints(rt: &impl Abort, left: &Remainder, status: u8, out: &str) {
     holds(rt, left.out.taken() == out.as_bytes(), "what is printed");
 }
 
-/// Whether a call ends with this status, and prints and notes this. How many events there were.
+/// Whether a call ends with this status, and prints and notes this. How many events there were; 0 where no run is kept.
 pub fn answers<R: Threads + Wait + Sync + Abort>(
     rt: &R,
     alloc: Global,
@@ -119,7 +138,7 @@ pub fn answers<R: Threads + Wait + Sync + Abort>(
     prints(rt, &left, status, out);
     let noted = left.notes.taken() == notes.as_bytes();
     holds(rt, noted, "what is noted");
-    let events = left.events;
+    let events = left.ran.unwrap_or(0);
     drop(left);
     events
 }

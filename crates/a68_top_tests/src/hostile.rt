@@ -1,5 +1,6 @@
 //! Texts that are long or deep, or whose modes are vast.
 use crate::calls::{answers, of_words};
+use crate::table::repeated;
 use std::alloc::{AllocError, Global};
 use std::panic::Expect;
 
@@ -35,22 +36,6 @@ const DOUBLED: &str = "( MODE M0 = STRUCT (INT a, b, c), \
      M28 = STRUCT (M27 a, INT b, M27 c), \
      M29 = STRUCT (M28 a, INT b, M28 c); \
      M29 m; SKIP )";
-
-// A text of so many equal pieces between two others.
-fn repeated(
-    alloc: Global,
-    first: &str,
-    piece: &str,
-    count: u32,
-    last: &str,
-) -> Result<String, AllocError> {
-    let mut text = String::from_str(alloc, first)?;
-    for _ in 0..count {
-        text.push_str(piece)?;
-    }
-    text.push_str(last)?;
-    Ok(text)
-}
 
 // A choice by a number whose OUSE has 6,000 further ones, one within another.
 #[test]

@@ -4,7 +4,13 @@
 #[cfg(test)]
 mod calls;
 #[cfg(test)]
+mod edges;
+#[cfg(test)]
+mod failing;
+#[cfg(test)]
 mod hostile;
+#[cfg(test)]
+mod labels;
 #[cfg(test)]
 mod longs;
 #[cfg(test)]

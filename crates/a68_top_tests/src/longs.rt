@@ -1,6 +1,6 @@
 //! Programs with LONG INT: the worked rows, and others whose answers were reckoned by hand or with
 //! whole numbers of any size. A LONG INT is printed in 40 places.
-use crate::calls::{Words, answers, of_words, run_f};
+use crate::calls::{answers, of_words, run_f, wide};
 
 /// Formulas, and what is printed of them.
 const ARITHMETIC: &[(&str, &str)] = &[
@@ -400,14 +400,6 @@ const REFUSED: &[(&str, &str)] = &[
 const NAMED: &str = "( LONG INT x := LONG 5, y; INT c := 3; x := - long max int; SKIP )";
 
 const NAMES: &str = "x = -170141183460469231731687303715884105727\ny = unset\nc = 3\n";
-
-/// Calls with a text that prints up to four numbers.
-fn wide(text: &str) -> Words<'_> {
-    Words {
-        room: 200,
-        ..run_f(text)
-    }
-}
 
 #[test]
 fn formulas_print(rt: HostRuntime) {

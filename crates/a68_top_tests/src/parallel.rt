@@ -72,7 +72,7 @@ fn a_write_fails_between_two_strands_texts(rt: HostRuntime) {
     let out = MemorySink::new(rt.alloc(), 10, 1, &[2]).expect(&rt, "memory");
     let left = call_over(&rt, rt.alloc(), run_f(FIRST_AND_THEN), out);
     prints(&rt, &left, 7, "a");
-    holds(&rt, left.events == 13, "the run is kept");
+    holds(&rt, left.ran == Some(13), "the run is kept");
     drop(left);
 }
 

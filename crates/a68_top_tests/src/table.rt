@@ -1,7 +1,7 @@
 //! What is said of the cases of tables.
 ghost use Rattle.std.specs.Prelude.{IsTrue};
 
-use std::alloc::Global;
+use std::alloc::{AllocError, Global};
 use std::panic::Expect;
 use std::process::Abort;
 
@@ -22,4 +22,20 @@ pub fn strings(rt: &impl Abort, alloc: Global, words: &[&str]) -> Vec<String> {
         strings.push(string).expect(rt, "memory");
     }
     strings
+}
+
+/// A text of so many equal pieces between two others.
+pub fn repeated(
+    alloc: Global,
+    first: &str,
+    piece: &str,
+    count: u32,
+    last: &str,
+) -> Result<String, AllocError> {
+    let mut text = String::from_str(alloc, first)?;
+    for _ in 0..count {
+        text.push_str(piece)?;
+    }
+    text.push_str(last)?;
+    Ok(text)
 }

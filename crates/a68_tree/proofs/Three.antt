@@ -8,7 +8,7 @@ use Rattle.a68_symbols.specs.declared.sym.Token.{Token}
 use Rattle.a68_symbols.specs.declared.sym.Token.TheVariants as t
 use Rattle.a68_tree.specs.Forest.{Forest, end, mark, group, part, sign, aside, shared, forget, spells, joined}
 use Rattle.a68_tree.specs.Grammar as g
-use Rattle.a68_tree.specs.Grammar.{IsEnclosed, IsElse, IsElseBrief, IsOut, IsOutBrief, IsOutC, IsOutCBrief, IsFor, IsFrom, IsBy, IsTo, IsWhile, IsChoices, IsSpec, IsSerial, IsEnquiry, IsUnits, IsUnits2, IsUnit, IsRoutine, IsResult, IsParams, IsTags, IsTertiary, IsOperands, IsSecondary, IsPrimary, IsIndexes, IsIndex, IsTrimmer, IsAt, IsDeclarer, IsYield, IsDeclarers, IsBounds, IsBound, IsDeclaration, IsDefinitions, IsDeclared, IsModes, IsPriorities, IsOps, IsPlan, IsPlanned, IsIdentities, IsProcs, IsVariables, IsVariable}
+use Rattle.a68_tree.specs.Grammar.{IsEnclosed, IsElse, IsElseBrief, IsOut, IsOutBrief, IsOutC, IsOutCBrief, IsFor, IsFrom, IsBy, IsTo, IsWhile, IsChoices, IsSpec, IsSerial, IsLabelled, IsSteps, IsEnquiry, IsUnits, IsUnits2, IsUnit, IsRoutine, IsResult, IsParams, IsTags, IsTertiary, IsOperands, IsSecondary, IsPrimary, IsIndexes, IsIndex, IsTrimmer, IsAt, IsDeclarer, IsYield, IsDeclarers, IsBounds, IsBound, IsDeclaration, IsDefinitions, IsDeclared, IsModes, IsPriorities, IsOps, IsPlan, IsPlanned, IsIdentities, IsProcs, IsVariables, IsVariable}
 use Rattle.a68_tree.specs.Nodes.{Entry, nodes, signs, with_under, with_node, turned, turned_entry, node_of}
 use Rattle.a68_symbols.specs.declared.symbol.Symbol.{Symbol}
 use Rattle.a68_tree.specs.declared.node.Node.{Node}
@@ -160,6 +160,17 @@ mutual
   few_IsSerial (g.serial_one p0) = omega (arith, few_IsUnit p0)
   few_IsSerial (g.serial_unit p0 p1) = omega (arith, few_IsUnit p0, few_IsSerial p1)
   few_IsSerial (g.serial_declaration {d = d} {f = f} p0 p1) = omega (arith, few_IsDeclaration p0, few_IsSerial p1, count_joined d (mark t.Semicolon f), marks_joined d (mark t.Semicolon f))
+  few_IsSerial (g.serial_exit p0 p1) = omega (arith, few_IsUnit p0, few_IsLabelled p1)
+  few_IsSerial (g.serial_labelled p0) = few_IsLabelled p0
+
+  few_IsLabelled : {x : Forest} → IsLabelled x → count x ≤ 3 * marks x
+  few_IsLabelled (g.label p0) = omega (arith, few_IsSteps p0)
+
+  few_IsSteps : {x : Forest} → IsSteps x → count x ≤ 3 * marks x
+  few_IsSteps (g.steps_labelled p0) = few_IsLabelled p0
+  few_IsSteps (g.steps_last p0) = omega (arith, few_IsUnit p0)
+  few_IsSteps (g.steps_unit p0 p1) = omega (arith, few_IsUnit p0, few_IsSteps p1)
+  few_IsSteps (g.steps_exit p0 p1) = omega (arith, few_IsUnit p0, few_IsLabelled p1)
 
   few_IsEnquiry : {x : Forest} → IsEnquiry x → count x ≤ 3 * marks x
   few_IsEnquiry (g.enquiry_one p0) = omega (arith, few_IsUnit p0)
@@ -179,6 +190,8 @@ mutual
   few_IsUnit (g.identity_isnt p0 p1) = omega (arith, few_IsTertiary p0, few_IsTertiary p1)
   few_IsUnit (g.routine p0) = omega (arith, few_IsRoutine p0)
   few_IsUnit g.skip = omega arith
+  few_IsUnit g.go_to = omega arith
+  few_IsUnit g.goto_ = omega arith
   few_IsUnit (g.tertiary p0) = omega (arith, few_IsTertiary p0)
 
   few_IsRoutine : {x : Forest} → IsRoutine x → count x + 1 ≤ 3 * marks x

@@ -137,13 +137,26 @@ mutual
     spec : {d : Forest} → IsDeclarer d → IsSpec (group b.Round (part k.Declarer d end) (mark t.Colon end))
     spec_tag : {d : Forest} → IsDeclarer d → IsSpec (group b.Round (part k.Declarer d (part k.Parameter (mark t.Tag end) end)) (mark t.Colon end))
 
-  -- {phrase ';'} unit
+  -- step {(';' step) | (EXIT label step)}: up to the first label
   pub data IsSerial : Forest → Type 0 where
     serial_one : {j : NodeKind} {u : Forest} → IsUnit j u → IsSerial (part j u end)
     serial_unit : {j : NodeKind} {u f : Forest} → IsUnit j u → IsSerial f → IsSerial (part j u (mark t.Semicolon f))
     serial_declaration : {d f : Forest} → IsDeclaration d → IsSerial f → IsSerial (joined d (mark t.Semicolon f))
+    serial_exit : {j : NodeKind} {u f : Forest} → IsUnit j u → IsLabelled f → IsSerial (part j u (part k.Exit (mark t.Exit end) f))
+    serial_labelled : {f : Forest} → IsLabelled f → IsSerial f
 
-  -- the same, between IF and THEN, behind WHILE, and so on
+  -- label steps: from a label on, behind which no declaration stands
+  pub data IsLabelled : Forest → Type 0 where
+    label : {f : Forest} → IsSteps f → IsLabelled (part k.Label (mark t.Tag (mark t.Colon end)) f)
+
+  -- {label} unit {(';' {label} unit) | (EXIT label {label} unit)}
+  pub data IsSteps : Forest → Type 0 where
+    steps_labelled : {f : Forest} → IsLabelled f → IsSteps f
+    steps_last : {j : NodeKind} {u : Forest} → IsUnit j u → IsSteps (part j u end)
+    steps_unit : {j : NodeKind} {u f : Forest} → IsUnit j u → IsSteps f → IsSteps (part j u (mark t.Semicolon f))
+    steps_exit : {j : NodeKind} {u f : Forest} → IsUnit j u → IsLabelled f → IsSteps (part j u (part k.Exit (mark t.Exit end) f))
+
+  -- {phrase ';'} unit: between IF and THEN, behind WHILE, and so on
   pub data IsEnquiry : Forest → Type 0 where
     enquiry_one : {j : NodeKind} {u : Forest} → IsUnit j u → IsEnquiry (part j u end)
     enquiry_unit : {j : NodeKind} {u f : Forest} → IsUnit j u → IsEnquiry f → IsEnquiry (part j u (mark t.Semicolon f))
@@ -158,13 +171,15 @@ mutual
   pub data IsUnits2 : Forest → Type 0 where
     two : {j : NodeKind} {u f : Forest} → IsUnit j u → IsUnits f → IsUnits2 (part j u (mark t.Comma f))
 
-  -- Assignation | Identity | RoutineText | Skip | tertiary
+  -- Assignation | Identity | RoutineText | Skip | GoTo | tertiary
   pub data IsUnit : NodeKind → Forest → Type 0 where
     assignation : {i j : NodeKind} {a u : Forest} → IsTertiary i a → IsUnit j u → IsUnit k.Assignation (part i a (mark t.Becomes (part j u end)))
     identity_is : {i j : NodeKind} {a u : Forest} → IsTertiary i a → IsTertiary j u → IsUnit k.Identity (part i a (mark t.Is (part j u end)))
     identity_isnt : {i j : NodeKind} {a u : Forest} → IsTertiary i a → IsTertiary j u → IsUnit k.Identity (part i a (mark t.Isnt (part j u end)))
     routine : {f : Forest} → IsRoutine f → IsUnit k.RoutineText f
     skip : IsUnit k.Skip (mark t.Skip end)
+    go_to : IsUnit k.GoTo (mark t.Go (mark t.To (mark t.Tag end)))
+    goto_ : IsUnit k.GoTo (mark t.Goto (mark t.Tag end))
     tertiary : {j : NodeKind} {u : Forest} → IsTertiary j u → IsUnit j u
 
   -- ['(' params ')'] (declarer | VOID) ':' unit

@@ -3,7 +3,7 @@ use Rattle.std.specs.Prelude.{ℕ, ◌+◌, ◌-◌, List, [], ◌∷◌, ◌++�
 use Rattle.a68_base.specs.declared.refusal.Span.{Span}
 use Rattle.a68_symbols.specs.declared.symbol.Symbol.{Symbol}
 use Rattle.a68_tree.specs.declared.kind.NodeKind.{NodeKind}
-use Rattle.a68_tree.specs.declared.kind.NodeKind.TheVariants.{Identity, LongDenotation, Sign}
+use Rattle.a68_tree.specs.declared.kind.NodeKind.TheVariants.{GoTo, Identity, LongDenotation, Sign}
 use Rattle.a68_tree.specs.declared.node.Node.{Node}
 use Rattle.a68_symbols.specs.declared.sym.Sym.{Sym}
 use Rattle.a68_symbols.specs.declared.sym.Sym.TheVariants.{Closes, Is}
@@ -19,10 +19,11 @@ pub record Entry : Type 0 where
   pub parts : List ℕ
 
 -- how many symbols are left at the symbol that names a node: its first one; of an identity relation the one between its
--- sides, of a denotation of LONG INT the number
+-- sides, of a denotation of LONG INT the number; of a jump its tag, which is its last symbol
 abbrev pub named_at : NodeKind → Forest → List Sym → ℕ
 named_at Identity (part k u f) r = length (spells f r)
 named_at LongDenotation (mark t f) r = length (spells f r)
+named_at GoTo f r = length r + 1
 named_at k f r = length (spells f r)
 
 -- how many signs stand at the top of a forest

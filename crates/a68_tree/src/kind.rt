@@ -21,7 +21,8 @@ pub enum NodeKind {
     Conformity,
     /// A loop (3.5.1): a For, From, By, To and While, as far as they are there, and the Serial between DO and OD.
     Loop,
-    /// A serial clause or an enquiry (3.2.1): its phrases.
+    /// A serial clause or an enquiry (3.2.1): its phrases, with a Label for each label before its phrase, and an Exit
+    /// behind each unit before EXIT.
     Serial,
     /// An assignation (5.2.1): the destination and the source.
     Assignation,
@@ -60,6 +61,8 @@ pub enum NodeKind {
     GoTo,
     /// The declaration of a label (3.2.1).
     Label,
+    /// EXIT between steps of a serial clause (3.2.1).
+    Exit,
     /// Two or more definitions that commas join (4.1.1).
     Joined,
     /// The definition of a mode word (4.2.1): a Declarer.

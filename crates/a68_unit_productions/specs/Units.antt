@@ -7,7 +7,7 @@ use Rattle.a68_symbols.specs.declared.sym.Token.TheVariants as t
 use Rattle.a68_symbols.specs.declared.sym.Sym.{Sym}
 use Rattle.a68_symbols.specs.declared.sym.Sym.TheVariants.{Opens, Is}
 use Rattle.a68_lookahead.specs.Ahead.{routine_ahead, phrase_ahead}
-use Rattle.a68_lookahead.specs.Symbols.{starts, is_monadic, is_operator}
+use Rattle.a68_lookahead.specs.Symbols.{starts, is_monadic, is_operator, label_ahead}
 use Rattle.a68_unit_productions.specs.declared.goal.Goal.{Goal}
 use Rattle.a68_unit_productions.specs.declared.goal.Goal.TheVariants as g
 
@@ -15,16 +15,51 @@ use Rattle.a68_unit_productions.specs.declared.goal.Goal.TheVariants as g
 abbrev pub serial_node : List Goal
 serial_node = g.Begin ∷ g.Serial ∷ g.Close k.Serial ∷ []
 
--- {phrase ';'} unit
+-- {phrase ';'} unit | {phrase ';'} labelled | {phrase ';'} unit EXIT labelled
 abbrev pub serial : List Sym → List Goal
 serial text =
+    if label_ahead text then g.Labelled ∷ [] else (
     if phrase_ahead text then g.Declaration ∷ g.Take t.Semicolon ∷ g.Serial ∷ [] else
-    g.Unit ∷ g.SerialTail ∷ []
+    g.Unit ∷ g.SerialTail ∷ [])
 
--- [';' serial]
+-- [';' serial | EXIT labelled]
 abbrev pub serial_tail : List Sym → List Goal
 serial_tail text =
-    if starts (Is t.Semicolon) text then g.Take t.Semicolon ∷ g.Serial ∷ [] else
+    if starts (Is t.Semicolon) text then g.Take t.Semicolon ∷ g.Serial ∷ [] else (
+    if starts (Is t.Exit) text then g.Begin ∷ g.Take t.Exit ∷ g.Close k.Exit ∷ g.Labelled ∷ [] else
+    [])
+
+-- label steps
+abbrev pub labelled : List Goal
+labelled = g.Begin ∷ g.Take t.Tag ∷ g.Take t.Colon ∷ g.Close k.Label ∷ g.Steps ∷ []
+
+-- {label} unit {(';' {label} unit) | (EXIT label {label} unit)}
+abbrev pub steps : List Sym → List Goal
+steps text =
+    if label_ahead text then g.Labelled ∷ [] else
+    g.Unit ∷ g.StepsTail ∷ []
+
+-- [';' steps | EXIT labelled]
+abbrev pub steps_tail : List Sym → List Goal
+steps_tail text =
+    if starts (Is t.Semicolon) text then g.Take t.Semicolon ∷ g.Steps ∷ [] else (
+    if starts (Is t.Exit) text then g.Begin ∷ g.Take t.Exit ∷ g.Close k.Exit ∷ g.Labelled ∷ [] else
+    [])
+
+-- the serial clause of an enquiry, as a node
+abbrev pub enquiry_node : List Goal
+enquiry_node = g.Begin ∷ g.Enquiry ∷ g.Close k.Serial ∷ []
+
+-- {phrase ';'} unit
+abbrev pub enquiry : List Sym → List Goal
+enquiry text =
+    if phrase_ahead text then g.Declaration ∷ g.Take t.Semicolon ∷ g.Enquiry ∷ [] else
+    g.Unit ∷ g.EnquiryTail ∷ []
+
+-- [';' enquiry]
+abbrev pub enquiry_tail : List Sym → List Goal
+enquiry_tail text =
+    if starts (Is t.Semicolon) text then g.Take t.Semicolon ∷ g.Enquiry ∷ [] else
     []
 
 -- unit {',' unit}
@@ -41,8 +76,10 @@ units_tail text =
 abbrev pub unit : List Sym → List Goal
 unit text =
     if starts (Is t.Skip) text then g.Begin ∷ g.Take t.Skip ∷ g.Close k.Skip ∷ [] else (
+    if starts (Is t.Go) text then g.Begin ∷ g.Take t.Go ∷ g.Take t.To ∷ g.Take t.Tag ∷ g.Leap ∷ [] else (
+    if starts (Is t.Goto) text then g.Begin ∷ g.Take t.Goto ∷ g.Take t.Tag ∷ g.Leap ∷ [] else (
     if routine_ahead text then g.Begin ∷ g.Routine ∷ g.Close k.RoutineText ∷ [] else
-    g.Begin ∷ g.Tertiary ∷ g.UnitTail ∷ g.Leave ∷ [])
+    g.Begin ∷ g.Tertiary ∷ g.UnitTail ∷ g.Leave ∷ [])))
 
 -- behind a tertiary
 abbrev pub unit_tail : List Sym → List Goal

@@ -51,6 +51,8 @@ pub enum Goal {
     Relate,
     /// It becomes a denotation of LONG INT.
     WrapLong,
+    /// It becomes a jump, named by its last symbol, a part of what stands about it.
+    Leap,
     /// It becomes a node of that kind, a part of what stands about it.
     Close(NodeKind),
     /// It becomes a node that definitions share.
@@ -65,6 +67,9 @@ pub enum Goal {
     Enclosed,
     Brief,
     BriefUnit,
+    BriefTail,
+    BriefSteps,
+    BriefLabelled,
     BriefEnd,
     BriefChoice,
     BriefChosen,
@@ -90,6 +95,12 @@ pub enum Goal {
     SerialNode,
     Serial,
     SerialTail,
+    Labelled,
+    Steps,
+    StepsTail,
+    EnquiryNode,
+    Enquiry,
+    EnquiryTail,
     Units,
     UnitsTail,
     Unit,

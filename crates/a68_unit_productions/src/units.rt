@@ -3,7 +3,7 @@ ghost use Rattle.std.specs.Prelude.{◌≡◌};
 ghost use Rattle.a68_unit_productions.specs.Units as spec;
 
 use crate::goal::Goal;
-use a68_lookahead::{is_monadic, is_operator, phrase_ahead, routine_ahead, starts};
+use a68_lookahead::{is_monadic, is_operator, label_ahead, phrase_ahead, routine_ahead, starts};
 use a68_symbols::{Bracket, Sym, Token};
 use a68_tree::NodeKind;
 
@@ -14,11 +14,13 @@ pub fn serial_node() -> &'static [Goal]
     &[Goal::Begin, Goal::Serial, Goal::Close(NodeKind::Serial)]
 }
 
-/// `{phrase ';'} unit`
+/// `{phrase ';'} (unit | labelled | unit EXIT labelled)`
 pub fn serial(text: &[Sym]) -> &'static [Goal]
     ensures { result.now ≡ spec.serial text.now }
 {
-    if phrase_ahead(text) {
+    if label_ahead(text) {
+        &[Goal::Labelled]
+    } else if phrase_ahead(text) {
         &[
             Goal::Declaration,
             Goal::Take(Token::Semicolon),
@@ -29,12 +31,94 @@ pub fn serial(text: &[Sym]) -> &'static [Goal]
     }
 }
 
-/// `[';' serial]`
+/// `[';' serial | EXIT labelled]`
 pub fn serial_tail(text: &[Sym]) -> &'static [Goal]
     ensures { result.now ≡ spec.serial_tail text.now }
 {
     if starts(text, Sym::Is(Token::Semicolon)) {
         &[Goal::Take(Token::Semicolon), Goal::Serial]
+    } else if starts(text, Sym::Is(Token::Exit)) {
+        &[
+            Goal::Begin,
+            Goal::Take(Token::Exit),
+            Goal::Close(NodeKind::Exit),
+            Goal::Labelled,
+        ]
+    } else {
+        &[]
+    }
+}
+
+/// `label steps`
+pub fn labelled() -> &'static [Goal]
+    ensures { result.now ≡ spec.labelled }
+{
+    &[
+        Goal::Begin,
+        Goal::Take(Token::Tag),
+        Goal::Take(Token::Colon),
+        Goal::Close(NodeKind::Label),
+        Goal::Steps,
+    ]
+}
+
+/// `{label} unit {(';' {label} unit) | (EXIT label {label} unit)}`
+pub fn steps(text: &[Sym]) -> &'static [Goal]
+    ensures { result.now ≡ spec.steps text.now }
+{
+    if label_ahead(text) {
+        &[Goal::Labelled]
+    } else {
+        &[Goal::Unit, Goal::StepsTail]
+    }
+}
+
+/// `[';' steps | EXIT labelled]`
+pub fn steps_tail(text: &[Sym]) -> &'static [Goal]
+    ensures { result.now ≡ spec.steps_tail text.now }
+{
+    if starts(text, Sym::Is(Token::Semicolon)) {
+        &[Goal::Take(Token::Semicolon), Goal::Steps]
+    } else if starts(text, Sym::Is(Token::Exit)) {
+        &[
+            Goal::Begin,
+            Goal::Take(Token::Exit),
+            Goal::Close(NodeKind::Exit),
+            Goal::Labelled,
+        ]
+    } else {
+        &[]
+    }
+}
+
+/// The serial clause of an enquiry, as a node.
+pub fn enquiry_node() -> &'static [Goal]
+    ensures { result.now ≡ spec.enquiry_node }
+{
+    &[Goal::Begin, Goal::Enquiry, Goal::Close(NodeKind::Serial)]
+}
+
+/// `{phrase ';'} unit`
+pub fn enquiry(text: &[Sym]) -> &'static [Goal]
+    ensures { result.now ≡ spec.enquiry text.now }
+{
+    if phrase_ahead(text) {
+        &[
+            Goal::Declaration,
+            Goal::Take(Token::Semicolon),
+            Goal::Enquiry,
+        ]
+    } else {
+        &[Goal::Unit, Goal::EnquiryTail]
+    }
+}
+
+/// `[';' enquiry]`
+pub fn enquiry_tail(text: &[Sym]) -> &'static [Goal]
+    ensures { result.now ≡ spec.enquiry_tail text.now }
+{
+    if starts(text, Sym::Is(Token::Semicolon)) {
+        &[Goal::Take(Token::Semicolon), Goal::Enquiry]
     } else {
         &[]
     }
@@ -67,6 +151,21 @@ pub fn unit(text: &[Sym]) -> &'static [Goal]
             Goal::Begin,
             Goal::Take(Token::Skip),
             Goal::Close(NodeKind::Skip),
+        ]
+    } else if starts(text, Sym::Is(Token::Go)) {
+        &[
+            Goal::Begin,
+            Goal::Take(Token::Go),
+            Goal::Take(Token::To),
+            Goal::Take(Token::Tag),
+            Goal::Leap,
+        ]
+    } else if starts(text, Sym::Is(Token::Goto)) {
+        &[
+            Goal::Begin,
+            Goal::Take(Token::Goto),
+            Goal::Take(Token::Tag),
+            Goal::Leap,
         ]
     } else if routine_ahead(text) {
         &[

@@ -28,6 +28,7 @@ token_role t.Else = Separator
 token_role t.In = Separator
 token_role t.Ouse = Separator
 token_role t.Out = Separator
+token_role t.Exit = Separator
 token_role t.From = Separator
 token_role t.By = Separator
 token_role t.To = Separator

@@ -34,6 +34,7 @@ fn token_role(token: Token) -> Role
         | Token::In
         | Token::Ouse
         | Token::Out
+        | Token::Exit
         | Token::From
         | Token::By
         | Token::To

@@ -1,5 +1,5 @@
 -- Silent steps keep scopes below a number.
-use Rattle.std.proofs.Common.{ℕ, zero, suc, ◌<◌, ◌≤◌, ◌+◌, ◌*◌, ◌-◌, ◌^◌, Bool, true, false, List, [], ◌∷◌, length, refl, arith}
+use Rattle.std.proofs.Common.{◌≡◌, ℕ, zero, suc, ◌<◌, ◌≤◌, ◌+◌, ◌*◌, ◌-◌, ◌^◌, Bool, true, false, List, [], ◌∷◌, length, refl, arith}
 use Rattle.std.specs.Prelude.{None, Some, Ok, Err, IfSome, IsTrue, map, reverse, slice_get, slice_index_or, nat_eq, nat_lt, if◌then◌else◌}
 use Rattle.std.specs.Option.{option_map_or}
 use Rattle.std.specs.declared.option.Option.{Option}
@@ -21,10 +21,11 @@ use Rattle.a68_code.specs.declared.does.Does.{Does}
 use Rattle.a68_code.specs.declared.does.Does.TheVariants as does
 use Rattle.a68_modes.specs.Nodes.{shape_at}
 use Rattle.a68_modes.specs.declared.shape.Shape.{Shape}
-use Rattle.a68_instructions.specs.Machine.{State, stack_of, goes_on, goes_to, fails, follows, operates, enters, yields_to, leaves_frame, branches, unless, chooses, cases, kept_of, to_member, members, with_counter, counts, indexes, steps, advances, forgets, calling, calls, enters_body, begins_body, binds, returns_to, returns, operation_of, controls, exec, at_end, does_one, silently, next_state, settle_in, settle, leaves_at, told_by, replied_in, replied}
+use Rattle.a68_instructions.specs.Machine.{State, stack_of, goes_on, goes_to, fails, back, jumps, follows, operates, enters, yields_to, leaves_frame, branches, unless, chooses, cases, kept_of, to_member, members, with_counter, counts, indexes, steps, advances, forgets, calling, calls, enters_body, begins_body, binds, returns_to, returns, operation_of, controls, exec, at_end, does_one, silently, next_state, settle_in, settle, leaves_at, told_by, replied_in, replied}
 use Rattle.a68_stack.specs.Room.{has_room}
 use Rattle.a68_instructions.specs.Room.{brings_room}
-use Rattle.a68_stack.specs.Values.{callers, pop_values, top_counter, top_value}
+use Rattle.a68_stack.proofs.Cutting.{cut_below}
+use Rattle.a68_stack.specs.Values.{callers, cut, pop_values, top_counter, top_value}
 use Rattle.a68_instructions.specs.Unbound.{Unbound}
 use Rattle.a68_instructions.specs.declared.ask.Stance.{Stance}
 use Rattle.a68_instructions.specs.declared.ask.Stance.TheVariants.{Idle, Asking, Failed, Waits, Closed}
@@ -112,6 +113,24 @@ leaves-below n st kept (inner ∷ e ∷ chain) p q = test (nat_eq kept 0)
     test false = yields_to-below n st (e ∷ chain) e.scope (top_value st.stack.items) p q.1
 leaves-below n st kept [] p q = failed n st fault.Kind p
 leaves-below n st kept (inner ∷ []) p q = failed n st fault.Kind p
+
+back-below : (n k : ℕ) (chain : List Environ) → ChainBelow n chain → IfSome (back k chain) (ChainBelow n)
+back-below n zero chain p = p
+back-below n (suc k) [] p = tt
+back-below n (suc k) (e ∷ chain) p = back-below n k chain p.1
+
+cut-below : (n kept : ℕ) (items : List Item) → ItemsBelow n items → IfSome (cut kept items) (ItemsBelow n)
+cut-below n kept items p = by_items (cut kept items) refl
+  where
+    by_items : (o : Option (List Item)) → cut kept items ≡ o → IfSome o (ItemsBelow n)
+    by_items None e = tt
+    by_items (Some left) e = cut_below (ItemsBelow n) (λ v rest q. q) (λ c rest q. q) kept items left e p
+
+jumps-below : (n : ℕ) (st : State) (to : ℕ) (chain : Option (List Environ)) (items : Option (List Item)) → Stands n st → IfSome chain (ChainBelow n) → IfSome items (ItemsBelow n)
+    → StateBelow n (jumps st to chain items)
+jumps-below n st to None items p q i = failed n st fault.Kind p
+jumps-below n st to (Some chain) None p q i = failed n st fault.Kind p
+jumps-below n st to (Some chain) (Some items) p q i = record { chain = q; items = i; stance = tt }
 
 branches-below : (n : ℕ) (st : State) (to : ℕ) (items : List Item) (r : Result Bool FaultKind) → Stands n st → ItemsBelow n items → StateBelow n (branches st to items r)
 branches-below n st to items (Ok true) p i = on n st items p i
@@ -220,6 +239,8 @@ controls-below n modes texts (does.Leave kept) st p = leaves-below n st kept st.
 controls-below n modes texts (does.Call count gives) st p = calls-below n texts st gives (pop_values (suc count) st.stack.items []) (p.chain, p.items) (popped-below n (suc count) st.stack.items [] p.items)
 controls-below n modes texts does.Return st p = returns-below n st st.stack.items (p.chain, p.items) p.items
 controls-below n modes texts (does.Jump to) st p = to-place n st to st.stack.items (p.chain, p.items) p.items
+controls-below n modes texts (does.Goto to frames height gives) st p =
+    jumps-below n st to (back frames st.chain) (cut height st.stack.items) (p.chain, p.items) (back-below n frames st.chain p.chain) (cut-below n height st.stack.items p.items)
 controls-below n modes texts (does.Unless to) st p = unless-below n st to st.stack.items (p.chain, p.items) p.items
 controls-below n modes texts (does.Case places) st p = cases-below n st places st.stack.items (p.chain, p.items) p.items
 controls-below n modes texts (does.Member mode places wholes) st p = members-below n (shape_at modes mode) st places wholes st.stack.items (p.chain, p.items) p.items
@@ -276,6 +297,7 @@ told_by-below n code st (waiting.Operation go) r p q = follows-below n st (leave
 told_by-below n code st waiting.Frame (reply.Frame []) p q = failed n st fault.Kind p
 told_by-below n code st waiting.Frame (reply.Frame (e ∷ about)) p q = record { chain = (q.0, p.0); items = p.1; stance = tt }
 told_by-below n code st waiting.Turn reply.Go p q = record { chain = p.0; items = p.1; stance = tt }
+told_by-below n code st (waiting.Jump to) reply.Go p q = record { chain = p.0; items = p.1; stance = tt }
 told_by-below n code st (waiting.Called r ps) reply.Go p q = enters_body-below n st r ps st.chain p p.0
 told_by-below n code st (waiting.Entered text ps) (reply.Frame told) p q =
     binds-below n code.texts (record st { stack = stack_of (item.Caller (record { to = suc st.at; chain = st.chain }) ∷ st.stack.items); chain = told; stance = Idle }) text ps.slot (reverse ps.left) told

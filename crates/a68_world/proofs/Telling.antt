@@ -27,6 +27,7 @@ told-live : (code : Code) (st : State) (wait : Waiting) (r : Reply) → closes_b
 told-live code st (waiting.Operation next) r c w = follows-live st (leaves_at code st.at) st.stack.items (resumed code.modes next r)
 told-live code st waiting.Frame (reply.Frame told) c w = into_frame-live st told
 told-live code st waiting.Turn reply.Go c w = refl
+told-live code st (waiting.Jump to) reply.Go c w = refl
 told-live code st (waiting.Called r ps) reply.Go c w = enters-live st r ps st.chain
 told-live code st (waiting.Entered text ps) (reply.Frame told) c w = into_routine-live code.texts st text ps told
 told-live code st (waiting.Bound text ps) reply.Go c w = binds-live code.texts st text ps.slot (reverse ps.left) st.chain

@@ -10,7 +10,7 @@ use Rattle.a68_coerce.specs.declared.leaf.Leaf.TheVariants as leaf
 use Rattle.a68_ranges.specs.Nodes.{kind_at, parts_at}
 use Rattle.a68_tree.specs.Trees.{AllBetween, Built}
 use Rattle.a68_yields.specs.Below.{AreCollected, AreUnitsBelow, IsCollected}
-use Rattle.a68_yields.specs.Leaves.{AllHaveLeaves, HasLeaves, HasNoLeaves, and_more, behind_first, chosen, is_spec, unspecified, handed, is_open, left_out, no_more, one, several, yield_at}
+use Rattle.a68_yields.specs.Leaves.{AllHaveLeaves, HasLeaves, HasNoLeaves, and_more, behind_first, choices, chosen, endings, ends, is_serial, is_spec, unspecified, handed, is_open, left_out, no_more, one, several, yield_at}
 use Rattle.a68_yields.specs.declared.yielding.Yielding.{Yielding}
 use Rattle.a68_yields.specs.declared.yielding.Yielding.TheVariants as yields
 
@@ -199,9 +199,25 @@ between_unspecified tree i n (p ∷ ps) b = by (is_spec (kind_at tree p)) (betwe
     by true rest = rest
     by false rest = (b.0, b.1, rest)
 
+pub between_endings : (tree : Built) (i n : ℕ) (parts : List ℕ) → AllBetween i n parts → AllBetween i n (endings tree parts)
+between_endings tree i n [] b = tt
+between_endings tree i n (p ∷ ps) b = by (ends tree ps) (between_endings tree i n ps b.2)
+  where
+    by : (is : Bool) → AllBetween i n (endings tree ps) → AllBetween i n (if is then p ∷ endings tree ps else endings tree ps)
+    by true more = (b.0, b.1, more)
+    by false more = more
+
 pub between_behind : (i n : ℕ) (parts : List ℕ) → AllBetween i n parts → AllBetween i n (behind_first parts)
 between_behind i n [] b = tt
 between_behind i n (p ∷ ps) b = b.2
+
+-- what a node chooses among
+pub between_chosen : (tree : Built) (n end : ℕ) → AllBetween n end (parts_at tree n) → AllBetween n end (chosen tree n)
+between_chosen tree n end b = by (is_serial (kind_at tree n))
+  where
+    by : (is : Bool) → AllBetween n end (if is then endings tree (parts_at tree n) else choices tree (parts_at tree n))
+    by true = between_endings tree n end (parts_at tree n) b
+    by false = between_unspecified tree n end (behind_first (parts_at tree n)) (between_behind n end (parts_at tree n) b)
 
 pub no_items : (xs : List ℕ) → length xs ≡ 0 → xs ≡ []
 no_items [] e = refl

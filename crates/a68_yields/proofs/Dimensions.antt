@@ -3,7 +3,7 @@ use Rattle.std.proofs.Common.{◌≡◌, ◌<◌, ◌≤◌, ◌-◌, ◌^◌, �
 use Rattle.std.proofs.lemmas.Bool.{eqb-true}
 use Rattle.std.specs.Prelude.{IfSome, slice_index_or}
 use Rattle.a68_definitions.specs.Defined.{part_from_end, part_number}
-use Rattle.a68_definitions.specs.Tags.{called_by}
+use Rattle.a68_definitions.specs.Tags.{called_by, is_label_at}
 use Rattle.a68_equiv.specs.Dimensions.{HasDimensions, HaveDimensions}
 use Rattle.a68_identify.specs.declared.identified.Identified.TheVariants.{Declared, Standard}
 use Rattle.a68_modes.specs.Nodes.{HoldsNodes, shape_at}
@@ -15,10 +15,10 @@ use Rattle.a68_tree.specs.declared.kind.NodeKind.{NodeKind}
 use Rattle.a68_tree.specs.declared.kind.NodeKind.TheVariants as kind
 use Rattle.a68_yields.proofs.Telling.{selected_below, sliced_below}
 use Rattle.a68_yields.specs.Below.{IsFindingBelow, IsToldBelow}
-use Rattle.a68_yields.specs.Leaves.{chosen, yield_at}
+use Rattle.a68_yields.specs.Leaves.{choices, endings, has_exit, yield_at}
 use Rattle.a68_yields.specs.Parts.{field_mode, fields_of, row_of, rowed, rowed_by, routine_result, structure_of, structure_within, structured, structured_by}
 use Rattle.a68_yields.specs.Sought.{is_subscript}
-use Rattle.a68_yields.specs.Yields.{Known, any_unknown, behind_first, called, choice, denoted, field_part, formula, found_unit, handed, is_unknown, selected, selected_from, sliced, sliced_from, tag, told, trimmers, unit_of, unknown}
+use Rattle.a68_yields.specs.Yields.{Known, any_unknown, behind_first, called, choice, denoted, field_part, formula, found_unit, handed, is_unknown, selected, selected_from, sliced, sliced_from, standard_tag, tag, told, trimmers, unit_of, unknown}
 use Rattle.a68_yields.specs.declared.parts.Rowed.{Rowed}
 use Rattle.a68_yields.specs.declared.parts.Structured.{Structured}
 use Rattle.a68_yields.specs.declared.told.Told.{Told}
@@ -113,9 +113,12 @@ module _ (nodes : List Shape) (rows : HaveDimensions nodes) where
     denoted_told None = tt
     denoted_told (Some s) = tt
 
-    tag_told : (total : ℕ) (defined : List ℕ) (d : Option ℕ) → IsPartTold n (tag total defined d)
-    tag_told total defined None = tt
-    tag_told total defined (Some d) = if_told (nat_lt d total) _ _ tt (if_told (nat_lt (d - total) 4) _ _ tt (if_told (nat_lt (d - total) 6) _ _ tt (if_told (nat_eq (d - total) 9) _ _ tt (if_told (nat_eq (d - total) 10) _ _ tt tt))))
+    standard_told : (place : ℕ) → IsPartTold n (standard_tag place)
+    standard_told place = if_told (nat_lt place 4) _ _ tt (if_told (nat_lt place 6) _ _ tt (if_told (nat_eq place 9) _ _ tt (if_told (nat_eq place 10) _ _ tt tt)))
+
+    tag_told : (tree : Built) (defined : List ℕ) (d : Option ℕ) → IsPartTold n (tag tree defined d)
+    tag_told tree defined None = tt
+    tag_told tree defined (Some d) = if_told (nat_lt d (length tree.nodes)) _ _ (if_told (is_label_at tree d) _ _ tt tt) (standard_told (d - length tree.nodes))
 
     handed_told : (ys : List Yielding) (parts : List ℕ) → IsPartTold n (handed ys parts)
     handed_told ys [] = tt
@@ -151,13 +154,15 @@ module _ (nodes : List Shape) (rows : HaveDimensions nodes) where
   pub part_told : HoldsNodes nodes → 15 ≤ length nodes → (k : Known) (ys : List Yielding) (n : ℕ) (f : Finding) (form : NodeKind) → IsFindingBelow (length nodes) f
       → IsPartTold (length nodes) (told k nodes ys n f form)
   part_told holds many k ys n f kind.Denotation below = denoted_told (length nodes) (spelling_at k.tree n)
-  part_told holds many k ys n f kind.Tag below = tag_told (length nodes) (length k.tree.nodes) k.defined (slice_index_or k.tags n None)
+  part_told holds many k ys n f kind.Tag below = tag_told (length nodes) k.tree k.defined (slice_index_or k.tags n None)
   part_told holds many k ys n f kind.Closed below = handed_told (length nodes) ys (parts_at k.tree n)
-  part_told holds many k ys n f kind.Serial below = handed_told (length nodes) ys (parts_at k.tree n)
+  part_told holds many k ys n f kind.Serial below =
+      if_told (length nodes) (has_exit k.tree (parts_at k.tree n)) (choice ys (endings k.tree (parts_at k.tree n))) (handed ys (parts_at k.tree n))
+      (choice_told (length nodes) ys (endings k.tree (parts_at k.tree n))) (handed_told (length nodes) ys (parts_at k.tree n))
   part_told holds many k ys n f kind.Out below = handed_told (length nodes) ys (parts_at k.tree n)
-  part_told holds many k ys n f kind.Conditional below = choice_told (length nodes) ys (chosen k.tree n)
-  part_told holds many k ys n f kind.Case below = choice_told (length nodes) ys (chosen k.tree n)
-  part_told holds many k ys n f kind.Conformity below = choice_told (length nodes) ys (chosen k.tree n)
+  part_told holds many k ys n f kind.Conditional below = choice_told (length nodes) ys (choices k.tree (parts_at k.tree n))
+  part_told holds many k ys n f kind.Case below = choice_told (length nodes) ys (choices k.tree (parts_at k.tree n))
+  part_told holds many k ys n f kind.Conformity below = choice_told (length nodes) ys (choices k.tree (parts_at k.tree n))
   part_told holds many k ys n f kind.Assignation below = found_told (length nodes) f
   part_told holds many k ys n f kind.Selection below = both (length nodes) _ (selected_below nodes holds many 0 0 (name_at k.tree n) f below) (selected_small (name_at k.tree n) f)
   part_told holds many k ys n f kind.Slice below = both (length nodes) _ (sliced_below nodes holds many 0 0 k.tree (parts_at k.tree n) f below) (sliced_small k.tree (parts_at k.tree n) f)

@@ -7,3 +7,4 @@ pub mod Tabling
 pub mod Dimensions
 pub mod Alike
 pub mod Alone
+pub mod Ending

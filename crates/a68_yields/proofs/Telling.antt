@@ -2,7 +2,7 @@
 use Rattle.std.proofs.Common.{◌<◌, ◌≤◌, ◌-◌, ◌∷◌, [], ℕ, suc, List, Bool, true, false, Option, None, Some, if◌then◌else◌, length, nat_lt, nat_eq, arith}
 use Rattle.std.specs.Prelude.{IfSome, slice_index_or}
 use Rattle.a68_definitions.specs.Defined.{AllBelow, part_from_end, part_number}
-use Rattle.a68_definitions.specs.Tags.{called_by}
+use Rattle.a68_definitions.specs.Tags.{called_by, is_label_at}
 use Rattle.a68_identify.specs.declared.identified.Identified.TheVariants.{Declared, Standard}
 use Rattle.a68_modes.specs.Nodes.{HoldsNodes, ShapeIsWithin, shape_at}
 use Rattle.a68_modes.specs.declared.shape.Shape.{Shape}
@@ -14,7 +14,7 @@ use Rattle.a68_tree.specs.declared.kind.NodeKind.TheVariants as kind
 use Rattle.a68_yields.proofs.Collecting.{between_at}
 use Rattle.a68_yields.proofs.Within.{field_within, last_within}
 use Rattle.a68_yields.specs.Below.{IsFindingBelow, IsToldBelow}
-use Rattle.a68_yields.specs.Leaves.{chosen, yield_at}
+use Rattle.a68_yields.specs.Leaves.{choices, endings, has_exit, yield_at}
 use Rattle.a68_yields.specs.Parts.{field_mode, fields_of, row_of, rowed, rowed_by, routine_result, structure_of, structure_within, structured, structured_by}
 use Rattle.a68_yields.specs.Yields.{Known, a_unit, any_unknown, begins_quote, behind_first, called, choice, denoted, field_part, formula, found_unit, handed, has_r, is_item, is_truth, is_unknown, long_tag, selected, selected_from, sliced, sliced_from, standard_tag, tag, told, unit_of}
 use Rattle.a68_yields.specs.declared.parts.Rowed.{Rowed}
@@ -59,10 +59,10 @@ module _ (nodes : List Shape) (holds : HoldsNodes nodes) (many : 15 ≤ length n
   unfolding Fine
   standard_fine place = if_fine (nat_lt place 4) _ _ (low 1 (omega arith)) (if_fine (nat_lt place 6) _ _ (low 6 (omega arith)) (long_fine place))
 
-  tag_fine : (total : ℕ) (defined : List ℕ) (d : Option ℕ) → AllBelow (length nodes) defined → Fine (tag total defined d)
+  tag_fine : (tree : Built) (defined : List ℕ) (d : Option ℕ) → AllBelow (length nodes) defined → Fine (tag tree defined d)
   unfolding Fine
-  tag_fine total defined None below = tt
-  tag_fine total defined (Some d) below = if_fine (nat_lt d total) _ _ (below d) (standard_fine (d - total))
+  tag_fine tree defined None below = tt
+  tag_fine tree defined (Some d) below = if_fine (nat_lt d (length tree.nodes)) _ _ (if_fine (is_label_at tree d) _ _ tt (below d)) (standard_fine (d - length tree.nodes))
 
   handed_fine : (ys : List Yielding) (parts : List ℕ) → AllBetween node count parts → Fine (handed ys parts)
   unfolding Fine
@@ -187,13 +187,15 @@ module _ (nodes : List Shape) (holds : HoldsNodes nodes) (many : 15 ≤ length n
   unfolding Fine
   told_below k ys f kind.Denotation all below behind = denoted_fine (spelling_at k.tree node)
   told_below k ys f kind.LongDenotation all below behind = low 13 (omega arith)
-  told_below k ys f kind.Tag all below behind = tag_fine (length k.tree.nodes) k.defined (slice_index_or k.tags node None) all
+  told_below k ys f kind.Tag all below behind = tag_fine k.tree k.defined (slice_index_or k.tags node None) all
   told_below k ys f kind.Closed all below behind = handed_fine ys (parts_at k.tree node) behind
-  told_below k ys f kind.Serial all below behind = handed_fine ys (parts_at k.tree node) behind
+  told_below k ys f kind.Serial all below behind =
+      if_fine (has_exit k.tree (parts_at k.tree node)) (choice ys (endings k.tree (parts_at k.tree node))) (handed ys (parts_at k.tree node))
+      (choice_fine ys (endings k.tree (parts_at k.tree node))) (handed_fine ys (parts_at k.tree node) behind)
   told_below k ys f kind.Out all below behind = handed_fine ys (parts_at k.tree node) behind
-  told_below k ys f kind.Conditional all below behind = choice_fine ys (chosen k.tree node)
-  told_below k ys f kind.Case all below behind = choice_fine ys (chosen k.tree node)
-  told_below k ys f kind.Conformity all below behind = choice_fine ys (chosen k.tree node)
+  told_below k ys f kind.Conditional all below behind = choice_fine ys (choices k.tree (parts_at k.tree node))
+  told_below k ys f kind.Case all below behind = choice_fine ys (choices k.tree (parts_at k.tree node))
+  told_below k ys f kind.Conformity all below behind = choice_fine ys (choices k.tree (parts_at k.tree node))
   told_below k ys f kind.Parallel all below behind = low 0 (omega arith)
   told_below k ys f kind.Loop all below behind = low 0 (omega arith)
   told_below k ys f kind.Cast all below behind = all node

@@ -1,5 +1,5 @@
 -- The units that a node may yield, one or several (Report, 3.2.1, 3.3.1 and 3.4.1).
-use Rattle.std.specs.Prelude.{◌≡◌, ◌++◌, ℕ, List, [], ◌∷◌, slice_index_or, Bool, true, false, if◌then◌else◌, not}
+use Rattle.std.specs.Prelude.{◌≡◌, ◌++◌, ℕ, List, [], ◌∷◌, slice_index_or, Bool, true, false, if◌then◌else◌, not, ◌||◌}
 use Rattle.a68_coerce.specs.declared.leaf.Leaf.{Leaf}
 use Rattle.a68_coerce.specs.declared.leaf.Leaf.TheVariants as leaf
 use Rattle.a68_definitions.specs.Defined.{part_from_end}
@@ -27,8 +27,34 @@ behind_first [] = []
 behind_first (p ∷ ps) = ps
 
 -- the parts among which a choice chooses: all but the enquiry, and the specs
+abbrev pub choices : Built → List ℕ → List ℕ
+choices tree parts = unspecified tree (behind_first parts)
+
+abbrev pub is_exit : NodeKind → Bool
+is_exit kind.Exit = true
+is_exit _ = false
+
+abbrev pub has_exit : Built → List ℕ → Bool
+has_exit tree [] = false
+has_exit tree (p ∷ ps) = is_exit (kind_at tree p) || has_exit tree ps
+
+-- a serial clause may yield a unit behind which nothing stands, or EXIT
+abbrev pub ends : Built → (behind : List ℕ) → Bool
+ends tree [] = true
+ends tree (p ∷ ps) = is_exit (kind_at tree p)
+
+-- the units that it may yield: the last one, and those before EXIT
+abbrev pub endings : Built → List ℕ → List ℕ
+endings tree [] = []
+endings tree (p ∷ ps) = if ends tree ps then p ∷ endings tree ps else endings tree ps
+
+abbrev pub is_serial : NodeKind → Bool
+is_serial kind.Serial = true
+is_serial _ = false
+
+-- the parts among which a node chooses
 abbrev pub chosen : Built → ℕ → List ℕ
-chosen tree n = unspecified tree (behind_first (parts_at tree n))
+chosen tree n = if is_serial (kind_at tree n) then endings tree (parts_at tree n) else choices tree (parts_at tree n)
 
 abbrev pub is_out : NodeKind → Bool
 is_out kind.Out = true
@@ -38,10 +64,11 @@ abbrev pub is_conditional : NodeKind → Bool
 is_conditional kind.Conditional = true
 is_conditional _ = false
 
--- a choice without ELSE or OUT: an IF of two parts, or another one whose last part is no Out
+-- a choice without ELSE or OUT: an IF of two parts, or another one whose last part is no Out; a serial clause is none
 abbrev pub is_open : Built → NodeKind → List ℕ → Bool
 is_open tree kind.Conditional (q ∷ a ∷ []) = true
 is_open tree kind.Conditional parts = false
+is_open tree kind.Serial parts = false
 is_open tree k parts = not (is_out (kind_at tree (part_from_end parts 1)))
 
 -- in the place of ELSE or OUT stands a skip

@@ -6,7 +6,7 @@ use Rattle.a68_ranges.specs.declared.tags.TheConstants as tags
 use Rattle.a68_coerce.specs.declared.leaf.Leaf.TheVariants as leaf
 use Rattle.a68_declare.specs.Outcome.{ByNode}
 use Rattle.a68_definitions.specs.Defined.{part_from_end, part_number}
-use Rattle.a68_definitions.specs.Tags.{called_by}
+use Rattle.a68_definitions.specs.Tags.{called_by, is_label_at}
 use Rattle.a68_identify.specs.declared.identified.Identified.{Identified}
 use Rattle.a68_identify.specs.declared.identified.Identified.TheVariants.{Declared, Standard}
 use Rattle.a68_modes.specs.Nodes.{shape_at}
@@ -16,7 +16,7 @@ use Rattle.a68_tree.specs.Trees.{Built}
 use Rattle.a68_tree.specs.declared.kind.NodeKind.{NodeKind}
 use Rattle.a68_tree.specs.declared.kind.NodeKind.TheVariants as kind
 use Rattle.a68_yields.specs.Found.{IsFound}
-use Rattle.a68_yields.specs.Leaves.{chosen, yield_at}
+use Rattle.a68_yields.specs.Leaves.{choices, endings, has_exit, yield_at}
 use Rattle.a68_yields.specs.Parts.{IsModeOfPart, field_mode, fields_of, routine_result, rowed, structured}
 use Rattle.a68_yields.specs.Sought.{is_subscript, sought_at}
 use Rattle.a68_yields.specs.declared.yielding.Finding.{Finding}
@@ -73,7 +73,7 @@ abbrev pub denoted : Option (List ℕ) → Told
 denoted None = unknown
 denoted (Some s) = a_unit (denoted_mode s)
 
--- ---- tags: those of the standard environ are INT, but newline, space and long max int; print, write and whole have none
+-- ---- tags: those of the standard environ are INT, but newline, space and long max int; print, write and whole have none, nor has a label
 
 -- those behind whole
 abbrev pub long_tag : (place : ℕ) → Told
@@ -82,9 +82,12 @@ long_tag place = if nat_eq place tags.LONGMAXINT then a_unit standard.LONG_INT e
 abbrev pub standard_tag : (place : ℕ) → Told
 standard_tag place = if nat_lt place tags.NEWLINE then a_unit standard.INT else (if nat_lt place tags.PRINT then a_unit standard.LAYOUT else long_tag place)
 
-abbrev pub tag : (nodes : ℕ) → (defined : List ℕ) → Option ℕ → Told
-tag nodes defined None = unknown
-tag nodes defined (Some d) = if nat_lt d nodes then a_unit (part_number defined d) else standard_tag (d - nodes)
+abbrev pub declared_tag : Built → (defined : List ℕ) → (d : ℕ) → Told
+declared_tag tree defined d = if is_label_at tree d then unknown else a_unit (part_number defined d)
+
+abbrev pub tag : Built → (defined : List ℕ) → Option ℕ → Told
+tag tree defined None = unknown
+tag tree defined (Some d) = if nat_lt d (length tree.nodes) then declared_tag tree defined d else standard_tag (d - length tree.nodes)
 
 -- ---- what hands on, and choices
 
@@ -106,6 +109,10 @@ any_unknown ys (p ∷ ps) = is_unknown (yield_at ys p) || any_unknown ys ps
 
 abbrev pub choice : List Yielding → List ℕ → Told
 choice ys parts = if any_unknown ys parts then unknown else tell.Yields yields.Choice
+
+-- a serial clause hands on its last unit; with EXIT it chooses among several (3.2.1)
+abbrev pub serial : Built → List Yielding → List ℕ → Told
+serial tree ys parts = if has_exit tree parts then choice ys (endings tree parts) else handed ys parts
 
 -- ---- what rests on what is found
 
@@ -167,15 +174,16 @@ formula nodes defined _ = unknown
 abbrev pub told : Known → List Shape → List Yielding → (n : ℕ) → Finding → NodeKind → Told
 told k nodes ys n found kind.Denotation = denoted (spelling_at k.tree n)
 told k nodes ys n found kind.LongDenotation = a_unit standard.LONG_INT
-told k nodes ys n found kind.Tag = tag (length k.tree.nodes) k.defined (slice_index_or k.tags n None)
+told k nodes ys n found kind.Tag = tag k.tree k.defined (slice_index_or k.tags n None)
 told k nodes ys n found kind.Closed = handed ys (parts_at k.tree n)
-told k nodes ys n found kind.Serial = handed ys (parts_at k.tree n)
+told k nodes ys n found kind.Serial = serial k.tree ys (parts_at k.tree n)
 told k nodes ys n found kind.Out = handed ys (parts_at k.tree n)
-told k nodes ys n found kind.Conditional = choice ys (chosen k.tree n)
-told k nodes ys n found kind.Case = choice ys (chosen k.tree n)
-told k nodes ys n found kind.Conformity = choice ys (chosen k.tree n)
+told k nodes ys n found kind.Conditional = choice ys (choices k.tree (parts_at k.tree n))
+told k nodes ys n found kind.Case = choice ys (choices k.tree (parts_at k.tree n))
+told k nodes ys n found kind.Conformity = choice ys (choices k.tree (parts_at k.tree n))
 -- these stand in strong positions only
 told k nodes ys n found kind.Skip = strong_only
+told k nodes ys n found kind.GoTo = strong_only
 told k nodes ys n found kind.Nil = strong_only
 told k nodes ys n found kind.Vacuum = strong_only
 told k nodes ys n found kind.Collateral = strong_only

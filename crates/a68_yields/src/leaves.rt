@@ -8,11 +8,11 @@ ghost use Rattle.a68_yields.specs.Leaves.{HasLeaves, HasNoLeaves, chosen};
 ghost use Rattle.a68_tree.specs.Trees.{AllBetween};
 ghost use Rattle.a68_yields.specs.Leaves as specs;
 
-use crate::told::behind_first;
+use crate::told::{behind_first, ends};
 use crate::yielding::{Yielding, yield_of};
 use a68_base::NoMemory;
 use a68_coerce::Leaf;
-use a68_definitions::{kind_of, part_from_end, parts_of};
+use a68_definitions::{kind_of, part_from_end, parts_from, parts_of};
 use a68_tree::{NodeId, NodeKind, Tree};
 use std::alloc::Global;
 
@@ -22,6 +22,7 @@ fn is_open(tree: &Tree, kind: NodeKind, parts: &[NodeId]) -> bool
 {
     match kind {
         NodeKind::Conditional => parts.len() == 2,
+        NodeKind::Serial => false,
         _ => kind_of(tree, part_from_end(parts, 1)) != NodeKind::Out,
     }
 }
@@ -39,11 +40,11 @@ fn skips_of(tree: &Tree, node: NodeId) -> u32
 }
 
 // Lists the parts among which a choice chooses.
-fn chosen_parts(alloc: Global, tree: &Tree, node: NodeId) -> Result<Vec<NodeId>, NoMemory>
-    ensures { IfOk result (λ parts. parts.items ≡ chosen tree.now node) }
+fn choices(alloc: Global, tree: &Tree, parts: &[NodeId]) -> Result<Vec<NodeId>, NoMemory>
+    ensures { IfOk result (λ found. found.items ≡ specs.choices tree.now parts.now) }
 {
     let mut items = Vec::new(alloc);
-    for part in behind_first(parts_of(tree, node)) {
+    for part in behind_first(parts) {
         if kind_of(tree, *part) != NodeKind::Spec {
             items.push(*part)?;
         }
@@ -51,7 +52,35 @@ fn chosen_parts(alloc: Global, tree: &Tree, node: NodeId) -> Result<Vec<NodeId>,
     Ok(items)
 }
 
-// Tells that the parts among which a choice chooses stand behind it.
+// Lists the units that a serial clause may yield.
+fn endings(alloc: Global, tree: &Tree, parts: &[NodeId]) -> Result<Vec<NodeId>, NoMemory>
+    ensures { IfOk result (λ found. found.items ≡ specs.endings tree.now parts.now) }
+{
+    let mut items = Vec::new(alloc);
+    let mut place = 0;
+    for part in parts {
+        place += 1;
+        if ends(tree, parts_from(parts, place)) {
+            items.push(*part)?;
+        }
+    }
+    Ok(items)
+}
+
+// Lists the parts among which a node chooses.
+fn chosen_parts(alloc: Global, tree: &Tree, node: NodeId) -> Result<Vec<NodeId>, NoMemory>
+    ensures { IfOk result (λ parts. parts.items ≡ chosen tree.now node) }
+{
+    let parts = parts_of(tree, node);
+    if kind_of(tree, node) == NodeKind::Serial {
+        let found = endings(alloc, tree, parts)?;
+        return Ok(found);
+    }
+    let found = choices(alloc, tree, parts)?;
+    Ok(found)
+}
+
+// Tells that the parts among which a node chooses stand behind it.
 fn follow(tree: &Tree, node: NodeId)
     ensures { AllBetween node (length tree.now.nodes) (chosen tree.now node) }
 {
@@ -90,7 +119,7 @@ fn add_all(
     Ok(true)
 }
 
-// Adds the leaves of a node; false where it has none. It goes down the last parts of choices by a loop, since chains of ELIF
+// Adds the leaves of a node; false where it has none. It goes down the last parts among which nodes choose by a loop, since chains of ELIF
 // nest in the tree and not in the text.
 #[cycle(collect)]
 fn add(

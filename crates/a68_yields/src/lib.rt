@@ -17,5 +17,5 @@ pub use leaves::leaves_of;
 pub use parts::{Rowed, Structured, as_row, as_structure};
 pub use sought::{Expectation, Sought, is_subscript};
 pub use table::{Yields, find_yields};
-pub use told::is_unknown;
+pub use told::{has_exit, is_unknown};
 pub use yielding::{Finding, Yielding, yield_of};

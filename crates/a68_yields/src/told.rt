@@ -12,7 +12,9 @@ use crate::parts::{Part, Rowed, Structured, as_row, as_structure, field_mode, re
 use crate::sought::is_subscript;
 use crate::yielding::{Finding, Yielding, yield_of};
 use a68_coerce::Leaf;
-use a68_definitions::{Tags, called_by, kind_of, part_from_end, part_number, parts_of};
+use a68_definitions::{
+    Tags, called_by, is_label, kind_of, part_from_end, part_number, parts_from, parts_of,
+};
 use a68_fields::FieldTable;
 use a68_identify::Identified;
 use a68_modes::{ModeId, Modes, standard};
@@ -118,12 +120,23 @@ fn standard_tag(place: u32) -> Told
     }
 }
 
-fn tag(nodes: u32, defined: &[ModeId], found: Option<NodeId>) -> Told
-    ensures { result ≡ specs.tag nodes defined.now found }
+fn declared_tag(tree: &Tree, defined: &[ModeId], definition: NodeId) -> Told
+    ensures { result ≡ specs.declared_tag tree.now defined.now definition }
 {
+    if is_label(tree, definition) {
+        unknown()
+    } else {
+        a_unit(part_number(defined, definition as usize))
+    }
+}
+
+fn tag(tree: &Tree, defined: &[ModeId], found: Option<NodeId>) -> Told
+    ensures { result ≡ specs.tag tree.now defined.now found }
+{
+    let nodes = tree.len();
     match found {
         None => unknown(),
-        Some(definition) if definition < nodes => a_unit(part_number(defined, definition as usize)),
+        Some(definition) if definition < nodes => declared_tag(tree, defined, definition),
         Some(definition) => standard_tag(definition - nodes),
     }
 }
@@ -168,10 +181,59 @@ pub fn behind_first(parts: &[NodeId]) -> &[NodeId]
     if parts.is_empty() { parts } else { &parts[1..] }
 }
 
-fn choice(tree: &Tree, yields: &[Yielding], node: NodeId) -> Told
-    ensures { result ≡ specs.choice yields.now (leaves.chosen tree.now node) }
+fn choice(tree: &Tree, yields: &[Yielding], parts: &[NodeId]) -> Told
+    ensures { result ≡ specs.choice yields.now (leaves.choices tree.now parts.now) }
 {
-    if any_unknown(tree, yields, behind_first(parts_of(tree, node))) {
+    if any_unknown(tree, yields, behind_first(parts)) {
+        unknown()
+    } else {
+        Told::Yields(Yielding::Choice)
+    }
+}
+
+/// Is EXIT among these parts of a serial clause?
+pub fn has_exit(tree: &Tree, parts: &[NodeId]) -> bool
+    ensures { result ≡ leaves.has_exit tree.now parts.now }
+{
+    for part in parts {
+        if kind_of(tree, *part) == NodeKind::Exit {
+            return true;
+        }
+    }
+    false
+}
+
+/// May a serial clause yield a unit behind which these parts stand: none, or EXIT and more?
+pub fn ends(tree: &Tree, behind: &[NodeId]) -> bool
+    ensures { result ≡ leaves.ends tree.now behind.now }
+{
+    match behind.first() {
+        None => true,
+        Some(part) => kind_of(tree, *part) == NodeKind::Exit,
+    }
+}
+
+// Is what one of the units yields that a serial clause may yield not known?
+fn ends_unknown(tree: &Tree, yields: &[Yielding], parts: &[NodeId]) -> bool
+    ensures { result ≡ specs.any_unknown yields.now (leaves.endings tree.now parts.now) }
+{
+    let mut place = 0;
+    for part in parts {
+        place += 1;
+        if ends(tree, parts_from(parts, place)) && is_unknown(yield_of(yields, *part)) {
+            return true;
+        }
+    }
+    false
+}
+
+fn serial(tree: &Tree, yields: &[Yielding], parts: &[NodeId]) -> Told
+    ensures { result ≡ specs.serial tree.now yields.now parts.now }
+{
+    if !has_exit(tree, parts) {
+        return handed(yields, parts);
+    }
+    if ends_unknown(tree, yields, parts) {
         unknown()
     } else {
         Told::Yields(Yielding::Choice)
@@ -318,16 +380,14 @@ pub fn yields_of(
     match kind_of(tree, node) {
         NodeKind::Denotation => denoted(tree, node),
         NodeKind::LongDenotation => a_unit(standard::LONG_INT),
-        NodeKind::Tag => tag(tree.len(), defined, tags.at(node)),
-        NodeKind::Closed | NodeKind::Serial | NodeKind::Out => {
-            handed(yields, parts_of(tree, node))
-        }
+        NodeKind::Tag => tag(tree, defined, tags.at(node)),
+        NodeKind::Closed | NodeKind::Out => handed(yields, parts_of(tree, node)),
+        NodeKind::Serial => serial(tree, yields, parts_of(tree, node)),
         NodeKind::Conditional | NodeKind::Case | NodeKind::Conformity => {
-            choice(tree, yields, node)
+            choice(tree, yields, parts_of(tree, node))
         }
-        NodeKind::Skip | NodeKind::Nil | NodeKind::Vacuum | NodeKind::Collateral => {
-            Told::Yields(Yielding::Unit(Leaf::StrongOnly))
-        }
+        NodeKind::Skip | NodeKind::GoTo | NodeKind::Nil | NodeKind::Vacuum | NodeKind::Collateral =>
+            Told::Yields(Yielding::Unit(Leaf::StrongOnly)),
         NodeKind::Parallel | NodeKind::Loop => a_unit(0),
         NodeKind::Cast | NodeKind::Generator | NodeKind::RoutineText => {
             a_unit(part_number(defined, node as usize))

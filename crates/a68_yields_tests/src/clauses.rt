@@ -255,6 +255,74 @@ const HANDED: &[Expected] = &[
     ),
 ];
 
+/// Jumps, tags of labels, and serial clauses with EXIT.
+const LABELLED: &[Expected] = &[
+    ("( l: GOTO l )", NodeKind::GoTo, 5, "~", "nothing"),
+    ("( l: l )", NodeKind::Tag, 5, "unknown", "nothing"),
+    ("( GOTO l; l: 1 )", NodeKind::Closed, 0, "INT", "nothing"),
+    (
+        "( l: 1 EXIT m: TRUE )",
+        NodeKind::Serial,
+        2,
+        "INT , BOOL",
+        "nothing",
+    ),
+    (
+        "( 1 EXIT m: 2 EXIT n: \"a\" )",
+        NodeKind::Closed,
+        0,
+        "INT , INT , CHAR",
+        "nothing",
+    ),
+    (
+        "( l: 1; 2 EXIT m: 3 )",
+        NodeKind::Closed,
+        0,
+        "INT , INT",
+        "nothing",
+    ),
+    (
+        "( 1 EXIT l: ( 2 EXIT m: TRUE ) )",
+        NodeKind::Closed,
+        0,
+        "INT , INT , BOOL",
+        "nothing",
+    ),
+    (
+        "( 1 EXIT l: nosuch )",
+        NodeKind::Closed,
+        0,
+        "unknown",
+        "nothing",
+    ),
+    (
+        "( nosuch EXIT l: 1 )",
+        NodeKind::Closed,
+        0,
+        "unknown",
+        "nothing",
+    ),
+    (
+        "( BOOL b; ( b | 1 | GOTO l ); l: SKIP )",
+        NodeKind::Conditional,
+        10,
+        "INT , ~",
+        "BOOL",
+    ),
+    (
+        "( [1:3] INT a; ( a EXIT l: SKIP )[1] )",
+        NodeKind::Slice,
+        15,
+        "REF INT",
+        "REF [] INT",
+    ),
+];
+
+#[test]
+fn labels_jumps_and_exits(rt: HostRuntime) {
+    are_told(&rt, rt.alloc(), LABELLED);
+}
+
 #[test]
 fn written_modes(rt: HostRuntime) {
     are_told(&rt, rt.alloc(), WRITTEN);

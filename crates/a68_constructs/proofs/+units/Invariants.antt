@@ -1,15 +1,17 @@
-use Rattle.std.proofs.Common.{List, ◌≤◌, suc, ◌-◌, ◌+◌, ◌*◌, drop, length}
+use Rattle.std.proofs.Common.{◌≡◌, List, ◌≤◌, suc, ◌-◌, ◌+◌, ◌*◌, drop, length}
 use Rattle.std.specs.declared.option.Option.{Option}
 use Rattle.a68_base.specs.declared.refusal.Stop.{Stop}
 use Rattle.a68_code.specs.declared.code.Instr.{Instr}
-use Rattle.a68_elab.specs.Made.{bound_trees, index_units, specs_of, trees_at}
-use Rattle.a68_elab.specs.Programs.{behind}
+use Rattle.a68_elab.specs.Made.{index_units, specs_of, trees_at}
+use Rattle.a68_elab.specs.Programs.{behind, specs_seated}
 use Rattle.a68_emit.specs.Chains.{IsOpen, TreeIsWritten, LinkIsWithin, link_tree}
 use Rattle.a68_emit.specs.Listing.{stretches}
-use Rattle.a68_emit.specs.Views.{bound_of, extra, tree_of}
+use Rattle.a68_emit.specs.Views.{behind_values, extra, laid_of, rising, rising_bounds, seat_of, tree_of, within}
 use Rattle.a68_emit.specs.Writing.{Writes}
 use Rattle.a68_constructs.proofs.Conforming.{SpecsAhead}
-use Rattle.a68_constructs.specs.Endings.{GoesOn, TailIsWithin, out_tree}
+use Rattle.a68_constructs.proofs.Lying.{IsOver}
+use Rattle.a68_constructs.proofs.Stepping.{StepsAhead}
+use Rattle.a68_constructs.specs.Endings.{GoesOn, IsSeenAlike, TailIsWithin, out_tree}
 use Rattle.a68_constructs.proofs.Numbering.{ArmsAhead}
 use Rattle.a68_constructs.proofs.+units.Given as goal
 
@@ -159,27 +161,62 @@ decreases-parts::row l = 16 * (extra l.program.now + (length l.program.now.of.no
 
 -- with the rest of the bounds, all of them are written
 abbrev pub invariant-names::write_bounds-loop-bound : goal.invariant-names::write_bounds-loop-bound
-invariant-names::write_bounds-loop-bound l = (s : Option Stop) (end : List Instr)
-    → Writes l.out.stop s l.out.list end (stretches (bound_trees (bound_of l.program) (behind l.id (tree_of l.program)) l.place (drop l.bound-index l.bounds)) (length l.out.list))
-    → Writes l.initial.out.stop s l.initial.out.list end (stretches (bound_trees (bound_of l.program) (behind l.id (tree_of l.program)) l.place l.bounds) (length l.initial.out.list))
+invariant-names::write_bounds-loop-bound l = IsOver l.program l.over × ((s : Option Stop) (end : List Instr)
+    → Writes l.out.stop s l.out.list end (stretches (rising_bounds l.over l.id l.place (drop l.bound-index l.bounds)) (length l.out.list))
+    → Writes l.initial.out.stop s l.initial.out.list end (stretches (rising_bounds l.program l.id l.place l.bounds) (length l.initial.out.list)))
 
 -- with the rest of the indexes, the units of all of them are written
 abbrev pub invariant-parts::write_indexes-loop-index : goal.invariant-parts::write_indexes-loop-index
-invariant-parts::write_indexes-loop-index l = (s : Option Stop) (end : List Instr)
-    → Writes l.out.stop s l.out.list end (stretches (trees_at (behind l.id (tree_of l.program)) (index_units l.program.of.now (drop l.index-index l.indexes))) (length l.out.list))
-    → Writes l.initial.out.stop s l.initial.out.list end (stretches (trees_at (behind l.id (tree_of l.program)) (index_units l.program.of.now l.indexes)) (length l.initial.out.list))
+invariant-parts::write_indexes-loop-index l = IsOver l.program l.over × ((s : Option Stop) (end : List Instr)
+    → Writes l.out.stop s l.out.list end (stretches (rising l.over l.id (index_units l.program.of.now (drop l.index-index l.indexes))) (length l.out.list))
+    → Writes l.initial.out.stop s l.initial.out.list end (stretches (rising l.program l.id (index_units l.program.of.now l.indexes)) (length l.initial.out.list)))
 
 -- with the rest of the parts, all of them are written
 abbrev pub invariant-rows::all-loop-part : goal.invariant-rows::all-loop-part
-invariant-rows::all-loop-part l = (s : Option Stop) (end : List Instr) → Writes l.out.stop s l.out.list end (stretches (trees_at (behind l.id (tree_of l.program)) (drop l.part-index l.parts)) (length l.out.list))
-    → Writes l.initial.out.stop s l.initial.out.list end (stretches (trees_at (behind l.id (tree_of l.program)) l.parts) (length l.initial.out.list))
+invariant-rows::all-loop-part l = (s : Option Stop) (end : List Instr) → Writes l.out.stop s l.out.list end (stretches (trees_at (behind l.id (laid_of l.program)) (drop l.part-index l.parts)) (length l.out.list))
+    → Writes l.initial.out.stop s l.initial.out.list end (stretches (trees_at (behind l.id (laid_of l.program)) l.parts) (length l.initial.out.list))
+
+-- with the rest of the parts, each over the values before it, all of them are written
+abbrev pub invariant-rows::values-loop-part : goal.invariant-rows::values-loop-part
+invariant-rows::values-loop-part l = IsOver l.program l.over × (behind_values l.program l.parts ≡ behind_values l.over (drop l.part-index l.parts))
+    × ((s : Option Stop) (end : List Instr) → Writes l.out.stop s l.out.list end (stretches (rising l.over l.id (drop l.part-index l.parts)) (length l.out.list))
+    → Writes l.initial.out.stop s l.initial.out.list end (stretches (rising l.program l.id l.parts) (length l.initial.out.list)))
+
+abbrev pub decreases-rows::values : goal.decreases-rows::values
+decreases-rows::values l = 16 * (extra l.program.now + (length l.program.now.of.now.tree.nodes - l.id)) + 1
+
+abbrev pub decreases-rows::clause : goal.decreases-rows::clause
+decreases-rows::clause l = 16 * (extra l.program.now + (length l.program.now.of.now.tree.nodes - l.id)) + 7
+
+abbrev pub decreases-rows::framed_steps : goal.decreases-rows::framed_steps
+decreases-rows::framed_steps l = 16 * (extra l.program.now + (length l.program.now.of.now.tree.nodes - l.id)) + 6
+
+abbrev pub decreases-steps::labelled : goal.decreases-steps::labelled
+decreases-steps::labelled l = 16 * (extra l.program.now + (length l.program.now.of.now.tree.nodes - l.id)) + 5
+
+abbrev pub decreases-steps::steps : goal.decreases-steps::steps
+decreases-steps::steps l = 16 * (extra l.program.now + (length l.program.now.of.now.tree.nodes - l.id)) + 4
+
+abbrev pub decreases-steps::write_steps : goal.decreases-steps::write_steps
+decreases-steps::write_steps l = 16 * (extra l.program.now + (length l.program.now.of.now.tree.nodes - l.id)) + 3
+
+abbrev pub decreases-steps::write_step : goal.decreases-steps::write_step
+decreases-steps::write_step l = 16 * (extra l.program.now + (length l.program.now.of.now.tree.nodes - l.id)) + 2
+
+-- the steps before this one are written, and what is kept of them
+abbrev pub invariant-steps::write_steps-loop-at : goal.invariant-steps::write_steps-loop-at
+invariant-steps::write_steps-loop-at l =
+    (l.at ≤ length l.parts) × StepsAhead l.program l.id l.place l.parts (drop l.at l.parts) l.placed.items l.jumps.items l.initial.out.stop l.out.stop l.initial.out.list l.out.list
+
+abbrev pub decreases-steps::write_steps-loop-at : goal.decreases-steps::write_steps-loop-at
+decreases-steps::write_steps-loop-at l = length l.parts - l.at
 
 -- the links before this one are written
 abbrev pub invariant-choices::write_links-links : goal.invariant-choices::write_links-links
 invariant-choices::write_links-links l =
-    LinkIsWithin l.program.of.now l.link × (l.fn.first.id ≤ l.link.id)
-    × IsOpen (TreeIsWritten (link_tree l.program.of.now (tree_of l.program) l.fn.first) l.initial.out.stop l.initial.out.list) l.opens.items (link_tree l.program.of.now (tree_of l.program) l.link)
-    l.out.stop l.out.list
+    LinkIsWithin l.program.of.now l.link × (l.fn.first.id ≤ l.link.id) × IsSeenAlike l.program l.inner
+    × IsOpen (TreeIsWritten (link_tree l.program.of.now (laid_of (within l.fn.first.slots l.program)) l.fn.first) l.initial.out.stop l.initial.out.list) l.opens.items
+    (link_tree l.program.of.now (laid_of l.inner) l.link) l.out.stop l.out.list
 
 abbrev pub decreases-choices::write_links-links : goal.decreases-choices::write_links-links
 decreases-choices::write_links-links l = length l.program.of.now.tree.nodes - l.link.id
@@ -214,8 +251,8 @@ decreases-choices::write_arm l = 16 * (extra l.program.now + (length l.program.n
 -- the choices before this one are written
 abbrev pub invariant-choices::write_choices-tails : goal.invariant-choices::write_choices-tails
 invariant-choices::write_choices-tails l =
-    TailIsWithin l.program.of.now l.tail × (l.fn.first.id ≤ l.tail.id)
-    × GoesOn (out_tree (tree_of l.program) l.fn.first) (out_tree (tree_of l.program) l.tail) l.initial.endings.items l.initial.out.stop l.initial.out.list l.endings.items l.out.stop l.out.list
+    TailIsWithin l.program.of.now l.tail × (l.fn.first.id ≤ l.tail.id) × IsSeenAlike l.program l.seen
+    × GoesOn (out_tree (laid_of l.program) l.fn.first) (out_tree (laid_of l.seen) l.tail) l.initial.endings.items l.initial.out.stop l.initial.out.list l.endings.items l.out.stop l.out.list
 
 abbrev pub decreases-choices::write_choices-tails : goal.decreases-choices::write_choices-tails
 decreases-choices::write_choices-tails l = length l.program.of.now.tree.nodes - l.tail.id
@@ -223,7 +260,7 @@ decreases-choices::write_choices-tails l = length l.program.of.now.tree.nodes - 
 -- the parts before this one are written
 abbrev pub invariant-choices::write_arms-loop-part : goal.invariant-choices::write_arms-loop-part
 invariant-choices::write_arms-loop-part l =
-    ArmsAhead l.place (trees_at (behind l.id (tree_of l.program)) l.parts) (trees_at (behind l.id (tree_of l.program)) (drop l.part-index l.parts)) l.starts.items l.jumps.items
+    ArmsAhead l.place (trees_at (behind l.id (laid_of l.program)) l.parts) (trees_at (behind l.id (laid_of l.program)) (drop l.part-index l.parts)) l.starts.items l.jumps.items
     l.initial.out.stop l.out.stop l.initial.out.list l.out.list
 
 abbrev pub decreases-conformity::conformity : goal.decreases-conformity::conformity
@@ -248,7 +285,8 @@ decreases-conformity::write_specified l = 16 * (extra l.program.now + (length l.
 abbrev pub invariant-conformity::write_specs-loop-at : goal.invariant-conformity::write_specs-loop-at
 invariant-conformity::write_specs-loop-at l =
     (l.at ≤ length l.specs)
-    × SpecsAhead l.place l.yields (specs_of l.program.of.now (behind l.id (tree_of l.program)) l.specs) (specs_of l.program.of.now (behind l.id (tree_of l.program)) (drop l.at l.specs)) l.starts.items l.jumps.items
+    × SpecsAhead l.place l.yields (specs_seated (seat_of l.program) (specs_of l.program.of.now (behind l.id (tree_of l.program)) l.specs))
+    (specs_seated (seat_of l.program) (specs_of l.program.of.now (behind l.id (tree_of l.program)) (drop l.at l.specs))) l.starts.items l.jumps.items
     l.initial.out.stop l.out.stop l.initial.out.list l.out.list
 
 abbrev pub decreases-conformity::write_specs-loop-at : goal.decreases-conformity::write_specs-loop-at
@@ -258,4 +296,4 @@ abbrev pub decreases-names::write_defined : goal.decreases-names::write_defined
 decreases-names::write_defined l = 16 * extra l.program.now + 1
 
 abbrev pub decreases-names::write_outside : goal.decreases-names::write_outside
-decreases-names::write_outside l = 16 * suc (length l.program.now.tree.nodes)
+decreases-names::write_outside l = 16 * suc (length l.program.now.of.now.tree.nodes)

@@ -1,4 +1,4 @@
-use Rattle.std.proofs.Common.{◌≡◌, ap, ◌∙◌, refl, List, ℕ}
+use Rattle.std.proofs.Common.{◌≡◌, ◌≤◌, length, ap, ◌∙◌, refl, List, ℕ, rules}
 use Rattle.std.specs.Prelude.{map}
 use Rattle.a68_annot.specs.declared.annotated.Annotated.{Annotated}
 use Rattle.a68_builder.specs.Linking.{linked}
@@ -8,6 +8,7 @@ use Rattle.a68_elab.specs.Programs.{program_of}
 use Rattle.a68_gen.proofs.Generating.{is_translated, is_valid, stops_listing, written_of}
 use Rattle.a68_gen.proofs.translate.code_of.Goals as goal
 use Rattle.a68_emit.specs.Listing.{texts_entered, units_entered}
+use Rattle.a68_emit.specs.Writing.{most}
 
 pub returns-in-Some-clause-too_long : goal.returns-in-Some-clause-too_long
 returns-in-Some-clause-too_long c =
@@ -30,7 +31,8 @@ returns-clause-translates c =
     let units : begun ≡ units_entered (program_of a) =
     c.write_all.ensures.units c.in_default.is ∙ ap (λ (x : Annotated). units_entered (program_of x)) c.in_ok-numbered.ensures in
     let made : Code = record { list = map (linked begun) w1.list; texts = found; units = begun; modes = c.in_ok-modes.modes } in
-    rw c.finish-code.ensures (is_translated a made w1.list w1.stop c.in_default.is w refl texts units c.in_ok-modes.ensures c.requires.fits c.requires.apart)
+    let few : length w1.list ≤ most = search rules in
+    rw c.finish-code.ensures (is_translated a made w1.list w1.stop c.in_default.is w refl few texts units c.in_ok-modes.ensures c.requires.fits c.requires.apart)
 
 pub returns-clause-valid : goal.returns-clause-valid
 returns-clause-valid c =

@@ -18,4 +18,4 @@ returns-in-Forget c = rw c.in-Forget.is (does.forget_does _ _ _ c.forget.ensures
 pub returns-in_default : goal.returns-in_default
 returns-in_default c =
     let d = c.in_default in
-    rw (only_leave c.args.goal c.requires d.not-Begin d.not-Wrap d.not-Relate d.not-WrapLong d.not-Close d.not-SetAside d.not-Share d.not-Forget d.not-Join) (does.leave_does _ _ _ c.leave.ensures.built)
+    rw (only_leave c.args.goal c.requires d.not-Begin d.not-Wrap d.not-Relate d.not-WrapLong d.not-Leap d.not-Close d.not-SetAside d.not-Share d.not-Forget d.not-Join) (does.leave_does _ _ _ c.leave.ensures.built)

@@ -6,7 +6,7 @@ use Rattle.a68_code.proofs.walk.Walk.note_landings.Goals as goal
 pub returns-in_default : goal.returns-in_default
 returns-in_default c =
     let other = c.in_default in
-    rw (ways_next c.args.modes.now c.args.at c.args.does.now c.args.below other.not-Jump other.not-Unless other.not-Case other.not-Member other.not-Step other.not-Advance other.not-Return other.not-Close other.not-End) (rw (← c.leaves.ensures) c.note_all-in_default.ensures)
+    rw (ways_next c.args.modes.now c.args.at c.args.does.now c.args.below other.not-Jump other.not-Goto other.not-Unless other.not-Case other.not-Member other.not-Step other.not-Advance other.not-Return other.not-Close other.not-End) (rw (← c.leaves.ensures) c.note_all-in_default.ensures)
 
 pub returns-in-Case : goal.returns-in-Case
 returns-in-Case c =
@@ -15,3 +15,8 @@ returns-in-Case c =
 
 pub returns-in-Member : goal.returns-in-Member
 returns-in-Member c = rw c.in-Member.is (rw (c.deref-in-Member.ensures.value, c.places-in-Member.view_is) at c.note_members.ensures)
+
+pub returns-in-Goto : goal.returns-in-Goto
+returns-in-Goto c =
+    let height = c.leaves.ensures ∙ ap (leaves c.args.modes.now) c.in-Goto.is in
+    rw c.in-Goto.is (rw height at c.note_both.ensures)
