@@ -55,26 +55,26 @@ fn limits_are_met_at_their_edge(rt: HostRuntime) {
     }
 }
 
-// A text with so many assignations behind one another, each of 64 instructions: a constant of 60 names is dereferenced.
-fn assigned(rt: &impl Abort, alloc: Global, count: u32) -> String {
+// A text with an assignation and so many more, each of 64 instructions: a constant of 60 names is dereferenced.
+fn assigned(rt: &impl Abort, alloc: Global, more: u32) -> String {
     let first =
         "( INT y; REF REF REF REF REF REF REF REF REF REF REF REF REF REF REF REF REF REF REF REF \
         REF REF REF REF REF REF REF REF REF REF REF REF REF REF REF REF REF REF REF REF \
         REF REF REF REF REF REF REF REF REF REF REF REF REF REF REF REF REF REF REF REF \
         INT x = SKIP; y:=x";
-    repeated(alloc, first, ";y:=x", count - 1, " )").expect(rt, "memory")
+    repeated(alloc, first, ";y:=x", more, " )").expect(rt, "memory")
 }
 
-/// How many assignations there are, the status, and what is noted: 64 instructions for each, and seven.
+/// How many assignations stand behind the first, the status, and what is noted: 64 instructions for each, and seven.
 const ASSIGNED: &[(u32, u8, &str)] = &[
-    (16_383, 0, ""),
-    (16_384, 1, "a68: refused L7 at byte 82181\n"),
+    (16_382, 0, ""),
+    (16_383, 1, "a68: refused L7 at byte 82181\n"),
 ];
 
 #[test]
 fn a_code_has_so_many_instructions(rt: HostRuntime) {
-    for (count, status, noted) in ASSIGNED {
-        let text = assigned(&rt, rt.alloc(), *count);
+    for (more, status, noted) in ASSIGNED {
+        let text = assigned(&rt, rt.alloc(), *more);
         let given = of_words(&["check", "f"], &text);
         answers(&rt, rt.alloc(), given, *status, ("", noted));
         drop(text);

@@ -4,35 +4,33 @@ use crate::table::holds;
 use a68_outside::MemorySink;
 use std::panic::Expect;
 
-/// Texts, of the sink for what is printed and of the one for notes the room, the bytes of a write and the writes that
-/// fail, the status, what is printed and noted, and how many events are kept.
-const FAILING: &[(
-    &str,
-    [(u32, u32, &[u64]); 2],
-    u8,
-    (&str, &str),
-    Option<usize>,
-)] = &[
+/// Of a sink the room, the bytes of a write, and the writes that fail.
+type Room = (u32, u32, &'static [u64]);
+
+/// Texts, the sink for what is printed and the one for notes, the status, what is printed and noted, and how many events are kept.
+const FAILING: &[(&str, Room, Room, u8, (&str, &str), Option<usize>)] = &[
     (
         "( SEMA s = LEVEL 0; PAR ( (DOWN s; print(\"b\")), (print(\"a\"); UP s) ) )",
-        [(10, 1, &[1]), (100, 100, &[])],
+        (10, 1, &[1]),
+        (100, 100, &[]),
         7,
         ("", ""),
         Some(13),
     ),
     (
         "( print(1); print(max int + 1) )",
-        [(100, 100, &[]), (100, 100, &[1])],
+        (100, 100, &[]),
+        (100, 100, &[1]),
         7,
         ("                  +1", ""),
         Some(1),
     ),
-    ("", [(100, 100, &[]), (5, 5, &[])], 7, ("", "a68: "), None),
+    ("", (100, 100, &[]), (5, 5, &[]), 7, ("", "a68: "), None),
 ];
 
 #[test]
 fn sinks_fail(rt: HostRuntime) {
-    for (text, [out, notes], status, (printed, noted), ran) in FAILING {
+    for (text, out, notes, status, (printed, noted), ran) in FAILING {
         let out = MemorySink::new(rt.alloc(), out.0, out.1, out.2).expect(&rt, "memory");
         let notes = MemorySink::new(rt.alloc(), notes.0, notes.1, notes.2).expect(&rt, "memory");
         let left = call_to(&rt, rt.alloc(), run_f(text), out, notes);
