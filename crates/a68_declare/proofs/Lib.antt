@@ -4,6 +4,7 @@ pub mod Rising
 pub mod Classing
 pub mod Looping
 pub mod Judging
+pub mod Clashing
 pub mod Imaging
 pub mod Serving
 pub mod Cleaning

@@ -3,3 +3,4 @@ pub mod Broken
 pub mod Numbering
 pub mod Outcome
 pub mod Slopes
+pub mod Unions

@@ -7,8 +7,8 @@ use Rattle.a68_acts.specs.declared.want.Reply.{Reply}
 use Rattle.a68_elab.specs.Elaborations.{Elaborates}
 use Rattle.a68_elab.specs.Positions.{Opens, HasOpen}
 use Rattle.a68_elab.specs.Rows.{Then, goes, acts, meets}
-use Rattle.a68_elab.specs.Terms.{Term, Terms, todo, part, yielded, unit_of, joining, no_terms, ◌and_term◌, values}
-use Rattle.a68_elab.specs.Trees.{Program}
+use Rattle.a68_elab.specs.Terms.{Job, Term, Terms, todo, part, yielded, unit_of, joining, no_terms, ◌and_term◌, values}
+use Rattle.a68_elab.specs.Trees.{Tree, Program}
 use Rattle.a68_values.specs.Content.{Content}
 use Rattle.a68_values.specs.declared.act.Act.{Act}
 use Rattle.a68_values.specs.declared.act.FaultKind.{FaultKind}
@@ -34,18 +34,25 @@ IsHalted store (acts place want next) = does want store ≡ waits
 IsHalted store _ = ⊥
 
 -- t, which is of the strand `own`, has come to a DOWN of zero; or it waits for the units of a parallel clause, some of
--- which have not ended, and each of these is halted (Report, 10.2.4; own)
+-- which have not ended. Besides, no unit that stands anywhere in it can go on (Report, 10.2.4; own).
 mutual
   pub data Halted (program : Program) (store : Store) : (own : ℕ) → Term → Type 0 where
-    at_down : {own : ℕ} {t : Term} (what : Then Term) → HasOpen program own t own what → IsHalted store what → Halted program store own t
+    at_down : {own : ℕ} {t : Term} (what : Then Term) → HasOpen program own t own what → IsHalted store what → UnitsHalted program store t
+        → Halted program store own t
     waits_for : {own : ℕ} {t : Term} {chain : List Environ} {ts : Terms} → Opens (part joining chain ts) (part joining chain ts) own own t t
-        → values ts ≡ None → AllHalted program store ts → Halted program store own t
+        → values ts ≡ None → UnitsHalted program store t → Halted program store own t
+
+  -- each unit that stands in the term, and in no other unit, has ended or is halted
+  pub data UnitsHalted (program : Program) (store : Store) : Term → Type 0 where
+    not_begun : {tree : Tree} {chain : List Environ} → UnitsHalted program store (todo tree chain)
+    has_yielded : {v : Content} → UnitsHalted program store (yielded v)
+    in_parts : {job : Job} {chain : List Environ} {ts : Terms} → AllHalted program store ts → UnitsHalted program store (part job chain ts)
+    ended : {strand : ℕ} {v : Content} → UnitsHalted program store (unit_of strand (yielded v))
+    halted : {strand : ℕ} {t : Term} → Halted program store strand t → UnitsHalted program store (unit_of strand t)
 
   pub data AllHalted (program : Program) (store : Store) : Terms → Type 0 where
-    no_units : AllHalted program store no_terms
-    ended : {strand : ℕ} {v : Content} {ts : Terms} → AllHalted program store ts → AllHalted program store (unit_of strand (yielded v) and_term ts)
-    halted : {strand : ℕ} {t : Term} {ts : Terms} → Halted program store strand t → AllHalted program store ts
-        → AllHalted program store (unit_of strand t and_term ts)
+    no_parts : AllHalted program store no_terms
+    and_halted : {t : Term} {ts : Terms} → UnitsHalted program store t → AllHalted program store ts → AllHalted program store (t and_term ts)
 
 -- strand 0 has not ended: the program has not yielded
 abbrev pub IsUnended : Term → Type 0

@@ -1,3 +1,4 @@
+pub mod Adding
 pub mod Bounding
 pub mod Calling
 pub mod Choosing
@@ -10,6 +11,7 @@ pub mod Lowering
 pub mod Operating
 pub mod Plainly
 pub mod Popping
+pub mod Reaching
 pub mod Rising
 pub mod Rooming
 pub mod Steering

@@ -8,7 +8,7 @@ ghost use Rattle.a68_code.specs.declared.owner.Owner.{Owner};
 ghost use Rattle.a68_exec.specs.Memory.{SettlesNot, TakesMemory};
 ghost use Rattle.a68_exec.specs.Runs.{Machine, World, acted, opening};
 ghost use Rattle.a68_heights.specs.Heights.{Fits};
-ghost use Rattle.a68_heights.specs.Room.{HasInnerRoom, is_entering};
+ghost use Rattle.a68_heights.specs.Room.{HasInnerRoom, Suffices, is_entering};
 ghost use Rattle.a68_instructions.specs.Machine.{State, beginning, next_state, replied, settle};
 ghost use Rattle.a68_stack.specs.Values.{callers, height};
 ghost use Rattle.a68_values.specs.declared.act.Act.{Act};
@@ -43,18 +43,19 @@ pub fn activations_fit()
         → All (λ (st : State). (height st.stack.items < length code.list) × (length st.stack.items < length code.list * (1 + callers st.stack.items))) end.strands }
 {}
 
-/// States that a stack on which the innermost activation has room for one item for each instruction of valid code holds all
-/// items of a strand that fits it, and that this room is left by each silent step and each reply; only the reply by which a
-/// routine is entered wants new room, which is counted above its caller. So where such a strand finds no memory on the way to
-/// its next act, one of its instructions there works on other values than plain ones.
+/// States that a stack on which the innermost activation has room for as many items as one of the code may have holds all items
+/// of a strand that fits it, and that this room is left by each silent step and each reply; only the reply by which a routine is
+/// entered wants new room, which is counted above its caller. So where such a strand finds no memory on the way to its next act,
+/// one of its instructions there works on other values than plain ones.
 pub fn stacks_keep_their_room()
-    ensures holds { (code : Code) → IsValid code → (room : ℕ) (st : State) → Fits code st → HasInnerRoom code room st → length st.stack.items < room }
-    ensures begins { (code : Code) (room at : ℕ) (chain : List Environ) → length code.list ≤ room → HasInnerRoom code room (beginning at chain) }
-    ensures steps { (code : Code) (room : ℕ) (st next : State) → HasInnerRoom code room st → next_state code st ≡ Some next → HasInnerRoom code room next }
-    ensures settles { (code : Code) (room : ℕ) (st : State) → HasInnerRoom code room st → HasInnerRoom code room (settle code st) }
-    ensures told { (code : Code) (room : ℕ) (st : State) (reply : Reply) → is_entering st.stance ≡ false → HasInnerRoom code room st
-        → HasInnerRoom code room (replied code st reply) }
-    ensures entered { (code : Code) (room : ℕ) (st : State) (reply : Reply) → suc (length st.stack.items) + length code.list ≤ room
-        → HasInnerRoom code room (replied code st reply) }
-    ensures plainly { (code : Code) → IsValid code → (room : ℕ) (st : State) → Fits code st → HasInnerRoom code room st → SettlesNot code room st → TakesMemory code st }
+    ensures holds { (code : Code) (most : ℕ) → Suffices code most → (room : ℕ) (st : State) → Fits code st → HasInnerRoom most room st → length st.stack.items < room }
+    ensures begins { (most room at : ℕ) (chain : List Environ) → most ≤ room → HasInnerRoom most room (beginning at chain) }
+    ensures steps { (code : Code) (most room : ℕ) (st next : State) → HasInnerRoom most room st → next_state code st ≡ Some next → HasInnerRoom most room next }
+    ensures settles { (code : Code) (most room : ℕ) (st : State) → HasInnerRoom most room st → HasInnerRoom most room (settle code st) }
+    ensures told { (code : Code) (most room : ℕ) (st : State) (reply : Reply) → is_entering st.stance ≡ false → HasInnerRoom most room st
+        → HasInnerRoom most room (replied code st reply) }
+    ensures entered { (code : Code) (most room : ℕ) (st : State) (reply : Reply) → suc (length st.stack.items) + most ≤ room
+        → HasInnerRoom most room (replied code st reply) }
+    ensures plainly { (code : Code) → IsValid code → (most : ℕ) → Suffices code most → (room : ℕ) (st : State) → Fits code st → HasInnerRoom most room st
+        → SettlesNot code room st → TakesMemory code st }
 {}

@@ -8,3 +8,4 @@ pub mod Keeping
 pub mod Sifting
 pub mod Listing
 pub mod Separating
+pub mod Missing

@@ -4,9 +4,8 @@ use Rattle.std.specs.Prelude.{Option, None, Some, Ok, Err, OnOk, slice_get}
 use Rattle.std.specs.declared.result.Result.{Result}
 use Rattle.a68_acts.specs.declared.want.Reply.{Reply}
 use Rattle.a68_code.specs.declared.code.Code.{Code}
-use Rattle.a68_heights.specs.Room.{KeepsRoom}
 use Rattle.a68_instructions.specs.Machine.{replied}
-use Rattle.a68_strand.specs.Strands.{HasSettled, awaits, standing}
+use Rattle.a68_strand.specs.Strands.{HasSettled, awaits, standing, LeavesRoom}
 use Rattle.a68_strand.specs.declared.strand.Strand.{Strand}
 use Rattle.a68_values.specs.declared.act.Act.{Act}
 use Rattle.a68_values.specs.declared.act.Entry.{Entry}
@@ -96,12 +95,12 @@ on-ok (Err y) x P e p = absurd (cc)
 
 -- told the reply, it is held again
 pub told_held : {T E : Type 0} (old new : Run) (strand t : Strand) (told : Reply) (code : Code) (r : Result T E) (x : T) → code ≡ new.code → r ≡ Ok x → IsSoundRun old → IsHeld old strand
-    → ActOf old strand (Ok told) new → OnOk r (HasSettled code (replied code (standing strand) told) t) → t.number ≡ strand.number → OnOk r (KeepsRoom code strand.body t.body) → IsHeld new t
+    → ActOf old strand (Ok told) new → OnOk r (HasSettled code (replied code (standing strand) told) t) → t.number ≡ strand.number → OnOk r (LeavesRoom code strand t) → IsHeld new t
 told_held old new strand t told code r x is ok sound held a settled number keeps =
     let same : code ≡ old.code = is ∙ a.0.same.0 in
     let settles : HasSettled old.code (replied old.code (standing strand) told) t =
     subst (λ (c : Code). HasSettled c (replied c (standing strand) told) t) same (on-ok r x (HasSettled code (replied code (standing strand) told) t) ok settled) in
-    let stays : KeepsRoom old.code strand.body t.body = subst (λ (c : Code). KeepsRoom c strand.body t.body) same (on-ok r x (KeepsRoom code strand.body t.body) ok keeps) in
+    let stays : LeavesRoom old.code strand t = subst (λ (c : Code). LeavesRoom c strand t) same (on-ok r x (LeavesRoom code strand t) ok keeps) in
     record { lent = ap (slice_get new.status) number ∙ a.2; replay = replay_told old new strand t told sound held a.0 a.1 settles number stays }
 
 -- without an act it is held as it was

@@ -25,7 +25,8 @@ const STANDARD: Environ = Environ { frame: 0, scope: 0 };
 fn begun(rt: &impl Abort, alloc: Global, code: &Code) -> Strand {
     holds(rt, code.list.items.len() < 100, "a short code");
     let chain = Chain::of_one(alloc, STANDARD).expect(rt, "memory");
-    Strand::begin(alloc, code, 0, 0, chain).expect(rt, "memory")
+    let most = code.list.items.len() as u32;
+    Strand::begin(alloc, code, most, 0, 0, chain).expect(rt, "memory")
 }
 
 // Whether a strand asks what is told.

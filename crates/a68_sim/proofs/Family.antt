@@ -11,7 +11,7 @@ use Rattle.a68_elab.specs.Trees.{collateral, Program}
 use Rattle.a68_acts.specs.Store.{Store}
 use Rattle.a68_sim.proofs.Finishing.{Finish, unit_end, EndsAt, Works}
 use Rattle.a68_sim.proofs.Lists.{same, same_self, same_other, same_is}
-use Rattle.a68_sim.proofs.Quiet.{Quiet, still, quietly, Hole}
+use Rattle.a68_sim.proofs.Quiet.{Quiet, still, quietly, Hole, AddsNone}
 use Rattle.a68_sim.proofs.Settling.{Settled}
 use Rattle.a68_instructions.specs.Machine.{State}
 use Rattle.a68_instructions.specs.declared.ask.Stance.TheVariants.{Idle, Waits}
@@ -109,6 +109,7 @@ pub record Joined (code : Code) (sts : List State) (own first count : ℕ) (how 
   pub waits : st.stance ≡ Waits first count
   pub put : Term → Term
   pub hole : Hole put
+  pub adds : AddsNone put
   pub whole : t ≡ put (part joining ch ts)
   pub goes_on : Works code how (put (yielded void)) (record st { at = suc st.at; stance = Idle })
 
@@ -167,6 +168,7 @@ module _ (program : Program) (code : Code) (sts sts' : List State) where
         waits = l.3.waits;
         put = l.3.put;
         hole = l.3.hole;
+        adds = l.3.adds;
         whole = l.3.whole;
         goes_on = l.3.goes_on;
       },

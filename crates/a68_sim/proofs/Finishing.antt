@@ -12,6 +12,7 @@ use Rattle.a68_code.specs.declared.code.Code.{Code}
 use Rattle.a68_code.specs.declared.code.RoutineEntrance.{RoutineEntrance}
 use Rattle.a68_code.specs.declared.does.Does.TheVariants as does
 use Rattle.a68_elab.specs.Positions.{within, in_this, by_rule}
+use Rattle.a68_elab.specs.Permitted.{in_parts, and_halted, no_parts}
 use Rattle.a68_elab.specs.Rows.{acts, turned}
 use Rattle.a68_elab.specs.Terms.{closing, Term, todo, part, yielded, unit_of, only, Terms, no_terms, ◌and_term◌}
 use Rattle.a68_elab.specs.Trees.{Program}
@@ -19,7 +20,7 @@ use Rattle.a68_sim.proofs.Asking.{idle, at_instr, at_end_asks, place_is, is_insi
 use Rattle.a68_sim.proofs.Follow.{term_progress}
 use Rattle.a68_sim.proofs.Forks.{close_tells}
 use Rattle.a68_sim.proofs.Landings.{Landing}
-use Rattle.a68_sim.proofs.Quiet.{Quiet, still, quiet_in, Hole, moves_in, open_here, Kept, simply, Progress, moves, finishes, leaps, progress_after}
+use Rattle.a68_sim.proofs.Quiet.{Quiet, still, quiet_in, Hole, AddsNone, moves_in, open_here, Kept, simply, Progress, moves, finishes, leaps, progress_after}
 use Rattle.a68_sim.proofs.Relation.{Pose, ready, midst, enters, binds_from, posed, pose_of, parts_give, inner, landings, DoesParts, Sim, push}
 use Rattle.a68_sim.proofs.Routines.{TextsStand}
 use Rattle.a68_exec.specs.Runs.{is_passive}
@@ -122,6 +123,9 @@ closes code (unit_end p k ch) t st (closed v is c) e = (v, is)
 unit_hole : (p : ℕ) (ch : List Environ) → Hole (λ u. part (closing p) ch (only u))
 unit_hole p ch = record { opens = λ own x u u' t t' o. within (in_this o) }
 
+unit_adds : (p : ℕ) (ch : List Environ) → AddsNone (λ u. part (closing p) ch (only u))
+unit_adds p ch program store u h = in_parts (and_halted h no_parts)
+
 module _ (program : Program) (code : Code) (same : code.modes ≡ program.modes) (texts : TextsStand program code) where
   -- a unit has done its work, and stands at its Close
   at_close : (p k : ℕ) (ch : List Environ) (v : Content) → EndsAt code (unit_end p k ch)
@@ -155,7 +159,7 @@ module _ (program : Program) (code : Code) (same : code.modes ≡ program.modes)
   unit_progress : (p k : ℕ) (ch : List Environ) (u : Term) (st : State) → EndsAt code (unit_end p k ch) → Progress program code [] (Sim code [] k [] ch false) u st
       → Progress program code [] (UnitWorks code p k ch) (part (closing p) ch (only u)) st
   unit_progress p k ch u st end (moves m) =
-      moves (moves_in program code (λ x. part (closing p) ch (only x)) (unit_hole p ch) (Sim code [] k [] ch false) (UnitWorks code p k ch) (λ x s y. works x refl y) u st m)
+      moves (moves_in program code (λ x. part (closing p) ch (only x)) (unit_hole p ch) (unit_adds p ch) (Sim code [] k [] ch false) (UnitWorks code p k ch) (λ x s y. works x refl y) u st m)
   unit_progress p k ch u st end (finishes v q s) =
       progress_after program code [] (UnitWorks code p k ch) _ _ st (quiet_in (λ x. part (closing p) ch (only x)) (unit_hole p ch) q)
       (subst (Progress program code [] (UnitWorks code p k ch) (part (closing p) ch (only (yielded v)))) (sym s) (at_close p k ch v end))

@@ -2,12 +2,14 @@
 use Rattle.std.proofs.Common.{◌≡◌, ◌<◌, ℕ, suc, arith, Bool, true, false, List, [], ◌∷◌, None, Some, refl, sym, ap, ◌∙◌, subst, inl}
 use Rattle.std.specs.Prelude.{slice_get, if◌then◌else◌}
 use Rattle.std.specs.declared.option.Option.{Option}
+use Rattle.a68_acts.specs.Store.{Store}
 use Rattle.a68_acts.specs.declared.want.Reply.{Reply}
 use Rattle.a68_acts.specs.declared.want.Reply.TheVariants as reply
 use Rattle.a68_acts.specs.declared.want.Want.TheVariants as want
 use Rattle.a68_code.specs.declared.code.Code.{Code}
 use Rattle.a68_code.specs.declared.code.RoutineEntrance.{RoutineEntrance}
 use Rattle.a68_code.specs.declared.does.Does.TheVariants as does
+use Rattle.a68_elab.specs.Permitted.{AllHalted, not_begun, has_yielded, in_parts, no_parts, and_halted}
 use Rattle.a68_elab.specs.Positions.{here, within, OpensIn, in_this, past, jumps, jumps_within, JumpsIn, jumps_in_this, jumps_past, by_jump}
 use Rattle.a68_elab.specs.Rows.{meets, acts, misled, turned, within_frame, body_in, stands_at}
 use Rattle.a68_elab.specs.Terms.{only, Job, operating, resuming, gathering, preceding, ending, at_step, ranged, choosing, casing, conforming, specifying, tagging, passing, chosen, limiting, counting, stepping, turning, opening, naming, indexing, ranging, testing, running, advancing, quitting, leaving, calling, entering, binding, inside, forking, joining, closing, Term, todo, part, yielded, unit_of, Terms, no_terms, ◌and_term◌, todos, order_of, has}
@@ -21,8 +23,8 @@ use Rattle.a68_gen.proofs.Forward.{forward_steps}
 use Rattle.a68_sim.proofs.Landings.{Landing, landing, landing_of, Agrees, agrees_deeper, agrees_clause, agrees_outermost, lands_at}
 use Rattle.a68_sim.proofs.Jobs.{Done, row_done, two_or_more, misled_sim, operating_done, resuming_done, gathering_done, ending_done, ranged_done, choosing_done, casing_done, chosen_done, limiting_done, counting_done, stepping_done, turning_done, opening_done, naming_done, indexing_done, ranging_done, testing_done, running_done, advancing_done, quitting_done, leaving_done}
 use Rattle.a68_sim.proofs.Routines.{TextsStand, Found}
-use Rattle.a68_sim.proofs.Quiet.{still, quietly, quiet_in, Hole, moves_in, open_here, simply, jumping, Leaps, Progress, moves, finishes, leaps, progress_after, progress_row, moves_on, moves_act, moves_fault}
-use Rattle.a68_sim.proofs.Relation.{Pose, pose_of, ready, push, count_terms, Behind, agrees_push, posed, parts_give, inner, landings, OperationAt, LoopAt, ClauseAt, Tail, Begins, DoesParts, Sim, yields, left, does_yields, does_behind, does_first, same_count, count_yields, left_none, todos_all, count_todos, steps_from}
+use Rattle.a68_sim.proofs.Quiet.{still, quietly, quiet_in, Hole, AddsNone, moves_in, open_here, simply, jumping, Leaps, Progress, moves, finishes, leaps, progress_after, progress_row, moves_on, moves_act, moves_fault}
+use Rattle.a68_sim.proofs.Relation.{Pose, pose_of, ready, push, count_terms, AllTodo, Behind, agrees_push, posed, parts_give, inner, landings, OperationAt, LoopAt, ClauseAt, Tail, Begins, DoesParts, Sim, yields, left, does_yields, does_behind, does_first, same_count, count_yields, left_none, todos_all, count_todos, steps_from}
 use Rattle.a68_instructions.specs.Machine.{State, asks_for, begins_body, told_by, fails, back, jumps as jumps_by}
 use Rattle.a68_instructions.specs.declared.ask.Stance.TheVariants.{Asking}
 use Rattle.a68_instructions.specs.declared.ask.Waiting.TheVariants as waiting
@@ -47,6 +49,25 @@ in_part job ch acc ts t = part job ch (yields acc (t and_term ts))
 
 part_hole : (job : Job) (ch : List Environ) (acc : List Content) (ts : Terms) → Hole (in_part job ch acc ts)
 part_hole job ch acc ts = record { opens = λ own x u u' t t' o. within (opens_yields u u' x own (order_of job) acc (t and_term ts) (t' and_term ts) (in_this o)) }
+
+-- parts that have not begun have no units, and none has what they yield
+todos_halted : (program : Program) (store : Store) (code : Code) (lie : Lie) (g : Bool) (ts : Terms) (a b : ℕ) (ch : List Environ) → AllTodo code lie g ts a b ch
+    → AllHalted program store ts
+todos_halted program store code lie g no_terms a b ch all = no_parts
+todos_halted program store code lie g (todo tree c and_term ts) a b ch all =
+    and_halted not_begun (todos_halted program store code (above g lie) g ts all.0 b ch all.3)
+todos_halted program store code lie g (part job c ps and_term ts) a b ch all = absurd all
+todos_halted program store code lie g (yielded v and_term ts) a b ch all = absurd all
+todos_halted program store code lie g (unit_of s t and_term ts) a b ch all = absurd all
+
+yields_halted : (program : Program) (store : Store) (acc : List Content) (ts : Terms) → AllHalted program store ts → AllHalted program store (yields acc ts)
+yields_halted program store [] ts all = all
+yields_halted program store (v ∷ acc) ts all = yields_halted program store acc (yielded v and_term ts) (and_halted has_yielded all)
+
+part_adds : (code : Code) (ls : List Landing) (job : Job) (ch : List Environ) (acc : List Content) (ts : Terms) (g : Bool) (m k : ℕ) (base : List Item)
+    → Behind code ls g ts m k base ch → AddsNone (in_part job ch acc ts)
+part_adds code ls job ch acc ts g m k base behind program store u h =
+    in_parts (yields_halted program store acc (u and_term ts) (and_halted h (todos_halted program store code (above g behind.0) g ts m k ch behind.2)))
 
 module _ (program : Program) (code : Code) (same : code.modes ≡ program.modes) (texts : TextsStand program code) where
   -- what comes next for a term
@@ -232,7 +253,7 @@ module _ (program : Program) (code : Code) (same : code.modes ≡ program.modes)
       → Goes (landings job places ls (inner job b home base) ch) m (left (parts_give job g) acc (inner job b home base)) ch (parts_give job g) t st
       → Goes ls b base home g (in_part job ch acc ts t) st
   from_part ls job places ch acc ts t m k b base home g st none behind tail rest (moves x) =
-      moves (moves_in program code (in_part job ch acc ts) (part_hole job ch acc ts) (Sim code li m (left (parts_give job g) acc (inner job b home base)) ch (parts_give job g)) (Sim code ls b base home g) to t st x)
+      moves (moves_in program code (in_part job ch acc ts) (part_hole job ch acc ts) (part_adds code li job ch acc ts (parts_give job g) m k (left (parts_give job g) acc (inner job b home base)) behind) (Sim code li m (left (parts_give job g) acc (inner job b home base)) ch (parts_give job g)) (Sim code ls b base home g) to t st x)
     where
       li : List Landing
       li = landings job places ls (inner job b home base) ch

@@ -7,14 +7,14 @@ use Rattle.a68_acts.specs.Does.{Outcome, did, refuses, waits, refused, does}
 use Rattle.a68_acts.specs.Store.{Store}
 use Rattle.a68_acts.specs.declared.want.Want.{Want}
 use Rattle.a68_code.specs.declared.code.Code.{Code}
-use Rattle.a68_elab.specs.Permitted.{Halted, at_down, waits_for, AllHalted, no_units, ended, halted, IsUnended}
+use Rattle.a68_elab.specs.Permitted.{IsHalted, Halted, at_down, waits_for, UnitsHalted, not_begun, has_yielded, in_parts, ended, halted, AllHalted, no_parts, and_halted, IsUnended}
 use Rattle.a68_elab.specs.Positions.{Opens, here, within, in_unit, HasOpen, Comes, by_rule, by_jump}
-use Rattle.a68_elab.specs.Rows.{Then, acts, row}
-use Rattle.a68_elab.specs.Terms.{Term, todo, part, yielded, unit_of, joining, Terms, ◌and_term◌, values}
+use Rattle.a68_elab.specs.Rows.{Then, acts, row, finish}
+use Rattle.a68_elab.specs.Terms.{Term, todo, part, yielded, unit_of, gathering, joining, Terms, no_terms, ◌and_term◌, values}
 use Rattle.a68_elab.specs.Trees.{Program}
 use Rattle.a68_sim.proofs.Family.{QuietIn, in_hole, own_hole, quiet_at, QuietAll, all_still, all_on, all_first, all_behind, all_joining, Kin, single, parent, Kins, no_kins, ◌and_kin◌, number, how_many, Lives, LiveAll}
 use Rattle.a68_sim.proofs.Finishing.{Finish, unit_end, Works, Closes}
-use Rattle.a68_sim.proofs.Quiet.{ActsNext, has_open}
+use Rattle.a68_sim.proofs.Quiet.{IsOpen, ActsNext, has_open}
 use Rattle.a68_sim.proofs.Settling.{Yields, SettledIn}
 use Rattle.a68_strand.proofs.Waking.{IsCalm}
 use Rattle.a68_strand.specs.Ends.{CanActNow, fault_in, fault_of}
@@ -43,9 +43,54 @@ is_unended program own t x what o v e =
     comes_unended program o.spot what o.is v (opens_yielded (o.opens o.spot) v e)
 
 halted_unended : (program : Program) (store : Store) (own : ℕ) (t : Term) → Halted program store own t → IsUnended t
-halted_unended program store own t (at_down what o b) v e = is_unended program own t own what o v e
-halted_unended program store own t (waits_for {chain = ch} {ts = ts} o none all) v e =
+halted_unended program store own t (at_down what o b none) v e = is_unended program own t own what o v e
+halted_unended program store own t (waits_for {chain = ch} {ts = ts} o some all) v e =
     let q : part joining ch ts ≡ yielded v = opens_yielded o v e in absurd (cc)
+
+-- ---- what comes next stands behind parts that have yielded
+
+some_behind : (v : Content) (o : Option (List Content)) (vs : List Content) → option_map (λ us. v ∷ us) o ≡ Some vs → (us : List Content) × (o ≡ Some us)
+some_behind v None vs e = absurd (cc)
+some_behind v (Some us) vs e = (us, refl)
+
+values_halted : (program : Program) (store : Store) (ts : Terms) (vs : List Content) → values ts ≡ Some vs → AllHalted program store ts
+values_halted program store no_terms vs e = no_parts
+values_halted program store (yielded v and_term ts) vs e =
+    let x = some_behind v (values ts) vs e in and_halted has_yielded (values_halted program store ts x.0 x.1)
+values_halted program store (unit_of s (yielded v) and_term ts) vs e =
+    let x = some_behind v (values ts) vs e in and_halted ended (values_halted program store ts x.0 x.1)
+values_halted program store (unit_of s (todo tree ch) and_term ts) vs e = absurd (cc)
+values_halted program store (unit_of s (part job ch ps) and_term ts) vs e = absurd (cc)
+values_halted program store (unit_of s (unit_of x t) and_term ts) vs e = absurd (cc)
+values_halted program store (todo tree ch and_term ts) vs e = absurd (cc)
+values_halted program store (part job ch ps and_term ts) vs e = absurd (cc)
+
+row_halted : (program : Program) (store : Store) (t : Term) (what : Then Term) → row program t ≡ Some what → UnitsHalted program store t
+row_halted program store (todo tree ch) what is = not_begun
+row_halted program store (yielded v) what is = has_yielded
+row_halted program store (unit_of s t) what is = absurd (cc)
+row_halted program store (part job ch ts) what is = by_values (values ts) refl is
+  where
+    by_values : (o : Option (List Content)) → values ts ≡ o → option_map (finish program job ch) o ≡ Some what → UnitsHalted program store (part job ch ts)
+    by_values None e f = absurd (cc)
+    by_values (Some vs) e f = in_parts (values_halted program store ts vs e)
+
+-- what waits is no jump
+spot_halted : (program : Program) (store : Store) (t : Term) (what : Then Term) → Comes program t what → IsHalted store what → UnitsHalted program store t
+unfolding does
+spot_halted program store t what (by_rule is) waiting = row_halted program store t what is
+spot_halted program store t what (by_jump is path) waiting = absurd (cc)
+
+open_halted : (program : Program) (store : Store) (t : Term) (what : Then Term) → IsOpen program t what → IsHalted store what → UnitsHalted program store t
+open_halted program store t what o waiting =
+    subst (UnitsHalted program store) (sym o.whole) (o.adds program store o.spot (spot_halted program store o.spot what o.is waiting))
+
+-- so no strand is halted beside a unit that can go on: as with `(PAR (UP s, UP s), DOWN s)`, whose left side has forked
+pub beside_halted : (program : Program) (store : Store) (own strand : ℕ) (t d : Term) (ts : Terms) (ch home : List Environ)
+    → Halted program store own (part gathering home (part joining ch (unit_of strand t and_term ts) and_term d and_term no_terms))
+    → UnitsHalted program store (unit_of strand t)
+beside_halted program store own strand t d ts ch home (at_down what o waiting (in_parts (and_halted (in_parts (and_halted unit more)) right))) = unit
+beside_halted program store own strand t d ts ch home (waits_for o some (in_parts (and_halted (in_parts (and_halted unit more)) right))) = unit
 
 -- a unit that counts has yielded
 first_yielded : (s : ℕ) (t : Term) (ts : Terms) (vs : List Content) → values (unit_of s t and_term ts) ≡ Some vs → (v : Content) × (t ≡ yielded v)
@@ -53,10 +98,6 @@ first_yielded s (yielded v) ts vs e = (v, refl)
 first_yielded s (todo tree ch) ts vs e = absurd (cc)
 first_yielded s (part job ch ps) ts vs e = absurd (cc)
 first_yielded s (unit_of x t) ts vs e = absurd (cc)
-
-some_behind : (v : Content) (o : Option (List Content)) (vs : List Content) → option_map (λ us. v ∷ us) o ≡ Some vs → (us : List Content) × (o ≡ Some us)
-some_behind v None vs e = absurd (cc)
-some_behind v (Some us) vs e = (us, refl)
 
 none_or : (o : Option (List Content)) → ((vs : List Content) → o ≡ Some vs → ⊥) → o ≡ None
 none_or None h = refl
@@ -105,11 +146,12 @@ module _ (program : Program) (code : Code) (w : World) (calm : IsCalm code w.str
   by_stance own how t st there Idle e s = at_end st there e s
   by_stance own how t st there (Asking want wait) e s =
       let f : ActsNext program code (Works code how) t (place_at code.list st.at) want (told_by code st wait) = s in
+      let waiting : does f.wants store ≡ waits = f.alike store ∙ asks_none own st there want wait e (does want store) refl in
       halts (record {
         term = f.now;
         quiet = quiet_at f.quiet own;
-        halted = at_down (acts (place_at code.list st.at) f.wants f.next) (has_open f.open_at own)
-            (f.alike store ∙ asks_none own st there want wait e (does want store) refl);
+        halted = at_down (acts (place_at code.list st.at) f.wants f.next) (has_open f.open_at own) waiting
+            (open_halted program store f.now (acts (place_at code.list st.at) f.wants f.next) f.open_at waiting);
       })
   by_stance own how t st there (Failed why) e s =
       let a = sym (ap (option_and_then (λ (x : State). fault_in x.stance store)) there) ∙ no_fault own in
@@ -128,7 +170,8 @@ module _ (program : Program) (code : Code) (w : World) (calm : IsCalm code w.str
         term = j.put (part joining l.1 a.terms);
         quiet = subst (λ (x : Term). QuietIn program own x (j.put (part joining l.1 a.terms))) (sym j.whole) (in_hole j.put (own_hole j.put j.hole own) (all_joining l.1 (a.quiet own)));
         halted = waits_for (j.hole.opens own own (part joining l.1 a.terms) (part joining l.1 a.terms) (part joining l.1 a.terms) (part joining l.1 a.terms) here)
-            (none_or (values a.terms) (λ vs e. true≢false (sym (a.closed_if vs e) ∙ due))) a.all;
+            (none_or (values a.terms) (λ vs e. true≢false (sym (a.closed_if vs e) ∙ due)))
+            (j.adds program store (part joining l.1 a.terms) (in_parts a.all));
       }
 
   -- the first of the units has closed, or is halted
@@ -139,7 +182,7 @@ module _ (program : Program) (code : Code) (w : World) (calm : IsCalm code w.str
     quiet = λ own.
         subst (λ (x : Term). QuietAll program own (unit_of first x and_term behind) (unit_of first (yielded v) and_term r.terms)) (sym is)
         (all_behind (unit_of first (yielded v)) (r.quiet own));
-    all = ended r.all;
+    all = and_halted ended r.all;
     closed_if = λ vs e.
         let x = some_behind v (values r.terms) vs e in
         ap (λ (b : Bool). b && all_closed w.strands (suc first) (how_many more)) c ∙ r.closed_if x.0 x.1;
@@ -150,7 +193,7 @@ module _ (program : Program) (code : Code) (w : World) (calm : IsCalm code w.str
   one_halts first kin more t behind h r = record {
     terms = unit_of first h.term and_term r.terms;
     quiet = λ own. all_on (all_first behind h.quiet) (all_behind (unit_of first h.term) (r.quiet own));
-    all = halted h.halted r.all;
+    all = and_halted (halted h.halted) r.all;
     closed_if = λ vs e. let x = first_yielded first h.term r.terms vs e in absurd (halted_unended program store first h.term h.halted x.0 x.1);
   }
 
@@ -167,7 +210,7 @@ module _ (program : Program) (code : Code) (w : World) (calm : IsCalm code w.str
 
     all_halt : (units : Kins) (first : ℕ) (ch : List Environ) (ts : Terms) → LiveAll program code w.strands first units ch ts → AllHalt first units ts
     all_halt no_kins first ch ts l =
-        record { terms = ts; quiet = λ own. all_still; all = subst (AllHalted program store) (sym l) no_units; closed_if = λ vs e. refl }
+        record { terms = ts; quiet = λ own. all_still; all = subst (AllHalted program store) (sym l) no_parts; closed_if = λ vs e. refl }
     all_halt (kin and_kin more) first ch ts l =
         subst (AllHalt first (kin and_kin more)) (sym l.6)
         (one_more first l.0 l.1 ch kin more l.2 l.3 (subst (λ (x : ℕ). Finds x (unit_end l.0 l.1 ch) l.2) l.4 (finds kin (unit_end l.0 l.1 ch) l.2 l.7))

@@ -88,6 +88,7 @@ module _ (program : Program) (code : Code) (sts : List State) (x : ℕ) (st : St
           waits = l.3.waits ∙ ap (Waits l.0) (sym (a.long k));
           put = l.3.put;
           hole = l.3.hole;
+          adds = l.3.adds;
           whole = refl;
           goes_on = l.3.goes_on;
         },

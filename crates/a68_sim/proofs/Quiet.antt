@@ -8,6 +8,7 @@ use Rattle.a68_acts.specs.declared.want.Want.{Want}
 use Rattle.a68_acts.specs.declared.want.Want.TheVariants as want
 use Rattle.a68_code.specs.declared.code.Code.{Code}
 use Rattle.a68_code.specs.declared.does.Does.{Does}
+use Rattle.a68_elab.specs.Permitted.{UnitsHalted}
 use Rattle.a68_elab.specs.Positions.{Opens, here, Jumps, Comes, by_rule, HasOpen}
 use Rattle.a68_elab.specs.Rows.{Then, goes, acts, meets, row}
 use Rattle.a68_elab.specs.Terms.{Term, part, yielded, joining, unit_terms}
@@ -38,6 +39,10 @@ quiet_on (quietly o e p) q = quietly o e (quiet_on p q)
 pub record Hole (f : Term → Term) : Type 0 where
   pub opens : (own x : ℕ) (u u' t t' : Term) → Opens u u' x own t t' → Opens u u' x own (f t) (f t')
 
+-- putting a term there adds no unit but such as have ended or are halted
+abbrev pub AddsNone : (Term → Term) → Type 0
+AddsNone f = (program : Program) (store : Store) (u : Term) → UnitsHalted program store u → UnitsHalted program store (f u)
+
 pub quiet_in : {program : Program} (f : Term → Term) → Hole f → {t t' : Term} → Quiet program t t' → Quiet program (f t) (f t')
 quiet_in f h still = still
 quiet_in f h (quietly {u = u} {u' = v} {t = t} {t' = t'} o e p) = quietly (λ own. h.opens own own u v t t' (o own)) e (quiet_in f h p)
@@ -47,6 +52,7 @@ pub record IsOpen (program : Program) (t : Term) (what : Then Term) : Type 0 whe
   pub spot : Term
   pub put : Term → Term
   pub hole : Hole put
+  pub adds : AddsNone put
   pub whole : t ≡ put spot
   pub is : Comes program spot what
 
@@ -58,13 +64,15 @@ pub has_open : {program : Program} {t : Term} {what : Then Term} → IsOpen prog
 has_open o own = record { spot = o.spot; put = o.put; opens = λ u'. opens_at o own u'; is = o.is }
 
 abbrev pub open_here : (program : Program) (t : Term) (what : Then Term) → Comes program t what → IsOpen program t what
-open_here program t what e = record { spot = t; put = λ u. u; hole = record { opens = λ own x u u' t1 t2 o. o }; whole = refl; is = e }
+open_here program t what e =
+    record { spot = t; put = λ u. u; hole = record { opens = λ own x u u' t1 t2 o. o }; adds = λ p store u h. h; whole = refl; is = e }
 
-abbrev pub open_in : (program : Program) (f : Term → Term) → Hole f → (t : Term) (what : Then Term) → IsOpen program t what → IsOpen program (f t) what
-open_in program f h t what o = record {
+abbrev pub open_in : (program : Program) (f : Term → Term) → Hole f → AddsNone f → (t : Term) (what : Then Term) → IsOpen program t what → IsOpen program (f t) what
+open_in program f h adds t what o = record {
   spot = o.spot;
   put = λ u. f (o.put u);
   hole = record { opens = λ own x u u' t1 t2 p. h.opens own x u u' (o.put t1) (o.put t2) (o.hole.opens own x u u' t1 t2 p) };
+  adds = λ p store u x. adds p store (o.put u) (o.adds p store u x);
   whole = ap f o.whole;
   is = o.is;
 }
@@ -158,24 +166,24 @@ kept_in program code f K L to s w put u st (joins j) = joins (record {
   goes_on = to (put (yielded void)) (woken_at j.at j.items j.chain) j.goes_on;
 })
 
-follows_in : (program : Program) (code : Code) (f : Term → Term) → Hole f → (K L : Term → State → Type 0) → ((t : Term) (st : State) → K t st → L (f t) st)
+follows_in : (program : Program) (code : Code) (f : Term → Term) → Hole f → AddsNone f → (K L : Term → State → Type 0) → ((t : Term) (st : State) → K t st → L (f t) st)
     → (t : Term) (what : Then State) → Follows program code K t what → Follows program code L (f t) what
-follows_in program code f h K L to t (goes st) w = (f w.0, quiet_in f h w.1, to w.0 st w.2)
-follows_in program code f h K L to t (acts place want k) w = record {
+follows_in program code f h adds K L to t (goes st) w = (f w.0, quiet_in f h w.1, to w.0 st w.2)
+follows_in program code f h adds K L to t (acts place want k) w = record {
   now = f w.now;
   quiet = quiet_in f h w.quiet;
   wants = w.wants;
   alike = w.alike;
   next = w.next;
-  open_at = open_in program f h w.now (acts place w.wants w.next) w.open_at;
+  open_at = open_in program f h adds w.now (acts place w.wants w.next) w.open_at;
   keeps = λ s s2 act r d. kept_in program code f K L to s want w.open_at.put (w.next r) (k r) (w.keeps s s2 act r d);
 }
-follows_in program code f h K L to t (meets why place) w = (f w.0, quiet_in f h w.1, open_in program f h w.0 (meets why place) w.2)
+follows_in program code f h adds K L to t (meets why place) w = (f w.0, quiet_in f h w.1, open_in program f h adds w.0 (meets why place) w.2)
 
-pub moves_in : (program : Program) (code : Code) (f : Term → Term) → Hole f → (K L : Term → State → Type 0) → ((t : Term) (st : State) → K t st → L (f t) st)
+pub moves_in : (program : Program) (code : Code) (f : Term → Term) → Hole f → AddsNone f → (K L : Term → State → Type 0) → ((t : Term) (st : State) → K t st → L (f t) st)
     → (t : Term) (st : State) → Moves program code K t st → Moves program code L (f t) st
-moves_in program code f h K L to t st m =
-    record { what = m.what; asks = m.asks; follows = follows_in program code f h K L to t m.what m.follows; inside = m.inside; forth = m.forth }
+moves_in program code f h adds K L to t st m =
+    record { what = m.what; asks = m.asks; follows = follows_in program code f h adds K L to t m.what m.follows; inside = m.inside; forth = m.forth }
 
 follows_after : (program : Program) (code : Code) (K : Term → State → Type 0) (t t' : Term) → Quiet program t t' → (what : Then State)
     → Follows program code K t' what → Follows program code K t what

@@ -159,6 +159,7 @@ module _ (program : Program) (code : Code) (same_modes : code.modes ≡ program.
             waits = j.waits ∙ ap (Waits l.0) (sym a.long);
             put = j.put;
             hole = j.hole;
+            adds = j.adds;
             whole = refl;
             goes_on = j.goes_on;
           },

@@ -434,6 +434,7 @@ module _ (program : Program) (code : Code) (same_modes : code.modes ≡ program.
         waits = ap (λ (x : State). x.stance) waits_at ∙ ap (Waits first) (sym units.long);
         put = f.open_at.put;
         hole = f.open_at.hole;
+        adds = f.open_at.adds;
         whole = refl;
         goes_on = subst (λ (x : State). Works code spot.finish (f.open_at.put (yielded void)) (record x { at = suc x.at; stance = Idle })) (sym waits_at) i.goes_on;
       }

@@ -8,6 +8,8 @@ use a68_instructions::{About, Body};
 pub struct Strand {
     pub number: u32,
     pub place: u32,
+    /// For so many items each activation has room on the stack.
+    pub most: u32,
     pub body: Body,
     pub about: About,
     ghost may: { IsTrue (may_go_on about.ask body.at) },
@@ -18,6 +20,7 @@ impl Drop for Strand {
         let Strand {
             number: _,
             place: _,
+            most: _,
             body: _,
             about: _,
         } = self;

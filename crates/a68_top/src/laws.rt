@@ -29,11 +29,11 @@ use a68_races::races_are_one;
 use a68_replay::{schedules_have_one_run, schedules_read_back, traced_runs_come_back};
 use a68_symbols::symbols_are_one;
 use a68_words::classes_are_one;
-use a68_workers::one_worker_has_one_run;
+use a68_workers::{one_worker_has_a_run, one_worker_has_one_run};
 
 /// A law: a text has one answer. It is compiled or refused and never both; what it is compiled into is one program with
 /// one code; it is refused by one rule, and but for S6 at one place; and this place is a byte of the text, or its end. With
-/// this fuel it has one run by one worker. And a run has its races in one way, or one first entry, which is one of its entries, of
+/// this fuel it has a run by one worker, and no other one. And a run has its races in one way, or one first entry, which is one of its entries, of
 /// a strand that is not told apart. And a text is laid out in one way, which has its symbols, and which laid out once more stays as it
 /// is, where it is no longer than a text may be. And bytes are one schedule, or bad at one place; what comes of picks is one; and a run
 /// comes back from its own, which are read from the schedule that is written of them.
@@ -46,6 +46,7 @@ pub fn answers_are_one()
     ensures compiled { (text : List ℕ) (a b : Made) → Compiles text a → Compiles text b → a ≡ b }
     ensures runs { (text : List ℕ) (made : Made) (fuel : ℕ) (a b : Kept) → Compiles text made → RunOf made.code fuel a → Cyclic made.code a
         → RunOf made.code fuel b → Cyclic made.code b → a ≡ b }
+    ensures run { (made : Made) (fuel : ℕ) → (kept : Kept) × RunOf made.code fuel kept × Cyclic made.code kept }
     ensures races { (entries : List Entry) (a b : Shown) → RacesAre entries a → RacesAre entries b → a ≡ b }
     ensures beyond { (entries : List Entry) (i j : ℕ) → FirstBeyond entries i → FirstBeyond entries j → i ≡ j }
     ensures raced { (entries : List Entry) (i : ℕ) → FirstBeyond entries i → NoneBeyond entries → ⊥ }
@@ -67,6 +68,7 @@ pub fn answers_are_one()
     annotations_are_one();
     annotations_begin_by();
     one_worker_has_one_run();
+    one_worker_has_a_run();
     translations_are_listings();
     races_are_one();
     schedules_read_back();

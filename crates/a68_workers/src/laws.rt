@@ -18,3 +18,8 @@ pub fn ended_runs_do_no_more()
 pub fn one_worker_has_one_run()
     ensures { (code : Code) (fuel : ℕ) (a b : Kept) → RunOf code fuel a → Cyclic code a → RunOf code fuel b → Cyclic code b → a ≡ b }
 {}
+
+/// A law: with each fuel a code has a run in which the strands take turns. So it has exactly one.
+pub fn one_worker_has_a_run()
+    ensures { (code : Code) (fuel : ℕ) → (kept : Kept) × RunOf code fuel kept × Cyclic code kept }
+{}

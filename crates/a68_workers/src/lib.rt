@@ -9,5 +9,5 @@ mod runs;
 mod shared;
 
 pub use held::{GivenRun, HeldWorld};
-pub use laws::{ended_runs_do_no_more, one_worker_has_one_run};
+pub use laws::{ended_runs_do_no_more, one_worker_has_a_run, one_worker_has_one_run};
 pub use runs::{run_all, run_alone, run_while_alone};

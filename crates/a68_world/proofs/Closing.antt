@@ -106,4 +106,5 @@ with_passed s marks shown n sound same passes = record {
   rests = sound.rests;
   kin = sound.kin;
   joined = sound.joined;
+  enough = sound.enough;
 }

@@ -61,6 +61,7 @@ left_sound s sound store seats kin e f g = record {
   rests = subst (λ (x : Store). HaveRest s.rests (now s).strands x) (sym e) sound.rests;
   kin = subst (λ (l : List Kin). AreKin l (now s).strands) (sym g) sound.kin;
   joined = sound.joined;
+  enough = sound.enough;
 }
 
 module _ (s : Inside) (n : ℕ) (sound : IsSound s) (goes : GoesOn (run_of s)) (due : IsDue (run_of s) n) where

@@ -108,6 +108,7 @@ module _ (s : Inside) (sound : IsSound s) where
       rests = sound.rests;
       kin = sound.kin;
       joined = sound.joined;
+      enough = sound.enough;
     }
 
     pub taken_is : Lends (run_of s) n strand (run_of taken)
@@ -175,6 +176,7 @@ module _ (s : Inside) (sound : IsSound s) where
       rests = sound.rests;
       kin = sound.kin;
       joined = sound.joined;
+      enough = sound.enough;
     }
 
     status-given : (y : Seat) (seats : Vec Seat Global) → seats.items ≡ slice_set s.seats.items strand.number y → map status_of seats.items ≡ slice_set (map status_of s.seats.items) strand.number (status_of y)

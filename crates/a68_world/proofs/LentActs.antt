@@ -207,6 +207,7 @@ ended_sound s sound n e goes at = record {
   rests = sound.rests;
   kin = sound.kin;
   joined = sound.joined;
+  enough = sound.enough;
 }
 
 pub lost_sound : (s : Inside) → IsSound s → GoesOn (run_of s) → IsSound (record s { lost = true })
@@ -219,6 +220,7 @@ lost_sound s sound goes = record {
   rests = sound.rests;
   kin = sound.kin;
   joined = sound.joined;
+  enough = sound.enough;
 }
 
 -- the act meets a fault

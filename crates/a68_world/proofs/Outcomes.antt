@@ -17,8 +17,7 @@ use Rattle.a68_instructions.specs.Bodies.{stance_in}
 use Rattle.a68_instructions.specs.Machine.{State, settle, replied}
 use Rattle.a68_instructions.specs.declared.ask.Ask.{Ask}
 use Rattle.a68_exec.specs.Runs.{World, woken, woken_in, has_closed, is_closed, is_passive, all_closed}
-use Rattle.a68_heights.specs.Room.{KeepsRoom}
-use Rattle.a68_strand.specs.Strands.{standing, HasSettled, TellsNot}
+use Rattle.a68_strand.specs.Strands.{standing, HasSettled, TellsNot, LeavesRoom}
 use Rattle.a68_instructions.specs.declared.ask.Stance.{Stance}
 use Rattle.a68_instructions.specs.declared.ask.Stance.TheVariants.{Idle, Waits}
 use Rattle.a68_strand.specs.declared.strand.Strand.{Strand}
@@ -334,11 +333,12 @@ module _ (s : Inside) (n : ℕ) (act : Act) (store : Store) (units : List Seat) 
         rests = subst (λ (x : World). HaveRest rested x.strands store) (sym told-world) (rest_behind s n act store units m rested kin.items seats.items behind are w.seated w.long);
         kin = subst (λ (x : World). AreKin kin.items x.strands) (sym told-world) (kin_woken s.code (b.all s n act store units m) (b.rest s n act store units m) kin.items are);
         joined = m.sound.joined;
+        enough = m.sound.enough;
       }
 
   -- ---- it stands in the world, and has been told
 
-  module _ (t : Strand) (told : HasSettled s.code (replied s.code (standing m.strand) m.act_done.reply) t) (number : t.number ≡ m.strand.number) (keeps : KeepsRoom s.code m.strand.body t.body)
+  module _ (t : Strand) (told : HasSettled s.code (replied s.code (standing m.strand) m.act_done.reply) t) (number : t.number ≡ m.strand.number) (keeps : LeavesRoom s.code m.strand t)
       (home : status.Home ≡ m.where_) where
     pub sits_told : Sits s.code (b.all s n act store units m) n t
     sits_told = record {
@@ -435,4 +435,5 @@ module _ (s : Inside) (n : ℕ) (act : Act) (store : Store) (units : List Seat) 
       rests = λ k marked. absurd (none_rest k marked);
       kin = subst (λ l. AreKin kin.items l) (sym untold-strands) (b.kin_all s n act store units m kin.items forks);
       joined = m.sound.joined;
+      enough = m.sound.enough;
     }

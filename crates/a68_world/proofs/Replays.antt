@@ -10,12 +10,11 @@ use Rattle.a68_code.specs.declared.code.Code.{Code}
 use Rattle.a68_exec.proofs.Alive.{active}
 use Rattle.a68_exec.proofs.Settled.{settle_rests}
 use Rattle.a68_exec.specs.Runs.{World, Machine, IfNext, opening, acted, begun, has_closed, is_closed, all_closed, woken, woken_in}
-use Rattle.a68_heights.specs.Room.{KeepsRoom}
 use Rattle.a68_instructions.specs.Machine.{State, next_state, replied, settle}
 use Rattle.a68_instructions.specs.declared.ask.Stance.{Stance}
 use Rattle.a68_instructions.specs.declared.ask.Stance.TheVariants.{Idle, Asking, Failed, Waits, Closed}
 use Rattle.a68_strand.proofs.Waking.{all_same, begun_goes, goes_waits, woken_still}
-use Rattle.a68_strand.specs.Strands.{HasSettled, standing}
+use Rattle.a68_strand.specs.Strands.{HasSettled, standing, LeavesRoom}
 use Rattle.a68_strand.specs.declared.strand.Strand.{Strand}
 use Rattle.a68_values.specs.declared.act.Act.{Act}
 use Rattle.a68_values.specs.declared.act.Entry.{Entry}
@@ -190,7 +189,7 @@ stands_awake code w k st rests awake e = e ∙ ap (λ (x : State). Some x) (woke
 
 -- told the reply, it is the replay of its own entries again
 pub replay_told : (old new : Run) (strand t : Strand) (told : Reply) → IsSoundRun old → IsHeld old strand → ActsAs old strand.number Lent new → Replies old strand told
-    → HasSettled old.code (replied old.code (standing strand) told) t → t.number ≡ strand.number → KeepsRoom old.code strand.body t.body → IsReplay new.code new.entries t
+    → HasSettled old.code (replied old.code (standing strand) told) t → t.number ≡ strand.number → LeavesRoom old.code strand t → IsReplay new.code new.entries t
 replay_told old new strand t told sound held acts replies settled number keeps =
     let n = strand.number in
     let x = asking strand replies.want replies.asks in

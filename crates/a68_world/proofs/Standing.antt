@@ -15,6 +15,7 @@ use Rattle.a68_acts.specs.declared.want.Want.TheVariants as want
 use Rattle.a68_code.specs.Valid.{IsValid}
 use Rattle.a68_code.specs.declared.code.Code.{Code}
 use Rattle.a68_marks.specs.Marked.{is_marked}
+use Rattle.a68_heights.specs.Room.{Suffices}
 use Rattle.a68_joined.specs.Joined.{AreJoined}
 use Rattle.a68_joined.specs.declared.joined.JoinedCode.{JoinedCode}
 use Rattle.a68_rests.specs.Resting.{IsListed, Resting}
@@ -84,10 +85,10 @@ pub record Made (code : Code) (fuel : ℕ) (journal : Logged) (store : Store) (s
   pub none_rest : (n : ℕ) → IsListed rested n → ⊥
   pub end_is : EndShown seats.items store end
 
-module _ (code : Code) (fuel : ℕ) (journal : Logged) (store : Store) (seats : Vec Seat Global) (kin : Vec Kin Global) (marks : List ℕ) (rested : Resting) (joined : JoinedCode) (end : Option End)
+module _ (code : Code) (fuel : ℕ) (journal : Logged) (store : Store) (seats : Vec Seat Global) (kin : Vec Kin Global) (marks : List ℕ) (rested : Resting) (joined : JoinedCode) (most : ℕ) (end : Option End)
     (m : Made code fuel journal store seats kin.items marks rested end) where
   abbrev pub made_run : Inside
-  made_run = record { code = code; joined = joined; fuel = fuel; journal = journal; store = store; seats = seats; passed = marks; rests = rested; kin = kin; lost = false; end = end }
+  made_run = record { code = code; joined = joined; most = most; fuel = fuel; journal = journal; store = store; seats = seats; passed = marks; rests = rested; kin = kin; lost = false; end = end }
 
   made-world : world (run_of made_run) ≡ opening code
   made-world = ap (λ (es : List Entry). world (record { code = code; fuel = fuel; entries = es; status = map status_of seats.items; lost = false; end = end })) m.items
@@ -139,8 +140,8 @@ module _ (code : Code) (fuel : ℕ) (journal : Logged) (store : Store) (seats : 
       by zero e = absurd (cc)
       by (suc k) e = absurd (cc)
 
-  pub made_sound : IsValid code → length code.list < 2 ^ 32 → 1 ≤ fuel → fuel ≤ most_fuel → AreJoined code joined.items.items → IsSound made_run
-  made_sound valid short some little laid = record {
+  pub made_sound : IsValid code → length code.list < 2 ^ 32 → 1 ≤ fuel → fuel ≤ most_fuel → AreJoined code joined.items.items → Suffices code most → IsSound made_run
+  made_sound valid short some little laid enough = record {
     run = record {
       valid = valid;
       short = short;
@@ -161,6 +162,7 @@ module _ (code : Code) (fuel : ℕ) (journal : Logged) (store : Store) (seats : 
     rests = λ k marked. absurd (m.none_rest k marked);
     kin = rw made-world (kin_none kin.items (opening code).strands m.kin_is (λ k st f c e w. absurd (omega (arith, opening_waits code k st f c e w))));
     joined = laid;
+    enough = enough;
   }
 
 -- ---- between two turns

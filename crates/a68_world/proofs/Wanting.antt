@@ -54,11 +54,11 @@ module _ (run : Run) (sound : IsSoundRun run) (n : ℕ) (strand : Strand) (sits 
             elim x [
               | inl other ↦ inl other
               | inr y ↦ elim y [
-                | inl full ↦ absurd (let few = rooming.holds run.code sound.valid strand.body.stack.room (standing strand) fits sits.room in omega (arith, full, few))
+                | inl full ↦ absurd (let few = rooming.holds run.code strand.most sits.room.0 strand.body.stack.room (standing strand) fits sits.room.1 in omega (arith, full, few))
                 | inr settles ↦
-                    let made = makes_none wait r (suc (length strand.body.stack.items) + length run.code.list) strand.body.stack.room e in
+                    let made = makes_none wait r (suc (length strand.body.stack.items) + strand.most) strand.body.stack.room e in
                     let same : told_by run.code (state_of strand.body Idle) wait r ≡ told = sym (told_idle strand.body (stance_of strand.about) run.code wait r) in
-                    inr (settles_plainly run.code sound.valid strand.body.stack.room told told-fits (rooming.told_by run.code strand.body.stack.room (standing strand) wait r sits.room made)
+                    inr (settles_plainly run.code sound.valid strand.most sits.room.0 strand.body.stack.room told told-fits (rooming.told_by run.code strand.most strand.body.stack.room (standing strand) wait r sits.room.1 made)
                     (subst (SettlesNot run.code strand.body.stack.room) same settles))
               ]
             ]

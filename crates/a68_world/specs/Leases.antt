@@ -10,14 +10,13 @@ use Rattle.a68_acts.specs.declared.want.Reply.TheVariants as reply
 use Rattle.a68_acts.specs.declared.want.Want.{Want}
 use Rattle.a68_code.specs.declared.code.Code.{Code}
 use Rattle.a68_exec.specs.Runs.{all_closed, woken}
-use Rattle.a68_heights.specs.Room.{IsRoomy}
 use Rattle.a68_instructions.specs.Machine.{next_state}
 use Rattle.a68_instructions.specs.Room.{brings_room}
 use Rattle.a68_instructions.specs.declared.ask.Ask.TheVariants as ask
 use Rattle.a68_instructions.specs.declared.ask.Stance.TheVariants.{Waits}
 use Rattle.a68_instructions.specs.declared.ask.Waiting.{Waiting}
 use Rattle.a68_instructions.specs.declared.ask.Waiting.TheVariants as waiting
-use Rattle.a68_strand.specs.Strands.{Shows, standing}
+use Rattle.a68_strand.specs.Strands.{HasRoom, Shows, standing}
 use Rattle.a68_strand.specs.declared.strand.Strand.{Strand}
 use Rattle.a68_values.specs.declared.act.Act.{Act}
 use Rattle.a68_values.specs.declared.act.Entry.{Entry}
@@ -43,7 +42,7 @@ pub record IsReplay (code : Code) (entries : List Entry) (strand : Strand) : Typ
   pub stands : slice_get (world_of code entries).strands strand.number ≡ Some (woken code (world_of code entries).strands (standing strand))
   pub rests : next_state code (standing strand) ≡ None
   pub shows : Shows code strand
-  pub room : IsRoomy code strand.body
+  pub room : HasRoom code strand
 
 -- the strand is lent, and is the replay of its own entries
 pub record IsHeld (run : Run) (strand : Strand) : Type 0 where

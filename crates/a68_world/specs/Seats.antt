@@ -5,11 +5,10 @@ use Rattle.std.specs.Option.{option_map_or}
 use Rattle.a68_acts.specs.Does.{does}
 use Rattle.a68_acts.specs.Store.{Store}
 use Rattle.a68_code.specs.declared.code.Code.{Code}
-use Rattle.a68_heights.specs.Room.{IsRoomy}
 use Rattle.a68_store.specs.Acts.{has_to_wait}
 use Rattle.a68_instructions.specs.Machine.{State, beginning}
 use Rattle.a68_exec.specs.Runs.{has_closed, awaited_units, is_closed}
-use Rattle.a68_strand.specs.Strands.{standing, HasSettled, Shows}
+use Rattle.a68_strand.specs.Strands.{standing, HasRoom, HasSettled, Shows}
 use Rattle.a68_instructions.specs.declared.ask.Ask.{Ask}
 use Rattle.a68_instructions.specs.declared.ask.Ask.TheVariants as ask
 use Rattle.a68_strand.specs.declared.strand.Strand.{Strand}
@@ -28,7 +27,7 @@ pub record Sits (code : Code) (strands : List State) (k : ℕ) (strand : Strand)
   pub there : slice_get strands k ≡ Some (standing strand)
   pub shows : Shows code strand
   -- its stack has room for its innermost activation
-  pub room : IsRoomy code strand.body
+  pub room : HasRoom code strand
 
 -- whether the strand of a seat stands in the world
 abbrev pub is_home : Seat → Bool
@@ -54,7 +53,7 @@ AllSit code strands seats = (k : ℕ) (x : Seat) → slice_get seats k ≡ Some 
 -- the seats of a run that is yet to begin
 abbrev pub AreFirstSeats : Code → List Seat → Type 0
 AreFirstSeats code seats =
-    (strand : Strand) × (seats ≡ seat.Home strand ∷ []) × HasSettled code (beginning 0 (record { frame = 0; scope = 0 } ∷ [])) strand × (strand.number ≡ 0) × IsRoomy code strand.body
+    (strand : Strand) × (seats ≡ seat.Home strand ∷ []) × HasSettled code (beginning 0 (record { frame = 0; scope = 0 } ∷ [])) strand × (strand.number ≡ 0) × HasRoom code strand
 
 -- the place of the construct at whose instruction the strand stands
 abbrev pub place_in : Seat → ℕ

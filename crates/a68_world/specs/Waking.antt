@@ -5,8 +5,7 @@ use Rattle.a68_acts.specs.declared.want.Reply.TheVariants as reply
 use Rattle.a68_code.specs.declared.code.Code.{Code}
 use Rattle.a68_instructions.specs.Machine.{State, next_state, replied}
 use Rattle.a68_exec.specs.Runs.{all_closed, woken}
-use Rattle.a68_heights.specs.Room.{KeepsRoom}
-use Rattle.a68_strand.specs.Strands.{standing, awaits, HasSettled}
+use Rattle.a68_strand.specs.Strands.{standing, awaits, HasSettled, LeavesRoom}
 use Rattle.a68_instructions.specs.declared.ask.Stance.TheVariants.{Waits}
 use Rattle.a68_world.specs.Seats.{AreSeated, due_at}
 use Rattle.a68_world.specs.declared.seat.Seat.{Seat}
@@ -18,7 +17,7 @@ seat_awaits (seat.Away spent closed) = false
 
 -- a strand that is told to go on has settled, or is spent
 abbrev pub GoesOnAt : Code → (old new : Seat) → Bool → Type 0
-GoesOnAt code (seat.Home strand) (seat.Home next) true = HasSettled code (replied code (standing strand) reply.Go) next × (next.number ≡ strand.number) × KeepsRoom code strand.body next.body
+GoesOnAt code (seat.Home strand) (seat.Home next) true = HasSettled code (replied code (standing strand) reply.Go) next × (next.number ≡ strand.number) × LeavesRoom code strand next
 GoesOnAt code (seat.Home strand) (seat.Away spent closed) false = (spent ≡ true) × (closed ≡ false)
 GoesOnAt code _ _ _ = ⊥
 

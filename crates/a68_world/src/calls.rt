@@ -3,11 +3,11 @@ ghost use Rattle.std.specs.List.{list_all};
 ghost use Rattle.std.specs.Prelude.{◌≡◌, [], ◌∷◌, ◌++◌, ◌<◌, ◌≤◌, ◌^◌, ◌↔◌, ℕ, length, Some, None, IfOk, IfSome, IsNone, MatchBool, MatchOption, MatchResult};
 ghost use Rattle.a68_acts.specs.Store.{opening_store};
 ghost use Rattle.a68_code.specs.Valid.{IsValid};
-ghost use Rattle.a68_heights.specs.Room.{IsRoomy};
+ghost use Rattle.a68_heights.specs.Room.{Suffices};
 ghost use Rattle.a68_joined.specs.Joined.{AreJoined};
 ghost use Rattle.a68_strand.specs.Cyclic.{IsFirstBehind};
 ghost use Rattle.a68_instructions.specs.Machine.{beginning};
-ghost use Rattle.a68_strand.specs.Strands.{HasSettled};
+ghost use Rattle.a68_strand.specs.Strands.{HasRoom, HasSettled};
 ghost use Rattle.a68_world.specs.Ending.{EndShown};
 ghost use Rattle.a68_world.specs.Passed.{PassTurns};
 ghost use Rattle.a68_world.specs.Run.{IsSoundRun, RunBegins, most_fuel};
@@ -26,6 +26,7 @@ use crate::waking::wake_behind;
 use crate::{Turned, World};
 use a68_base::NoMemory;
 use a68_code::Code;
+use a68_heights::most_items;
 use a68_joined::JoinedCode;
 use a68_marks::Marks;
 use a68_rests::Rests;
@@ -38,23 +39,25 @@ use std::alloc::Global;
 const STANDARD: Environ = Environ { frame: 0, scope: 0 };
 
 // Strand 0 at the beginning of the code, in the frame of the standard environ.
-fn first_strand(alloc: Global, code: &Code) -> Result<Strand, NoMemory>
+fn first_strand(alloc: Global, code: &Code, most: u32) -> Result<Strand, NoMemory>
     requires short { length code.now.list < 2 ^ 32 }
+    requires enough { Suffices code.now most }
     ensures settled { IfOk result (HasSettled code.now (beginning 0 (record { frame = 0; scope = 0 } ∷ []))) }
     ensures number { IfOk result (λ strand. strand.number ≡ 0) }
-    ensures room { IfOk result (λ strand. IsRoomy code.now strand.body) }
+    ensures room { IfOk result (HasRoom code.now) }
 {
     let chain = Chain::of_one(alloc, STANDARD)?;
-    let strand = Strand::begin(alloc, code, 0, 0, chain)?;
+    let strand = Strand::begin(alloc, code, most, 0, 0, chain)?;
     Ok(strand)
 }
 
 // The seats of a run that is yet to begin.
-fn first_seats(alloc: Global, code: &Code) -> Result<Vec<Seat>, NoMemory>
+fn first_seats(alloc: Global, code: &Code, most: u32) -> Result<Vec<Seat>, NoMemory>
     requires short { length code.now.list < 2 ^ 32 }
+    requires enough { Suffices code.now most }
     ensures { IfOk result (λ seats. AreFirstSeats code.now seats.items) }
 {
-    let strand = first_strand(alloc, code)?;
+    let strand = first_strand(alloc, code, most)?;
     let mut seats = Vec::new(alloc);
     seats.push(Seat::Home(strand))?;
     Ok(seats)
@@ -72,12 +75,14 @@ fn first_kin(alloc: Global) -> Result<Vec<Kin>, NoMemory>
     Ok(kin)
 }
 
-// The journal, the store, the seats and the kin of a run that is yet to begin, and its code, laid out.
+// The journal, the store, the seats and the kin of a run that is yet to begin, and its code, laid out; no activation has so many
+// items.
 fn parts(
     alloc: Global,
     code: &Code,
     fuel: u32,
-) -> Result<(Log, Store, Vec<Seat>, Vec<Kin>, JoinedCode), NoMemory>
+) -> Result<(Log, Store, Vec<Seat>, Vec<Kin>, JoinedCode, u32), NoMemory>
+    requires valid { IsValid code.now }
     requires short { length code.now.list < 2 ^ 32 }
     ensures empty { IfOk result (λ parts. parts.0.items ≡ []) }
     ensures room { IfOk result (λ parts. parts.0.room ≡ fuel) }
@@ -85,13 +90,15 @@ fn parts(
     ensures seats { IfOk result (λ parts. AreFirstSeats code.now parts.2.items) }
     ensures kin { IfOk result (λ parts. length parts.3.items ≡ 1) }
     ensures joined { IfOk result (λ parts. AreJoined code.now parts.4.items.items) }
+    ensures enough { IfOk result (λ parts. Suffices code.now parts.5) }
 {
     let journal = Log::with_room(alloc, fuel)?;
     let store = Store::new(alloc)?;
-    let seats = first_seats(alloc, code)?;
+    let most = most_items(alloc, code)?;
+    let seats = first_seats(alloc, code, most)?;
     let kin = first_kin(alloc)?;
     let joined = JoinedCode::of(alloc, code)?;
-    Ok((journal, store, seats, kin, joined))
+    Ok((journal, store, seats, kin, joined, most))
 }
 
 /// An entry of a strand in the journal, which has room for it.
@@ -149,13 +156,14 @@ impl World {
         ensures { IfOk result (RunBegins code fuel) }
     {
         match parts(alloc, &code, fuel) {
-            Ok((journal, store, seats, kin, joined)) => {
+            Ok((journal, store, seats, kin, joined, most)) => {
                 let passed = Marks::new(alloc);
                 let rests = Rests::new(alloc);
                 let end = end_shown(&seats, &rests, &store, 0);
                 Ok(World {
                     code,
                     joined,
+                    most,
                     fuel,
                     journal,
                     store,
@@ -253,6 +261,7 @@ impl World {
         let Ok(units) = units_ready(
             alloc,
             &self.code,
+            self.most,
             &self.store,
             &mut self.seats,
             &mut self.kin,

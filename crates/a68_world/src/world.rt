@@ -16,6 +16,8 @@ pub struct World {
     pub(crate) code: Code,
     // The code, laid out for a strand that is alone.
     pub(crate) joined: JoinedCode,
+    // An activation has fewer items on the stack.
+    pub(crate) most: u32,
     // The most entries that the journal may have.
     pub(crate) fuel: u32,
     pub(crate) journal: Log,

@@ -6,4 +6,4 @@ pub returns-then-not-any_different : goal.returns-then-not-any_different
 returns-then-not-any_different c = (λ t. inr (λ d. false≢true (sym c.if-not-any_different.true ∙ c.any_different.ensures.1 d)), λ w. refl)
 
 pub returns : goal.returns
-returns c = (λ t. inl (c.any_clash.ensures.0 t), λ w. ⊎_elim (λ k. c.any_clash.ensures.1 k) (λ n. absurd (n (c.any_different.ensures.0 c.if-not-any_different.false))) w)
+returns c = (λ t. inl (c.in_ok-wrong.ensures.0 t), λ w. ⊎_elim (λ k. c.in_ok-wrong.ensures.1 k) (λ n. absurd (n (c.any_different.ensures.0 c.if-not-any_different.false))) w)

@@ -1,6 +1,16 @@
-use Rattle.std.proofs.Common.{◌<◌, ℕ, get_or}
-use Rattle.a68_declare.specs.Broken.{IsClash}
+use Rattle.std.proofs.Common.{◌<◌, length, get_or}
+use Rattle.std.specs.Prelude.{◌↔◌}
+use Rattle.a68_declare.specs.Unions.{LeadsAway}
+use Rattle.a68_equiv.specs.Related.{as_it_stands}
+use Rattle.a68_equiv.proofs.Chains.{steps}
+use Rattle.a68_equiv.proofs.Meekly.{meek_next}
 use Rattle.a68_declare.proofs.unions.clashes.Given as goal
 
-abbrev pub invariant-loop-earlier : goal.invariant-loop-earlier
-invariant-loop-earlier l = (k : ℕ) → k < l.earlier → IsClash l.modes (get_or l.members l.place 0) (get_or l.members k 0) → ⊥
+abbrev pub invariant-meekly : goal.invariant-meekly
+invariant-meekly l = record {
+  there : l.at.id < length l.modes;
+  same : LeadsAway l.modes l.members (get_or l.members l.place 0) l.at ↔ LeadsAway l.modes l.members (get_or l.members l.place 0) (as_it_stands (get_or l.members l.place 0));
+}
+
+abbrev pub decreases-meekly : goal.decreases-meekly
+decreases-meekly l = steps (meek_next l.modes) (length l.modes) l.at.id

@@ -41,6 +41,7 @@ returns c = record {
   programs = same_program (laws c);
   compiled = one_made (laws c) (codes c);
   runs = λ text made fuel a b m. c.one_worker_has_one_run.ensures made.code fuel a b;
+  run = λ made fuel. c.one_worker_has_a_run.ensures made.code fuel;
   listings = one_listing (laws c);
   laid_out = λ text out is short.
       c.listings_keep_the_symbols.ensures text is.is.found is.is.symbols is.is.named is.is.classes is.tree.nodes is.is.classed.words.whole is.is.derived

@@ -16,4 +16,5 @@ invariant_of-self c = record {
   rests = c.self.invariant.rests;
   kin = c.self.invariant.kin;
   joined = c.self.invariant.joined;
+  enough = c.self.invariant.enough;
 }

@@ -1,0 +1,9 @@
+use Rattle.std.proofs.Common.{◌<◌, ◌+◌, cond, nat_eq, length, arith}
+use Rattle.a68_heights.proofs.Adding.{maps_on}
+use Rattle.a68_heights.proofs.ways.add_members.Goals as goal
+
+pub loop-to-preserved : goal.loop-to-preserved
+loop-to-preserved c =
+    let less : c.loop-to.to-index < length c.args.places.now = omega arith in
+    maps_on (λ x. c.args.below + (cond (nat_eq x c.last_place-last.result) 0 1)) _ c.args.places.now c.loop-to.to-index c.loop-to.found.items _ less c.loop-to.invariant
+    (rw c.left_at.ensures at c.in_ok-push.ensures.items)
