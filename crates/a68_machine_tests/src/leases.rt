@@ -1,16 +1,25 @@
 //! Strands that are lent: their acts, and what the world says while they are out. The rows were found by hand.
+ghost use Rattle.std.specs.Prelude.{◌≡◌, ℕ};
+ghost use Rattle.a68_workers.specs.Runs.{IsAtRest};
 ghost use Rattle.a68_world.specs.Leases.{IsHeld};
+ghost use Rattle.a68_world.specs.Run.{IsNumber};
+ghost use Rattle.a68_world.specs.declared.status.StrandState.TheVariants.{Lent};
 
 use crate::parallel::PASSED;
 use crate::table::holds;
 use crate::world::{HALTED, UNSET, UNSET_AT_5, world};
 use a68_acts::Reply;
+use a68_lease::run_leased;
+use a68_outside::FreeGate;
 use a68_strand::Strand;
 use a68_values::{End, FaultKind};
 use a68_world::{Turned, World};
 use std::alloc::Global;
+use std::marker::Sync;
 use std::panic::Expect;
 use std::process::Abort;
+use std::sync::Wait;
+use std::thread::Threads;
 
 /// BEGIN print(1) END
 const PRINTING_ONE: &str = "Push 1, Print 1, End";
@@ -26,7 +35,8 @@ const UNSET_UNIT: &str = "Fork 2 5, End, Skip 1, Print 1, Close, Close";
 
 // Takes out a strand that has something to do.
 fn lent(rt: &impl Abort, world: &mut World, number: u32) -> Strand
-    ensures { IsHeld world.new result }
+    ensures held { IsHeld world.new result }
+    ensures alone { IsAtRest world.old → (k : ℕ) → IsNumber world.new k Lent → k ≡ result.number }
 {
     world.lend(number).expect(rt, "a strand to lend")
 }
@@ -45,7 +55,8 @@ fn stays(world: &mut World, number: u32) -> bool {
 // The act of a strand that is lent, which is then told the reply.
 fn acts(rt: &impl Abort, alloc: Global, world: &mut World, mut strand: Strand) -> Strand
     requires { IsHeld world.old strand }
-    ensures { IsHeld world.new result }
+    ensures held { IsHeld world.new result }
+    ensures alone { ((k : ℕ) → IsNumber world.old k Lent → k ≡ strand.number) → (k : ℕ) → IsNumber world.new k Lent → k ≡ result.number }
 {
     let _known = world.code();
     let Ok(reply) = world.act(alloc, &strand) else {
@@ -114,6 +125,7 @@ fn idles(rt: &impl Abort, alloc: Global, world: &mut World, strand: &Strand)
 
 fn give(alloc: Global, world: &mut World, strand: Strand)
     requires { IsHeld world.old strand }
+    ensures { ((k : ℕ) → IsNumber world.old k Lent → k ≡ strand.number) → IsAtRest world.new }
 {
     world.back(alloc, strand);
 }
@@ -265,4 +277,33 @@ fn a_run_ends_while_a_strand_is_out(rt: HostRuntime) {
     holds(&rt, over, "strand 2 finds the run ended");
     give(alloc, &mut world, strand);
     ends(&rt, world, end, 1, "");
+}
+
+// The first strand is lent, acts once and is back.
+fn lend_once(rt: &impl Abort, alloc: Global, world: &mut World)
+    requires { IsAtRest world.old }
+    ensures { IsAtRest world.new }
+{
+    let strand = lent(rt, world, 0);
+    let strand = acts(rt, alloc, world, strand);
+    give(alloc, world, strand)
+}
+
+// So many workers go on with a run of which a strand was lent, has acted and is back.
+fn go_on_behind_a_lease<R: Threads + Wait + Sync + Abort>(rt: &R, alloc: Global, workers: u32) {
+    holds(rt, 1 <= workers, "some workers");
+    holds(rt, workers <= 64, "few workers");
+    let mut run = world(rt, alloc, PASSED, 99);
+    lend_once(rt, alloc, &mut run);
+    let run = run_leased(rt, alloc, run, workers, &FreeGate).expect(rt, "memory");
+    holds(rt, run.events() == 11, "the events");
+    holds(rt, run.end() == Some(End::Done), "the end");
+    drop(run);
+}
+
+#[test]
+fn workers_go_on_behind_a_lease(rt: HostRuntime) {
+    for workers in [1, 2, 4, 64] {
+        go_on_behind_a_lease(&rt, rt.alloc(), workers);
+    }
 }
