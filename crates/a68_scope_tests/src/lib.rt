@@ -6,6 +6,8 @@ mod frames;
 #[cfg(test)]
 mod operators;
 #[cfg(test)]
+mod related;
+#[cfg(test)]
 mod shapes;
 #[cfg(test)]
 mod table;
