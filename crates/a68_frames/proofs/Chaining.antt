@@ -184,3 +184,18 @@ pub tells_by : (tree : Built) (tables : RangeTables) (at : ℕ) (layer : Option 
 tells_by tree tables at layer by_layer frames are low nested chained there =
     let t = are.nests.about at (slice_index_or tables.nests.about at None) (read tables.nests.about at None low) in
     record { ranges = t.ranges; lies = t.lies; framed = framed_on tree frames t.ranges (frame_at by_layer layer) (framed_at tree tables.nests.layers by_layer frames layer (layered tree t.ranges) chained there (nested t.ranges t.lies)) }
+
+-- ---- a layer that is the same as an earlier one
+
+nested_twin : {layers : List Layer} {nest : Option ℕ} {ranges : List ℕ} (number twin : ℕ) → nest ≡ Some number → slice_get layers twin ≡ slice_get layers number → Nested layers nest ranges → Nested layers (Some twin) ranges
+nested_twin number twin e same outermost = absurd (cc)
+nested_twin {layers = layers} number twin e same (within i layer is rest) = within twin layer (same ∙ ap (slice_get layers) (sym (some_one e)) ∙ is) rest
+
+pub chained_twin : (tree : Built) (layers : List Layer) (by_layer : List (Option ℕ)) (frames : List Layer) (number twin : ℕ) (frame : Option ℕ) → number ≡ length by_layer → slice_get by_layer twin ≡ Some frame
+    → slice_get layers twin ≡ slice_get layers number → AreChained tree layers by_layer frames → AreChained tree layers (by_layer ++ frame ∷ []) frames
+chained_twin tree layers by_layer frames number twin frame all at same are = record {
+  tells = λ n nest e ranges nested. ⊎_elim
+      (λ h. are.tells n nest h ranges nested)
+      (λ h. are.tells twin nest (at ∙ ap (λ (o : Option ℕ). Some o) h.1) ranges (nested_twin number twin refl same (subst (λ k. Nested layers (Some k) ranges) (h.0 ∙ sym all) nested)))
+      (get_pushed by_layer frame nest n e);
+}

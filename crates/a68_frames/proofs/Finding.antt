@@ -1,7 +1,6 @@
 -- Where definitions stand, as they are looked up along chains.
 use Rattle.std.proofs.Common.{◌≡◌, ◌<◌, ◌≤◌, ℕ, suc, ◌+◌, Bool, true, false, List, [], ◌∷◌, ◌++◌, length, refl, sym, ap, ◌∙◌, arith, subst, ⊎_elim, Some, None, slice_get, Option}
-use Rattle.std.specs.Prelude.{slice_index_or, is_some, nat_lt, if◌then◌else◌}
-use Rattle.std.specs.Option.{option_map, option_map_or}
+use Rattle.std.specs.Prelude.{slice_index_or, nat_lt, if◌then◌else◌}
 use Rattle.std.proofs.lemmas.Bool.{false≢true}
 use Rattle.std.proofs.lemmas.Bool.Decides.{nat_tests}
 use Rattle.a68_ranges.proofs.Taking.{some_one, read, past, below_or}
@@ -9,7 +8,6 @@ use Rattle.a68_ranges.proofs.Looking.{lies_one}
 use Rattle.a68_ranges.specs.Nodes.{kind_at}
 use Rattle.a68_ranges.specs.Definitions.{declared_in}
 use Rattle.a68_ranges.specs.Surroundings.{Lies}
-use Rattle.a68_ranges.specs.Links.{IsBelow}
 use Rattle.a68_ranges.specs.Tables.{at_key}
 use Rattle.a68_ranges.specs.declared.nests.Layer.{Layer}
 use Rattle.a68_frames.proofs.Slotting.{place_is}
@@ -22,28 +20,9 @@ use Rattle.a68_tree.specs.declared.node.FrameStep.{FrameStep}
 
 -- ---- the walk outwards
 
-moved_on : (hops : ℕ) (found : Option FrameStep) → moved hops (moved 1 found) ≡ moved (hops + 1) found
-moved_on hops None = refl
-moved_on hops (Some step) = let e : (step.hops + 1) + hops ≡ step.hops + (hops + 1) = omega arith in ap (λ n. Some (record { hops = n; slot = step.slot })) e
-
 pub moved_none : (found : Option FrameStep) → moved 0 found ≡ found
 moved_none None = refl
 moved_none (Some step) = let e : step.hops + 0 ≡ step.hops = omega arith in ap (λ n. Some (record { hops = n; slot = step.slot })) e
-
-pub found_here : (frames : List Layer) (entries : List ((ℕ × ℕ) × ℕ)) (d i hops : ℕ) (start nest : Option ℕ) (frame : Layer) (slot : Option ℕ) → nest ≡ Some i → slice_get frames i ≡ Some frame
-    → slot ≡ at_key entries frame.range d → true ≡ is_some slot → ((found : Option FrameStep) → FindsSlot frames entries d nest found → FindsSlot frames entries d start (moved hops found))
-    → FindsSlot frames entries d start (option_map (λ s. record { hops = hops; slot = s }) slot)
-found_here frames entries d i hops start nest frame None e is at t rest = absurd (false≢true (sym t))
-found_here frames entries d i hops start nest frame (Some slot) e is at t rest =
-    let zero_hops : 0 + hops ≡ hops = omega arith in
-    subst (λ n. FindsSlot frames entries d start (Some (record { hops = n; slot = slot }))) zero_hops (rest (Some (record { hops = 0; slot = slot })) (rw e (here i frame is (sym at))))
-
-pub found_further : (frames : List Layer) (entries : List ((ℕ × ℕ) × ℕ)) (d i hops : ℕ) (start nest : Option ℕ) (frame : Layer) (slot : Option ℕ) → nest ≡ Some i → slice_get frames i ≡ Some frame
-    → slot ≡ at_key entries frame.range d → false ≡ is_some slot → ((found : Option FrameStep) → FindsSlot frames entries d nest found → FindsSlot frames entries d start (moved hops found))
-    → (found : Option FrameStep) → FindsSlot frames entries d frame.outer found → FindsSlot frames entries d start (moved (hops + 1) found)
-found_further frames entries d i hops start nest frame (Some slot) e is at t rest found r = absurd (false≢true t)
-found_further frames entries d i hops start nest frame None e is at t rest found r =
-    subst (FindsSlot frames entries d start) (moved_on hops found) (rest (moved 1 found) (rw e (further i frame is (sym at) r)))
 
 -- ---- slots at any number
 
@@ -51,7 +30,7 @@ slots_past : (tree : Built) (range : ℕ) → length tree.nodes ≤ range → sl
 unfolding slots_in declared_in
 slots_past tree range h = rw (past tree.nodes range h) refl
 
-place_there : (tree : Built) (entries : List ((ℕ × ℕ) × ℕ)) (counts : List ℕ) (made : List Bool) → AreSlotsBefore tree (length tree.nodes) entries counts made
+pub place_there : (tree : Built) (entries : List ((ℕ × ℕ) × ℕ)) (counts : List ℕ) (made : List Bool) → AreSlotsBefore tree (length tree.nodes) entries counts made
     → (range d : ℕ) → at_key entries range d ≡ place_of (slots_in tree range) d
 place_there tree entries counts made are range d =
     ⊎_elim (λ h. are.places range d h)
@@ -219,12 +198,3 @@ pub stands_by : (tree : Built) (at d hops slot : ℕ) (found : Option FrameStep)
     → SlotStandsAt tree at d step.hops step.slot
 stands_by tree at d hops slot None step way stands is = absurd (way hops slot stands)
 stands_by tree at d hops slot (Some s) step way stands is = rw (is s refl) way
-
--- there is room for one more hop
-pub room_on : (bound hops number : ℕ) (outer : Option ℕ) → hops + suc number ≤ bound → IsBelow number outer → hops + 1 + option_map_or (λ i. suc i) outer 0 ≤ bound
-room_on bound hops number None room out = omega arith
-room_on bound hops number (Some i) room out = omega arith
-
-pub room_from : (bound : ℕ) (start : Option ℕ) → IsBelow bound start → 0 + option_map_or (λ i. suc i) start 0 ≤ bound
-room_from bound None there = omega arith
-room_from bound (Some i) there = omega arith

@@ -3,3 +3,4 @@ pub mod Chaining
 pub mod Finding
 pub mod Needing
 pub mod Counting
+pub mod Outlooking

@@ -1,5 +1,5 @@
 -- What ranges use from outside, as needs are lowered.
-use Rattle.std.proofs.Common.{◌≡◌, ◌<◌, ◌≤◌, ◌⊎◌, ℕ, zero, suc, ◌+◌, Bool, true, false, List, [], ◌∷◌, ◌++◌, length, refl, sym, ap, ◌∙◌, arith, subst, inl, inr, ⊎_elim, Some, None, slice_get, Option}
+use Rattle.std.proofs.Common.{◌≡◌, ◌<◌, ◌≤◌, ◌⊎◌, ℕ, ◌+◌, Bool, true, false, List, [], ◌∷◌, ◌++◌, length, refl, sym, ap, ◌∙◌, arith, subst, inl, inr, ⊎_elim, Some, None, slice_get, Option}
 use Rattle.std.specs.Prelude.{slice_index_or, nat_lt, if◌then◌else◌}
 use Rattle.std.proofs.lemmas.Bool.{false≢true}
 use Rattle.std.proofs.lemmas.Bool.Decides.{eqb_tells, nat_tests}
@@ -8,7 +8,6 @@ use Rattle.a68_ranges.proofs.Looking.{lies_one, defines_there}
 use Rattle.a68_ranges.specs.Nodes.{kind_at, name_at}
 use Rattle.a68_ranges.proofs.Single.{definition_one}
 use Rattle.a68_ranges.specs.Definitions.{defines, FirstDefinition, here, further, IsWordDefinition, Undefined}
-use Rattle.a68_ranges.specs.Surroundings.{Lies}
 use Rattle.a68_ranges.specs.Standard.{IsTagOf}
 use Rattle.a68_ranges.specs.Tables.{at_key}
 use Rattle.a68_ranges.specs.Twice.{IsTwice, single_tag}
@@ -18,7 +17,9 @@ use Rattle.a68_frames.proofs.Finding.{no_slot, none_at, found_in, placed, Found}
 use Rattle.a68_frames.specs.Frames.{makes_frame, slots_in, frames_of, moved}
 use Rattle.a68_frames.specs.Needs.{Innermost, Uses, outside, within, HasSlotFor, UsesSlotAt, UsesTag, IsNeed}
 use Rattle.a68_frames.specs.Needs.{here as innermost_here, further as innermost_further}
-use Rattle.a68_frames.specs.Tables.{Framed, outermost, passed, entered, TellsFrames, FindsSlot, nowhere, Crosses, crossed, onwards, IsPlaceIn, IsAtMost, Lowers, AreLowered, IsOneLowered, least_of, lowered, UsesAtFrame, UsesSlotAtFrame, UsesBefore, AreFrames, FrameTables, AreNeedsBefore, IsApplied, is_tag, below}
+use Rattle.a68_frames.specs.Outlooks.{CrossesText}
+use Rattle.a68_ranges.specs.Links.{is_routine_text}
+use Rattle.a68_frames.specs.Tables.{AreTexts, Framed, outermost, passed, entered, TellsFrames, FindsSlot, nowhere, Crosses, crossed, onwards, IsPlaceIn, IsAtMost, Lowers, AreLowered, IsOneLowered, least_of, lowered, TextUsesTagAt, TextUsesSlotAt, UsesBefore, AreFrames, FrameTables, AreNeedsBefore, IsApplied, is_tag, below}
 use Rattle.a68_frames.specs.Tables.{here as reaches_here, further as reaches_further}
 use Rattle.a68_tree.specs.Trees.{Built}
 use Rattle.a68_tree.specs.declared.node.FrameStep.{FrameStep}
@@ -54,7 +55,7 @@ module _ (tree : Built) (Has : ℕ → Type 0) where
 
 -- ---- steps along a chain, taken apart
 
-crosses_in : {frames : List Layer} {nest : Option ℕ} {steps range left : ℕ} → Crosses frames nest steps range left → (i : ℕ) (frame : Layer) (n : ℕ) → nest ≡ Some i → slice_get frames i ≡ Some frame → steps ≡ n + 1
+pub crosses_in : {frames : List Layer} {nest : Option ℕ} {steps range left : ℕ} → Crosses frames nest steps range left → (i : ℕ) (frame : Layer) (n : ℕ) → nest ≡ Some i → slice_get frames i ≡ Some frame → steps ≡ n + 1
     → ((range ≡ frame.range) × (left ≡ n)) ⊎ Crosses frames frame.outer n range left
 crosses_in {frames = frames} (crossed {left = left} j other it) i frame n e is s =
     let same : other ≡ frame = some_one (sym it ∙ ap (slice_get frames) (some_one e) ∙ is) in
@@ -64,11 +65,11 @@ crosses_in {frames = frames} {left = left} (onwards {steps = m} {range = range} 
     let one : m ≡ n = omega arith in
     inr (subst (λ k. Crosses frames frame.outer k range left) one (subst (λ (l : Layer). Crosses frames l.outer m range left) same rest))
 
-no_steps : {frames : List Layer} {nest : Option ℕ} {steps range left : ℕ} → Crosses frames nest steps range left → steps ≡ 0 → ⊥
+pub no_steps : {frames : List Layer} {nest : Option ℕ} {steps range left : ℕ} → Crosses frames nest steps range left → steps ≡ 0 → ⊥
 no_steps (crossed i frame is) e = absurd (omega arith)
 no_steps (onwards i frame is rest) e = absurd (omega arith)
 
-no_nest : {frames : List Layer} {nest : Option ℕ} {steps range left : ℕ} → Crosses frames nest steps range left → nest ≡ None → ⊥
+pub no_nest : {frames : List Layer} {nest : Option ℕ} {steps range left : ℕ} → Crosses frames nest steps range left → nest ≡ None → ⊥
 no_nest (crossed i frame is) e = absurd (cc)
 no_nest (onwards i frame is rest) e = absurd (cc)
 
@@ -244,32 +245,30 @@ least_source (Some k) h n e = ⊎_elim (λ l. inl (ap (λ (x : ℕ). Some x) (om
 least_kept : (n h : ℕ) → least_of (Some n) h ≤ n
 least_kept n h = omega arith
 
-module _ (frames : List Layer) (i : ℕ) (frame : Layer) (nest : Option ℕ) (left m : ℕ) (e : nest ≡ Some i) (is : slice_get frames i ≡ Some frame) (steps : left ≡ m + 1) where
-  crosses_last : (range n : ℕ) → frame.range ≡ range → m ≡ n → Crosses frames nest left range n
-  crosses_last range n at_range at_left = rw (e, steps, ← at_range, ← at_left) (crossed i frame is)
+-- one range is lowered, and then what the others use
+module _ (Used More : ℕ → ℕ → Type 0) (own m : ℕ) (last : Used own m) (before : (range n : ℕ) → More range n → Used range n) (cases : (range n : ℕ) → Used range n → ((range ≡ own) × (n ≡ m)) ⊎ More range n) where
+  used_last : (range n : ℕ) → own ≡ range → m ≡ n → Used range n
+  used_last range n at_range at_left = subst (λ r. Used r n) at_range (subst (Used own) at_left last)
 
-  crosses_before : (range n : ℕ) → Crosses frames frame.outer m range n → Crosses frames nest left range n
-  crosses_before range n c = rw (e, steps) (onwards i frame is c)
-
-  lowers_here : (range : ℕ) (x w y : Option ℕ) → frame.range ≡ range → w ≡ Some (least_of x m) → Lowers (Crosses frames frame.outer m range) w y → Lowers (Crosses frames nest left range) x y
+  lowers_here : (range : ℕ) (x w y : Option ℕ) → own ≡ range → w ≡ Some (least_of x m) → Lowers (More range) w y → Lowers (Used range) x y
   lowers_here range x w y at_range is_w l =
       let at_w : (n : ℕ) → least_of x m ≤ n → IsAtMost n y = λ n h. through n w y (rw is_w h) l.kept in
       record {
         source = λ n h. ⊎_elim
-            (λ s. ⊎_elim (λ q. inl q) (λ q. inr (crosses_last range n at_range q)) (least_source x m n (some_one (sym is_w ∙ s))))
-            (λ s. inr (crosses_before range n s)) (l.source n h);
+            (λ s. ⊎_elim (λ q. inl q) (λ q. inr (used_last range n at_range q)) (least_source x m n (some_one (sym is_w ∙ s))))
+            (λ s. inr (before range n s)) (l.source n h);
         kept = λ n h. at_w n (rw h (least_kept n m));
-        all = λ n u. ⊎_elim (λ q. let d = q.1 in let under = least_under x m in at_w n (omega arith)) (λ q. l.all n q) (crosses_in u i frame m e is steps);
+        all = λ n u. ⊎_elim (λ q. let d = q.1 in let under = least_under x m in at_w n (omega arith)) (λ q. l.all n q) (cases range n u);
       }
 
-  lowers_there : (range : ℕ) (x w y : Option ℕ) → (frame.range ≡ range → ⊥) → w ≡ x → Lowers (Crosses frames frame.outer m range) w y → Lowers (Crosses frames nest left range) x y
+  lowers_there : (range : ℕ) (x w y : Option ℕ) → (own ≡ range → ⊥) → w ≡ x → Lowers (More range) w y → Lowers (Used range) x y
   lowers_there range x w y apart is_w l = record {
-    source = λ n h. ⊎_elim (λ s. inl (sym is_w ∙ s)) (λ s. inr (crosses_before range n s)) (l.source n h);
+    source = λ n h. ⊎_elim (λ s. inl (sym is_w ∙ s)) (λ s. inr (before range n s)) (l.source n h);
     kept = λ n h. l.kept n (is_w ∙ h);
-    all = λ n u. ⊎_elim (λ q. absurd (apart (sym q.0))) (λ q. l.all n q) (crosses_in u i frame m e is steps);
+    all = λ n u. ⊎_elim (λ q. absurd (apart (sym q.0))) (λ q. l.all n q) (cases range n u);
   }
 
-  pub lower_more : (cur mid final : List (Option ℕ)) → IsOneLowered frame.range m cur mid → AreLowered (Crosses frames frame.outer m) mid final → AreLowered (Crosses frames nest left) cur final
+  pub lower_more : (cur mid final : List (Option ℕ)) → IsOneLowered own m cur mid → AreLowered More mid final → AreLowered Used cur final
   lower_more cur mid final one are = record {
     long = are.long ∙ one.long;
     each = λ range x y a b.
@@ -282,42 +281,53 @@ module _ (frames : List Layer) (i : ℕ) (frame : Layer) (nest : Option ℕ) (le
         ⊎_elim
         (λ h. lowers_here range x w y h.1 (w_is ∙ ap (λ t. lowered t m x) h.0) l)
         (λ h. lowers_there range x w y h.1 (w_is ∙ ap (λ t. lowered t m x) h.0) l)
-        (eqb_tells frame.range range);
+        (eqb_tells own range);
   }
-
-pub no_more : (frames : List Layer) (nest : Option ℕ) (steps : ℕ) (needs : List (Option ℕ)) → (nest ≡ None) ⊎ (steps ≡ 0) → AreLowered (Crosses frames nest steps) needs needs
-no_more frames nest steps needs e = lowered_none (Crosses frames nest steps) needs (λ range hops c. ⊎_elim (λ h. no_nest c h) (λ h. no_steps c h) e)
 
 -- ---- the needs by one node more
 
+told_text : (form : NodeKind) → is_routine_text form ≡ true → form ≡ kind.RoutineText
+told_text kind.RoutineText e = refl
+told_text _ e = absurd (false≢true e)
+
+text_makes : (tree : Built) (text : ℕ) → kind_at tree text ≡ kind.RoutineText → makes_frame tree text ≡ true
+unfolding makes_frame
+text_makes tree text e = rw e refl
+
 -- no range uses what is not defined in the tree
-pub unused : (tree : Built) (at : ℕ) (range hops : ℕ) → (kind_at tree at ≡ kind.Tag → Undefined tree at sorts.Tag (name_at tree at)) → UsesAtFrame tree at range hops → ⊥
+pub unused : (tree : Built) (at : ℕ) (range hops : ℕ) → (kind_at tree at ≡ kind.Tag → Undefined tree at sorts.Tag (name_at tree at)) → TextUsesTagAt tree at range hops → ⊥
 unused tree at range hops none u = none u.1.tag u.1.definition u.1.applied
 
 module _ (tree : Built) (at d : ℕ) (frames : List Layer) (entries : List ((ℕ × ℕ) × ℕ)) (place : (range : ℕ) → IsPlaceIn (slots_in tree range) d (at_key entries range d)) (nest : Option ℕ) (t : TellsFrames tree frames at nest) where
   -- what is found is what uses the definition
-  pub lowered_slot : (step : FrameStep) (old new : List (Option ℕ)) → FindsSlot frames entries d nest (Some step) → AreLowered (Crosses frames nest step.hops) old new → AreLowered (UsesSlotAtFrame tree at d) old new
-  lowered_slot step old new r lowers =
+  pub lowered_slot : (texts : List Bool) → AreTexts tree texts → (step : FrameStep) (old new : List (Option ℕ)) → FindsSlot frames entries d nest (Some step) → AreLowered (CrossesText frames texts nest step.hops) old new
+      → AreLowered (TextUsesSlotAt tree at d) old new
+  lowered_slot texts texts_are step old new r lowers =
       let a = agree_slots tree d frames entries place t.framed nest (Some step) step refl refl r in
       let same : step ≡ a.step = some_one a.is in
-      lowered_same (Crosses frames nest step.hops) (UsesSlotAtFrame tree at d) old new
-      (λ range hops c. let u = a.to range hops (subst (λ (s : FrameStep). Crosses frames nest s.hops range hops) same c) in (u.0, record { ranges = t.ranges; lies = t.lies; uses = u.1 }))
-      (λ range hops u. subst (λ (s : FrameStep). Crosses frames nest s.hops range hops) (sym same)
-      (a.from range hops u.0 (subst (λ rs. Uses tree (HasSlotFor tree d) rs range hops) (lies_one u.1.lies t.lies refl) u.1.uses)))
+      lowered_same (CrossesText frames texts nest step.hops) (TextUsesSlotAt tree at d) old new
+      (λ range hops c.
+      let u = a.to range hops (subst (λ (s : FrameStep). Crosses frames nest s.hops range hops) same c.0) in
+      (told_text (kind_at tree range) (sym (texts_are range) ∙ c.1), record { ranges = t.ranges; lies = t.lies; uses = u.1 }))
+      (λ range hops u. (
+        subst (λ (s : FrameStep). Crosses frames nest s.hops range hops) (sym same)
+            (a.from range hops (text_makes tree range u.0) (subst (λ rs. Uses tree (HasSlotFor tree d) rs range hops) (lies_one u.1.lies t.lies refl) u.1.uses)),
+        texts_are range ∙ ap is_routine_text u.0,
+      ))
       lowers
 
   -- what has no slot is not used
-  pub unused_slot : (found : Option FrameStep) (needs : List (Option ℕ)) → found ≡ None → FindsSlot frames entries d nest found → AreLowered (UsesSlotAtFrame tree at d) needs needs
+  pub unused_slot : (found : Option FrameStep) (needs : List (Option ℕ)) → found ≡ None → FindsSlot frames entries d nest found → AreLowered (TextUsesSlotAt tree at d) needs needs
   unused_slot found needs is r =
-      lowered_none (UsesSlotAtFrame tree at d) needs
+      lowered_none (TextUsesSlotAt tree at d) needs
       (λ range hops u. unused_slots tree d frames entries place t.framed nest found refl is r range hops
       (subst (λ rs. Uses tree (HasSlotFor tree d) rs range hops) (lies_one u.1.lies t.lies refl) u.1.uses))
 
 -- a use of the tag that a node applies is one of its definition
 pub lowered_tag : (tree : Built) → ((id : ℕ) → IsTwice tree id → ⊥) → (at d : ℕ) (old new : List (Option ℕ)) → kind_at tree at ≡ kind.Tag → IsWordDefinition tree at sorts.Tag (name_at tree at) d
-    → AreLowered (UsesSlotAtFrame tree at d) old new → AreLowered (UsesAtFrame tree at) old new
+    → AreLowered (TextUsesSlotAt tree at d) old new → AreLowered (TextUsesTagAt tree at) old new
 lowered_tag tree once at d old new tag def are =
-    lowered_same (UsesSlotAtFrame tree at d) (UsesAtFrame tree at) old new
+    lowered_same (TextUsesSlotAt tree at d) (TextUsesTagAt tree at) old new
     (λ range hops u. (u.0, record { definition = d; tag = tag; applied = def; uses = u.1 }))
     (λ range hops u.
     let same = definition_one tree sorts.Tag (name_at tree at) single_tag once at u.1.definition d u.1.applied def in
@@ -331,7 +341,7 @@ lowers_both P Q R mid new p q both a b = record {
   all = λ n u. ⊎_elim (λ s. through n mid new (a.all n s) b.kept) (λ s. b.all n s) (both n u);
 }
 
-pub needs_more : (tree : Built) (count : ℕ) (cur new : List (Option ℕ)) → AreNeedsBefore tree count cur → AreLowered (UsesAtFrame tree count) cur new → AreNeedsBefore tree (count + 1) new
+pub needs_more : (tree : Built) (count : ℕ) (cur new : List (Option ℕ)) → AreNeedsBefore tree count cur → AreLowered (TextUsesTagAt tree count) cur new → AreNeedsBefore tree (count + 1) new
 needs_more tree count cur new are more = record {
   long = more.long ∙ are.long;
   each = λ range need is.
@@ -339,10 +349,10 @@ needs_more tree count cur new are more = record {
       let low = is_there new range need is in
       let long = more.long in
       let g : slice_get cur range ≡ Some mid = read cur range None (omega arith) in
-      lowers_both (UsesBefore tree count range) (UsesAtFrame tree count range) (UsesBefore tree (count + 1) range) mid need
+      lowers_both (UsesBefore tree count range) (TextUsesTagAt tree count range) (UsesBefore tree (count + 1) range) mid need
       (λ n u. let h = u.1 in (u.0, omega arith, u.2))
       (λ n u. (count, omega arith, u))
-      (λ n u. let h = u.1 in ⊎_elim (λ s. inr (subst (λ k. UsesAtFrame tree k range n) s.1 u.2)) (λ s. let d = s.1 in inl (u.0, omega arith, u.2)) (eqb_tells u.0 count))
+      (λ n u. let h = u.1 in ⊎_elim (λ s. inr (subst (λ k. TextUsesTagAt tree k range n) s.1 u.2)) (λ s. let d = s.1 in inl (u.0, omega arith, u.2)) (eqb_tells u.0 count))
       (are.each range mid g) (more.each range mid need g is);
 }
 
@@ -353,16 +363,12 @@ tag_there tree at e = ⊎_elim (λ h. h) (λ h. absurd (skip (slice_get tree.nod
     skip None e k = absurd (cc)
     skip (Some n) e k = absurd (cc)
 
-text_makes : (tree : Built) (text : ℕ) → kind_at tree text ≡ kind.RoutineText → makes_frame tree text ≡ true
-unfolding makes_frame
-text_makes tree text e = rw e refl
-
 -- the need of a routine text
 pub need_is : (tree : Built) (text : ℕ) (need : Option ℕ) → kind_at tree text ≡ kind.RoutineText → Lowers (UsesBefore tree (length tree.nodes) text) None need → IsNeed (UsesTag tree text) need
-need_is tree text None form l = λ hops u. l.all hops (u.0, tag_there tree u.0 u.1.tag, (text_makes tree text form, u.1))
+need_is tree text None form l = λ hops u. l.all hops (u.0, tag_there tree u.0 u.1.tag, (form, u.1))
 need_is tree text (Some n) form l = (
   ⊎_elim (λ s. absurd (cc)) (λ s. (s.0, s.2.1)) (l.source n refl),
-  λ other u. l.all other (u.0, tag_there tree u.0 u.1.tag, (text_makes tree text form, u.1)),
+  λ other u. l.all other (u.0, tag_there tree u.0 u.1.tag, (form, u.1)),
 )
 
 -- ---- the tag that a node applies
@@ -411,9 +417,9 @@ module _ (tree : Built) (t : FrameTables) (at d : ℕ) (are : AreFrames tree t) 
   abbrev tells_of : TellsFrames tree t.chain.frames at nest_at
   tells_of = are.chain.tells at nest_at (read t.chain.about at None low)
 
-  pub lowered_use : (step : FrameStep) (old new : List (Option ℕ)) → FindsSlot t.chain.frames t.places d nest_at (Some step) → AreLowered (Crosses t.chain.frames nest_at step.hops) old new
-      → AreLowered (UsesSlotAtFrame tree at d) old new
-  lowered_use step old new r lowers = lowered_slot tree at d t.chain.frames t.places place_of nest_at tells_of step old new r lowers
+  pub lowered_use : (step : FrameStep) (old new : List (Option ℕ)) → FindsSlot t.chain.frames t.places d nest_at (Some step) → AreLowered (CrossesText t.chain.frames t.texts nest_at step.hops) old new
+      → AreLowered (TextUsesSlotAt tree at d) old new
+  lowered_use step old new r lowers = lowered_slot tree at d t.chain.frames t.places place_of nest_at tells_of t.texts are.texts step old new r lowers
 
-  pub lowered_unused : (found : Option FrameStep) (needs : List (Option ℕ)) → found ≡ None → FindsSlot t.chain.frames t.places d nest_at found → AreLowered (UsesSlotAtFrame tree at d) needs needs
+  pub lowered_unused : (found : Option FrameStep) (needs : List (Option ℕ)) → found ≡ None → FindsSlot t.chain.frames t.places d nest_at found → AreLowered (TextUsesSlotAt tree at d) needs needs
   lowered_unused found needs is r = unused_slot tree at d t.chain.frames t.places place_of nest_at tells_of found needs is r

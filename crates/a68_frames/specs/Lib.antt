@@ -1,3 +1,4 @@
 pub mod Frames
 pub mod Needs
 pub mod Tables
+pub mod Outlooks

@@ -7,7 +7,7 @@ use Rattle.a68_ranges.specs.Nodes.{kind_at, name_at}
 use Rattle.a68_ranges.specs.Definitions.{IsWordDefinition, Undefined}
 use Rattle.a68_ranges.specs.declared.sort.IndicatorKind.TheVariants as sorts
 use Rattle.a68_ranges.specs.Surroundings.{Lies}
-use Rattle.a68_ranges.specs.Links.{LayersAreLinked}
+use Rattle.a68_ranges.specs.Links.{LayersAreLinked, is_routine_text}
 use Rattle.a68_ranges.specs.Tables.{at_key, Nested}
 use Rattle.a68_ranges.specs.declared.nests.Layer.{Layer}
 use Rattle.a68_tree.specs.Trees.{Built}
@@ -149,17 +149,21 @@ abbrev pub IsApplied : Built → (at : ℕ) → Option ℕ → Type 0
 IsApplied tree at None = kind_at tree at ≡ kind.Tag → Undefined tree at sorts.Tag (name_at tree at)
 IsApplied tree at (Some d) = (kind_at tree at ≡ kind.Tag) × IsWordDefinition tree at sorts.Tag (name_at tree at) d
 
--- a range that makes a frame uses from outside the tag which a node applies
-abbrev pub UsesAtFrame : Built → (at range hops : ℕ) → Type 0
-UsesAtFrame tree at range hops = (makes_frame tree range ≡ true) × UsesTagAt tree at range hops
+-- a routine text uses from outside the tag which a node applies
+abbrev pub TextUsesTagAt : Built → (at range hops : ℕ) → Type 0
+TextUsesTagAt tree at range hops = (kind_at tree range ≡ kind.RoutineText) × UsesTagAt tree at range hops
 
--- a range that makes a frame uses a definition from outside at a node
-abbrev pub UsesSlotAtFrame : Built → (at definition range hops : ℕ) → Type 0
-UsesSlotAtFrame tree at definition range hops = (makes_frame tree range ≡ true) × UsesSlotAt tree at definition range hops
+-- a routine text uses a definition from outside at a node
+abbrev pub TextUsesSlotAt : Built → (at definition range hops : ℕ) → Type 0
+TextUsesSlotAt tree at definition range hops = (kind_at tree range ≡ kind.RoutineText) × UsesSlotAt tree at definition range hops
+
+-- which ranges are routine texts
+abbrev pub AreTexts : Built → List Bool → Type 0
+AreTexts tree texts = (range : ℕ) → slice_index_or texts range false ≡ is_routine_text (kind_at tree range)
 
 -- it uses the tag which one of the nodes before that one applies
 abbrev pub UsesBefore : Built → (count range hops : ℕ) → Type 0
-UsesBefore tree count range hops = (at : ℕ) × (at < count) × UsesAtFrame tree at range hops
+UsesBefore tree count range hops = (at : ℕ) × (at < count) × TextUsesTagAt tree at range hops
 
 -- the needs are those by the nodes before one
 pub record AreNeedsBefore (tree : Built) (count : ℕ) (needs : List (Option ℕ)) : Type 0 where
@@ -172,12 +176,14 @@ pub record FrameTables : Type 0 where
   pub makes : List Bool
   pub places : List ((ℕ × ℕ) × ℕ)
   pub chain : Chain
+  pub texts : List Bool
   pub needs : List (Option ℕ)
 
 -- the tables are those of the tree
 pub record AreFrames (tree : Built) (tables : FrameTables) : Type 0 where
   pub slots : AreSlotsBefore tree (length tree.nodes) tables.places tables.slots tables.makes
   pub chain : AreAboutBefore tree (length tree.nodes) tables.chain.about tables.chain.frames
+  pub texts : AreTexts tree tables.texts
   pub counted : length tables.needs ≡ length tree.nodes
   pub needs : (text : ℕ) (need : Option ℕ) → slice_get tables.needs text ≡ Some need → kind_at tree text ≡ kind.RoutineText → IsNeed (UsesTag tree text) need
 

@@ -6,6 +6,7 @@ ghost use Rattle.a68_ranges.specs.Tables.{AreRanges};
 use crate::chain::chains_of;
 use crate::map::FrameMap;
 use crate::needs::needs_of;
+use crate::outlook::outlook_of;
 use crate::slots::slots_of;
 use a68_base::NoMemory;
 use a68_ranges::Ranges;
@@ -19,10 +20,12 @@ pub fn frames(alloc: Global, tree: &Tree, ranges: &Ranges) -> Result<FrameMap, N
 {
     let slots = slots_of(alloc, tree, ranges)?;
     let chains = chains_of(alloc, tree, ranges, &slots.makes)?;
-    let needs = needs_of(alloc, tree, ranges, &slots, &chains)?;
+    let outlook = outlook_of(alloc, tree, ranges, &chains)?;
+    let needs = needs_of(alloc, tree, ranges, &slots, &chains, &outlook)?;
     Ok(FrameMap {
         slots,
         chains,
+        outlook,
         needs,
     })
 }

@@ -1,17 +1,13 @@
 //! The chains of the frames about nodes.
-ghost use Rattle.std.specs.Prelude.{◌≡◌, ◌<◌, ◌^◌, ℕ, List, IfOk, OnOk, None, Some, false, length, slice_get, slice_index_or};
-ghost use Rattle.std.specs.Option.{option_map};
-ghost use Rattle.a68_frames.specs.Frames.{frames_of};
-ghost use Rattle.a68_frames.specs.Tables.{AreMade, AreChained, StayChained, AreAboutBefore, Extends, Framed, FindsSlot, IsLayerAdded, frame_at};
+ghost use Rattle.std.specs.Prelude.{◌≡◌, ◌<◌, ◌+◌, ◌^◌, IfOk, OnOk, None, Some, false, length, slice_get, slice_index_or};
+ghost use Rattle.a68_frames.specs.Tables.{AreMade, AreChained, StayChained, AreAboutBefore, Extends, IsLayerAdded, frame_at};
 ghost use Rattle.a68_ranges.specs.Links.{IsBelow, LayersAreLinked};
 ghost use Rattle.a68_ranges.specs.Tables.{AreRanges};
-ghost use Rattle.a68_tree.specs.Trees.{Built};
 
 use crate::reading;
-use crate::slots::{SlotOf, slot_at};
 use a68_base::NoMemory;
 use a68_ranges::{Layer, Ranges};
-use a68_tree::{FrameStep, NodeId, Tree};
+use a68_tree::{NodeId, Tree};
 use std::alloc::Global;
 use std::marker::Model;
 
@@ -58,7 +54,7 @@ fn add_layer(growing: &mut Growing, makes: &[bool], layer: Layer) -> Result<(), 
     ensures { OnOk result (IsLayerAdded growing.old.by_layer.items growing.old.frames.items growing.new.by_layer.items growing.new.frames.items layer (slice_index_or makes.now layer.range false)) }
 {
     let outer = frame_of(&growing.by_layer, layer.outer);
-    if !reading::makes_frame(makes, layer.range) {
+    if !reading::is_told(makes, layer.range) {
         growing.by_layer.push(outer)?;
         return Ok(());
     }
@@ -68,6 +64,25 @@ fn add_layer(growing: &mut Growing, makes: &[bool], layer: Layer) -> Result<(), 
         range: layer.range,
         outer,
     })?;
+    Ok(())
+}
+
+// Adds the next layer: with the frame of an earlier one that is the same, where there is one.
+fn add_next(growing: &mut Growing, makes: &[bool], ranges: &Ranges) -> Result<(), NoMemory>
+    requires there { length growing.old.by_layer.items < length ranges.now.nests.layers }
+    requires linked { LayersAreLinked growing.old.by_layer.items growing.old.frames.items }
+    ensures linked { OnOk result (LayersAreLinked growing.new.by_layer.items growing.new.frames.items) }
+    ensures extends { OnOk result (Extends growing.old.frames.items growing.new.frames.items) }
+    ensures one { OnOk result (length growing.new.by_layer.items ≡ length growing.old.by_layer.items + 1) }
+    ensures chained { OnOk result (StayChained ranges.now.nests.layers makes.now growing.old.by_layer.items growing.old.frames.items growing.new.by_layer.items growing.new.frames.items) }
+{
+    let number = growing.by_layer.len();
+    if let Some(twin) = ranges.twin(number) {
+        let frame = growing.by_layer[twin];
+        growing.by_layer.push(frame)?;
+        return Ok(());
+    }
+    add_layer(growing, makes, ranges.layer(number))?;
     Ok(())
 }
 
@@ -86,8 +101,7 @@ fn grow(
     ensures chained { OnOk result (StayChained ranges.now.nests.layers makes.now growing.old.by_layer.items growing.old.frames.items growing.new.by_layer.items growing.new.frames.items) }
 {
     'layers: while growing.by_layer.len() <= number {
-        let layer = ranges.layer(growing.by_layer.len());
-        add_layer(growing, makes, layer)?;
+        add_next(growing, makes, ranges)?;
     }
     Ok(())
 }
@@ -163,6 +177,14 @@ pub fn chains_of(
 }
 
 impl Chains {
+    /// How many frames there are.
+    pub fn len(&self) -> usize
+        ensures is { result ≡ length self.now.frames }
+        ensures few { length self.now.frames < 2 ^ 32 }
+    {
+        self.frames.len()
+    }
+
     /// The innermost frame about a node.
     pub fn about(&self, at: NodeId) -> Option<usize>
         requires { at < length self.now.about }
@@ -181,53 +203,4 @@ impl Chains {
     {
         self.frames[number]
     }
-}
-
-/// Where a definition has a slot: in the innermost of the frames from that one outwards that has a slot for it.
-pub fn find(
-    chains: &Chains,
-    places: &SlotOf,
-    start: Option<usize>,
-    definition: NodeId,
-) -> Option<FrameStep>
-    requires { IsBelow (length chains.now.frames) start }
-    ensures { FindsSlot chains.now.frames places.now.entries definition start result }
-{
-    let mut hops = 0;
-    let mut next = start;
-    'outwards: while let Some(number) = next {
-        let frame = chains.frame(number);
-        let slot = slot_at(places, frame.range, definition);
-        if slot.is_some() {
-            return step_of(hops, slot);
-        }
-        hops += 1;
-        next = frame.outer;
-    }
-    None
-}
-
-// So many frames outwards, in that slot.
-fn step_of(hops: u32, slot: Option<u32>) -> Option<FrameStep>
-    ensures { result ≡ option_map (λ s. record { hops = hops; slot = s }) slot }
-{
-    match slot {
-        None => None,
-        Some(slot) => Some(FrameStep { hops, slot }),
-    }
-}
-
-/// How many frames there are from that one outwards.
-pub fn count(chains: &Chains, start: Option<usize>) -> u32
-    requires { IsBelow (length chains.now.frames) start }
-    ensures { (tree : Built) (ranges : List ℕ) → Framed tree chains.now.frames start ranges → result ≡ frames_of tree ranges }
-{
-    let mut frames = 0;
-    let mut next = start;
-    'outwards: while let Some(number) = next {
-        let frame = chains.frame(number);
-        frames += 1;
-        next = frame.outer;
-    }
-    frames
 }

@@ -6,8 +6,10 @@ mod chain;
 mod laws;
 mod map;
 mod needs;
+mod outlook;
 mod reading;
 mod slots;
+mod ways;
 
 pub use build::frames;
 pub use laws::ways_are_one;

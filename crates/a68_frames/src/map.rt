@@ -3,15 +3,17 @@ ghost use Rattle.std.specs.Prelude.{◌≡◌, ◌<◌, ◌++◌, ℕ, List, len
 ghost use Rattle.a68_frames.specs.Frames.{slots_in, IsFirstWay, SlotStandsAt};
 ghost use Rattle.a68_frames.specs.Frames as frames;
 ghost use Rattle.a68_frames.specs.Needs.{IsNeed, UsesTag};
-ghost use Rattle.a68_frames.specs.Tables.{AreFrames, AreLowered, IsPlaceIn, IsWay, UsesSlotAtFrame};
+ghost use Rattle.a68_frames.specs.Tables.{AreFrames, AreLowered, IsPlaceIn, IsWay, TextUsesSlotAt};
 ghost use Rattle.a68_ranges.specs.Nodes.{kind_at};
 ghost use Rattle.a68_ranges.specs.Surroundings.{Lies};
 ghost use Rattle.a68_tree.specs.Trees.{Built};
 ghost use Rattle.a68_tree.specs.declared.kind.NodeKind.TheVariants as kind;
 
-use crate::chain::{Chains, count, find};
+use crate::chain::Chains;
 use crate::needs::lower;
+use crate::outlook::Outlook;
 use crate::slots::{RangeSlots, slot_at};
+use crate::ways::{count, find};
 use a68_tree::{FrameStep, NodeId};
 use std::marker::Model;
 
@@ -22,15 +24,19 @@ use std::marker::Model;
 pub struct FrameMap {
     pub(crate) slots: RangeSlots,
     pub(crate) chains: Chains,
+    pub(crate) outlook: Outlook,
     pub(crate) needs: Vec<Option<u32>>,
 }
 
 impl Model for FrameMap {
+    ghost use Rattle.a68_frames.specs.Outlooks.{AreViews};
     ghost use Rattle.a68_frames.specs.Tables.{FrameTables};
 
     ghost Value = { FrameTables };
 
-    ghost view = { λ map. record { slots = map.slots.counts.items; makes = map.slots.makes.items; places = map.slots.places.entries; chain = map.chains; needs = map.needs.items } };
+    ghost view = { λ map. record { slots = map.slots.counts.items; makes = map.slots.makes.items; places = map.slots.places.entries; chain = map.chains; texts = map.outlook.texts; needs = map.needs.items } };
+
+    ghost invariant = { λ map. AreViews map.chains.frames map.slots.places.entries map.outlook };
 }
 
 impl FrameMap {
@@ -66,7 +72,13 @@ impl FrameMap {
         ensures first { (tree : Built) → AreFrames tree self.now → IsFirstWay tree at definition result }
     {
         let start = self.chains.about(at);
-        find(&self.chains, &self.slots.places, start, definition)
+        find(
+            &self.chains,
+            &self.slots.places,
+            &self.outlook,
+            start,
+            definition,
+        )
     }
 
     /// Where a definition stands that has a slot in a range about a node, as seen from the node.
@@ -85,7 +97,7 @@ impl FrameMap {
         requires { at < length self.now.chain.about }
         ensures { (tree : Built) → AreFrames tree self.now → (ranges : List ℕ) → Lies tree at ranges → result ≡ frames.frames_of tree ranges }
     {
-        count(&self.chains, self.chains.about(at))
+        count(&self.chains, &self.outlook, self.chains.about(at))
     }
 
     /// How many frames lie between a node and the range about it in which another node stands, as a definition of a mode
@@ -112,12 +124,18 @@ impl FrameMap {
     /// that the definition stands outside of, to the number of frames outwards at which it stands there, if that is less.
     pub fn lower(&self, needs: &mut [Option<u32>], at: NodeId, definition: NodeId)
         requires { at < length self.now.chain.about }
-        ensures { (tree : Built) → AreFrames tree self.now → AreLowered (UsesSlotAtFrame tree at definition) needs.old needs.new }
+        ensures { (tree : Built) → AreFrames tree self.now → AreLowered (TextUsesSlotAt tree at definition) needs.old needs.new }
     {
         let start = self.chains.about(at);
-        let Some(step) = find(&self.chains, &self.slots.places, start, definition) else {
+        let Some(step) = find(
+            &self.chains,
+            &self.slots.places,
+            &self.outlook,
+            start,
+            definition,
+        ) else {
             return;
         };
-        lower(needs, &self.chains, start, step.hops);
+        lower(needs, &self.chains, &self.outlook, start, step.hops);
     }
 }

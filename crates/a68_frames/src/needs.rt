@@ -1,12 +1,15 @@
-//! The frames that ranges use from outside.
+//! The frames that routine texts use from outside.
 ghost use Rattle.std.specs.Prelude.{◌≡◌, ◌<◌, IfOk, length};
-ghost use Rattle.a68_frames.specs.Tables.{below, least_of, AreSlotsBefore, AreAboutBefore, AreLowered, AreNeedsBefore, Crosses, IsApplied, IsOneLowered, UsesAtFrame};
+ghost use Rattle.a68_frames.specs.Outlooks.{AreOutward, AreViews, CrossesText};
+ghost use Rattle.a68_frames.specs.Tables.{below, least_of, AreSlotsBefore, AreAboutBefore, AreLowered, AreNeedsBefore, AreTexts, IsApplied, IsOneLowered, TextUsesTagAt};
 ghost use Rattle.a68_ranges.specs.Links.{IsBelow};
 ghost use Rattle.a68_ranges.specs.Tables.{AreRanges};
 
-use crate::chain::{Chains, find};
+use crate::chain::Chains;
+use crate::outlook::Outlook;
 use crate::reading::is_tag;
 use crate::slots::RangeSlots;
+use crate::ways::find;
 use a68_base::NoMemory;
 use a68_ranges::Ranges;
 use a68_tree::{NodeId, Tree};
@@ -32,21 +35,32 @@ fn lower_one(needs: &mut [Option<u32>], range: NodeId, hops: u32)
     }
 }
 
-/// Lowers the needs of the ranges whose frames so many steps outwards pass, to the steps that are left behind them.
-pub fn lower(needs: &mut [Option<u32>], chains: &Chains, start: Option<usize>, steps: u32)
-    requires { IsBelow (length chains.now.frames) start }
-    ensures { AreLowered (Crosses chains.now.frames start steps) needs.old needs.new }
+/// Lowers the needs of the routine texts whose frames so many steps outwards pass, to the steps that are left behind them.
+pub fn lower(
+    needs: &mut [Option<u32>],
+    chains: &Chains,
+    outlook: &Outlook,
+    start: Option<usize>,
+    steps: u32,
+)
+    requires start { IsBelow (length chains.now.frames) start }
+    requires views { AreOutward chains.now.frames outlook.now.texts outlook.now.views }
+    ensures { AreLowered (CrossesText chains.now.frames outlook.now.texts start steps) needs.old needs.new }
 {
     let mut left = steps;
-    let mut next = start;
-    'outwards: while let Some(number) = next {
-        if left == 0 {
+    let mut from = start;
+    'texts: while let Some(number) = outlook.view(from).text {
+        let passed = outlook
+            .view(from)
+            .depth
+            .saturating_sub(outlook.view(Some(number)).depth);
+        if left <= passed {
             return;
         }
-        left -= 1;
+        left -= passed + 1;
         let frame = chains.frame(number);
         lower_one(needs, frame.range, left);
-        next = frame.outer;
+        from = frame.outer;
     }
 }
 
@@ -74,65 +88,73 @@ fn within(found: Option<NodeId>, bound: u32) -> Option<NodeId>
     }
 }
 
-// Lowers the needs of the ranges that use from outside the tag which a node applies.
+// Lowers the needs of the routine texts that use from outside the tag which a node applies.
 fn lower_tag(
     needs: &mut [Option<u32>],
     tree: &Tree,
     ranges: &Ranges,
     slots: &RangeSlots,
     chains: &Chains,
+    outlook: &Outlook,
     at: NodeId,
 )
     requires ranges { AreRanges tree.now ranges.now }
     requires slots { AreSlotsBefore tree.now (length tree.now.nodes) slots.now.places.entries slots.now.counts.items slots.now.makes.items }
     requires chains { AreAboutBefore tree.now (length tree.now.nodes) chains.now.about chains.now.frames }
+    requires texts { AreTexts tree.now outlook.now.texts }
+    requires views { AreViews chains.now.frames slots.now.places.entries outlook.now }
     requires there { at < length tree.now.nodes }
-    ensures { AreLowered (UsesAtFrame tree.now at) needs.old needs.new }
+    ensures { AreLowered (TextUsesTagAt tree.now at) needs.old needs.new }
 {
     let Some(definition) = applied(tree, ranges, at) else {
         return;
     };
     let start = chains.about(at);
-    let Some(step) = find(chains, &slots.places, start, definition) else {
+    let Some(step) = find(chains, &slots.places, outlook, start, definition) else {
         return;
     };
-    lower(needs, chains, start, step.hops);
+    lower(needs, chains, outlook, start, step.hops);
 }
 
-// Lowers the needs of the ranges that use tags from outside.
+// Lowers the needs of the routine texts that use tags from outside.
 fn lower_tags(
     needs: &mut [Option<u32>],
     tree: &Tree,
     ranges: &Ranges,
     slots: &RangeSlots,
     chains: &Chains,
+    outlook: &Outlook,
 )
     requires ranges { AreRanges tree.now ranges.now }
     requires slots { AreSlotsBefore tree.now (length tree.now.nodes) slots.now.places.entries slots.now.counts.items slots.now.makes.items }
     requires chains { AreAboutBefore tree.now (length tree.now.nodes) chains.now.about chains.now.frames }
+    requires texts { AreTexts tree.now outlook.now.texts }
+    requires views { AreViews chains.now.frames slots.now.places.entries outlook.now }
     requires before { AreNeedsBefore tree.now 0 needs.old }
     ensures { AreNeedsBefore tree.now (length tree.now.nodes) needs.new }
 {
     for at in 0..tree.len() {
-        lower_tag(needs, tree, ranges, slots, chains, at);
+        lower_tag(needs, tree, ranges, slots, chains, outlook, at);
     }
 }
 
-/// The need of each range of a tree that makes a frame: how many frames outwards the newest one stands of which it uses
-/// a tag from outside.
+/// The need of each routine text of a tree: how many frames outwards the newest one stands of which it uses a tag from outside.
 pub fn needs_of(
     alloc: Global,
     tree: &Tree,
     ranges: &Ranges,
     slots: &RangeSlots,
     chains: &Chains,
+    outlook: &Outlook,
 ) -> Result<Vec<Option<u32>>, NoMemory>
     requires ranges { AreRanges tree.now ranges.now }
     requires slots { AreSlotsBefore tree.now (length tree.now.nodes) slots.now.places.entries slots.now.counts.items slots.now.makes.items }
     requires chains { AreAboutBefore tree.now (length tree.now.nodes) chains.now.about chains.now.frames }
+    requires texts { AreTexts tree.now outlook.now.texts }
+    requires views { AreViews chains.now.frames slots.now.places.entries outlook.now }
     ensures { IfOk result (λ needs. AreNeedsBefore tree.now (length tree.now.nodes) needs.items) }
 {
     let mut needs = vec![in alloc; None; tree.len() as usize]?;
-    lower_tags(&mut needs, tree, ranges, slots, chains);
+    lower_tags(&mut needs, tree, ranges, slots, chains, outlook);
     Ok(needs)
 }

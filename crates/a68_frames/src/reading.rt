@@ -1,6 +1,7 @@
 //! Nodes, read at any number.
 ghost use Rattle.std.specs.Prelude.{◌≡◌, false, slice_index_or};
 ghost use Rattle.a68_frames.specs.Frames as frames;
+ghost use Rattle.a68_ranges.specs.Links as links;
 ghost use Rattle.a68_ranges.specs.Nodes as nodes;
 ghost use Rattle.a68_frames.specs.Tables as tables;
 
@@ -50,15 +51,22 @@ pub fn makes(kind: NodeKind, slots: u32) -> bool
     }
 }
 
-/// Does that range make a frame? A number of no node makes none.
-pub fn makes_frame(makes: &[bool], range: NodeId) -> bool
-    ensures { result ≡ slice_index_or makes.now range false }
+/// Is it told of that range? It is told of no number of no node.
+pub fn is_told(told: &[bool], range: NodeId) -> bool
+    ensures { result ≡ slice_index_or told.now range false }
 {
-    if (range as usize) < makes.len() {
-        makes[range as usize]
+    if (range as usize) < told.len() {
+        told[range as usize]
     } else {
         false
     }
+}
+
+/// Is a node of that kind a routine text?
+pub fn is_routine_text(kind: NodeKind) -> bool
+    ensures { result ≡ links.is_routine_text kind }
+{
+    matches!(kind, NodeKind::RoutineText)
 }
 
 /// Is a node of that kind an applied tag?

@@ -5,7 +5,7 @@ use Rattle.std.specs.Option.{option_map_or}
 use Rattle.std.proofs.lemmas.Bool.Decides.{eqb_tells}
 use Rattle.a68_frames.specs.Frames.{makes_frame}
 use Rattle.a68_frames.specs.Needs.{IsNeed, UsesSlotAt, UsesTag}
-use Rattle.a68_frames.specs.Tables.{Lowers, UsesSlotAtFrame}
+use Rattle.a68_frames.specs.Tables.{Lowers, TextUsesSlotAt}
 use Rattle.a68_notes.specs.Needs.{AreLoweredBy, AreNeeds, TextUsesBefore, by_tag, by_operator}
 use Rattle.a68_notes.specs.Notes.{applied_operator, UsesFrame}
 use Rattle.a68_notes.specs.Notes.{by_tag as uses_by_tag, by_operator as uses_by_operator}
@@ -71,11 +71,6 @@ need_more tree text needs need new are is e =
 
 -- ---- the needs by operators
 
--- a routine text makes a frame
-text_makes : (tree : Built) (text : ℕ) → kind_at tree text ≡ kind.RoutineText → makes_frame tree text ≡ true
-unfolding makes_frame
-text_makes tree text e = rw e refl
-
 -- what applies an operator is a node
 operator_there : (tree : Built) (found : Finding) (at d : ℕ) → applied_operator found (kind_at tree at) ≡ Some d → at < length tree.nodes
 operator_there tree found at d e = ⊎_elim (λ h. h) (λ h. absurd (skip (slice_get tree.nodes at) (past tree.nodes at h) e)) (below_or at (length tree.nodes))
@@ -128,11 +123,10 @@ module _ (a : Asked) where
         let low = is_there new text need is in
         let long = lowered.long in
         let was : slice_get old text ≡ Some mid = read old text None (omega arith) in
-        let makes = text_makes a.tree text form in
-        lower_need (TextUsesBefore a at text) (UsesSlotAtFrame a.tree at d text) (TextUsesBefore a (at + 1) text) mid need
+        lower_need (TextUsesBefore a at text) (TextUsesSlotAt a.tree at d text) (TextUsesBefore a (at + 1) text) mid need
         (before_more at text)
         (λ n u. by_operator at d (omega arith) some u.1)
-        (λ n u. ⊎_elim (λ o. inl o) (λ o. let one : o.0 ≡ d = one_definition (sym o.1 ∙ some) in inr (makes, subst (λ k. UsesSlotAt a.tree at k text n) one o.2)) (before_in at text n u))
+        (λ n u. ⊎_elim (λ o. inl o) (λ o. let one : o.0 ≡ d = one_definition (sym o.1 ∙ some) in inr (form, subst (λ k. UsesSlotAt a.tree at k text n) one o.2)) (before_in at text n u))
         (are.each text mid was form)
         (lowered.each text mid need was is);
   }

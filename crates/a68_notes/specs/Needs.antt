@@ -2,7 +2,7 @@
 -- The needs of routine texts, as they are found (own).
 use Rattle.std.specs.Prelude.{◌≡◌, ◌<◌, ℕ, List, length, slice_get, Option, Some, None}
 use Rattle.a68_frames.specs.Needs.{IsNeed, UsesSlotAt, UsesTag}
-use Rattle.a68_frames.specs.Tables.{AreLowered, UsesSlotAtFrame}
+use Rattle.a68_frames.specs.Tables.{AreLowered, TextUsesSlotAt}
 use Rattle.a68_notes.specs.Notes.{applied_operator}
 use Rattle.a68_positions.specs.Given.{finding_at}
 use Rattle.a68_ranges.specs.Nodes.{kind_at}
@@ -24,4 +24,4 @@ pub record AreNeeds (tree : Built) (Used : (text hops : ℕ) → Type 0) (count 
 -- the needs are lowered to what is used of a definition at a node, where it applies one
 abbrev pub AreLoweredBy : Built → (at : ℕ) → (definition : Option ℕ) → (old new : List (Option ℕ)) → Type 0
 AreLoweredBy tree at None old new = new ≡ old
-AreLoweredBy tree at (Some d) old new = AreLowered (UsesSlotAtFrame tree at d) old new
+AreLoweredBy tree at (Some d) old new = AreLowered (TextUsesSlotAt tree at d) old new

@@ -8,3 +8,4 @@ pub mod Indexing
 pub mod Looking
 pub mod Repeating
 pub mod Single
+pub mod Seeing

@@ -8,3 +8,4 @@ pub mod Links
 pub mod Tables
 pub mod Indexed
 pub mod Signed
+pub mod Visible

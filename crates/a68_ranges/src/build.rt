@@ -16,6 +16,7 @@ use crate::reading::{earlier, place_of};
 use crate::sort::IndicatorKind;
 use crate::standard::standard_names;
 use crate::tables::Ranges;
+use crate::visible::visible_of;
 use crate::written::written_of;
 use a68_base::{NoMemory, Refusal, Rule, Stop};
 use a68_tree::{NodeId, Parts, Tree};
@@ -69,6 +70,9 @@ fn tables_of(
     ensures { IfOk result (λ ranges. AreRanges tree.now ranges) }
 {
     let nests = nests_of(alloc, tree, &declared)?;
+    let visible_tags = visible_of(alloc, tree, IndicatorKind::Tag, &declared, &nests)?;
+    let visible_mode_words = visible_of(alloc, tree, IndicatorKind::ModeWord, &declared, &nests)?;
+    let visible_priorities = visible_of(alloc, tree, IndicatorKind::Priority, &declared, &nests)?;
     let operators = operators_of(alloc, tree, &declared)?;
     let standard = standard_names(alloc, tree)?;
     let written = written_of(alloc, tree)?;
@@ -80,6 +84,9 @@ fn tables_of(
         tags: indices.tags,
         mode_words: indices.mode_words,
         priorities: indices.priorities,
+        visible_tags,
+        visible_mode_words,
+        visible_priorities,
         standard,
         written,
     })

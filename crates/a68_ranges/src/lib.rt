@@ -13,6 +13,7 @@ mod sort;
 mod standard;
 mod tables;
 pub mod tags;
+mod visible;
 mod written;
 
 pub use build::ranges;

@@ -1,14 +1,14 @@
 //! The ranges about each node.
-ghost use Rattle.std.specs.Prelude.{◌≡◌, ◌<◌, IfOk, None, Some, length, slice_get, slice_index_or};
+ghost use Rattle.std.specs.Prelude.{◌≡◌, ◌<◌, ℕ, List, true, IfOk, None, Some, length, slice_get, slice_index_or};
 ghost use Rattle.std.specs.List.{All};
 ghost use Rattle.a68_ranges.specs.Definitions.{AreDeclared};
 ghost use Rattle.a68_ranges.specs.Parents.{AreParentsBefore, IsParentBefore, HaveParts};
 ghost use Rattle.a68_ranges.specs.Tables.{AreNests, IsNestOf, FindsOut};
-ghost use Rattle.a68_ranges.specs.Tables as tables;
 ghost use Rattle.a68_ranges.specs.Links.{IsBelow};
+ghost use Rattle.a68_ranges.specs.Visible.{AreTwins, AreVisible, IsTwin};
 
-use crate::index::Index;
 use crate::layers::enter;
+use crate::visible::Visible;
 use a68_base::NoMemory;
 use a68_tree::{NodeId, Parts, Tree};
 use std::alloc::Global;
@@ -29,22 +29,24 @@ pub struct Parent {
 }
 
 /// The ranges about each node of a tree: the number of the innermost layer, and the layers. Ranges that declare nothing have
-/// none, but for routine texts.
+/// none, but for routine texts. Each part of a range has a layer of its own; all but the first have a twin among the earlier ones.
 #[derive(Drop)]
 pub struct Nests {
     about: Vec<Option<usize>>,
     layers: Vec<Layer>,
+    twins: Vec<Option<usize>>,
 }
 
 impl Model for Nests {
     ghost use Rattle.a68_ranges.specs.Tables.{Nest};
     ghost use Rattle.a68_ranges.specs.Links.{LayersAreLinked};
+    ghost use Rattle.a68_ranges.specs.Visible.{AreTwins};
 
     ghost Value = { Nest };
 
     ghost view = { λ nests. record { about = nests.about.items; layers = nests.layers.items } };
 
-    ghost invariant = { λ nests. LayersAreLinked nests.about.items nests.layers.items };
+    ghost invariant = { λ nests. LayersAreLinked nests.about.items nests.layers.items × AreTwins nests.layers.items nests.twins.items };
 }
 
 impl Nests {
@@ -66,37 +68,91 @@ impl Nests {
         self.layers[number]
     }
 
-    /// The definition of a name by the innermost of the ranges about a node that has one.
-    pub fn find(&self, index: &Index, at: NodeId, name: u32) -> Option<NodeId>
-        requires { at < length self.now.about }
-        ensures { FindsOut self.now.layers index.now.entries name (slice_index_or self.now.about at None) result }
+    /// How many layers there are.
+    pub fn len(&self) -> usize
+        ensures { result ≡ length self.now.layers }
     {
-        find_out(self, index, self.about(at), name)
+        self.layers.len()
+    }
+
+    /// An earlier layer that is the same as the one of that number, where there is one.
+    pub fn twin(&self, number: usize) -> Option<usize>
+        requires { number < length self.now.layers }
+        ensures { IsTwin self.now.layers number result }
+    {
+        self.twins[number]
+    }
+
+    /// The definition of a name by the innermost of the ranges about a node that has one.
+    pub fn find(&self, visible: &Visible, at: NodeId, name: u32) -> Option<NodeId>
+        requires { at < length self.now.about }
+        ensures { (entries : List ((ℕ × ℕ) × ℕ)) → AreVisible self.now.layers entries visible.now
+            → FindsOut self.now.layers entries name (slice_index_or self.now.about at None) result }
+    {
+        visible.find(self.about(at), name)
     }
 }
 
-// Looks for a name in the range of a layer, and then in those outside it.
-fn find_out(nests: &Nests, index: &Index, start: Option<usize>, name: u32) -> Option<NodeId>
-    requires { IsBelow (length nests.now.layers) start }
-    ensures { FindsOut nests.now.layers index.now.entries name start result }
+fn is_same(one: Option<usize>, other: Option<usize>) -> bool
+    ensures { result ≡ true → one ≡ other }
 {
-    let mut next = start;
-    'outwards: while let Some(number) = next {
-        let layer = nests.layer(number);
-        let found = at_key(index, layer.range, name);
-        if found.is_some() {
-            return found;
-        }
-        next = layer.outer;
+    match (one, other) {
+        (None, None) => true,
+        (Some(a), Some(b)) => a == b,
+        (None, Some(_)) | (Some(_), None) => false,
     }
-    None
 }
 
-// What the index has for a name in a range.
-fn at_key(index: &Index, range: NodeId, name: u32) -> Option<NodeId>
-    ensures { result ≡ tables.at_key index.now.entries range name }
+fn is_same_layer(one: Layer, other: Layer) -> bool
+    ensures { result ≡ true → one ≡ other }
 {
-    index.get(&(range, name)).copied()
+    if one.range != other.range {
+        return false;
+    }
+    is_same(one.outer, other.outer)
+}
+
+// That layer, where it is an earlier one than another, and the same.
+fn twin_of(layers: &[Layer], number: usize, last: Option<usize>) -> Option<usize>
+    requires { number < length layers.now }
+    ensures { IsTwin layers.now number result }
+{
+    let Some(twin) = last else {
+        return None;
+    };
+    if twin >= number {
+        return None;
+    }
+    if is_same_layer(layers[twin], layers[number]) {
+        Some(twin)
+    } else {
+        None
+    }
+}
+
+// The last layer of a range so far; that one from now on.
+fn replace_last(last: &mut [Option<usize>], range: NodeId, number: usize) -> Option<usize> {
+    let place = range as usize;
+    if place >= last.len() {
+        return None;
+    }
+    let before = last[place];
+    last[place] = Some(number);
+    before
+}
+
+// For each layer an earlier one that is the same: the last one of its range. Where parts of a range lie in unlike layers, as WHILE
+// and DO do, a few layers have no twin though an earlier one is the same.
+fn twins_of(alloc: Global, layers: &[Layer], nodes: usize) -> Result<Vec<Option<usize>>, NoMemory>
+    ensures { IfOk result (λ twins. AreTwins layers.now twins.items) }
+{
+    let mut last = vec![in alloc; None; nodes]?;
+    let mut twins = Vec::new(alloc);
+    for number in 0..layers.len() {
+        let before = replace_last(&mut last, layers[number].range, number);
+        twins.push(twin_of(layers, number, before))?;
+    }
+    Ok(twins)
 }
 
 // Notes a node as the parent of these parts of it. Of two places of one part the first one counts.
@@ -163,5 +219,10 @@ pub fn nests_of(alloc: Global, tree: &Tree, declared: &[Parts]) -> Result<Nests,
         )?;
         about.push(nest)?;
     }
-    Ok(Nests { about, layers })
+    let twins = twins_of(alloc, &layers, tree.len() as usize)?;
+    Ok(Nests {
+        about,
+        layers,
+        twins,
+    })
 }

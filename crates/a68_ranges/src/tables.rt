@@ -6,6 +6,7 @@ ghost use Rattle.a68_ranges.specs.Standard.{IsTagOf, IsModeWordOf, IsPriorityOf}
 ghost use Rattle.a68_ranges.specs.Tables.{AreRanges, Nested, operators_in};
 ghost use Rattle.a68_ranges.specs.Links.{IsBelow, layered};
 ghost use Rattle.a68_ranges.specs.Surroundings.{Lies};
+ghost use Rattle.a68_ranges.specs.Visible.{IsTwin};
 ghost use Rattle.a68_ranges.specs.Tables as tables;
 ghost use Rattle.a68_ranges.specs.declared.standard.Standard.{Standard as Named};
 ghost use Rattle.a68_tree.specs.Trees.{Built};
@@ -14,6 +15,7 @@ use crate::index::Index;
 use crate::nests::{Layer, Nests};
 use crate::operators::{OperatorIndex, at_sign};
 use crate::standard::Standard;
+use crate::visible::Visible;
 use a68_tree::{NodeId, Parts};
 use std::marker::Model;
 
@@ -29,16 +31,22 @@ pub struct Ranges {
     pub(crate) tags: Index,
     pub(crate) mode_words: Index,
     pub(crate) priorities: Index,
+    pub(crate) visible_tags: Visible,
+    pub(crate) visible_mode_words: Visible,
+    pub(crate) visible_priorities: Visible,
     pub(crate) standard: Vec<Standard>,
     pub(crate) written: Vec<u32>,
 }
 
 impl Model for Ranges {
     ghost use Rattle.a68_ranges.specs.Tables.{RangeTables};
+    ghost use Rattle.a68_ranges.specs.Visible.{AreVisible};
 
     ghost Value = { RangeTables };
 
     ghost view = { λ ranges. record { count = ranges.count; nests = ranges.nests; declared = ranges.declared.items; operators = ranges.operators.entries; tags = ranges.tags.entries; mode_words = ranges.mode_words.entries; priorities = ranges.priorities.entries; standard = ranges.standard.items; written = ranges.written.items } };
+
+    ghost invariant = { λ ranges. AreVisible ranges.nests.layers ranges.tags.entries ranges.visible_tags × (AreVisible ranges.nests.layers ranges.mode_words.entries ranges.visible_mode_words × AreVisible ranges.nests.layers ranges.priorities.entries ranges.visible_priorities) };
 }
 
 impl Ranges {
@@ -48,7 +56,7 @@ impl Ranges {
         requires { at < length self.now.nests.about }
         ensures { (tree : Built) → AreRanges tree self.now → IsTagOf tree at name result }
     {
-        let found = self.nests.find(&self.tags, at, name);
+        let found = self.nests.find(&self.visible_tags, at, name);
         tag_or(found, standard_tag(&self.standard, name), self.count)
     }
 
@@ -58,7 +66,7 @@ impl Ranges {
         requires { at < length self.now.nests.about }
         ensures { (tree : Built) → AreRanges tree self.now → IsModeWordOf tree at name result }
     {
-        self.nests.find(&self.mode_words, at, name)
+        self.nests.find(&self.visible_mode_words, at, name)
     }
 
     /// The priority of a sign that is applied at a node: the one in the innermost of the ranges about it that declares
@@ -67,7 +75,7 @@ impl Ranges {
         requires { at < length self.now.nests.about }
         ensures { (tree : Built) → AreRanges tree self.now → IsPriorityOf tree at name result }
     {
-        let found = self.nests.find(&self.priorities, at, name);
+        let found = self.nests.find(&self.visible_priorities, at, name);
         priority_or(
             found,
             &self.written,
@@ -92,6 +100,15 @@ impl Ranges {
         ensures outer { IsBelow number result.outer }
     {
         self.nests.layer(number)
+    }
+
+    /// An earlier layer that is the same as the one of that number, where there is one: parts of one range lie in layers that are
+    /// the same, and a few of these have no twin.
+    pub fn twin(&self, number: usize) -> Option<usize>
+        requires { number < length self.now.nests.layers }
+        ensures { IsTwin self.now.nests.layers number result }
+    {
+        self.nests.twin(number)
     }
 
     /// What a range declares, in order of text.
