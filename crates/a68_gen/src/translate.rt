@@ -18,7 +18,6 @@ ghost use Rattle.a68_emit.specs.Texts.{apart_of, node_of, pair_of};
 ghost use Rattle.a68_emit.specs.Writers.{Wrote};
 ghost use Rattle.a68_emit.specs.Writing.{IsTooLong, Stops, most, ran_out};
 ghost use Rattle.a68_ranges.specs.Twice.{StopsBy};
-ghost use Rattle.a68_runs.specs.Running.{AreRuns};
 ghost use Rattle.a68_tree.specs.declared.node.Node.{Node};
 
 use a68_annot::Annotated;
@@ -28,7 +27,7 @@ use a68_constructs::unit;
 use a68_elab::Sight;
 use a68_emit::{Entered, Numbered, UnitNode, View, Writer, misfit};
 use a68_parts::behind_proc;
-use a68_runs::{leaves, which_run};
+use a68_runs::{leaves, look_at_all};
 use a68_tree::NodeId;
 use std::alloc::Global;
 
@@ -198,9 +197,8 @@ fn write_all(alloc: Global, program: &Numbered, entrances: &mut TextEntrances, o
     write_apart(alloc, program, entrances, out);
 }
 
-// The code of a program of which it is known which nodes run.
-fn code_of(alloc: Global, program: &Annotated, runs: Vec<bool>) -> Result<Code, Stop>
-    requires runs { AreRuns program.now runs.items }
+// The code of a program.
+fn code_of(alloc: Global, program: &Annotated) -> Result<Code, Stop>
     requires fits { Fits program.now.modes (length (units_in program.now)) false (program_of program.now).tree }
     requires apart { ApartFits program.now.modes (length (units_in program.now)) (program_of program.now).apart }
     requires modes { FitsModes program.now.modes (length (texts_in program.now)) (program_of program.now).tree }
@@ -210,7 +208,7 @@ fn code_of(alloc: Global, program: &Annotated, runs: Vec<bool>) -> Result<Code, 
     ensures short { IfOk result (λ code. length code.list ≤ most) }
     ensures too_long { IfErr result (λ stop. Stops stop (listing (program_of program.now))) }
 {
-    let numbered = Numbered::new(alloc, program, runs)?;
+    let numbered = Numbered::new(alloc, program)?;
     let mut entrances = TextEntrances {
         texts: Vec::new(alloc),
         units: Vec::new(alloc),
@@ -221,7 +219,8 @@ fn code_of(alloc: Global, program: &Annotated, runs: Vec<bool>) -> Result<Code, 
     if let Some(stop) = stop {
         return Err(stop);
     }
-    let modes = program.modes.copy(alloc)?;
+    let mut modes = program.modes.copy(alloc)?;
+    modes.lay_out(alloc)?;
     let TextEntrances { texts, units } = entrances;
     let code = list.finish(Routines { items: texts }, Places { items: units }, modes);
     Ok(code)
@@ -237,8 +236,8 @@ pub fn generate(alloc: Global, program: &Annotated) -> Result<Code, Stop>
     ensures refused { IfErr result (StopsBy (IsNotGenerated program.now)) }
 {
     let _root = program.tree.root();
-    let runs = which_run(alloc, program)?;
-    code_of(alloc, program, runs)
+    look_at_all(program);
+    code_of(alloc, program)
 }
 
 /// A law: the instructions of a program and the entrances of its routine texts and of its units are those that are listed,

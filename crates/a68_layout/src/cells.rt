@@ -1,10 +1,11 @@
 //! How many cells a mode takes.
-ghost use Rattle.std.specs.Prelude.{◌≡◌, ◌≤◌, ◌<◌, ◌+◌, min, IfOk, MatchOption};
+ghost use Rattle.std.specs.Prelude.{◌≡◌, ◌≤◌, ◌<◌, ◌+◌, length, min, take, IfOk, MatchOption};
 ghost use Rattle.a68_layout.specs.Widths as widths;
-ghost use Rattle.a68_layout.specs.Widths.{most_cells, width_within, width_of_fields};
+ghost use Rattle.a68_layout.specs.Widths.{most_cells, width_of, width_within, width_of_fields};
+ghost use Rattle.a68_modes.specs.Nodes.{shape_at};
 
 use a68_base::{MOST_COUNTED, NoMemory};
-use a68_modes::{ModeId, Modes, Shape};
+use a68_modes::{Fields, ModeId, Modes, Shape};
 
 // Counts on from a number by the cells of a value of a mode, up to one more than there may be. Structures lie at most
 // so deep in it.
@@ -47,6 +48,19 @@ pub fn width(modes: &Modes, mode: ModeId) -> u32
     ensures { result ≡ widths.cells_of modes.now mode }
 {
     count_on(modes, modes.len(), mode, 0)
+}
+
+/// How many cells a structure of these fields has before one of them, or before its end; one more than there may be where they are more.
+/// It takes no memory, and where the modes are laid out no time that grows with the fields.
+pub fn cells_before(modes: &Modes, structure: ModeId, fields: &Fields, field: usize) -> u32
+    requires structure { shape_at modes.now structure ≡ Shape.Struct fields.now }
+    requires there { field ≤ length fields.now }
+    ensures { result ≡ min (most_cells + 1) (width_of_fields (width_of modes.now) (take field fields.now)) }
+{
+    match modes.cells_before(structure, field) {
+        Some(cells) => cells,
+        None => fields_width(modes, modes.len(), &fields.items[..field]),
+    }
 }
 
 /// How many cells values of the modes of these fields take together, and one more than there may be where they are more.

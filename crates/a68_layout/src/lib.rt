@@ -19,7 +19,7 @@ mod types;
 mod views;
 mod wanted;
 
-pub use cells::{cells_of, end_of, fields_width};
+pub use cells::{cells_before, cells_of, end_of, fields_width};
 pub use measured::Measured;
 pub use needs::takes_bounds;
 pub use plans::{plan, plan_elements, plan_for};

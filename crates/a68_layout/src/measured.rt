@@ -6,7 +6,7 @@ ghost use Rattle.a68_layout.specs.Rooms.{needs_within, needs_of_fields};
 ghost use Rattle.a68_modes.specs.Nodes.{HoldsNodes, shape_at};
 
 use a68_base::NoMemory;
-use a68_modes::{ModeId, Modes, Shape};
+use a68_modes::{ModeId, Modes, Shape, inner_first};
 use std::alloc::Global;
 use std::marker::Model;
 
@@ -159,84 +159,17 @@ fn learnt(modes: &Modes, known: &[Option<Known>], mode: ModeId) -> Option<Known>
     }
 }
 
-// The modes that are yet to be looked at, the next one last, and those within which this was done.
-#[derive(Drop)]
-struct Search {
-    open: Vec<bool>,
-    left: Vec<ModeId>,
-}
-
-// Adds a mode to those that are yet to be looked at, unless that is begun or nothing is to be known of it.
-fn seek(modes: &Modes, mode: ModeId, search: &mut Search) -> Result<(), NoMemory> {
-    let at = mode as usize;
-    if at < search.open.len() && !search.open[at] && nothing_in(mode, modes).is_none() {
-        search.left.push(mode)?;
-    }
-    Ok(())
-}
-
-fn seek_fields(
-    modes: &Modes,
-    fields: &[(u32, ModeId)],
-    search: &mut Search,
-) -> Result<(), NoMemory> {
-    for field in fields {
-        seek(modes, field.1, search)?;
-    }
-    Ok(())
-}
-
-// Adds the modes within one.
-fn seek_within(modes: &Modes, mode: ModeId, search: &mut Search) -> Result<(), NoMemory>
-    requires { mode < length modes.now }
-{
-    match modes.shape(mode) {
-        Shape::Rows { of, .. } => seek(modes, *of, search),
-        Shape::Struct(fields) => seek_fields(modes, &fields.items, search),
-        Shape::Same(mode) => seek(modes, *mode, search),
-        _ => Ok(()),
-    }
-}
-
-// Looks at a mode: first at those within it, and at the second time at what is known of them.
-fn look(
-    modes: &Modes,
-    mode: ModeId,
-    known: &mut [Option<Known>],
-    search: &mut Search,
-) -> Result<(), NoMemory>
+// Learns what is known of modes in this order.
+fn learn(modes: &Modes, order: &[ModeId], known: &mut [Option<Known>])
     requires { AreKnown modes.now known.old }
     ensures { AreKnown modes.now known.new }
 {
-    let at = mode as usize;
-    if mode >= modes.len() || at >= known.len() || at >= search.open.len() {
-        return Ok(());
+    for mode in order {
+        let at = *mode as usize;
+        if *mode < modes.len() && at < known.len() {
+            known[at] = learnt(modes, known, *mode);
+        }
     }
-    if search.open[at] {
-        known[at] = learnt(modes, known, mode);
-        return Ok(());
-    }
-    search.open[at] = true;
-    search.left.push(mode)?;
-    seek_within(modes, mode, search)
-}
-
-// Looks at all modes that are left.
-fn look_at_all(
-    modes: &Modes,
-    known: &mut [Option<Known>],
-    search: &mut Search,
-) -> Result<(), NoMemory>
-    requires { AreKnown modes.now known.old }
-    ensures { OnOk result (AreKnown modes.now known.new) }
-{
-    for _ in 0..u64::MAX {
-        let Some(next) = search.left.pop() else {
-            return Ok(());
-        };
-        look(modes, next, known, search)?;
-    }
-    Ok(())
 }
 
 // A table in which nothing is known.
@@ -253,13 +186,11 @@ fn known_within(alloc: Global, modes: &Modes, mode: ModeId) -> Result<Vec<Option
     ensures { IfOk result (λ known. AreKnown modes.now known.items) }
 {
     let count = modes.len() as usize;
+    let mut first = Vec::new(alloc);
+    first.push(mode)?;
+    let order = inner_first(alloc, modes, first)?;
     let mut known = none_known(alloc, count)?;
-    let mut search = Search {
-        open: vec![in alloc; false; count]?,
-        left: Vec::new(alloc),
-    };
-    search.left.push(mode)?;
-    look_at_all(modes, &mut known, &mut search)?;
+    learn(modes, &order, &mut known);
     Ok(known)
 }
 

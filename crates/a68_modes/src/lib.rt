@@ -4,10 +4,13 @@
 mod coercion;
 mod lists;
 mod modes;
+mod order;
 mod shape;
 pub mod standard;
+mod widths;
 
 pub use coercion::{Coercion, Path, Sort};
 pub use lists::{Fields, Members};
 pub use modes::{ModeStop, Modes};
+pub use order::inner_first;
 pub use shape::{ModeId, Shape};

@@ -1,10 +1,13 @@
 //! The list of the modes.
-ghost use Rattle.std.specs.Prelude.{◌≡◌, ◌<◌, ◌≤◌, ◌↔◌, ◌++◌, ◌∷◌, [], IfOk, OnErr, Err, length, slice_set};
+ghost use Rattle.std.specs.Prelude.{◌≡◌, ◌<◌, ◌≤◌, ◌+◌, ◌↔◌, ◌++◌, ◌∷◌, [], IfOk, IfSome, OnErr, Err, length, min, slice_set, take};
+ghost use Rattle.a68_modes.specs.Known.{own_fields};
+ghost use Rattle.a68_modes.specs.Widths.{most_cells, width_of_fields, width_within};
 ghost use Rattle.a68_modes.specs.Nodes.{shape_at, is_plain, is_void, standard_shapes, HoldsNodes, ShapeIsWithin};
 ghost use Rattle.a68_modes.specs.declared.modes.ModeStop.TheVariants.{Full, NoMemory as no_memory};
 ghost use Rattle.a68_modes.specs.declared.shape.Shape.TheVariants.{Blank};
 
 use crate::standard::{STANDARD, standard_shape};
+use crate::widths::{Starts, lay_out};
 use crate::{ModeId, Shape};
 use a68_base::{MOST_MODES, NoMemory};
 use std::alloc::Global;
@@ -35,16 +38,22 @@ impl From<NoMemory> for ModeStop {
 /// Contracts see the list of the shapes.
 pub struct Modes {
     items: Vec<Shape>,
+    // where the fields of structures lie, once the modes are laid out; none of a mode that came later
+    starts: Vec<Starts>,
 }
 
 impl Drop for Modes {
     fn drop(self) {
-        let Modes { items: _ } = self;
+        let Modes {
+            items: _,
+            starts: _,
+        } = self;
     }
 }
 
 impl Model for Modes {
     ghost use Rattle.std.specs.Prelude.{List};
+    ghost use Rattle.a68_modes.specs.Known.{AreAllStarts};
     ghost use Rattle.a68_modes.specs.Nodes.{HoldsNodes};
     ghost use Rattle.a68_modes.specs.declared.shape.Shape.{Shape};
 
@@ -52,7 +61,7 @@ impl Model for Modes {
 
     ghost view = { λ modes. modes.items.items };
 
-    ghost invariant = { λ modes. HoldsNodes modes.items.items };
+    ghost invariant = { λ modes. HoldsNodes modes.items.items × AreAllStarts modes.items.items modes.starts.items };
 }
 
 impl Modes {
@@ -65,7 +74,8 @@ impl Modes {
             let shape = standard_shape(alloc, id)?;
             items.push(shape)?;
         }
-        Ok(Modes { items })
+        let starts = Vec::new(alloc);
+        Ok(Modes { items, starts })
     }
 
     /// How many nodes there are. A list of modes holds the standard ones, leads to no node that is not there, and has
@@ -89,6 +99,7 @@ impl Modes {
         if self.items.len() >= MOST_MODES as usize {
             return Err(ModeStop::Full);
         }
+        self.starts.clear();
         let id = self.items.len() as u32;
         match self.items.push(shape) {
             Ok(()) => Ok(id),
@@ -103,6 +114,7 @@ impl Modes {
         requires within { ShapeIsWithin (length self.old) shape }
         ensures { self.new ≡ slice_set self.old id shape }
     {
+        self.starts.clear();
         self.items[id as usize] = shape;
     }
 
@@ -134,7 +146,27 @@ impl Modes {
         ensures { IfOk result (λ modes. modes ≡ self.now) }
     {
         let items = copied(alloc, &self.items)?;
-        Ok(Modes { items })
+        let starts = Vec::new(alloc);
+        Ok(Modes { items, starts })
+    }
+
+    /// Lays the modes out: from now on, until a node is added or set, `cells_before` tells where the fields of structures lie. It takes
+    /// a time that grows with the nodes and their parts.
+    pub fn lay_out(&mut self, alloc: Global) -> Result<(), NoMemory>
+        ensures { self.new ≡ self.old }
+    {
+        let starts = lay_out(alloc, self, &self.items)?;
+        self.starts = starts;
+        Ok(())
+    }
+
+    /// How many cells a structure has before this field, or before its end where the field is as many as there are; one more than there
+    /// may be where they are more. None where the modes are not laid out, where the mode is no structure, or where it is not known.
+    pub fn cells_before(&self, mode: ModeId, field: usize) -> Option<u32>
+        ensures { IfSome result (λ cells. cells ≡ min (most_cells + 1) (width_of_fields (width_within (length self.now) self.now) (take field (own_fields (shape_at self.now mode))))) }
+    {
+        let starts = self.starts.get(mode as usize)?;
+        starts.cells.get(field).copied()
     }
 }
 

@@ -1,7 +1,7 @@
 -- The fields of structures, from the last one on.
 use Rattle.std.proofs.Common.{◌≡◌, ◌+◌, ◌-◌, ◌<◌, ◌≤◌, ℕ, zero, suc, true, false, List, [], ◌∷◌, length, take, drop, get_or, refl, ap, sym, ◌∙◌, arith}
 use Rattle.std.specs.Prelude.{None, Some, nat_eq, nat_lt}
-use Rattle.a68_acts.specs.Operations.{part_at, part_of, part_in, fields_of, names_rows, selected_from, selected}
+use Rattle.a68_acts.specs.Operations.{part_at, part_of, part_in, fields_in, fields_of, names_rows, selected_from, selected}
 use Rattle.a68_acts.specs.declared.operation.Doing.TheVariants.{Yields, Meets}
 use Rattle.a68_values.specs.declared.act.FaultKind.TheVariants.{Kind}
 use Rattle.std.proofs.lemmas.Bool.{eq-eqb, ne_eqb, lt-ltb}
@@ -157,6 +157,11 @@ part_in-past k v vs e past = rw (e, part_at-past k vs past) refl
 
 pub part_in-there : (k : ℕ) (v : Content) (vs : List Content) (w d : Content) → v ≡ structure (contents_of vs) → k < length vs → w ≡ get_or vs k d → Some w ≡ part_in k v
 part_in-there k v vs w d e inside same = rw (e, part_at-there k vs d inside) (ap (λ x. Some x) same)
+
+-- the shape of a mode that has fields
+pub structure-shape : (s : Shape) (fields : List (ℕ × ℕ)) → Some fields ≡ fields_in s → s ≡ Struct fields
+structure-shape (Struct own) fields e = cc
+structure-shape _ fields e = absurd (cc)
 
 -- the field of one that has it
 pub selected-here : (modes : List Shape) (m k : ℕ) (v : Content) (fields : List (ℕ × ℕ)) → Some fields ≡ fields_of modes (shape_at modes m) → k < length fields

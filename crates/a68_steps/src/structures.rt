@@ -11,7 +11,7 @@ use crate::fetching::{assign_steps, fetch_steps};
 use crate::going::goes;
 use a68_acts::{Doing, Left, Next, Step, Steps, Want};
 use a68_base::{MOST_COUNTED, NoMemory};
-use a68_layout::{end_of, fields_width};
+use a68_layout::{cells_before, end_of};
 use a68_modes::{Fields, ModeId, Modes, Shape};
 use a68_values::{Bounds, Elements, FaultKind, Held, Name, Plain, Value, ValueNode, Values};
 use std::alloc::Global;
@@ -168,30 +168,29 @@ fn fields_in(modes: &Modes, mode: ModeId) -> Option<&Fields>
     }
 }
 
-// The fields of a structure, or of those of a row.
-fn fields_behind(modes: &Modes, mode: ModeId) -> Option<&Fields>
-    ensures { option_copied result ≡ operations.fields_behind modes.now (shape_at modes.now mode) }
+// The mode of what a row is made of, and another one as it is.
+fn element_of(modes: &Modes, mode: ModeId) -> ModeId
+    ensures { operations.fields_in (shape_at modes.now result) ≡ operations.fields_behind modes.now (shape_at modes.now mode) }
 {
     if mode >= modes.len() {
-        return None;
+        return mode;
     }
     match modes.shape(mode) {
-        Shape::Rows { of, .. } => fields_in(modes, *of),
-        Shape::Struct(fields) => Some(fields),
-        _ => None,
+        Shape::Rows { of, .. } => *of,
+        _ => mode,
     }
 }
 
-// The fields of a structure, of those of a row, or of either to which a name refers.
-fn fields_of(modes: &Modes, mode: ModeId) -> Option<&Fields>
-    ensures { option_copied result ≡ operations.fields_of modes.now (shape_at modes.now mode) }
+// The mode whose fields are those of a structure, of those of a row, or of either to which a name refers.
+fn structure_of(modes: &Modes, mode: ModeId) -> ModeId
+    ensures { operations.fields_in (shape_at modes.now result) ≡ operations.fields_of modes.now (shape_at modes.now mode) }
 {
     if mode >= modes.len() {
-        return None;
+        return mode;
     }
     match modes.shape(mode) {
-        Shape::Ref(mode) => fields_behind(modes, *mode),
-        _ => fields_behind(modes, mode),
+        Shape::Ref(mode) => element_of(modes, *mode),
+        _ => element_of(modes, mode),
     }
 }
 
@@ -378,7 +377,8 @@ pub fn selected(
     ensures { IfOk result (λ doing. doing ≡ operations.selected modes.now mode field value) }
 {
     let rows = names_rows(modes, mode);
-    let Some(fields) = fields_of(modes, mode) else {
+    let structure = structure_of(modes, mode);
+    let Some(fields) = fields_in(modes, structure) else {
         drop(value);
         return Ok(Doing::Meets(FaultKind::Kind));
     };
@@ -387,7 +387,7 @@ pub fn selected(
         drop(value);
         return Ok(Doing::Meets(FaultKind::Kind));
     }
-    let offset = fields_width(modes, modes.len(), &fields.items[..field]);
+    let offset = cells_before(modes, structure, fields, field);
     let doing = selected_from(alloc, rows, offset, field, value)?;
     Ok(doing)
 }

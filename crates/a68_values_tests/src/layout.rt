@@ -36,6 +36,57 @@ fn widths(rt: HostRuntime) {
     drop(modes);
 }
 
+/// Structures and places among their fields, and how many cells lie before these: those of the fields in front.
+const PLACES: &[(ModeId, usize, Option<u32>)] = &[
+    (POINT, 0, Some(0)),
+    (POINT, 1, Some(1)),
+    (POINT, 2, Some(2)),
+    (POINT, 3, None),
+    (BOX, 1, Some(1)),
+    (BOX, 2, Some(3)),
+    (BOX, 3, Some(4)),
+    (NAMED, 1, Some(1)),
+    (DEEP, 0, Some(0)),
+    (DEEP, 1, Some(4_194_305)),
+    (INT, 0, None),
+    (EITHER, 0, None),
+    (REF_BOX, 0, None),
+    (1_000, 0, None),
+];
+
+#[test]
+fn places_of_fields(rt: HostRuntime) {
+    let alloc = rt.alloc();
+    let mut modes = modes(alloc).expect(&rt, "modes");
+    holds(
+        &rt,
+        modes.cells_before(BOX, 1).is_none(),
+        "not laid out yet",
+    );
+    modes.lay_out(alloc).expect(&rt, "memory");
+    for (mode, field, cells) in PLACES {
+        holds(
+            &rt,
+            modes.cells_before(*mode, *field) == *cells,
+            "the cells before a field",
+        );
+    }
+    let count = modes.len();
+    add_structure(alloc, &mut modes, &[BOX, BOX]).expect(&rt, "modes");
+    holds(
+        &rt,
+        modes.cells_before(count, 1).is_none(),
+        "not laid out again",
+    );
+    modes.lay_out(alloc).expect(&rt, "memory");
+    holds(
+        &rt,
+        modes.cells_before(count, 1) == Some(4),
+        "laid out again",
+    );
+    drop(modes);
+}
+
 // Modes behind the standard ones.
 
 /// [] INT.

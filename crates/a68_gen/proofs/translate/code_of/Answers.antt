@@ -30,13 +30,13 @@ returns-clause-translates c =
     c.write_all.ensures.texts c.in_default.is ∙ ap (λ (x : Annotated). texts_entered (program_of x)) c.in_ok-numbered.ensures in
     let units : begun ≡ units_entered (program_of a) =
     c.write_all.ensures.units c.in_default.is ∙ ap (λ (x : Annotated). units_entered (program_of x)) c.in_ok-numbered.ensures in
-    let made : Code = record { list = map (linked begun) w1.list; texts = found; units = begun; modes = c.in_ok-modes.modes } in
+    let made : Code = record { list = map (linked begun) w1.list; texts = found; units = begun; modes = c.lay_out.new.self } in
     let few : length w1.list ≤ most = search rules in
-    rw c.finish-code.ensures (is_translated a made w1.list w1.stop c.in_default.is w refl few texts units c.in_ok-modes.ensures c.requires.fits c.requires.apart)
+    rw c.finish-code.ensures (is_translated a made w1.list w1.stop c.in_default.is w refl few texts units (c.lay_out.ensures ∙ c.in_ok-modes.ensures) c.requires.fits c.requires.apart)
 
 pub returns-clause-valid : goal.returns-clause-valid
 returns-clause-valid c =
     let begun : List ℕ = c.write_all.new.entrances.units.items in
-    let made : Code = record { list = map (linked begun) c.write_all.new.out.list; texts = c.write_all.new.entrances.texts.items; units = begun; modes = c.in_ok-modes.modes } in
+    let made : Code = record { list = map (linked begun) c.write_all.new.out.list; texts = c.write_all.new.entrances.texts.items; units = begun; modes = c.lay_out.new.self } in
     let t = rw c.finish-code.ensures at (returns-clause-translates c) in
-    rw c.finish-code.ensures (is_valid c.args.program.now made t c.in_ok-modes.ensures c.requires.modes c.requires.apart_modes)
+    rw c.finish-code.ensures (is_valid c.args.program.now made t (c.lay_out.ensures ∙ c.in_ok-modes.ensures) c.requires.modes c.requires.apart_modes)

@@ -4,13 +4,14 @@ use Rattle.a68_modes.specs.declared.shape.Shape.{Shape}
 use Rattle.a68_modes.specs.declared.shape.Shape.TheVariants.{Blank}
 use Rattle.a68_modes.specs.Nodes.{standard_shapes, HoldsNodes}
 use Rattle.a68_modes.proofs.Holding.{standard_holds}
+use Rattle.a68_modes.proofs.Measuring.{none-laid}
 use Rattle.a68_modes.proofs.modes.Modes.new.Goals as goal
 
 pub invariant_of-result : goal.invariant_of-result
 invariant_of-result c =
     let all : c.loop-id.id ≡ 15 = omega arith in
     let is : c.loop-id.items.items ≡ standard_shapes = c.loop-id.invariant ∙ ap (λ (n : ℕ). take n standard_shapes) all in
-    subst HoldsNodes (sym is) standard_holds
+    (subst HoldsNodes (sym is) standard_holds, none-laid c.loop-id.items.items c.new-starts.result.items c.new-starts.ensures.items)
 
 pub loop-id-preserved : goal.loop-id-preserved
 loop-id-preserved c =
