@@ -321,7 +321,7 @@ fn unit_within(program: &View, id: NodeId) -> Option<NodeId>
     if !is_bare_out(node, note) {
         return None;
     }
-    if !program.of.runs(id) {
+    if !program.of.surely_runs(id) {
         return None;
     }
     let parts = program.of.parts(id);
@@ -341,7 +341,7 @@ fn is_choice(program: &View, id: NodeId) -> bool
     if !is_bare_choice(node, note) {
         return false;
     }
-    if !program.of.runs(id) {
+    if !program.of.surely_runs(id) {
         return false;
     }
     if program.of.parts(id).len() == 0 {

@@ -42,7 +42,11 @@ pub fn unit(alloc: Global, program: &View, id: NodeId, out: &mut Writer)
     }
     let node = program.of.node(id);
     let note = program.of.note(id);
-    if !program.of.runs(id) {
+    let Ok(is_run) = program.of.runs(id) else {
+        out.run_out();
+        return;
+    };
+    if !is_run {
         misfit(node.span.from, program.of.asks_value(id), out);
         return;
     }

@@ -337,9 +337,3 @@ module _ (f : ℕ → ℕ) where
       let long : length numbers ≡ end = ap (λ (l : List ℕ). length l) are ∙ up_to_long end in
       let there = slice_get_read numbers (length numbers) byte n refl (omega arith) e in
       same_Some n (f byte) (sym there ∙ ap (λ (l : List ℕ). slice_get l byte) are ∙ up_to_at end byte less)
-
--- what stands at a place that is there, whatever stood in its place if it were not
-pub get-either : (xs : List Bool) (i : ℕ) (b c : Bool) → i < length xs → get_or xs i b ≡ get_or xs i c
-get-either [] i b c less = absurd (omega arith)
-get-either (x ∷ xs) zero b c less = refl
-get-either (x ∷ xs) (suc i) b c less = get-either xs i b c (omega arith)

@@ -109,7 +109,7 @@ pub fn next_link(program: &View, link: &Link) -> Option<Link>
     if !is_link(node, note) {
         return None;
     }
-    if !program.of.runs(id) {
+    if !program.of.surely_runs(id) {
         return None;
     }
     let place = node.span.from;

@@ -10,7 +10,6 @@ ghost use Rattle.a68_emit.specs.Texts as texts;
 ghost use Rattle.a68_emit.specs.Texts.{AreFirsts, AreFirstUnits, AreInside, AreNumbered};
 ghost use Rattle.a68_modes.specs.Nodes.{shape_at, is_void};
 ghost use Rattle.a68_parts.specs.Selecting.{selected};
-ghost use Rattle.a68_runs.specs.Running.{AreRuns};
 ghost use Rattle.a68_tree.specs.Trees.{AllBetween};
 
 use crate::entered::{Entered, UnitNode};
@@ -19,13 +18,13 @@ use a68_annot::{Annotated, Note};
 use a68_base::NoMemory;
 use a68_modes::{ModeId, Modes};
 use a68_parts::selected_fields;
-use a68_runs::leaves;
+use a68_runs::{is_run, leaves};
 use a68_tree::{Node, NodeId, NodeKind};
 use std::alloc::Global;
 use std::marker::Model;
 
 /// An annotated tree whose routine texts and units of parallel clauses are numbered in order of text, and of which it is
-/// known which nodes run, which fields selections take and which labels clauses have. The numbers are kept by the bytes at
+/// known which fields selections take and which labels clauses have. The numbers are kept by the bytes at
 /// which these begin, so that each is found at once.
 #[derive(Drop)]
 pub struct Numbered<'a> {
@@ -33,7 +32,6 @@ pub struct Numbered<'a> {
     apart: Vec<Entered>,
     texts: Vec<u32>,
     units: Vec<u32>,
-    runs: Vec<bool>,
     fields: Vec<usize>,
     labels: ClauseLabels,
 }
@@ -44,7 +42,6 @@ impl<'a> Model for Numbered<'a> {
     ghost use Rattle.a68_emit.specs.Seats.{AreLabels};
     ghost use Rattle.a68_emit.specs.Texts.{AreNumbered};
     ghost use Rattle.a68_parts.specs.Selecting.{AreSelected};
-    ghost use Rattle.a68_runs.specs.Running.{AreRuns};
 
     ghost Value = { Annotated };
 
@@ -52,7 +49,7 @@ impl<'a> Model for Numbered<'a> {
 
     ghost view = { λ numbered. numbered.program.now };
 
-    ghost invariant = { λ numbered. AreNumbered numbered.program.now numbered.apart.items numbered.texts.items numbered.units.items × AreRuns numbered.program.now numbered.runs.items × AreSelected numbered.program.now numbered.fields.items × AreLabels numbered.program.now numbered.labels.keys };
+    ghost invariant = { λ numbered. AreNumbered numbered.program.now numbered.apart.items numbered.texts.items numbered.units.items × AreSelected numbered.program.now numbered.fields.items × AreLabels numbered.program.now numbered.labels.keys };
 }
 
 // The byte behind that at which a node begins, or one that is behind it already.
@@ -219,13 +216,8 @@ fn number_apart(
 }
 
 impl<'a> Numbered<'a> {
-    /// An annotated tree, of which it is known which nodes run, with its routine texts and units numbered.
-    pub fn new(
-        alloc: Global,
-        program: &'a Annotated,
-        runs: Vec<bool>,
-    ) -> Result<Numbered<'a>, NoMemory>
-        requires { AreRuns program.now runs.items }
+    /// An annotated tree with its routine texts and units numbered.
+    pub fn new(alloc: Global, program: &'a Annotated) -> Result<Numbered<'a>, NoMemory>
         ensures { IfOk result (λ numbered. numbered ≡ program.now) }
     {
         let fields = selected_fields(alloc, program)?;
@@ -248,7 +240,6 @@ impl<'a> Numbered<'a> {
             apart,
             texts,
             units,
-            runs,
             fields,
             labels,
         })
@@ -303,13 +294,22 @@ impl<'a> Numbered<'a> {
         self.program.note(id)
     }
 
-    /// Does a node run: does it leave what is asked of it?
-    #[tactic(auto, unfolding(a68_elab::specs::Runs::runs))]
-    pub fn runs(&self, id: NodeId) -> bool
+    /// Does a node run: does it leave what is asked of it? It is asked when the node is written, so that no more bounds are looked
+    /// at than instructions are written.
+    pub fn runs(&self, id: NodeId) -> Result<bool, NoMemory>
         requires { id < length self.now.tree.nodes }
-        ensures { result ≡ runs self.now id }
+        ensures { IfOk result (λ is_run. is_run ≡ runs self.now id) }
     {
-        self.runs[id as usize]
+        let alloc = *self.fields.allocator();
+        is_run(alloc, self.program, &self.fields, id)
+    }
+
+    /// The same, but that it does not tell that a node runs where there is no memory to find out.
+    pub fn surely_runs(&self, id: NodeId) -> bool
+        requires { id < length self.now.tree.nodes }
+        ensures { result ≡ true → runs self.now id ≡ true }
+    {
+        matches!(self.runs(id), Ok(true))
     }
 
     /// The place of the field that a node takes, if it is a selection, among those of the structure; else 0.

@@ -1,15 +1,14 @@
 -- Declarers whose bounds are yet to be added.
-use Rattle.std.proofs.Common.{◌≡◌, ◌≢◌, ◌≤◌, ◌<◌, ◌+◌, ◌-◌, ℕ, zero, suc, Bool, true, false, List, [], ◌∷◌, ◌++◌, length, drop, take, get_or, refl, sym, ◌∙◌, ap, subst, arith, append_assoc, append-nil, None, Some}
+use Rattle.std.proofs.Common.{◌≡◌, ◌≢◌, ◌≤◌, ◌<◌, ◌+◌, ◌-◌, ℕ, zero, suc, Bool, true, false, List, [], ◌∷◌, ◌++◌, length, drop, take, get_or, refl, sym, ◌∙◌, ap, arith, append_assoc, append-nil, None, Some}
 use Rattle.std.proofs.lemmas.List.{drop_all, length-append, length-map, map-append}
 use Rattle.std.specs.Option.{option_map_or}
-use Rattle.std.specs.Prelude.{map, nat_eq, slice_get, if◌then◌else◌}
+use Rattle.std.specs.Prelude.{map, slice_get, if◌then◌else◌}
 use Rattle.std.specs.declared.option.Option.{Option}
 use Rattle.a68_annot.specs.declared.annotated.Annotated.{Annotated}
 use Rattle.a68_annot.specs.declared.note.Note.{Note}
 use Rattle.a68_elab.specs.Made as made
 use Rattle.a68_elab.specs.Made.{bounds_within, field_bounds, from_definition, most_bounds, row_bounds, word_bounds}
 use Rattle.a68_elab.specs.declared.bound.Bound.{Bound}
-use Rattle.a68_elab.specs.declared.bound.Bound.TheVariants as bound
 use Rattle.a68_runs.proofs.Listing.{all_from_there, fields_next, fields_past, rows_end, rows_next, take_full, word_is}
 use Rattle.a68_runs.specs.Bounds.{AreAdded, outwards, seen_from}
 use Rattle.a68_runs.specs.Opens.{all_of, listed, looks_of, marks_within, those_of}

@@ -1,5 +1,5 @@
 -- Which nodes run.
-use Rattle.std.proofs.Common.{◌≡◌, ◌<◌, ◌≤◌, ◌⊎◌, ⊎_elim, inl, inr, ℕ, zero, suc, ◌+◌, ◌-◌, Bool, true, false, List, [], ◌∷◌, ◌++◌, length, length-append, drop, get_or, refl, sym, ◌∙◌, ap, subst, arith, add-one, drop-cons, None, Some}
+use Rattle.std.proofs.Common.{◌≡◌, ◌<◌, ◌≤◌, ◌⊎◌, ⊎_elim, inl, inr, ℕ, zero, suc, ◌+◌, ◌-◌, Bool, true, false, List, [], ◌∷◌, length, drop, get_or, refl, sym, ◌∙◌, ap, subst, arith, add-one, drop-cons, None, Some}
 use Rattle.std.proofs.lemmas.Bool.{cases_lt}
 use Rattle.std.proofs.lemmas.Option.{same_Some}
 use Rattle.std.specs.Prelude.{not, ◌&&◌, ◌||◌, if◌then◌else◌}
@@ -7,7 +7,7 @@ use Rattle.std.specs.Option.{option_and_then}
 use Rattle.std.specs.declared.option.Option.{Option}
 use Rattle.a68_annot.specs.declared.annotated.Annotated.{Annotated}
 use Rattle.a68_elab.specs.Made.{behind_proc, behind_ref, is_exit, is_label, kind_at, rowed_to}
-use Rattle.a68_elab.specs.Runs.{are_phrases, are_steps, is_outcome, is_there, last_outcome, outcome, path_leaves, runs}
+use Rattle.a68_elab.specs.Runs.{are_phrases, are_steps, is_outcome, is_there, last_outcome, outcome, path_leaves}
 use Rattle.a68_runs.specs.Running.{AreThere, IsThere, behind, one_more, passes, value_of, width}
 use Rattle.a68_runs.specs.declared.paths.Between.{Between}
 use Rattle.a68_modes.specs.Nodes.{shape_at, is_void}
@@ -176,22 +176,3 @@ split i id less = ⊎_elim (λ l. inl l) (λ ge. inr (omega arith)) (cases_lt i 
 
 pub there-more : (a : Annotated) (id : ℕ) → AreThere a id → IsThere a id → AreThere a (id + 1)
 there-more a id before here = λ i less. ⊎_elim (λ l. before i l) (λ e. subst (λ k. IsThere a k) (sym e) here) (split i id less)
-
--- one more at the end of what a function gives
-pub each-more : (list : List Bool) (next : Bool) (f : ℕ → Bool) → ((i : ℕ) → i < length list → get_or list i false ≡ f i) → next ≡ f (length list)
-    → (i : ℕ) → i < length (list ++ next ∷ []) → get_or (list ++ next ∷ []) i false ≡ f i
-each-more [] next f each e zero less = e
-each-more [] next f each e (suc i) less = absurd (omega arith)
-each-more (x ∷ list) next f each e zero less = each 0 (omega arith)
-each-more (x ∷ list) next f each e (suc i) less = each-more list next (λ k. f (suc k)) (λ k l. each (suc k) (omega arith)) e i (omega arith)
-
--- whether each of so many nodes runs
-pub record AreRunsBefore (a : Annotated) (count : ℕ) (list : List Bool) : Type 0 where
-  pub long : length list ≡ count
-  pub each : (id : ℕ) → id < length list → get_or list id false ≡ runs a id
-
-pub runs-more : (a : Annotated) (id : ℕ) (old new : List Bool) (next : Bool) → AreRunsBefore a id old → new ≡ old ++ next ∷ [] → next ≡ runs a id → AreRunsBefore a (id + 1) new
-runs-more a id old new next before e is = record {
-  long = (let l = before.long in ap (λ (x : List Bool). length x) e ∙ omega (arith, length-append old (next ∷ [])));
-  each = subst (λ (x : List Bool). (i : ℕ) → i < length x → get_or x i false ≡ runs a i) (sym e) (each-more old next (runs a) before.each (is ∙ ap (runs a) (sym before.long)));
-}

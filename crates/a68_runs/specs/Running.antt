@@ -1,13 +1,13 @@
 -- Inner: the headline does not rest on this file.
 -- Steps on the way to which nodes run.
-use Rattle.std.specs.Prelude.{◌≡◌, ◌<◌, ℕ, Bool, true, false, List, length, None, Some, get_or, slice_get, not, ◌||◌, if◌then◌else◌}
+use Rattle.std.specs.Prelude.{◌≡◌, ◌<◌, ℕ, Bool, true, false, List, length, None, Some, slice_get, not, ◌||◌, if◌then◌else◌}
 use Rattle.std.specs.Option.{option_and_then}
 use Rattle.std.specs.declared.option.Option.{Option}
 use Rattle.a68_modes.specs.declared.standard.TheConstants as standard
 use Rattle.a68_annot.specs.declared.annotated.Annotated.{Annotated}
 use Rattle.a68_annot.specs.declared.note.Note.{Note}
 use Rattle.a68_elab.specs.Made.{behind_proc, behind_ref, is_exit, is_label, kind_at, rowed_to}
-use Rattle.a68_elab.specs.Runs.{is_outcome, is_there, outcome, runs}
+use Rattle.a68_elab.specs.Runs.{is_outcome, is_there, outcome}
 use Rattle.a68_runs.specs.declared.paths.Between.{Between}
 use Rattle.a68_modes.specs.Nodes.{shape_at, is_void}
 use Rattle.a68_modes.specs.declared.coercion.Coercion.{Coercion}
@@ -54,8 +54,3 @@ passes a wanted id next = is_label (kind_at a id) || is_outcome (if is_exit (kin
 -- how many nodes a step or a label takes: with EXIT behind it two
 abbrev pub width : Annotated → (id next : ℕ) → ℕ
 width a id next = if is_label (kind_at a id) then 1 else (if is_exit (kind_at a next) then 2 else 1)
-
--- whether each node runs, by its number
-pub record AreRuns (a : Annotated) (list : List Bool) : Type 0 where
-  pub long : length list ≡ length a.tree.nodes
-  pub each : (id : ℕ) → id < length list → get_or list id false ≡ runs a id

@@ -10,5 +10,5 @@ mod slices;
 
 pub use bounds::{bounds_of, further};
 pub use outcomes::{leaves, outcome};
-pub use runs::which_run;
+pub use runs::{is_run, look_at_all};
 pub use slices::form_of;

@@ -6,7 +6,7 @@ ghost use Rattle.a68_elab.specs.Made as made;
 ghost use Rattle.a68_elab.specs.Runs as runs;
 ghost use Rattle.a68_parts.specs.Loops.{AreWithin};
 ghost use Rattle.a68_parts.specs.Selecting.{AreSelected, selected};
-ghost use Rattle.a68_runs.specs.Running.{AreRuns, AreThere, IsThere};
+ghost use Rattle.a68_runs.specs.Running.{AreThere, IsThere};
 ghost use Rattle.a68_modes.specs.Nodes.{HoldsNodes, shape_at};
 ghost use Rattle.a68_tree.specs.Trees.{AllBetween};
 
@@ -26,8 +26,8 @@ use a68_denote::{bits_of, int_of, long_of};
 use a68_modes::{ModeId, Shape};
 use a68_parts::{
     LoopParts, before_out, begins_in_heap, begins_with_declarer, behind_heap, called, fields_at,
-    first_goal, is_one_of, is_quoted, items_at, loop_parts, only_id, out_of, printers,
-    selected_fields, truths, wholes,
+    first_goal, is_one_of, is_quoted, items_at, loop_parts, only_id, out_of, printers, truths,
+    wholes,
 };
 use a68_signs::operators;
 use a68_tree::{Node, NodeId, NodeKind};
@@ -403,9 +403,10 @@ fn agrees(outcome: Option<bool>, left: Option<bool>) -> bool
     }
 }
 
-// Does a node run?
+/// Does a node run: does it leave what is asked of it? The places are those of the fields that the selections of the tree take. It
+/// takes a time that grows with what the node writes where it runs, and not with the nodes within its parts.
 #[tactic(auto, unfolding(a68_elab::specs::Runs::runs))]
-fn is_run(
+pub fn is_run(
     alloc: Global,
     program: &Annotated,
     places: &[usize],
@@ -413,8 +414,7 @@ fn is_run(
 ) -> Result<bool, NoMemory>
     requires there { id < length program.now.tree.nodes }
     requires places { AreSelected program.now places.now }
-    ensures runs { IfOk result (λ is_run. is_run ≡ runs.runs program.now id) }
-    ensures there { IsThere program.now id }
+    ensures { IfOk result (λ is_run. is_run ≡ runs.runs program.now id) }
 {
     let node = program.tree.node(id);
     let note = program.note(id);
@@ -422,30 +422,22 @@ fn is_run(
     Ok(agrees(outcome_by(program, node, note), left))
 }
 
-// Lists which nodes run, of which the selections take the fields of these places.
-fn list_runs(alloc: Global, program: &Annotated, places: &[usize]) -> Result<Vec<bool>, NoMemory>
-    requires { AreSelected program.now places.now }
-    ensures runs { IfOk result (λ list. AreRuns program.now list.items) }
-    ensures there { IfOk result (λ list. AreThere program.now (length program.now.tree.nodes)) }
-    ensures nodes { HoldsNodes program.now.modes }
+// A node is there and has a note.
+fn look_at(program: &Annotated, id: NodeId)
+    requires { id < length program.now.tree.nodes }
+    ensures { IsThere program.now id }
 {
-    let _nodes = program.modes.len();
-    let mut list = Vec::new(alloc);
-    for id in 0..program.tree.len() {
-        let is_run = is_run(alloc, program, places, id)?;
-        list.push(is_run)?;
-    }
-    Ok(list)
+    let _node = program.tree.node(id);
+    let _note = program.note(id);
 }
 
-/// Which nodes run: whether each of them leaves what is asked of it, by their numbers.
-pub fn which_run(alloc: Global, program: &Annotated) -> Result<Vec<bool>, NoMemory>
-    ensures runs { IfOk result (λ list. AreRuns program.now list.items) }
-    ensures there { IfOk result (λ list. AreThere program.now (length program.now.tree.nodes)) }
+/// Looks at all nodes: each is there and has a note, and its parts stand behind it.
+pub fn look_at_all(program: &Annotated)
+    ensures there { AreThere program.now (length program.now.tree.nodes) }
     ensures nodes { HoldsNodes program.now.modes }
 {
     let _nodes = program.modes.len();
-    let places = selected_fields(alloc, program)?;
-    let list = list_runs(alloc, program, &places)?;
-    Ok(list)
+    for id in 0..program.tree.len() {
+        look_at(program, id);
+    }
 }

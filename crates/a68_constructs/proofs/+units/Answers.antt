@@ -55,11 +55,11 @@ use Rattle.a68_modes.specs.Nodes.{shape_at, is_void}
 pub rows::unit-returns-then-has_stopped : goal.rows::unit-returns-then-has_stopped
 rows::unit-returns-then-has_stopped t c = stopped_writes c.args.out.now.stop c.args.out.now.list c.args.out.now.list _ (sym c.has_stopped.ensures ∙ c.if-has_stopped.true)
 
-pub rows::unit-returns-then-not-runs : goal.rows::unit-returns-then-not-runs
-rows::unit-returns-then-not-runs t c =
+pub rows::unit-returns-then-not-is_run : goal.rows::unit-returns-then-not-is_run
+rows::unit-returns-then-not-is_run t c =
     let v = c.args.program.now in
     let a = v.of.now in
-    let tree = tree_misfit a v.sight c.args.id c.node-node.result.now c.note-note.result.now c.node-node.ensures.is c.note-note.ensures (sym c.runs.ensures ∙ c.if-not-runs.true) in
+    let tree = tree_misfit a v.sight c.args.id c.node-node.result.now c.note-note.result.now c.node-node.ensures.is c.note-note.ensures (sym c.in-Ok.ensures ∙ c.if-not-is_run.true) in
     let written = rw c.asks_value.ensures at c.misfit.ensures in
     rw (tree, misfit_lies (seat_of v) _ _) written
 
@@ -69,7 +69,7 @@ rows::unit-returns-then-not-are_built t c =
     let a = v.of.now in
     let note = c.note-note.result.now in
     let node = c.node-node.result.now in
-    let tree = tree_run a v.sight c.args.id node note c.node-node.ensures.is c.note-note.ensures (sym c.runs.ensures ∙ c.if-not-runs.false) in
+    let tree = tree_run a v.sight c.args.id node note c.node-node.ensures.is c.note-note.ensures (sym c.in-Ok.ensures ∙ c.if-not-is_run.false) in
     let built = rw c.modes.ensures at c.are_built.ensures in
     rw (tree, coerced_meaningless a.modes node.span.from note.goal note.mode note.path _ (sym built ∙ c.if-not-are_built.true)) c.meaningless.ensures
 
@@ -78,7 +78,7 @@ rows::unit-returns t c =
     let a = c.args.program.now.of.now in
     let note = c.note-note.result.now in
     let node = c.node-node.result.now in
-    let tree = tree_run a c.args.program.now.sight c.args.id node note c.node-node.ensures.is c.note-note.ensures (sym c.runs.ensures ∙ c.if-not-runs.false) in
+    let tree = tree_run a c.args.program.now.sight c.args.id node note c.node-node.ensures.is c.note-note.ensures (sym c.in-Ok.ensures ∙ c.if-not-is_run.false) in
     let path = coercions a.modes node.span.from note.goal note.mode note.path in
     let built = rw c.modes.ensures at c.are_built.ensures in
     let coerced : Writes c.construct.new.out.stop c.coerce.new.out.stop c.construct.new.out.list c.coerce.new.out.list path = rw c.modes-2.ensures at c.coerce.ensures in

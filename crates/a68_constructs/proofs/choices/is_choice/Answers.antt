@@ -10,6 +10,6 @@ returns c = λ is. record {
   noted = c.note-note.ensures;
   choice = c.is_bare_choice.ensures.kind c.if-not-is_bare_choice.false;
   bare = c.is_bare_choice.ensures.path c.if-not-is_bare_choice.false;
-  run = sym c.runs.ensures ∙ c.if-not-runs.false;
+  run = c.surely_runs.ensures c.if-not-surely_runs.false;
   some = subst (λ ids. 0 < length ids) (sym (node_parts c.args.program.now.of.now c.args.id c.node-node.result.now c.parts.result.now c.node-node.ensures.is c.parts.ensures.is)) (omega arith);
 }

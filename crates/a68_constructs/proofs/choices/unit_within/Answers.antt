@@ -11,7 +11,7 @@ returns-clause-tree c =
     let same = node_parts a c.args.id node ids c.node-node.ensures.is c.parts-parts.ensures.is in
     let b = between-each c.args.id _ 0 ids c.parts-parts.ensures.behind (omega arith) in
     out_is a c.args.program.now.sight c.args.id _ node c.note-note.result.now c.node-node.ensures.is c.note-note.ensures
-    (sym c.runs.ensures ∙ c.if-not-runs.false) (c.is_bare_out.ensures.kind c.if-not-is_bare_out.false) (c.is_bare_out.ensures.path c.if-not-is_bare_out.false)
+    (c.surely_runs.ensures c.if-not-surely_runs.false) (c.is_bare_out.ensures.kind c.if-not-is_bare_out.false) (c.is_bare_out.ensures.path c.if-not-is_bare_out.false)
     (same ∙ one_only ids (omega arith)) b.0
 
 pub returns-clause-within : goal.returns-clause-within

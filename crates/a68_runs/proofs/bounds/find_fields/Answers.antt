@@ -1,4 +1,3 @@
-use Rattle.a68_elab.specs.Made as made
 use Rattle.std.proofs.Common.{refl, arith}
 use Rattle.a68_runs.proofs.Opening.{field_step, look_step}
 use Rattle.a68_runs.proofs.bounds.find_fields.Goals as goal

@@ -1,4 +1,4 @@
-use Rattle.std.proofs.Common.{◌∙◌, arith, length, sym}
+use Rattle.std.proofs.Common.{◌∙◌, arith, sym}
 use Rattle.a68_runs.proofs.Running.{last-step, step-fails, step-passes}
 use Rattle.a68_runs.proofs.outcomes.are_steps.Goals as goal
 

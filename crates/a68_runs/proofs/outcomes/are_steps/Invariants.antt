@@ -1,4 +1,4 @@
-use Rattle.std.proofs.Common.{ℕ, ◌≡◌, ◌≤◌, ◌-◌, drop, length}
+use Rattle.std.proofs.Common.{◌≡◌, ◌≤◌, ◌-◌, drop, length}
 use Rattle.a68_elab.specs.Runs.{are_steps}
 use Rattle.a68_runs.proofs.outcomes.are_steps.Given as goal
 

@@ -1,4 +1,4 @@
-use Rattle.std.proofs.Common.{◌≡◌, ◌∙◌, length, arith}
+use Rattle.std.proofs.Common.{arith}
 use Rattle.a68_parts.proofs.Selecting.{place_is, places_long}
 use Rattle.a68_runs.proofs.runs.is_run.Goals as goal
 

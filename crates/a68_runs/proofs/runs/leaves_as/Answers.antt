@@ -1,4 +1,4 @@
-use Rattle.std.proofs.Common.{◌≡◌, List, ℕ, refl, rules}
+use Rattle.std.proofs.Common.{◌≡◌, refl, rules}
 use Rattle.a68_tree.specs.declared.kind.NodeKind.TheVariants as kind
 use Rattle.a68_runs.proofs.runs.leaves_as.Goals as goal
 

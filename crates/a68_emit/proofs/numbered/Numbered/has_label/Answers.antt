@@ -7,5 +7,5 @@ use Rattle.a68_emit.proofs.numbered.Numbered.has_label.Goals as goal
 
 pub returns : goal.returns
 returns c =
-    c.contains.ensures ∙ c.self.invariant.3 c.args.clause c.args.label
+    c.contains.ensures ∙ c.self.invariant.2 c.args.clause c.args.label
     ∙ ap (λ (x : Annotated). is_label_in c.args.label (labels_among x (parts_at x c.args.clause))) c.self.view_is
