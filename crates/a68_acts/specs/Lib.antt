@@ -3,6 +3,7 @@ pub mod Fetching
 pub mod Keeping
 pub mod Members
 pub mod Operations
+pub mod Passing
 pub mod Rowing
 pub mod Steps
 pub mod Store

@@ -1,10 +1,13 @@
 //! Steps of operations of many acts.
-ghost use Rattle.std.specs.Prelude.{◌≡◌, ◌==◌, [], ◌∷◌, length, OnOk, OnErr, MatchOption};
+ghost use Rattle.std.specs.Prelude.{◌≡◌, ◌<◌, ◌==◌, [], ◌∷◌, length, reverse, slice_set, IfSome, OnOk, OnErr, MatchOption};
+ghost use Rattle.std.specs.Vec.{vec_len};
+ghost use Rattle.a68_acts.specs.Passing.{PassesAssign, PassesFetch};
 
 use a68_base::NoMemory;
-use a68_values::{Bounds, Elements, Held, Name, Value};
+use a68_values::{Bounds, Elements, Held, Name, Plain, Value, Values};
 use std::alloc::Global;
 use std::marker::Model;
+use std::mem;
 
 /// A step of an operation of many acts. The values that steps leave are kept until a step takes them.
 #[derive(Drop)]
@@ -69,6 +72,31 @@ pub enum Step {
     Stray,
 }
 
+// The cell to which a step gives a plain value, and that value.
+#[inline(always)]
+fn plainly_given(step: &Step) -> Option<(u32, Plain)>
+    ensures { IfSome result (λ given. step.now ≡ Step.Assign given.0 (Held.Plain given.1)) }
+{
+    let Step::Assign {
+        cell,
+        held: Held::Plain(held),
+    } = step
+    else {
+        return None;
+    };
+    Some((*cell, *held))
+}
+
+// Puts a step in the place of another.
+#[inline(always)]
+fn put(steps: &mut Vec<Step>, at: usize, step: Step)
+    requires { at < length steps.old.items }
+    ensures items { steps.new.items ≡ slice_set steps.old.items at step }
+    ensures len { vec_len steps.new ≡ vec_len steps.old }
+{
+    steps[at] = step;
+}
+
 /// Steps. Contracts see the next one first.
 pub struct Steps {
     items: Vec<Step>,
@@ -118,6 +146,47 @@ impl Steps {
     {
         self.items.pop()
     }
+
+    /// Takes the next step off where it fetches a plain cell and the one behind it does too, and gives the cell of that one.
+    #[inline(always)]
+    pub fn pass_fetch(&mut self) -> Option<u32>
+        ensures { MatchOption result (self.new ≡ self.old) (λ cell. PassesFetch self.old cell self.new) }
+    {
+        let count = self.items.len();
+        if count < 2 {
+            return None;
+        }
+        let Step::Fetch { cell: _ } = &self.items[count - 1] else {
+            return None;
+        };
+        let Step::Fetch { cell } = &self.items[count - 2] else {
+            return None;
+        };
+        let cell = *cell;
+        let passed = self.items.pop();
+        drop(passed);
+        Some(cell)
+    }
+
+    /// Where the next step waits until a cell has what it is given, and the one behind it gives a cell a plain value: takes the
+    /// first off and lets the other wait in its turn. Gives that cell and the value.
+    #[inline(always)]
+    pub fn pass_assign(&mut self) -> Option<(u32, Plain)>
+        ensures { MatchOption result (self.new ≡ self.old) (λ next. PassesAssign self.old next.0 next.1 self.new) }
+    {
+        let count = self.items.len();
+        if count < 2 {
+            return None;
+        }
+        let Step::Assigned = &self.items[count - 1] else {
+            return None;
+        };
+        let next = plainly_given(&self.items[count - 2])?;
+        put(&mut self.items, count - 2, Step::Assigned);
+        let passed = self.items.pop();
+        drop(passed);
+        Some(next)
+    }
 }
 
 /// The values that steps have left. Contracts see the latest one first.
@@ -161,6 +230,22 @@ impl Left {
     {
         self.items.push(value)?;
         Ok(())
+    }
+
+    /// How many values are left?
+    pub fn len(&self) -> usize
+        ensures { result ≡ length self.now }
+    {
+        self.items.len()
+    }
+
+    /// Takes all values, in the order in which they were left.
+    pub fn take_all(&mut self, alloc: Global) -> Values
+        ensures values { result ≡ reverse self.old }
+        ensures none { self.new ≡ [] }
+    {
+        let items = mem::replace(&mut self.items, Vec::new(alloc));
+        Values { items }
     }
 
     /// Is no value left?

@@ -2,6 +2,7 @@
 ghost use Rattle.std.specs.Prelude.{◌≡◌, ◌<◌, ◌+◌, ◌≤◌, ◌∷◌, ℕ, true, false, length, IfOk, OnOk, MatchOption};
 ghost use Rattle.a68_values.specs.Content.{contents_of, structure};
 ghost use Rattle.std.specs.List.{All};
+ghost use Rattle.a68_modes.specs.Nodes.{is_plain, shape_at};
 ghost use Rattle.a68_layout.specs.Widths.{cells_of, most_cells, width_within, width_of, width_of_fields};
 ghost use Rattle.a68_acts.specs.Fetching as fetching;
 ghost use Rattle.a68_acts.specs.Fetching.{fetch_within, assign_within, has_parts};
@@ -127,6 +128,27 @@ pub fn fetch_steps(modes: &Modes, mode: ModeId, end: u32, steps: &mut Steps) -> 
     Ok(())
 }
 
+// The same of an element of a row, of which it is told whether it is plain: most elements are, and for one of these there is
+// nothing to look up.
+#[inline(always)]
+fn fetch_element(
+    modes: &Modes,
+    of: ModeId,
+    plain: bool,
+    end: u32,
+    steps: &mut Steps,
+) -> Result<(), NoMemory>
+    requires plain { plain ≡ is_plain (shape_at modes.now of) }
+    requires room { width_of modes.now of ≤ end }
+    ensures { (cell : ℕ) → cell + width_of modes.now of ≡ end → OnOk result (steps.new ≡ fetching.fetch_steps modes.now of cell steps.old) }
+{
+    if plain {
+        steps.push(Step::Fetch { cell: end - 1 })?;
+        return Ok(());
+    }
+    fetch_steps(modes, of, end, steps)
+}
+
 /// The steps of fetching the elements of a row, whose first cells these are and each of which takes so many cells, put
 /// in front of the steps.
 pub fn fetch_elements(
@@ -140,10 +162,11 @@ pub fn fetch_elements(
     requires room { All (λ cell. cell + width ≤ most_cells) cells.now }
     ensures { OnOk result (steps.new ≡ fetching.fetch_elements modes.now of cells.now steps.old) }
 {
+    let plain = modes.is_plain(of);
     let mut left = cells.len();
     while left > 0 {
         left -= 1;
-        fetch_steps(modes, of, cells[left] + width, steps)?;
+        fetch_element(modes, of, plain, cells[left] + width, steps)?;
     }
     Ok(())
 }
@@ -248,6 +271,25 @@ fn take_cell(
 {
     let step = match values.items.pop() {
         Some(value) => assign_cell(shape, cell, value),
+        None => Step::Stray,
+    };
+    steps.push(step)?;
+    Ok(())
+}
+
+// Takes the last value off, and puts the step of assigning it to a plain cell in front of the steps.
+#[inline(always)]
+fn take_plain(cell: u32, values: &mut Values, steps: &mut Steps) -> Result<(), NoMemory>
+    requires { 0 < length values.old }
+    ensures values { OnOk result (values.new ≡ all_but 1 values.old) }
+    ensures steps { OnOk result (steps.new ≡ fetching.assign_plain true cell (last_of values.old) ∷ steps.old) }
+{
+    let step = match values.items.pop() {
+        Some(value) => {
+            let step = assign_plain(true, cell, &value);
+            drop(value);
+            step
+        }
         None => Step::Stray,
     };
     steps.push(step)?;
@@ -372,6 +414,29 @@ fn assign_last(
     Ok(())
 }
 
+// The same of an element of a row, of which it is told whether it is plain.
+#[inline(always)]
+fn assign_element(
+    modes: &Modes,
+    of: ModeId,
+    plain: bool,
+    end: u32,
+    values: &mut Values,
+    steps: &mut Steps,
+) -> Result<(), NoMemory>
+    requires some { 0 < length values.old }
+    requires plain { plain ≡ is_plain (shape_at modes.now of) }
+    requires room { width_of modes.now of ≤ end }
+    requires few { end ≤ most_cells }
+    ensures values { OnOk result (values.new ≡ all_but 1 values.old) }
+    ensures steps { (cell : ℕ) → cell + width_of modes.now of ≡ end → OnOk result (steps.new ≡ fetching.assign_steps modes.now of cell (last_of values.old) steps.old) }
+{
+    if plain {
+        return take_plain(end - 1, values, steps);
+    }
+    assign_last(modes, of, end, values, steps)
+}
+
 /// The steps of assigning a value to a name of the mode, whose cells end before this one, put in front of the steps.
 pub fn assign_steps(
     alloc: Global,
@@ -408,11 +473,12 @@ pub fn assign_elements(
     requires same { length parts ≡ length cells.now }
     ensures { OnOk result (steps.new ≡ fetching.assign_elements modes.now of cells.now parts steps.old) }
 {
+    let plain = modes.is_plain(of);
     let mut values = parts;
     let mut left = cells.len();
     while left > 0 {
         left -= 1;
-        assign_last(modes, of, cells[left] + width, &mut values, steps)?;
+        assign_element(modes, of, plain, cells[left] + width, &mut values, steps)?;
     }
     Ok(())
 }

@@ -23,6 +23,9 @@ fn latest(alloc: Global, count: usize, left: &mut Left) -> Result<Values, NoMemo
     ensures values { IfOk result (λ values. values ≡ reverse (take count left.old)) }
     ensures rest { IfOk result (λ values. left.new ≡ drop count left.old) }
 {
+    if count == left.len() {
+        return Ok(left.take_all(alloc));
+    }
     let mut items = Vec::new(alloc);
     take_latest(count, left, &mut items)?;
     items.reverse();
