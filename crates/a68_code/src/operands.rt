@@ -105,7 +105,7 @@ impl Does {
     }
 
     /// How many values the instruction takes from the stack; none where no usize holds that.
-    pub(crate) fn takes(&self) -> Option<usize>
+    pub fn takes(&self) -> Option<usize>
         ensures { MatchOption result (2 ^ 64 ≤ takes self.now) (λ count. count ≡ takes self.now) }
     {
         match self {
@@ -138,7 +138,7 @@ impl Does {
     }
 
     /// How many values it leaves there.
-    pub(crate) fn leaves(&self, modes: &Modes) -> usize
+    pub fn leaves(&self, modes: &Modes) -> usize
         ensures { result ≡ leaves modes.now self.now }
     {
         match self {

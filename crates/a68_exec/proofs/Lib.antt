@@ -1,5 +1,6 @@
 pub mod Alive
 pub mod Jumping
+pub mod Passing
 pub mod Scopes
 pub mod Settled
 pub mod Sparing

@@ -1,6 +1,6 @@
 -- How many items a strand has that fits a code.
-use Rattle.std.proofs.Common.{◌≡◌, ◌<◌, ◌≤◌, ◌+◌, ◌*◌, ℕ, arith, List, [], ◌∷◌, length, refl, subst, sym, mul_comm, suc-mul}
-use Rattle.a68_code.specs.Flow.{one_if}
+use Rattle.std.proofs.Common.{◌<◌, ◌≤◌, ◌+◌, ◌*◌, ℕ, arith, List, [], ◌∷◌, length, subst, sym, mul_comm, suc-mul}
+use Rattle.a68_code.specs.Flow.{Reaches, one_if}
 use Rattle.a68_code.specs.Flow.Reaches.{begins}
 use Rattle.a68_code.specs.Valid.{IsValid}
 use Rattle.a68_code.specs.declared.code.Code.{Code}
@@ -9,7 +9,6 @@ use Rattle.a68_code.specs.declared.owner.Owner.TheVariants as owner
 use Rattle.a68_heights.proofs.Leading.{first}
 use Rattle.a68_heights.proofs.Rising.{few_values}
 use Rattle.a68_heights.specs.Heights.{Awaits, Below, Calls, Enters, Fits, FitsBy, MayGoOn, MayStand}
-use Rattle.a68_heights.specs.Room.{Suffices}
 use Rattle.a68_instructions.specs.Machine.{State}
 use Rattle.a68_instructions.specs.declared.ask.Stance.{Stance}
 use Rattle.a68_instructions.specs.declared.ask.Stance.TheVariants.{Idle, Asking, Failed, Waits, Closed}
@@ -19,7 +18,11 @@ use Rattle.a68_stack.specs.Values.{callers, height}
 use Rattle.a68_stack.specs.declared.stack.Item.{Item}
 use Rattle.a68_stack.specs.declared.stack.Item.TheVariants as item
 
-module _ (code : Code) (most : ℕ) (suffices : Suffices code most) where
+-- an activation of the code has fewer items than this wherever its ways lead
+abbrev pub IsMore : Code → (most : ℕ) → Type 0
+IsMore code most = (whose : Owner) (at height : ℕ) → Reaches code whose at height → height < most
+
+module _ (code : Code) (most : ℕ) (suffices : IsMore code most) where
   some : 0 < most
   some = suffices owner.Program 0 0 (begins (first 0 []))
 
@@ -87,7 +90,7 @@ module _ (code : Code) (most : ℕ) (suffices : Suffices code most) where
       omega (arith, few, all, product, turned)
 
 -- as many as the code has instructions suffice
-pub list_suffices : (code : Code) → IsValid code → Suffices code (length code.list)
+pub list_suffices : (code : Code) → IsValid code → IsMore code (length code.list)
 list_suffices code valid whose at h r = few_values code whose valid at h r
 
 pub innermost : (code : Code) → IsValid code → (st : State) → Fits code st → height st.stack.items < length code.list

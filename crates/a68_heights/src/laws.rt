@@ -1,5 +1,5 @@
 //! Laws of the machine on valid code.
-ghost use Rattle.std.specs.Prelude.{◌≡◌, ◌<◌, ◌≤◌, ◌+◌, ◌*◌, Some, suc, false, length, All, Contains, ℕ, List};
+ghost use Rattle.std.specs.Prelude.{◌≡◌, ◌<◌, ◌≤◌, ◌+◌, ◌*◌, Some, false, length, All, Contains, ℕ, List};
 ghost use Rattle.a68_acts.specs.declared.want.Reply.{Reply};
 ghost use Rattle.a68_code.specs.Flow.{entrances};
 ghost use Rattle.a68_code.specs.Valid.{IsValid};
@@ -8,7 +8,7 @@ ghost use Rattle.a68_code.specs.declared.owner.Owner.{Owner};
 ghost use Rattle.a68_exec.specs.Memory.{SettlesNot, TakesMemory};
 ghost use Rattle.a68_exec.specs.Runs.{Machine, World, acted, opening};
 ghost use Rattle.a68_heights.specs.Heights.{Fits};
-ghost use Rattle.a68_heights.specs.Room.{HasInnerRoom, Suffices, is_entering};
+ghost use Rattle.a68_heights.specs.Room.{HasInnerRoom, MakesRoomFor, Suffices, is_entering};
 ghost use Rattle.a68_instructions.specs.Machine.{State, beginning, next_state, replied, settle};
 ghost use Rattle.a68_stack.specs.Values.{callers, height};
 ghost use Rattle.a68_values.specs.declared.act.Act.{Act};
@@ -43,19 +43,19 @@ pub fn activations_fit()
         → All (λ (st : State). (height st.stack.items < length code.list) × (length st.stack.items < length code.list * (1 + callers st.stack.items))) end.strands }
 {}
 
-/// States that a stack on which the innermost activation has room for as many items as one of the code may have holds all items
-/// of a strand that fits it, and that this room is left by each silent step and each reply; only the reply by which a routine is
-/// entered wants new room, which is counted above its caller. So where such a strand finds no memory on the way to its next act,
-/// one of its instructions there works on other values than plain ones.
+/// States that a stack on which each open activation has room for as many items as it may have holds all items of a strand that
+/// fits the code, and that this room is left by each silent step and each reply; only the reply by which a routine is entered wants
+/// new room, which is counted above its caller. So where such a strand finds no memory on the way to its next act, one of its
+/// instructions there works on other values than plain ones.
 pub fn stacks_keep_their_room()
-    ensures holds { (code : Code) (most : ℕ) → Suffices code most → (room : ℕ) (st : State) → Fits code st → HasInnerRoom most room st → length st.stack.items < room }
-    ensures begins { (most room at : ℕ) (chain : List Environ) → most ≤ room → HasInnerRoom most room (beginning at chain) }
-    ensures steps { (code : Code) (most room : ℕ) (st next : State) → HasInnerRoom most room st → next_state code st ≡ Some next → HasInnerRoom most room next }
-    ensures settles { (code : Code) (most room : ℕ) (st : State) → HasInnerRoom most room st → HasInnerRoom most room (settle code st) }
-    ensures told { (code : Code) (most room : ℕ) (st : State) (reply : Reply) → is_entering st.stance ≡ false → HasInnerRoom most room st
-        → HasInnerRoom most room (replied code st reply) }
-    ensures entered { (code : Code) (most room : ℕ) (st : State) (reply : Reply) → suc (length st.stack.items) + most ≤ room
-        → HasInnerRoom most room (replied code st reply) }
-    ensures plainly { (code : Code) → IsValid code → (most : ℕ) → Suffices code most → (room : ℕ) (st : State) → Fits code st → HasInnerRoom most room st
+    ensures holds { (code : Code) (most : ℕ → ℕ) → Suffices code most → (room : ℕ) (st : State) → Fits code st → HasInnerRoom code most room st → length st.stack.items < room }
+    ensures begins { (code : Code) (most : ℕ → ℕ) (room at : ℕ) (chain : List Environ) → most at ≤ room → HasInnerRoom code most room (beginning at chain) }
+    ensures steps { (code : Code) (most : ℕ → ℕ) → Suffices code most → (room : ℕ) (st next : State) → HasInnerRoom code most room st → next_state code st ≡ Some next → HasInnerRoom code most room next }
+    ensures settles { (code : Code) (most : ℕ → ℕ) → Suffices code most → (room : ℕ) (st : State) → HasInnerRoom code most room st → HasInnerRoom code most room (settle code st) }
+    ensures told { (code : Code) (most : ℕ → ℕ) → Suffices code most → (room : ℕ) (st : State) (reply : Reply) → is_entering st.stance ≡ false → HasInnerRoom code most room st
+        → HasInnerRoom code most room (replied code st reply) }
+    ensures entered { (code : Code) (most : ℕ → ℕ) → Suffices code most → (room : ℕ) (st : State) (reply : Reply) → HasInnerRoom code most room st → MakesRoomFor code most room st st.stance reply
+        → HasInnerRoom code most room (replied code st reply) }
+    ensures plainly { (code : Code) (most : ℕ → ℕ) → Suffices code most → (room : ℕ) (st : State) → Fits code st → HasInnerRoom code most room st
         → SettlesNot code room st → TakesMemory code st }
 {}

@@ -1,9 +1,8 @@
 //! Where ways lead behind an instruction, and how many values they come there with.
-ghost use Rattle.std.specs.Prelude.{◌≡◌, ◌<◌, ◌+◌, ◌^◌, ◌++◌, ◌∷◌, [], ℕ, OnOk, if◌then◌else◌, nat_eq};
+ghost use Rattle.std.specs.Prelude.{◌≡◌, ◌<◌, ◌+◌, ◌^◌, ◌++◌, ◌∷◌, [], ℕ, IfOk, IsTrue, OnOk, if◌then◌else◌, nat_eq};
 ghost use Rattle.a68_code.specs.Flow.{last_place, leaves, takes};
 ghost use Rattle.a68_code.specs.Walk.{at_height, to_members, ways};
 
-use crate::effects::{leaves, takes};
 use a68_base::NoMemory;
 use a68_code::{Does, last_place};
 use a68_modes::Modes;
@@ -80,7 +79,7 @@ fn add_ways(
     requires room { below + leaves modes.now does.now < 2 ^ 64 }
     ensures { OnOk result (found.new.items ≡ found.old.items ++ ways modes.now at does.now below) }
 {
-    let height = below + leaves(does, modes);
+    let height = below + does.leaves(modes);
     match does {
         Does::Return | Does::Close | Does::End => add_all(found, &[], height),
         Does::Jump(to) => add_all(found, &[*to as usize], height),
@@ -100,25 +99,26 @@ fn add_ways(
     }
 }
 
-/// The ways behind the instruction at this place, which finds so many values, in the place of those that were found before;
-/// none where it takes more.
+/// The ways behind the instruction at this place, which finds so many values, in the place of those that were found before. Tells
+/// whether it finds as many as it takes; else there are none.
 pub fn find_ways(
     found: &mut Vec<(usize, usize)>,
     modes: &Modes,
     at: usize,
     does: &Does,
     height: usize,
-) -> Result<(), NoMemory>
+) -> Result<bool, NoMemory>
     requires place { at + 1 < 2 ^ 64 }
     requires room { height + 1 < 2 ^ 64 }
-    ensures { OnOk result ((below : ℕ) → below + takes does.now ≡ height → found.new.items ≡ ways modes.now at does.now below) }
+    ensures { IfOk result (λ finds. IsTrue finds → (below : ℕ) × (below + takes does.now ≡ height) × (found.new.items ≡ ways modes.now at does.now below)) }
 {
     found.clear();
-    let Some(takes) = takes(does) else {
-        return Ok(());
+    let Some(takes) = does.takes() else {
+        return Ok(false);
     };
     if height < takes {
-        return Ok(());
+        return Ok(false);
     }
-    add_ways(found, modes, at, does, height - takes)
+    add_ways(found, modes, at, does, height - takes)?;
+    Ok(true)
 }

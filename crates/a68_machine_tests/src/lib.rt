@@ -6,6 +6,8 @@ mod leases;
 #[cfg(test)]
 mod parallel;
 #[cfg(test)]
+mod rooms;
+#[cfg(test)]
 mod strand;
 #[cfg(test)]
 mod table;

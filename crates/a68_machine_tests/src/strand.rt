@@ -9,6 +9,7 @@ use a68_acts::Reply;
 use a68_base::find;
 use a68_code::Code;
 use a68_code_tests::{code_of, code_over, modes_with_pair};
+use a68_exec::Rooms;
 use a68_instructions::{Ask, PlainReply};
 use a68_rules_tests::act;
 use a68_strand::Strand;
@@ -25,8 +26,10 @@ const STANDARD: Environ = Environ { frame: 0, scope: 0 };
 fn begun(rt: &impl Abort, alloc: Global, code: &Code) -> Strand {
     holds(rt, code.list.items.len() < 100, "a short code");
     let chain = Chain::of_one(alloc, STANDARD).expect(rt, "memory");
-    let most = code.list.items.len() as u32;
-    Strand::begin(alloc, code, most, 0, 0, chain).expect(rt, "memory")
+    let rooms = Rooms::of(alloc, &[], code.list.items.len() as u32).expect(rt, "memory");
+    let strand = Strand::begin(alloc, code, &rooms, 0, 0, chain).expect(rt, "memory");
+    drop(rooms);
+    strand
 }
 
 // Whether a strand asks what is told.

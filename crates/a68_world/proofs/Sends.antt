@@ -10,6 +10,7 @@ use Rattle.a68_base.proofs.text.Text.TheSendSync as text
 use Rattle.a68_code.proofs.code.Routines.TheSendSync as routines
 use Rattle.a68_code.proofs.places.Places.TheSendSync as places
 use Rattle.a68_code.specs.contracts.code.Code as code
+use Rattle.a68_exec.proofs.rooms.Rooms.TheSendSync as rooms
 use Rattle.a68_code.specs.contracts.code.Instr as instr
 use Rattle.a68_code.specs.contracts.code.Instrs as instrs
 use Rattle.a68_code.specs.contracts.does.Does as does
@@ -112,7 +113,7 @@ about_send : IsSend (about.the_field).row
 about_send = search (sendable, crosses, ask_send, waiting_send) depth 20
 
 strand_send : IsSend (strand.the_field).row
-strand_send = search (sendable, crosses, body_send, about_send) depth 20
+strand_send = search (sendable, crosses, rooms.the_send, body_send, about_send) depth 20
 
 -- ---- the run
 
@@ -120,7 +121,7 @@ seat_send : IsSend (seat.the_field).row
 seat_send = search (sendable, crosses, strand_send) depth 20
 
 pub world_send : IsSend world.the_row
-world_send = search (sendable, crosses, code_send, store_send, seat_send, log.the_send, marks.the_send, resting.the_send, joined.the_field_send, end.the_send) depth 20
+world_send = search (sendable, crosses, code_send, rooms.the_send, store_send, seat_send, log.the_send, marks.the_send, resting.the_send, joined.the_field_send, end.the_send) depth 20
 
 -- the same, as what holds a run has it
 pub world_field_send : IsSend (world.the_field).row

@@ -15,6 +15,7 @@ use Rattle.a68_acts.specs.declared.want.Want.TheVariants as want
 use Rattle.a68_code.specs.Valid.{IsValid}
 use Rattle.a68_code.specs.declared.code.Code.{Code}
 use Rattle.a68_marks.specs.Marked.{is_marked}
+use Rattle.a68_exec.specs.Rooms.{room_at}
 use Rattle.a68_heights.specs.Room.{Suffices}
 use Rattle.a68_joined.specs.Joined.{AreJoined}
 use Rattle.a68_joined.specs.declared.joined.JoinedCode.{JoinedCode}
@@ -85,10 +86,10 @@ pub record Made (code : Code) (fuel : ℕ) (journal : Logged) (store : Store) (s
   pub none_rest : (n : ℕ) → IsListed rested n → ⊥
   pub end_is : EndShown seats.items store end
 
-module _ (code : Code) (fuel : ℕ) (journal : Logged) (store : Store) (seats : Vec Seat Global) (kin : Vec Kin Global) (marks : List ℕ) (rested : Resting) (joined : JoinedCode) (most : ℕ) (end : Option End)
+module _ (code : Code) (fuel : ℕ) (journal : Logged) (store : Store) (seats : Vec Seat Global) (kin : Vec Kin Global) (marks : List ℕ) (rested : Resting) (joined : JoinedCode) (rooms : List ℕ × ℕ) (end : Option End)
     (m : Made code fuel journal store seats kin.items marks rested end) where
   abbrev pub made_run : Inside
-  made_run = record { code = code; joined = joined; most = most; fuel = fuel; journal = journal; store = store; seats = seats; passed = marks; rests = rested; kin = kin; lost = false; end = end }
+  made_run = record { code = code; joined = joined; rooms = rooms; fuel = fuel; journal = journal; store = store; seats = seats; passed = marks; rests = rested; kin = kin; lost = false; end = end }
 
   made-world : world (run_of made_run) ≡ opening code
   made-world = ap (λ (es : List Entry). world (record { code = code; fuel = fuel; entries = es; status = map status_of seats.items; lost = false; end = end })) m.items
@@ -140,7 +141,7 @@ module _ (code : Code) (fuel : ℕ) (journal : Logged) (store : Store) (seats : 
       by zero e = absurd (cc)
       by (suc k) e = absurd (cc)
 
-  pub made_sound : IsValid code → length code.list < 2 ^ 32 → 1 ≤ fuel → fuel ≤ most_fuel → AreJoined code joined.items.items → Suffices code most → IsSound made_run
+  pub made_sound : IsValid code → length code.list < 2 ^ 32 → 1 ≤ fuel → fuel ≤ most_fuel → AreJoined code joined.items.items → Suffices code (room_at rooms) → IsSound made_run
   made_sound valid short some little laid enough = record {
     run = record {
       valid = valid;

@@ -1,6 +1,7 @@
 -- Inner: the headline does not rest on this file.
 -- The run as the code keeps it.
 use Rattle.std.specs.Prelude.{◌≡◌, ◌≤◌, map}
+use Rattle.a68_exec.specs.Rooms.{room_at}
 use Rattle.a68_heights.specs.Room.{Suffices}
 use Rattle.a68_joined.specs.Joined.{AreJoined}
 use Rattle.a68_world.specs.Kin.{AreKin}
@@ -24,4 +25,4 @@ pub record IsSound (s : Inside) : Type 0 where
   pub rests : HaveRest s.rests (world (run_of s)).strands s.store
   pub kin : AreKin s.kin.items (world (run_of s)).strands
   pub joined : AreJoined s.code s.joined.items.items
-  pub enough : Suffices s.code s.most
+  pub enough : Suffices s.code (room_at s.rooms)

@@ -3,6 +3,7 @@ ghost use Rattle.std.specs.List.{list_all};
 ghost use Rattle.std.specs.Prelude.{◌≡◌, [], ◌∷◌, ◌++◌, ◌<◌, ◌≤◌, ◌^◌, ◌↔◌, ℕ, length, Some, None, IfOk, IfSome, IsNone, MatchBool, MatchOption, MatchResult};
 ghost use Rattle.a68_acts.specs.Store.{opening_store};
 ghost use Rattle.a68_code.specs.Valid.{IsValid};
+ghost use Rattle.a68_exec.specs.Rooms.{room_at};
 ghost use Rattle.a68_heights.specs.Room.{Suffices};
 ghost use Rattle.a68_joined.specs.Joined.{AreJoined};
 ghost use Rattle.a68_strand.specs.Cyclic.{IsFirstBehind};
@@ -26,7 +27,8 @@ use crate::waking::wake_behind;
 use crate::{Turned, World};
 use a68_base::NoMemory;
 use a68_code::Code;
-use a68_heights::most_items;
+use a68_exec::Rooms;
+use a68_heights::find_rooms;
 use a68_joined::JoinedCode;
 use a68_marks::Marks;
 use a68_rests::Rests;
@@ -39,25 +41,25 @@ use std::alloc::Global;
 const STANDARD: Environ = Environ { frame: 0, scope: 0 };
 
 // Strand 0 at the beginning of the code, in the frame of the standard environ.
-fn first_strand(alloc: Global, code: &Code, most: u32) -> Result<Strand, NoMemory>
+fn first_strand(alloc: Global, code: &Code, rooms: &Rooms) -> Result<Strand, NoMemory>
     requires short { length code.now.list < 2 ^ 32 }
-    requires enough { Suffices code.now most }
+    requires enough { Suffices code.now (room_at rooms.now) }
     ensures settled { IfOk result (HasSettled code.now (beginning 0 (record { frame = 0; scope = 0 } ∷ []))) }
     ensures number { IfOk result (λ strand. strand.number ≡ 0) }
     ensures room { IfOk result (HasRoom code.now) }
 {
     let chain = Chain::of_one(alloc, STANDARD)?;
-    let strand = Strand::begin(alloc, code, most, 0, 0, chain)?;
+    let strand = Strand::begin(alloc, code, rooms, 0, 0, chain)?;
     Ok(strand)
 }
 
 // The seats of a run that is yet to begin.
-fn first_seats(alloc: Global, code: &Code, most: u32) -> Result<Vec<Seat>, NoMemory>
+fn first_seats(alloc: Global, code: &Code, rooms: &Rooms) -> Result<Vec<Seat>, NoMemory>
     requires short { length code.now.list < 2 ^ 32 }
-    requires enough { Suffices code.now most }
+    requires enough { Suffices code.now (room_at rooms.now) }
     ensures { IfOk result (λ seats. AreFirstSeats code.now seats.items) }
 {
-    let strand = first_strand(alloc, code, most)?;
+    let strand = first_strand(alloc, code, rooms)?;
     let mut seats = Vec::new(alloc);
     seats.push(Seat::Home(strand))?;
     Ok(seats)
@@ -75,13 +77,13 @@ fn first_kin(alloc: Global) -> Result<Vec<Kin>, NoMemory>
     Ok(kin)
 }
 
-// The journal, the store, the seats and the kin of a run that is yet to begin, and its code, laid out; no activation has so many
-// items.
+// The journal, the store, the seats and the kin of a run that is yet to begin, and its code, laid out; and the room that activations
+// have.
 fn parts(
     alloc: Global,
     code: &Code,
     fuel: u32,
-) -> Result<(Log, Store, Vec<Seat>, Vec<Kin>, JoinedCode, u32), NoMemory>
+) -> Result<(Log, Store, Vec<Seat>, Vec<Kin>, JoinedCode, Rooms), NoMemory>
     requires valid { IsValid code.now }
     requires short { length code.now.list < 2 ^ 32 }
     ensures empty { IfOk result (λ parts. parts.0.items ≡ []) }
@@ -90,15 +92,15 @@ fn parts(
     ensures seats { IfOk result (λ parts. AreFirstSeats code.now parts.2.items) }
     ensures kin { IfOk result (λ parts. length parts.3.items ≡ 1) }
     ensures joined { IfOk result (λ parts. AreJoined code.now parts.4.items.items) }
-    ensures enough { IfOk result (λ parts. Suffices code.now parts.5) }
+    ensures enough { IfOk result (λ parts. Suffices code.now (room_at parts.5)) }
 {
     let journal = Log::with_room(alloc, fuel)?;
     let store = Store::new(alloc)?;
-    let most = most_items(alloc, code)?;
-    let seats = first_seats(alloc, code, most)?;
+    let rooms = find_rooms(alloc, code)?;
+    let seats = first_seats(alloc, code, &rooms)?;
     let kin = first_kin(alloc)?;
     let joined = JoinedCode::of(alloc, code)?;
-    Ok((journal, store, seats, kin, joined, most))
+    Ok((journal, store, seats, kin, joined, rooms))
 }
 
 /// An entry of a strand in the journal, which has room for it.
@@ -156,14 +158,14 @@ impl World {
         ensures { IfOk result (RunBegins code fuel) }
     {
         match parts(alloc, &code, fuel) {
-            Ok((journal, store, seats, kin, joined, most)) => {
+            Ok((journal, store, seats, kin, joined, rooms)) => {
                 let passed = Marks::new(alloc);
                 let rests = Rests::new(alloc);
                 let end = end_shown(&seats, &rests, &store, 0);
                 Ok(World {
                     code,
                     joined,
-                    most,
+                    rooms,
                     fuel,
                     journal,
                     store,
@@ -261,7 +263,7 @@ impl World {
         let Ok(units) = units_ready(
             alloc,
             &self.code,
-            self.most,
+            &self.rooms,
             &self.store,
             &mut self.seats,
             &mut self.kin,

@@ -130,7 +130,7 @@ impl World {
         let Ok(units) = units_for(
             alloc,
             &self.code,
-            self.most,
+            &self.rooms,
             &self.store,
             &mut self.seats,
             &mut self.kin,

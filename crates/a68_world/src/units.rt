@@ -2,6 +2,7 @@
 ghost use Rattle.std.specs.Prelude.{◌≡◌, ◌≢◌, ◌<◌, ◌≤◌, ◌+◌, ◌++◌, ◌^◌, [], ◌∷◌, IsTrue, length, IfOk, IfSome, OnOk, OnErr};
 ghost use Rattle.std.specs.Option.{option_map_or};
 ghost use Rattle.std.specs.Vec.{vec_len, vec_capacity};
+ghost use Rattle.a68_exec.specs.Rooms.{room_at};
 ghost use Rattle.a68_heights.specs.Room.{Suffices};
 ghost use Rattle.a68_stack.specs.Room.{has_room};
 ghost use Rattle.a68_world.specs.Kin.{Forks};
@@ -12,6 +13,7 @@ use crate::seat::Seat;
 use a68_acts::Want;
 use a68_base::NoMemory;
 use a68_code::Code;
+use a68_exec::Rooms;
 use a68_instructions::Ask;
 use a68_store::Store;
 use a68_strand::Strand;
@@ -39,18 +41,18 @@ fn units_asked<'a>(ask: &'a Ask, store: &Store) -> Option<&'a Entrances>
 fn begin_unit(
     alloc: Global,
     code: &Code,
-    most: u32,
+    rooms: &Rooms,
     number: u32,
     entrance: u32,
     chain: &Chain,
 ) -> Result<Seat, NoMemory>
     requires few { length code.now.list < 2 ^ 32 }
-    requires enough { Suffices code.now most }
+    requires enough { Suffices code.now (room_at rooms.now) }
     requires room { IsTrue (has_room chain.now) }
     ensures { IfOk result (IsNewSeat code.now (units_at code.now chain.now (entrance ∷ [])) number 0) }
 {
     let chain = chain.copy(alloc)?;
-    let strand = Strand::begin(alloc, code, most, number, entrance, chain)?;
+    let strand = Strand::begin(alloc, code, rooms, number, entrance, chain)?;
     Ok(Seat::Home(strand))
 }
 
@@ -58,21 +60,21 @@ fn begin_unit(
 fn begin_all(
     alloc: Global,
     code: &Code,
-    most: u32,
+    rooms: &Rooms,
     first: u32,
     entrances: &[u32],
     chain: &Chain,
     units: &mut Vec<Seat>,
 ) -> Result<(), NoMemory>
     requires few { length code.now.list < 2 ^ 32 }
-    requires enough { Suffices code.now most }
+    requires enough { Suffices code.now (room_at rooms.now) }
     requires room { IsTrue (has_room chain.now) }
     requires numbers { first + length entrances.now < 2 ^ 32 }
     requires empty { units.old.items ≡ [] }
     ensures { OnOk result (AreUnits code.now (units_at code.now chain.now entrances.now) first units.new.items) }
 {
     for i in 0..entrances.len() {
-        let unit = begin_unit(alloc, code, most, first + i as u32, entrances[i], chain)?;
+        let unit = begin_unit(alloc, code, rooms, first + i as u32, entrances[i], chain)?;
         units.push(unit)?;
     }
     Ok(())
@@ -82,13 +84,13 @@ fn begin_all(
 fn begin_units(
     alloc: Global,
     code: &Code,
-    most: u32,
+    rooms: &Rooms,
     store: &Store,
     strand: &Strand,
     first: u32,
 ) -> Result<Vec<Seat>, NoMemory>
     requires few { length code.now.list < 2 ^ 32 }
-    requires enough { Suffices code.now most }
+    requires enough { Suffices code.now (room_at rooms.now) }
     requires numbers { first + length (units_asked strand.now.about.ask store.now) < 2 ^ 32 }
     ensures units { IfOk result (λ units. AreUnits code.now (units_begun code.now strand.now store.now) first units.items) }
     ensures err { OnErr result (AsksOther store.now strand.now) }
@@ -100,7 +102,7 @@ fn begin_units(
     match begin_all(
         alloc,
         code,
-        most,
+        rooms,
         first,
         &entrances.items,
         strand.chain(),
@@ -158,14 +160,14 @@ fn with_room(
 pub fn units_ready(
     alloc: Global,
     code: &Code,
-    most: u32,
+    rooms: &Rooms,
     store: &Store,
     seats: &mut Vec<Seat>,
     kin: &mut Vec<Kin>,
     n: usize,
 ) -> Result<Vec<Seat>, NoMemory>
     requires few { length code.now.list < 2 ^ 32 }
-    requires enough { Suffices code.now most }
+    requires enough { Suffices code.now (room_at rooms.now) }
     requires numbers { FewUnitsAt seats.old.items store.now n }
     ensures same { seats.new.items ≡ seats.old.items }
     ensures same_kin { kin.new.items ≡ kin.old.items }
@@ -178,7 +180,7 @@ pub fn units_ready(
         // The strand asks for an act.
         unreachable!();
     };
-    let units = begin_units(alloc, code, most, store, strand, seats.len() as u32)?;
+    let units = begin_units(alloc, code, rooms, store, strand, seats.len() as u32)?;
     with_room(seats, kin, units)
 }
 
@@ -186,14 +188,14 @@ pub fn units_ready(
 pub fn units_for(
     alloc: Global,
     code: &Code,
-    most: u32,
+    rooms: &Rooms,
     store: &Store,
     seats: &mut Vec<Seat>,
     kin: &mut Vec<Kin>,
     strand: &Strand,
 ) -> Result<Vec<Seat>, NoMemory>
     requires few { length code.now.list < 2 ^ 32 }
-    requires enough { Suffices code.now most }
+    requires enough { Suffices code.now (room_at rooms.now) }
     requires numbers { length seats.old.items + length (units_asked strand.now.about.ask store.now) < 2 ^ 32 }
     ensures same { seats.new.items ≡ seats.old.items }
     ensures same_kin { kin.new.items ≡ kin.old.items }
@@ -202,7 +204,7 @@ pub fn units_for(
     ensures room_beside { IfOk result (λ units. vec_len kin.new + vec_len units ≤ vec_capacity kin.new) }
     ensures err { OnErr result (AsksOther store.now strand.now) }
 {
-    let units = begin_units(alloc, code, most, store, strand, seats.len() as u32)?;
+    let units = begin_units(alloc, code, rooms, store, strand, seats.len() as u32)?;
     with_room(seats, kin, units)
 }
 

@@ -2,6 +2,7 @@
 use crate::kin::Kin;
 use crate::seat::Seat;
 use a68_code::Code;
+use a68_exec::Rooms;
 use a68_joined::JoinedCode;
 use a68_marks::Marks;
 use a68_rests::Rests;
@@ -16,8 +17,8 @@ pub struct World {
     pub(crate) code: Code,
     // The code, laid out for a strand that is alone.
     pub(crate) joined: JoinedCode,
-    // An activation has fewer items on the stack.
-    pub(crate) most: u32,
+    // For how many items activations have room on the stack.
+    pub(crate) rooms: Rooms,
     // The most entries that the journal may have.
     pub(crate) fuel: u32,
     pub(crate) journal: Log,

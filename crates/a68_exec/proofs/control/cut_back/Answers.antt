@@ -1,4 +1,4 @@
-use Rattle.std.proofs.Common.{◌≡◌, ◌≤◌, ◌<◌, ◌∙◌, inl, inr, List, length, reverse, ap, sym, refl, subst, arith}
+use Rattle.std.proofs.Common.{◌≤◌, ◌<◌, ◌∙◌, inl, inr, List, length, ap, sym, refl, subst, arith}
 use Rattle.std.specs.Prelude.{Some, IsTrue}
 use Rattle.std.proofs.lemmas.List.{length-reverse}
 use Rattle.a68_exec.proofs.Jumping.{back_is, not_back, room_back}

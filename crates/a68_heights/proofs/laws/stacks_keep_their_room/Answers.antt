@@ -9,6 +9,6 @@ returns c = record {
   steps = rooming.steps;
   settles = rooming.settles;
   told = rooming.told;
-  entered = rooming.entered;
+  entered = rooming.replied;
   plainly = settles_plainly;
 }

@@ -1,5 +1,4 @@
 use Rattle.std.proofs.Common.{◌≤◌, length, ap, arith, below_more}
-use Rattle.a68_code.proofs.Reading.{does_at_within}
 use Rattle.a68_heights.proofs.reach.are_settled.Goals as goal
 
 pub loop-at-preserved : goal.loop-at-preserved
@@ -9,4 +8,4 @@ pub returns : goal.returns
 returns c =
     let list = ap (λ code. code.list) c.code.view_is in
     let past : length c.args.code.now.list ≤ c.loop-at.at = omega (arith, ap length list) in
-    λ e at does is. c.loop-at.invariant at (let inside = does_at_within c.args.code.now.list at does is in omega arith) does is
+    λ e at inside. c.loop-at.invariant at (omega (arith, past, inside))

@@ -249,6 +249,20 @@ end_with-requires-clause-ends c =
     refused_ends s n c.self.invariant goes due x y c.in-Refused.kind c.act_at.new.store c.place_at-place.result there c.in-Refused.ensures
     (c.place_at-place.ensures ∙ ap (λ l. place_at l n) (c.deref-in-Refused.ensures.value ∙ ap (λ l. slice_set l n y) same ∙ left.1) ∙ ap (λ o. option_map_or place_in o 0) there)
 
+pub invariant_of-self-in-Refused : goal.invariant_of-self-in-Refused
+invariant_of-self-in-Refused c =
+    let s = c.self.inside in
+    let n = c.args.n in
+    let due : IsDue (run_of s) n = subst (λ (r : Run). IsDue r n) (sym c.self.view_is) c.requires.due in
+    let h = seat_home s.seats.items n due.ready.home in
+    let goes : GoesOn (run_of s) = subst (λ (r : Run). GoesOn r) (sym c.self.view_is) c.requires.goes_on in
+    let same = c.units_ready.ensures.same in
+    let x = c.index_mut.result.now in
+    let there : slice_get s.seats.items n ≡ Some x = seat_there s.seats.items c.units_ready.new.seats.items n x same (is_within s.seats.items n (seat.Home h.0) h.1) c.index_mut.ensures.value in
+    let y = c.act_at.new.seat in
+    let left = refused_left s n c.self.invariant goes due x y c.in-Refused.kind c.act_at.new.store there c.in-Refused.ensures in
+    left_sound s c.self.invariant c.act_at.new.store (with_item c.units_ready.new.seats n y) c.units_ready.new.kin left.0 (ap (λ (l : List Seat). slice_set l n y) same ∙ left.1) c.units_ready.ensures.same_kin
+
 pub invariant_of-self-in-NoMemory : goal.invariant_of-self-in-NoMemory
 invariant_of-self-in-NoMemory c =
     let s = c.self.inside in

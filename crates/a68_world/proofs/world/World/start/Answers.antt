@@ -8,7 +8,7 @@ end_shown-end-requires-clause-rests c = λ k resting. absurd (c.new-rests.ensure
 
 pub invariant_of-result : goal.invariant_of-result
 invariant_of-result c =
-    made_sound c.args.code c.args.fuel c.in-Ok.journal c.in-Ok.store c.in-Ok.seats c.in-Ok.kin c.new-passed.result c.new-rests.result c.in-Ok.joined c.in-Ok.most c.end_shown-end.result (record {
+    made_sound c.args.code c.args.fuel c.in-Ok.journal c.in-Ok.store c.in-Ok.seats c.in-Ok.kin c.new-passed.result c.new-rests.result c.in-Ok.joined c.in-Ok.rooms c.end_shown-end.result (record {
       items = c.in-Ok.ensures.empty;
       room = c.in-Ok.ensures.room;
       store_is = c.in-Ok.ensures.store;
@@ -21,7 +21,7 @@ invariant_of-result c =
 
 pub returns-in-Ok : goal.returns-in-Ok
 returns-in-Ok c =
-    made_is c.args.code c.args.fuel c.in-Ok.journal c.in-Ok.store c.in-Ok.seats c.in-Ok.kin c.new-passed.result c.new-rests.result c.in-Ok.joined c.in-Ok.most c.end_shown-end.result (record {
+    made_is c.args.code c.args.fuel c.in-Ok.journal c.in-Ok.store c.in-Ok.seats c.in-Ok.kin c.new-passed.result c.new-rests.result c.in-Ok.joined c.in-Ok.rooms c.end_shown-end.result (record {
       items = c.in-Ok.ensures.empty;
       room = c.in-Ok.ensures.room;
       store_is = c.in-Ok.ensures.store;
