@@ -1,7 +1,7 @@
 -- Modes that lead firmly to no union.
-use Rattle.std.proofs.Common.{◌≡◌, ◌≢◌, ◌<◌, ◌∙◌, ⊎_elim, ℕ, zero, suc, List, [], ◌∷◌, arith, refl, sym, ap, subst, length, get_or, Option, Some, None, slice_get, Bool, true, false}
-use Rattle.std.specs.Prelude.{◌↔◌, IsTrue, map, not}
-use Rattle.std.specs.List.{All, Contains}
+use Rattle.std.proofs.Common.{◌≡◌, ◌≢◌, ◌<◌, ◌∙◌, ◌++◌, ⊎_elim, length-append, ℕ, zero, suc, List, [], ◌∷◌, arith, refl, sym, ap, subst, length, get_or, Option, Some, None, slice_get, Bool, true, false, eq-eqb}
+use Rattle.std.specs.Prelude.{◌↔◌, ◌||◌, IsTrue, cond, map, nat_eq, not}
+use Rattle.std.specs.List.{All, Contains, list_any}
 use Rattle.std.proofs.lemmas.Bool.{false≢true}
 use Rattle.std.proofs.lemmas.List.{get_or_default}
 use Rattle.std.proofs.lemmas.List.Elements.{All-contains}
@@ -12,14 +12,18 @@ use Rattle.a68_coerce.specs.declared.leaf.Leaf.{Leaf}
 use Rattle.a68_coerce.specs.declared.leaf.Leaf.TheVariants as leaf
 use Rattle.a68_equiv.proofs.Rowing.{no_steps}
 use Rattle.a68_equiv.proofs.Stepping.{row_of_map}
+use Rattle.a68_equiv.specs.Classes.{AreExact, class_of}
 use Rattle.a68_equiv.specs.declared.mode.Mode.{Mode}
 use Rattle.a68_equiv.specs.declared.steps.Inward.TheVariants.{WithinUnions}
 use Rattle.a68_equiv.specs.Related.{Meek, LeadsMeekly, as_it_stands, without_flex, meek_step}
 use Rattle.a68_equiv.specs.Related.Meek.{here, deref, deproc}
-use Rattle.a68_equiv.specs.Unfolding.{is_union, unfolded, IsMember, leads_within}
+use Rattle.a68_equiv.specs.Unfolding.{Equivalent, is_union, unfolded, IsMember, leads_within}
 use Rattle.a68_equiv.specs.Ways.{steps_of, row, Way}
 use Rattle.a68_equiv.specs.Ways.Way.{last_step, more_steps}
-use Rattle.a68_identify.specs.Apart.{AreBare, IsMissed, MissesAll, NeverFirm}
+use Rattle.std.proofs.lemmas.Option.{slice_get_within}
+use Rattle.a68_ranges.proofs.Layering.{get_pushed}
+use Rattle.a68_identify.specs.Apart.{AreBare, AreMet, IsKnown, IsMet, KnowsAll, NeverFirm}
+use Rattle.a68_identify.specs.declared.apart.Met.{Met}
 use Rattle.a68_identify.specs.Identified.{OperandFits, firmly, any_row}
 use Rattle.a68_modes.specs.Nodes.{shape_at, ShapeIsWithin, HoldsNodes}
 use Rattle.a68_modes.specs.declared.coercion.Coercion.{Coercion}
@@ -28,27 +32,92 @@ use Rattle.a68_modes.specs.declared.shape.Shape.{Shape}
 use Rattle.a68_modes.specs.declared.shape.Shape.TheVariants.{Union}
 use Rattle.a68_ranges.proofs.Taking.{some_one}
 
-module _ (nodes : List Shape) (members : List ℕ) (at : Mode) where
-  onward : (next : Mode) → meek_step (unfolded nodes at.id) ≡ Some next → IsMissed nodes members at → MissesAll nodes members next → (path : List Coercion) (k : Mode) → Meek nodes at path k → IsMissed nodes members k
-  onward next e missed rest path k here = missed
-  onward next e missed rest path k (deref {a = a} {path = p} f w) =
+-- a mode is neither a union nor equivalent to one of these
+abbrev pub IsMissed : List Shape → List ℕ → Mode → Type 0
+IsMissed nodes members k = (is_union (unfolded nodes k.id) ≡ false) × ((x : ℕ) → Contains members x → Equivalent nodes k (as_it_stands x) → ⊥)
+
+-- so is each mode to which a mode leads meekly
+abbrev pub MissesAll : List Shape → List ℕ → Mode → Type 0
+MissesAll nodes members m = (path : List Coercion) (k : Mode) → Meek nodes m path k → IsMissed nodes members k
+
+module _ (nodes : List Shape) (P : Mode → Type 0) (at : Mode) where
+  onward : (next : Mode) → meek_step (unfolded nodes at.id) ≡ Some next → P at → ((path : List Coercion) (k : Mode) → Meek nodes next path k → P k) → (path : List Coercion) (k : Mode) → Meek nodes at path k → P k
+  onward next e own rest path k here = own
+  onward next e own rest path k (deref {a = a} {path = p} f w) =
       let g = ap meek_step f in
       let same : without_flex a ≡ next = cc in
       rest p k (subst (λ (m : Mode). Meek nodes m p k) same w)
-  onward next e missed rest path k (deproc {a = a} {path = p} f w) =
+  onward next e own rest path k (deproc {a = a} {path = p} f w) =
       let g = ap meek_step f in
       let same : as_it_stands a ≡ next = cc in
       rest p k (subst (λ (m : Mode). Meek nodes m p k) same w)
 
-  -- where a mode is missed, all are to which it leads if all are to which the next one leads
-  pub miss_on : (next : Mode) → meek_step (unfolded nodes at.id) ≡ Some next → IsMissed nodes members at → MissesAll nodes members next → MissesAll nodes members at
-  miss_on next e missed rest path k w = onward next e missed rest path k w
+  -- what holds of a mode holds of all to which it leads if it holds of all to which the next one leads
+  pub all_on : (next : Mode) → meek_step (unfolded nodes at.id) ≡ Some next → P at → ((path : List Coercion) (k : Mode) → Meek nodes next path k → P k) → (path : List Coercion) (k : Mode) → Meek nodes at path k → P k
+  all_on next e own rest path k w = onward next e own rest path k w
 
   -- and if there is no next one
-  pub miss_end : meek_step (unfolded nodes at.id) ≡ None → IsMissed nodes members at → MissesAll nodes members at
-  miss_end e missed path k here = missed
-  miss_end e missed path k (deref f w) = let g = ap meek_step f in absurd (cc)
-  miss_end e missed path k (deproc f w) = let g = ap meek_step f in absurd (cc)
+  pub all_end : meek_step (unfolded nodes at.id) ≡ None → P at → (path : List Coercion) (k : Mode) → Meek nodes at path k → P k
+  all_end e own path k here = own
+  all_end e own path k (deref f w) = let g = ap meek_step f in absurd (cc)
+  all_end e own path k (deproc f w) = let g = ap meek_step f in absurd (cc)
+
+-- ---- what an operand meets
+
+-- a set has more, and no union is met where none was before
+pub record Grows (old new : List ℕ) (was is : Bool) : Type 0 where
+  pub more : (x : ℕ) → list_any (nat_eq x) old ≡ true → list_any (nat_eq x) new ≡ true
+  pub plain : is ≡ false → was ≡ false
+
+pub grows_none : (set : List ℕ) (union : Bool) → Grows set set union union
+grows_none set union = record { more = λ x e. e; plain = λ e. e }
+
+module _ (nodes : List Shape) (classes set now : List ℕ) (was union : Bool) (at : Mode) (there : at.id < length nodes) (added : (x : ℕ) → list_any (nat_eq x) now ≡ cond (nat_eq (class_of classes at) x) true (list_any (nat_eq x) set))
+    (met : union ≡ (was || is_union (unfolded nodes at.id))) where
+  pub grows_one : Grows set now was union
+  grows_one = record {
+    more = λ x e. added x ∙ either (nat_eq (class_of classes at) x) (list_any (nat_eq x) set) e;
+    plain = λ e. first was (is_union (unfolded nodes at.id)) (sym met ∙ e);
+  }
+    where
+      either : (a b : Bool) → b ≡ true → cond a true b ≡ true
+      either true b e = refl
+      either false b e = e
+
+      first : (a b : Bool) → (a || b) ≡ false → a ≡ false
+      first true b e = absurd (false≢true (sym e))
+      first false b e = refl
+
+  -- the mode itself is known, in every set that has more
+  pub own_known : (final : List ℕ) (flag : Bool) → Grows now final union flag → IsKnown nodes classes final flag at
+  own_known final flag grows = record {
+    there = there;
+    class = grows.more (class_of classes at) (added (class_of classes at) ∙ ap (λ b. cond b true (list_any (nat_eq (class_of classes at)) set)) (eq-eqb (class_of classes at) (class_of classes at) refl));
+    plain = λ e. second was (is_union (unfolded nodes at.id)) (sym met ∙ grows.plain e);
+  }
+    where
+      second : (a b : Bool) → (a || b) ≡ false → b ≡ false
+      second true b e = absurd (false≢true (sym e))
+      second false b e = e
+
+pub grows_on : (old mid new : List ℕ) (a b c : Bool) → Grows old mid a b → Grows mid new b c → Grows old new a c
+grows_on old mid new a b c one more = record { more = λ x e. more.more x (one.more x e); plain = λ e. one.plain (more.plain e) }
+
+-- a mode whose class is not met is not led to
+pub not_led : (nodes : List Shape) (classes : List ℕ) → AreExact nodes classes → (set : List ℕ) (union : Bool) (from : Mode) (to : ℕ) → to < length nodes → KnowsAll nodes classes set union from
+    → list_any (nat_eq (class_of classes (as_it_stands to))) set ≡ false → LeadsMeekly nodes from (as_it_stands to) → ⊥
+not_led nodes classes exact set union from to below known none w =
+    let k = known w.1 w.0 w.2 in
+    let same = (exact.exact w.0 (as_it_stands to) k.there below).1 w.3 in
+    false≢true (sym none ∙ ap (λ c. list_any (nat_eq c) set) (sym same) ∙ k.class)
+
+pub missed : (nodes : List Shape) (classes : List ℕ) → AreExact nodes classes → (set : List ℕ) (from : Mode) (members : List ℕ) → ((x : ℕ) → Contains members x → x < length nodes) → KnowsAll nodes classes set false from
+    → ((x : ℕ) → Contains members x → list_any (nat_eq (class_of classes (as_it_stands x))) set ≡ false) → MissesAll nodes members from
+missed nodes classes exact set from members below known none path k w =
+    let known_k = known path k w in (
+      known_k.plain refl,
+      λ x i e. false≢true (sym (none x i) ∙ ap (λ c. list_any (nat_eq c) set) (sym ((exact.exact k (as_it_stands x) known_k.there (below x i)).1 e)) ∙ known_k.class),
+    )
 
 module _ (nodes : List Shape) (from parameter : ℕ) (members : List ℕ) (there : parameter < length nodes) (is : shape_at nodes parameter ≡ Union members) (bare : AreBare nodes members) where
   -- a union of modes that lead on no farther has no members but these
@@ -90,3 +159,28 @@ bare_all nodes members each y i = subst (λ (k : ℕ). leads_within (shape_at no
 -- the members of a union are modes that are there
 pub members_below : (nodes : List Shape) (m : ℕ) (members : List ℕ) → HoldsNodes nodes → m < length nodes → shape_at nodes m ≡ Union members → All (λ k. k < length nodes) members
 members_below nodes m members holds lt is = subst (ShapeIsWithin (length nodes)) is (holds.within m lt)
+
+pub untold : (b : Bool) → IsTrue (not b) → b ≡ false
+untold true t = absurd (false≢true t)
+untold false t = refl
+
+-- ---- what all operands meet
+
+pub mets_none : (nodes : List Shape) (classes : List ℕ) → AreMet nodes classes [] []
+mets_none nodes classes = record { long = refl; each = λ i leaves met e m. absurd (cc) }
+
+pub mets_more : (nodes : List Shape) (classes : List ℕ) (operands : List (List Leaf)) (mets : List Met) (leaves : List Leaf) (met : Met) → AreMet nodes classes operands mets → IsMet nodes classes leaves met.of met.classes.keys met.union
+    → AreMet nodes classes (operands ++ leaves ∷ []) (mets ++ met ∷ [])
+mets_more nodes classes operands mets leaves met are one = record {
+  long = let d = are.long in omega (arith, d, length-append operands (leaves ∷ []), length-append mets (met ∷ []));
+  each = λ i ls m e f. ⊎_elim
+      (λ h. ⊎_elim
+      (λ g. are.each i ls m h g)
+      (λ g. let low = slice_get_within operands i ls h in let at = g.0 in let d = are.long in absurd (omega (arith, low, at, d)))
+      (get_pushed mets met m i f))
+      (λ h. ⊎_elim
+      (λ g. let low = slice_get_within mets i m g in let at = h.0 in let d = are.long in absurd (omega (arith, low, at, d)))
+      (λ g. subst (λ (x : Met). IsMet nodes classes ls x.of x.classes.keys x.union) g.1 (subst (λ (xs : List Leaf). IsMet nodes classes xs met.of met.classes.keys met.union) h.1 one))
+      (get_pushed mets met m i f))
+      (get_pushed operands leaves ls i e);
+}

@@ -1,22 +1,34 @@
 //! Modes of which is seen at once, without memory, that they neither fit nor are related: none leads meekly to the other, or
 //! to a member of it.
-ghost use Rattle.std.specs.Prelude.{◌≡◌, ◌≢◌, ◌<◌, ◌↔◌, ◌∷◌, [], ℕ, false, IsTrue, Some, length};
-ghost use Rattle.std.specs.List.{All, Contains};
+ghost use Rattle.std.specs.Prelude.{◌≡◌, ◌≢◌, ◌<◌, ◌+◌, ◌*◌, ◌∷◌, ◌||◌, [], ℕ, false, nat_eq, IfOk, IsTrue, Some, length};
+ghost use Rattle.std.specs.List.{All, Contains, list_any};
 ghost use Rattle.a68_coerce.specs.Below.{IsLeafBelow};
 ghost use Rattle.a68_coerce.specs.declared.leaf.Leaf.TheVariants as leaf;
-ghost use Rattle.a68_equiv.specs.Classes.{AreExact};
+ghost use Rattle.a68_equiv.specs.Classes.{AreExact, class_of};
 ghost use Rattle.a68_equiv.specs.Related.{AreRelated, as_it_stands};
 ghost use Rattle.a68_equiv.specs.Unfolding as unfolds;
-ghost use Rattle.a68_equiv.specs.Unfolding.{Equivalent, unfolded};
+ghost use Rattle.a68_equiv.specs.Unfolding.{unfolded};
 ghost use Rattle.a68_equiv.specs.Ways.{AreWellFormed};
-ghost use Rattle.a68_identify.specs.Apart.{AreBare, IsMissed, MissesAll, NeverFirm};
+ghost use Rattle.a68_identify.specs.Apart.{AreBare, IsMet, KnowsAll, NeverFirm};
 ghost use Rattle.a68_identify.specs.Identified.{OperandFits};
 ghost use Rattle.a68_modes.specs.Nodes.{shape_at};
 ghost use Rattle.a68_modes.specs.declared.shape.Shape.TheVariants.{Union};
 
+use a68_base::NoMemory;
 use a68_coerce::Leaf;
 use a68_equiv::{Classes, Mode, behind, leads, meek};
 use a68_modes::{ModeId, Modes, Shape};
+use std::alloc::Global;
+use std::collections::HashSet;
+
+/// What an operand meets where it is a unit that stands alone: its mode, the classes of the modes to which that leads meekly,
+/// and whether one of them is a union. It is found once for each formula, and then asked for each operator.
+#[derive(Drop)]
+pub struct Met {
+    of: Option<ModeId>,
+    classes: HashSet<u32>,
+    union: bool,
+}
 
 /// The mode of a unit that stands alone.
 fn lone_mode(leaves: &[Leaf]) -> Option<ModeId>
@@ -43,6 +55,65 @@ fn is_union(modes: &Modes, mode: ModeId) -> bool
     is_union_shape(modes.shape(behind(modes, mode)))
 }
 
+fn either(one: bool, other: bool) -> bool
+    ensures { result ≡ (one || other) }
+{
+    one || other
+}
+
+/// Notes the classes of the modes to which a mode leads meekly. Is one of them a union?
+fn note_all(
+    known: &mut HashSet<u32>,
+    modes: &Modes,
+    classes: &Classes,
+    from: ModeId,
+) -> Result<bool, NoMemory>
+    requires formed { AreWellFormed modes.now }
+    requires exact { AreExact modes.now classes.now.of }
+    requires from { from < length modes.now }
+    ensures { IfOk result (λ union. KnowsAll modes.now classes.now.of known.new.keys union (as_it_stands from)) }
+{
+    let _there = modes.len();
+    let mut union = false;
+    let mut at = Mode::as_it_stands(from);
+    'meekly: loop {
+        known.insert(classes.class(at))?;
+        union = either(union, is_union(modes, at.id));
+        let Some(next) = meek(modes, at) else {
+            return Ok(union);
+        };
+        at = next;
+    }
+}
+
+/// Finds what an operand meets.
+pub fn met_by(
+    alloc: Global,
+    modes: &Modes,
+    classes: &Classes,
+    leaves: &[Leaf],
+) -> Result<Met, NoMemory>
+    requires formed { AreWellFormed modes.now }
+    requires exact { AreExact modes.now classes.now.of }
+    requires leaves { All (IsLeafBelow (length modes.now)) leaves.now }
+    ensures { IfOk result (λ met. IsMet modes.now classes.now.of leaves.now met.of met.classes.keys met.union) }
+{
+    let Some(from) = lone_mode(leaves) else {
+        return Ok(Met {
+            of: None,
+            classes: HashSet::new(alloc),
+            union: false,
+        });
+    };
+    let mut known = HashSet::new(alloc);
+    let union = note_all(&mut known, modes, classes, from)?;
+    Ok(Met {
+        of: Some(from),
+        classes: known,
+        union,
+    })
+}
+
 /// Is a shape a mode word or a union?
 fn leads_on(shape: &Shape) -> bool
     ensures { result ≡ unfolds.leads_within shape.now }
@@ -63,99 +134,81 @@ fn are_bare(modes: &Modes, members: &[ModeId]) -> bool
     true
 }
 
-/// Is a mode equivalent to one of these?
-fn is_one_of(modes: &Modes, classes: &Classes, members: &[ModeId], mode: Mode) -> bool
-    requires exact { AreExact modes.now classes.now.of }
-    requires members { All (λ m. m < length modes.now) members.now }
-    requires mode { mode.id < length modes.now }
-    ensures { IsTrue result ↔ ((x : ℕ) × Contains members.now x × Equivalent modes.now mode (as_it_stands x)) }
+/// Is the class of a mode among those that an operand meets?
+fn knows(classes: &Classes, met: &Met, mode: ModeId) -> bool
+    requires { 2 * mode + 1 < length classes.now.of }
+    ensures { result ≡ list_any (nat_eq (class_of classes.now.of (as_it_stands mode))) met.now.classes.keys }
 {
-    let _there = modes.len();
+    let class = classes.class(Mode::as_it_stands(mode));
+    met.classes.contains(&class)
+}
+
+/// Is the class of one of these modes among those that an operand meets?
+fn knows_any(classes: &Classes, met: &Met, members: &[ModeId]) -> bool
+    requires { All (λ m. 2 * m + 1 < length classes.now.of) members.now }
+    ensures { result ≡ false → (x : ℕ) → Contains members.now x → list_any (nat_eq (class_of classes.now.of (as_it_stands x))) met.now.classes.keys ≡ false }
+{
     for member in members {
-        if classes.are_same(mode, Mode::as_it_stands(*member)) {
+        if knows(classes, met, *member) {
             return true;
         }
     }
     false
 }
 
-/// Is a mode a union or equivalent to one of these?
-fn is_met(modes: &Modes, classes: &Classes, members: &[ModeId], mode: Mode) -> bool
-    requires exact { AreExact modes.now classes.now.of }
-    requires members { All (λ m. m < length modes.now) members.now }
-    requires mode { mode.id < length modes.now }
-    ensures { result ≡ false → IsMissed modes.now members.now mode }
-{
-    if is_union(modes, mode.id) {
-        return true;
-    }
-    is_one_of(modes, classes, members, mode)
-}
-
-/// Is one of the modes to which a mode leads meekly a union or equivalent to one of these?
-fn meets(modes: &Modes, classes: &Classes, members: &[ModeId], from: ModeId) -> bool
-    requires formed { AreWellFormed modes.now }
-    requires exact { AreExact modes.now classes.now.of }
-    requires members { All (λ m. m < length modes.now) members.now }
-    requires from { from < length modes.now }
-    ensures { result ≡ false → MissesAll modes.now members.now (as_it_stands from) }
-{
-    let mut at = Mode::as_it_stands(from);
-    'meekly: loop {
-        if is_met(modes, classes, members, at) {
-            return true;
-        }
-        let Some(next) = meek(modes, at) else {
-            return false;
-        };
-        at = next;
-    }
-}
-
-/// Is it seen at once that a mode leads firmly to no union of these members?
+/// Is it seen at once that an operand leads firmly to no union of these members?
 fn is_apart_from(
     modes: &Modes,
     classes: &Classes,
+    met: &Met,
     members: &[ModeId],
     from: ModeId,
     union: ModeId,
 ) -> bool
-    requires formed { AreWellFormed modes.now }
     requires exact { AreExact modes.now classes.now.of }
-    requires from { from < length modes.now }
+    requires known { KnowsAll modes.now classes.now.of met.now.classes.keys met.now.union (as_it_stands from) }
     requires there { union < length modes.now }
     requires members { shape_at modes.now union ≡ Union members.now }
     requires below { All (λ m. m < length modes.now) members.now }
     ensures { IsTrue result → NeverFirm modes.now from union }
 {
+    let _there = modes.len();
     if !are_bare(modes, members) {
         return false;
     }
-    if meets(modes, classes, members, from) {
+    if met.union {
         return false;
     }
-    !leads(modes, classes, from, union)
+    if knows_any(classes, met, members) {
+        return false;
+    }
+    !knows(classes, met, union)
 }
 
-/// Is it seen at once that an operand does not fit a parameter?
-pub fn is_apart(modes: &Modes, classes: &Classes, leaves: &[Leaf], parameter: ModeId) -> bool
-    requires formed { AreWellFormed modes.now }
+/// Is it seen at once that an operand does not fit a parameter? What it meets is told.
+pub fn is_apart(
+    modes: &Modes,
+    classes: &Classes,
+    leaves: &[Leaf],
+    met: &Met,
+    parameter: ModeId,
+) -> bool
     requires exact { AreExact modes.now classes.now.of }
-    requires leaves { All (IsLeafBelow (length modes.now)) leaves.now }
+    requires met { IsMet modes.now classes.now.of leaves.now met.now.of met.now.classes.keys met.now.union }
     requires parameter { parameter < length modes.now }
     requires mode { parameter ≢ 0 }
     ensures { IsTrue result → OperandFits modes.now leaves.now parameter → ⊥ }
 {
-    let Some(from) = lone_mode(leaves) else {
+    let Some(from) = met.of else {
         return false;
     };
     if let Shape::Union(members) = modes.shape(parameter) {
-        return is_apart_from(modes, classes, &members.items, from, parameter);
+        return is_apart_from(modes, classes, met, &members.items, from, parameter);
     }
     if is_union(modes, parameter) {
         return false;
     }
-    !leads(modes, classes, from, parameter)
+    !knows(classes, met, parameter)
 }
 
 /// Is it seen at once that two modes are not related?

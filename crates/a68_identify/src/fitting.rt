@@ -6,9 +6,10 @@ ghost use Rattle.a68_coerce.specs.Below.{IsLeafBelow};
 ghost use Rattle.a68_equiv.specs.Classes.{AreExact};
 ghost use Rattle.a68_equiv.specs.Dimensions.{HaveDimensions};
 ghost use Rattle.a68_equiv.specs.Ways.{AreWellFormed};
+ghost use Rattle.a68_identify.specs.Apart.{AreMet, IsMet};
 ghost use Rattle.a68_identify.specs.Identified.{AllFit, OperandFits};
 
-use crate::apart::is_apart;
+use crate::apart::{Met, is_apart, met_by};
 use a68_base::NoMemory;
 use a68_coerce::{Leaf, ModeForm, balance, balance_to_form};
 use a68_equiv::Classes;
@@ -24,6 +25,7 @@ fn fits_mode(
     modes: &Modes,
     classes: &Classes,
     leaves: &[Leaf],
+    met: &Met,
     parameter: ModeId,
 ) -> Result<bool, NoMemory>
     requires formed { AreWellFormed modes.now }
@@ -31,11 +33,12 @@ fn fits_mode(
     requires exact { AreExact modes.now classes.now.of }
     requires leaves { All (IsLeafBelow (length modes.now)) leaves.now }
     requires few { length leaves.now < 2 ^ 32 }
+    requires met { IsMet modes.now classes.now.of leaves.now met.now.of met.now.classes.keys met.now.union }
     requires parameter { parameter < length modes.now }
     requires mode { parameter ≢ 0 }
     ensures { IfOk result (λ fits. IsTrue fits ↔ OperandFits modes.now leaves.now parameter) }
 {
-    if is_apart(modes, classes, leaves, parameter) {
+    if is_apart(modes, classes, leaves, met, parameter) {
         return Ok(false);
     }
     let found = balance(alloc, modes, classes, Sort::Firm, leaves, parameter)?;
@@ -66,6 +69,7 @@ fn operand_fits(
     modes: &Modes,
     classes: &Classes,
     leaves: &[Leaf],
+    met: &Met,
     parameter: ModeId,
 ) -> Result<bool, NoMemory>
     requires formed { AreWellFormed modes.now }
@@ -73,15 +77,36 @@ fn operand_fits(
     requires exact { AreExact modes.now classes.now.of }
     requires leaves { All (IsLeafBelow (length modes.now)) leaves.now }
     requires few { length leaves.now < 2 ^ 32 }
+    requires met { IsMet modes.now classes.now.of leaves.now met.now.of met.now.classes.keys met.now.union }
     requires parameter { parameter < length modes.now }
     ensures { IfOk result (λ fits. IsTrue fits ↔ OperandFits modes.now leaves.now parameter) }
 {
     let fits = if parameter == EVERY_ROW {
         fits_every_row(alloc, modes, classes, leaves)?
     } else {
-        fits_mode(alloc, modes, classes, leaves, parameter)?
+        fits_mode(alloc, modes, classes, leaves, met, parameter)?
     };
     Ok(fits)
+}
+
+/// Finds what each operand of a formula meets.
+pub fn all_met(
+    alloc: Global,
+    modes: &Modes,
+    classes: &Classes,
+    operands: &[&[Leaf]],
+) -> Result<Vec<Met>, NoMemory>
+    requires formed { AreWellFormed modes.now }
+    requires exact { AreExact modes.now classes.now.of }
+    requires leaves { All (λ o. All (IsLeafBelow (length modes.now)) o.now) operands.now }
+    ensures { IfOk result (λ mets. AreMet modes.now classes.now.of (map (λ o. o.now) operands.now) mets.items) }
+{
+    let _there = modes.len();
+    let mut mets = Vec::new(alloc);
+    for leaves in operands {
+        mets.push(met_by(alloc, modes, classes, leaves)?)?;
+    }
+    Ok(mets)
 }
 
 /// Are there as many operands as parameters, and does each fit its own?
@@ -90,6 +115,7 @@ pub fn all_fit(
     modes: &Modes,
     classes: &Classes,
     operands: &[&[Leaf]],
+    mets: &[Met],
     parameters: &[ModeId],
 ) -> Result<bool, NoMemory>
     requires formed { AreWellFormed modes.now }
@@ -97,6 +123,7 @@ pub fn all_fit(
     requires exact { AreExact modes.now classes.now.of }
     requires leaves { All (λ o. All (IsLeafBelow (length modes.now)) o.now) operands.now }
     requires few { All (λ o. length o.now < 2 ^ 32) operands.now }
+    requires mets { AreMet modes.now classes.now.of (map (λ o. o.now) operands.now) mets.now }
     requires parameters { All (λ p. p < length modes.now) parameters.now }
     ensures { IfOk result (λ fit. IsTrue fit ↔ AllFit modes.now (map (λ o. o.now) operands.now) parameters.now) }
 {
@@ -104,7 +131,7 @@ pub fn all_fit(
         return Ok(false);
     }
     for i in 0..operands.len() {
-        if !operand_fits(alloc, modes, classes, operands[i], parameters[i])? {
+        if !operand_fits(alloc, modes, classes, operands[i], &mets[i], parameters[i])? {
             return Ok(false);
         }
     }

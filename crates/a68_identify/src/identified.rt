@@ -5,13 +5,15 @@ ghost use Rattle.a68_coerce.specs.Below.{IsLeafBelow};
 ghost use Rattle.a68_equiv.specs.Classes.{AreExact};
 ghost use Rattle.a68_equiv.specs.Dimensions.{HaveDimensions};
 ghost use Rattle.a68_equiv.specs.Ways.{AreWellFormed};
+ghost use Rattle.a68_identify.specs.Apart.{AreMet};
 ghost use Rattle.a68_identify.specs.Identified.{DefinitionFits, IsFirstThatHolds, IsLow, IsOperator, IsOwn, StandardFits};
 ghost use Rattle.a68_identify.specs.Operators.{AreListed, NumbersAreThere};
 ghost use Rattle.a68_ranges.specs.Nodes.{name_at};
 ghost use Rattle.a68_ranges.specs.Surroundings.{Lies};
 ghost use Rattle.a68_ranges.specs.Tables.{AreRanges};
 
-use crate::fitting::all_fit;
+use crate::apart::Met;
+use crate::fitting::{all_fit, all_met};
 use crate::listed::{OperatorModes, parameters_of};
 use crate::reading::defines_sign;
 use a68_base::NoMemory;
@@ -30,12 +32,13 @@ pub enum Identified {
     Standard(Operator),
 }
 
-/// A formula: its node, its sign, and the units that its operands may yield.
+/// A formula: its node, its sign, the units that its operands may yield, and what these meet.
 #[derive(Clone, Copy)]
-struct Formula<'a> {
+struct Formula<'a, 'm> {
     at: NodeId,
     sign: u32,
     operands: &'a [&'a [Leaf]],
+    mets: &'m [Met],
 }
 
 /// Do the operands fit the parameters of an operator definition of the sign?
@@ -45,7 +48,7 @@ fn definition_fits(
     modes: &Modes,
     classes: &Classes,
     of: &OperatorModes<'_>,
-    formula: &Formula<'_>,
+    formula: &Formula<'_, '_>,
     definition: NodeId,
 ) -> Result<bool, NoMemory>
     requires formed { AreWellFormed modes.now }
@@ -55,6 +58,7 @@ fn definition_fits(
     requires listed { AreListed tree.now of.now }
     requires leaves { All (λ o. All (IsLeafBelow (length modes.now)) o.now) formula.now.operands.now }
     requires few { All (λ o. length o.now < 2 ^ 32) formula.now.operands.now }
+    requires mets { AreMet modes.now classes.now.of (map (λ o. o.now) formula.now.operands.now) formula.now.mets.now }
     ensures { IfOk result (λ fits. IsTrue fits ↔ DefinitionFits tree.now modes.now of.now.of formula.now.sign (map (λ o. o.now) formula.now.operands.now) definition) }
 {
     if !defines_sign(tree, formula.sign, definition) {
@@ -62,7 +66,14 @@ fn definition_fits(
     }
     let _there = modes.len();
     let parameters = parameters_of(tree, of, definition);
-    let fits = all_fit(alloc, modes, classes, formula.operands, parameters)?;
+    let fits = all_fit(
+        alloc,
+        modes,
+        classes,
+        formula.operands,
+        formula.mets,
+        parameters,
+    )?;
     Ok(fits)
 }
 
@@ -73,7 +84,7 @@ fn first_definition(
     modes: &Modes,
     classes: &Classes,
     of: &OperatorModes<'_>,
-    formula: &Formula<'_>,
+    formula: &Formula<'_, '_>,
     list: &[NodeId],
 ) -> Result<Option<NodeId>, NoMemory>
     requires formed { AreWellFormed modes.now }
@@ -83,6 +94,7 @@ fn first_definition(
     requires listed { AreListed tree.now of.now }
     requires leaves { All (λ o. All (IsLeafBelow (length modes.now)) o.now) formula.now.operands.now }
     requires few { All (λ o. length o.now < 2 ^ 32) formula.now.operands.now }
+    requires mets { AreMet modes.now classes.now.of (map (λ o. o.now) formula.now.operands.now) formula.now.mets.now }
     ensures { IfOk result (IsFirstThatHolds (DefinitionFits tree.now modes.now of.now.of formula.now.sign (map (λ o. o.now) formula.now.operands.now)) list.now) }
 {
     for definition in list {
@@ -101,7 +113,7 @@ fn own(
     modes: &Modes,
     classes: &Classes,
     of: &OperatorModes<'_>,
-    formula: &Formula<'_>,
+    formula: &Formula<'_, '_>,
 ) -> Result<Option<NodeId>, NoMemory>
     requires at { formula.now.at < length tree.now.nodes }
     requires ranges { AreRanges tree.now ranges.now }
@@ -112,6 +124,7 @@ fn own(
     requires listed { AreListed tree.now of.now }
     requires leaves { All (λ o. All (IsLeafBelow (length modes.now)) o.now) formula.now.operands.now }
     requires few { All (λ o. length o.now < 2 ^ 32) formula.now.operands.now }
+    requires mets { AreMet modes.now classes.now.of (map (λ o. o.now) formula.now.operands.now) formula.now.mets.now }
     ensures { IfOk result (λ found. (about : List ℕ) → Lies tree.now formula.now.at about → IsOwn tree.now modes.now of.now.of formula.now.sign (map (λ o. o.now) formula.now.operands.now) about found) }
 {
     let mut next = ranges.about(formula.at);
@@ -133,6 +146,7 @@ fn standard_fits(
     modes: &Modes,
     classes: &Classes,
     operands: &[&[Leaf]],
+    mets: &[Met],
     operator: Operator,
 ) -> Result<bool, NoMemory>
     requires formed { AreWellFormed modes.now }
@@ -140,18 +154,20 @@ fn standard_fits(
     requires exact { AreExact modes.now classes.now.of }
     requires leaves { All (λ o. All (IsLeafBelow (length modes.now)) o.now) operands.now }
     requires few { All (λ o. length o.now < 2 ^ 32) operands.now }
+    requires mets { AreMet modes.now classes.now.of (map (λ o. o.now) operands.now) mets.now }
     requires low { IsLow operator }
     ensures { IfOk result (λ fits. IsTrue fits ↔ StandardFits modes.now (map (λ o. o.now) operands.now) operator) }
 {
     let _there = modes.len();
     let fits = if operands.len() < 2 {
-        all_fit(alloc, modes, classes, operands, &[operator.right])?
+        all_fit(alloc, modes, classes, operands, mets, &[operator.right])?
     } else {
         all_fit(
             alloc,
             modes,
             classes,
             operands,
+            mets,
             &[operator.left, operator.right],
         )?
     };
@@ -164,6 +180,7 @@ fn first_standard(
     modes: &Modes,
     classes: &Classes,
     operands: &[&[Leaf]],
+    mets: &[Met],
     operators: &[Operator],
 ) -> Result<Option<Operator>, NoMemory>
     requires formed { AreWellFormed modes.now }
@@ -171,11 +188,12 @@ fn first_standard(
     requires exact { AreExact modes.now classes.now.of }
     requires leaves { All (λ o. All (IsLeafBelow (length modes.now)) o.now) operands.now }
     requires few { All (λ o. length o.now < 2 ^ 32) operands.now }
+    requires mets { AreMet modes.now classes.now.of (map (λ o. o.now) operands.now) mets.now }
     requires low { All IsLow operators.now }
     ensures { IfOk result (IsFirstThatHolds (StandardFits modes.now (map (λ o. o.now) operands.now)) operators.now) }
 {
     for operator in operators {
-        if standard_fits(alloc, modes, classes, operands, *operator)? {
+        if standard_fits(alloc, modes, classes, operands, mets, *operator)? {
             return Ok(Some(*operator));
         }
     }
@@ -211,12 +229,18 @@ pub fn identify(
     ensures { IfOk result (λ found. MatchOption found ((any : Identified) → IsOperator tree.now modes.now of.now.of at (name_at tree.now at) (map (λ o. o.now) operands.now) any → ⊥) (IsOperator tree.now modes.now of.now.of at (name_at tree.now at) (map (λ o. o.now) operands.now))) }
 {
     let sign = tree.node(at).name;
-    let formula = Formula { at, sign, operands };
+    let mets = all_met(alloc, modes, classes, operands)?;
+    let formula = Formula {
+        at,
+        sign,
+        operands,
+        mets: &mets,
+    };
     if let Some(definition) = own(alloc, tree, ranges, modes, classes, of, &formula)? {
         return Ok(Some(Identified::Declared(definition)));
     }
     let standard = candidates(tree.spelling(sign), operands.len() as u32);
-    if let Some(operator) = first_standard(alloc, modes, classes, operands, standard)? {
+    if let Some(operator) = first_standard(alloc, modes, classes, operands, &mets, standard)? {
         return Ok(Some(Identified::Standard(operator)));
     }
     Ok(None)

@@ -4,7 +4,7 @@ use Rattle.std.proofs.lemmas.Bool.{false≢true}
 use Rattle.a68_coerce.specs.declared.leaf.Leaf.{Leaf}
 use Rattle.a68_identify.specs.Identified.{OperandFits}
 use Rattle.a68_identify.proofs.Pairing.{no_pairs, no_pair, one_pair_more, all_pairs, mapped, length_of_map}
-use Rattle.a68_ranges.proofs.Taking.{read}
+use Rattle.a68_ranges.proofs.Taking.{read, read_is}
 use Rattle.a68_identify.proofs.fitting.all_fit.Goals as goal
 
 pub returns-then-operands-parameters : goal.returns-then-operands-parameters
@@ -12,6 +12,16 @@ returns-then-operands-parameters c =
     let f = λ (o : Bor (List Leaf)). o.now in
     let long = length_of_map f c.args.operands.now in
     no_pairs (OperandFits c.args.modes.now) (map f c.args.operands.now) c.args.parameters.now (λ e. c.if-operands-parameters.true (sym long ∙ e))
+
+pub operand_fits-requires-clause-met : goal.operand_fits-requires-clause-met
+operand_fits-requires-clause-met c =
+    let f = λ (o : Bor (List Leaf)). o.now in
+    let i = c.loop-i.i in
+    let long = c.requires.mets.long in
+    let same = length_of_map f c.args.operands.now in
+    let one : i < length c.args.operands.now = omega arith in
+    let low : i < length c.args.mets.now = omega (arith, one, long, same) in
+    c.requires.mets.each i _ c.index-mets-i.result (mapped f c.args.operands.now i _ one) (read_is c.args.mets.now i c.index-mets-i.result c.index-mets-i.result low c.index-mets-i.is)
 
 pub returns-then-not-branch : goal.returns-then-not-branch
 returns-then-not-branch c =
